@@ -1,0 +1,25 @@
+//! What an index means: keys, rows and entries in their order, ranges, sets of dead rows, faults,
+//! and the words of every promise: histories of actions, and which answers are right over them.
+#![tactic(auto)]
+
+mod bound;
+mod dead_rows;
+mod entry;
+mod fault;
+mod key;
+mod limits;
+mod range;
+mod row;
+mod session;
+mod stats;
+
+pub use bound::Bound;
+pub use dead_rows::DeadRows;
+pub use entry::Entry;
+pub use fault::Fault;
+pub use key::Key;
+pub use limits::Limits;
+pub use range::Range;
+pub use row::RowAddr;
+pub use session::Session;
+pub use stats::VacuumStats;

@@ -1,0 +1,111 @@
+-- The bytes of a page are read as that page.
+use Rattle.std.proofs.Common.{◌≡◌, ℕ, zero, suc, ◌-◌, ◌+◌, ◌*◌, ◌%◌, ◌≤◌, ◌<◌, ◌^◌, Bool, true, false, eqb, ltb, List, [], ◌∷◌, ◌++◌, Option, Some, None, length, take, drop, replicate, refl, sym, ap, subst, ◌∙◌, append_assoc, arith, length-append}
+use Rattle.std.specs.Prelude.{IfSome, IsSome, nat_lt, ◌==◌, slice_index}
+use Rattle.std.specs.List.{flat_map, AllByRecursion}
+use Rattle.std.proofs.lemmas.Bool.Decides.{nat_tests}
+use Rattle.std.proofs.lemmas.List.{take_at, drop_at, drop-drop}
+use Rattle.byteorder.specs.Endian.{little_bytes, little_number}
+use Rattle.byteorder.specs.Numbers.{little_number-reads_back}
+use Rattle.index_model.specs.Order.{IsEntry}
+use Rattle.index_model.specs.declared.entry.Entry.{Entry}
+use Rattle.index_model.specs.declared.bound.Bound.{Bound}
+use Rattle.page_codec.specs.Grammar.{IsBlock, IsWhole, IsPage, IsDownlink, IsMeta, IsLeaf, IsLeafIn, IsInternal, IsOfKind}
+use Rattle.page_codec.specs.Spelling.{bit, bit_of, link_number, kind_byte, count_of, state_byte, slot_bytes, entry_bytes, downlink_bytes, items_bytes, head_bytes, used_bytes, page_bytes}
+use Rattle.page_codec.specs.Reading.{◌>>=◌, slot_at, entry_at, downlink_at, items_at, items_of, state_at, link_at, page_at}
+use Rattle.page_codec.specs.declared.page.Downlink.{Downlink}
+use Rattle.page_codec.specs.declared.page.PageState.{PageState}
+use Rattle.page_codec.specs.declared.page.PageState.TheVariants.{Live, HalfDead, Deleted}
+use Rattle.page_codec.specs.declared.page.Items.{Items}
+use Rattle.page_codec.specs.declared.page.Items.TheVariants.{Meta, Entries, Downlinks}
+use Rattle.page_codec.specs.declared.page.Page.{Page}
+use Rattle.page_codec.proofs.Again.{slot_again, entry_again, downlink_again, items_again, length-slot, length-entry, length-downlink}
+
+-- what the items of a page are, whatever its kind
+abbrev pub AreItems : Items → Type 0
+AreItems Meta = Unit {0}
+AreItems (Entries v) = (length v.items ≤ 50) × AllByRecursion IsEntry v.items
+AreItems (Downlinks v) = (length v.items ≤ 50) × AllByRecursion IsDownlink v.items
+
+leaf_entries : (s : PageState) (p : Page) (es : List Entry) → IsLeafIn s p es → AllByRecursion IsEntry es
+leaf_entries Live p es h = h.entries.valid
+leaf_entries HalfDead p es h = subst (λ (xs : List Entry). AllByRecursion IsEntry xs) (sym h.entries) tt
+leaf_entries Deleted p es h = subst (λ (xs : List Entry). AllByRecursion IsEntry xs) (sym h.entries) tt
+
+pub are_items : (p : Page) (items : Items) → IsOfKind p items → AreItems items
+are_items p Meta h = tt
+are_items p (Entries v) h = (h.count, leaf_entries p.state p v.items h.rest)
+are_items p (Downlinks v) h = (h.count, h.links.valid)
+
+pub kind_again : (items : Items) (rest : List ℕ) → AreItems items → items_of (kind_byte items) (count_of items) (items_bytes items ++ rest) ≡ Some items
+unfolding items_of items_bytes
+kind_again Meta rest h = refl
+kind_again (Entries v) rest h =
+    let some : nat_lt 50 (length v.items) ≡ false = grind (arith, nat_tests, h.0) in
+    let read : items_at entry_at 71 (length v.items) (flat_map entry_bytes v.items ++ rest) ≡ Some v.items = items_again entry_at 71 entry_bytes IsEntry length-entry entry_again v.items rest h.1 in
+    rw (some, read) refl
+kind_again (Downlinks v) rest h =
+    let some : nat_lt 50 (length v.items) ≡ false = grind (arith, nat_tests, h.0) in
+    let read : items_at downlink_at 75 (length v.items) (flat_map downlink_bytes v.items ++ rest) ≡ Some v.items = items_again downlink_at 75 downlink_bytes IsDownlink length-downlink downlink_again v.items rest h.1 in
+    rw (some, read) refl
+
+count_fits : (items : Items) → AreItems items → count_of items < 256 ^ 2
+count_fits Meta h = omega arith
+count_fits (Entries v) h = omega (arith, h.0)
+count_fits (Downlinks v) h = omega (arith, h.0)
+
+state_again : (s : PageState) → state_at (state_byte s) ≡ Some s
+state_again Live = refl
+state_again HalfDead = refl
+state_again Deleted = refl
+
+flag_again : (split : Bool) (high : Option Bound) → ((bit split + bit_of high) % 2 == 1) ≡ split
+flag_again true None = refl
+flag_again true (Some b) = refl
+flag_again false None = refl
+flag_again false (Some b) = refl
+
+link_fits : (o : Option ℕ) → IfSome o IsBlock → link_number o < 256 ^ 4
+link_fits None h = omega arith
+link_fits (Some n) h = omega (arith, h.1)
+
+link_again : (o : Option ℕ) → IfSome o IsBlock → link_at (link_number o) ≡ o
+link_again None h = refl
+link_again (Some n) h = let other : (n == 4294967295) ≡ false = grind (arith, nat_tests, h.1) in rw other refl
+
+block_fits : (p : Page) (items : Items) → IsOfKind p items → p.block < 256 ^ 4
+block_fits p Meta h = omega (arith, h.block)
+block_fits p (Entries v) h = omega (arith, h.block.1)
+block_fits p (Downlinks v) h = omega (arith, h.block.1)
+
+pub page_again : (p : Page) → IsPage p → page_at (page_bytes p) ≡ Some p
+unfolding page_at page_bytes used_bytes head_bytes
+page_again p h =
+    let zeros : List ℕ = replicate (4096 - length (used_bytes p)) 0 in
+    let slot : List ℕ = slot_bytes p.high in
+    let items : List ℕ = items_bytes p.items in
+    let whole : List ℕ = head_bytes p ++ (slot ++ (items ++ zeros)) in
+    let parts : page_bytes p ≡ whole = simp append_assoc in
+    let are = are_items p p.items h.kind in
+    let e_state : state_at (slice_index whole 10) ≡ Some p.state = state_again p.state in
+    let e_high : slot_at (drop 36 whole) ≡ Some p.high = slot_again p.high (items ++ zeros) h.high in
+    let at107 : drop 107 whole ≡ items ++ zeros = sym (drop-drop 71 36 whole) ∙ drop_at slot (items ++ zeros) 71 (length-slot p.high h.high) in
+    let e_count : little_number 2 (drop 32 whole) ≡ count_of p.items = little_number-reads_back 2 (count_of p.items) (drop 34 whole) (count_fits p.items are) in
+    let e_items : items_of (slice_index whole 8) (little_number 2 (drop 32 whole)) (drop 107 whole) ≡ Some p.items = (λ i. items_of (kind_byte p.items) (e_count i) (at107 i)) ∙ kind_again p.items zeros are in
+    let e_block : little_number 4 (drop 4 whole) ≡ p.block = little_number-reads_back 4 p.block (drop 8 whole) (block_fits p p.items h.kind) in
+    let e_split : (slice_index whole 11 % 2 == 1) ≡ p.split = flag_again p.split p.high in
+    let e_left : link_at (little_number 4 (drop 12 whole)) ≡ p.left = ap link_at (little_number-reads_back 4 (link_number p.left) (drop 16 whole) (link_fits p.left h.left)) ∙ link_again p.left h.left in
+    let e_right : link_at (little_number 4 (drop 16 whole)) ≡ p.right = ap link_at (little_number-reads_back 4 (link_number p.right) (drop 20 whole) (link_fits p.right h.right)) ∙ link_again p.right h.right in
+    let e_cycle : little_number 4 (drop 20 whole) ≡ p.cycle = little_number-reads_back 4 p.cycle (drop 24 whole) (omega (arith, h.cycle)) in
+    let e_deletion : little_number 8 (drop 24 whole) ≡ p.deletion = little_number-reads_back 8 p.deletion (drop 32 whole) (omega (arith, h.deletion)) in
+    ap page_at parts ∙ (λ i. e_state i >>= λ state. e_high i >>= λ high. e_items i >>= λ its. Some (let x : Page = record {
+      block = e_block i;
+      level = p.level;
+      state = state;
+      split = e_split i;
+      left = e_left i;
+      right = e_right i;
+      high = high;
+      cycle = e_cycle i;
+      deletion = e_deletion i;
+      items = its;
+    } in x))

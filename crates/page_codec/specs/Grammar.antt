@@ -1,0 +1,136 @@
+-- Which pages there are.
+use Rattle.std.specs.Prelude.{◌≡◌, ℕ, ◌<◌, ◌≤◌, ◌^◌, ◌↔◌, Bool, true, false, Option, Some, None, IfSome, IsSome, IsNone, List, [], ◌∷◌, length, map}
+use Rattle.std.specs.List.{AllByRecursion}
+use Rattle.std.specs.Option.{option_cmp}
+use Rattle.std.specs.Ordering.{is_lt, is_gt}
+use Rattle.index_model.specs.Row.{Row, IsRow}
+use Rattle.index_model.specs.Order.{bound_cmp, bound_of, is_past, IsUpTo, IsAscending, IsEntry}
+use Rattle.index_model.specs.declared.entry.Entry.{Entry}
+use Rattle.index_model.specs.declared.bound.Bound.{Bound}
+use Rattle.page_codec.specs.declared.page.PageState.{PageState}
+use Rattle.page_codec.specs.declared.page.PageState.TheVariants.{Live, HalfDead, Deleted}
+use Rattle.page_codec.specs.declared.page.Downlink.{Downlink}
+use Rattle.page_codec.specs.declared.page.Items.{Items}
+use Rattle.page_codec.specs.declared.page.Items.TheVariants.{Meta, Entries, Downlinks}
+use Rattle.page_codec.specs.declared.page.Page.{Page}
+
+abbrev pub IsBlock : ℕ → Type 0
+IsBlock n = (0 < n) × (n < 65536)
+
+-- a bound that is an entry
+pub record IsWhole (b : Bound) : Type 0 where
+  pub key : length b.key ≤ 64
+  pub row : IfSome b.row IsRow
+  pub present : IsSome b.row
+
+-- each next is greater
+abbrev pub FollowedBy : {A : Type 0} → (A → A → Type 0) → A → List A → Type 0
+FollowedBy R a [] = Unit {0}
+FollowedBy R a (b ∷ bs) = R a b × FollowedBy R b bs
+
+abbrev pub Ascends : {A : Type 0} → (A → A → Type 0) → List A → Type 0
+Ascends R [] = Unit {0}
+Ascends R (a ∷ rest) = FollowedBy R a rest
+
+-- the first stands before the second
+abbrev pub EntryBefore : Entry → Entry → Type 0
+EntryBefore a b = is_past (bound_of a) b ≡ true
+
+-- minus infinity stands before each bound
+abbrev pub LinkBefore : Downlink → Downlink → Type 0
+LinkBefore a b = is_lt (option_cmp bound_cmp a.bound b.bound) ≡ true
+
+-- a bound is less than the high key
+abbrev pub Below : Option Bound → Downlink → Type 0
+Below None d = Unit {0}
+Below (Some high) d = is_lt (option_cmp bound_cmp d.bound (Some high)) ≡ true
+
+pub record IsDownlink (d : Downlink) : Type 0 where
+  pub bound : IfSome d.bound IsWhole
+  pub child : IsBlock d.child
+
+abbrev pub FirstAfter : {A : Type 0} → (A → A → Type 0) → A → List A → Type 0
+FirstAfter R a [] = Unit {0}
+FirstAfter R a (b ∷ bs) = R a b
+
+pub record AreEntries (high : Option Bound) (es : List Entry) : Type 0 where
+  pub valid : AllByRecursion IsEntry es
+  pub ascends : IsAscending es
+  pub within : AllByRecursion (IsUpTo high) es
+
+pub record AreLinks (high : Option Bound) (ds : List Downlink) : Type 0 where
+  pub valid : AllByRecursion IsDownlink ds
+  pub ascends : Ascends LinkBefore ds
+  pub within : AllByRecursion (Below high) ds
+
+abbrev pub StartsLow : List Downlink → Type 0
+StartsLow [] = ⊥
+StartsLow (d ∷ ds) = d.bound ≡ None
+
+pub record IsMeta (p : Page) : Type 0 where
+  pub block : p.block ≡ 0
+  pub level : p.level ≤ 31
+  pub state : p.state ≡ Live
+  pub split : p.split ≡ false
+  pub cycle : p.cycle ≡ 0
+  pub deletion : p.deletion ≡ 0
+  pub left : IsNone p.left
+  pub right : IsSome p.right
+  pub high : IsNone p.high
+
+pub record IsLiveLeaf (p : Page) (es : List Entry) : Type 0 where
+  pub deletion : p.deletion ≡ 0
+  pub high : IsSome p.high ↔ IsSome p.right
+  pub split : p.split ≡ true → IsSome p.right
+  pub entries : AreEntries p.high es
+
+pub record IsHalfDeadLeaf (p : Page) (es : List Entry) : Type 0 where
+  pub deletion : p.deletion ≡ 0
+  pub high : IsSome p.high
+  pub right : IsSome p.right
+  pub split : p.split ≡ false
+  pub entries : es ≡ []
+
+pub record IsDeletedLeaf (p : Page) (es : List Entry) : Type 0 where
+  pub left : IsNone p.left
+  pub right : IsSome p.right
+  pub high : IsNone p.high
+  pub split : p.split ≡ false
+  pub cycle : p.cycle ≡ 0
+  pub entries : es ≡ []
+
+abbrev pub IsLeafIn : PageState → Page → List Entry → Type 0
+IsLeafIn Live p es = IsLiveLeaf p es
+IsLeafIn HalfDead p es = IsHalfDeadLeaf p es
+IsLeafIn Deleted p es = IsDeletedLeaf p es
+
+pub record IsLeaf (p : Page) (es : List Entry) : Type 0 where
+  pub block : IsBlock p.block
+  pub level : p.level ≡ 0
+  pub count : length es ≤ 50
+  pub rest : IsLeafIn p.state p es
+
+pub record IsInternal (p : Page) (ds : List Downlink) : Type 0 where
+  pub block : IsBlock p.block
+  pub level : (0 < p.level) × (p.level ≤ 31)
+  pub state : p.state ≡ Live
+  pub high : IsSome p.high ↔ IsSome p.right
+  pub split : p.split ≡ true → IsSome p.right
+  pub cycle : p.cycle ≡ 0
+  pub deletion : p.deletion ≡ 0
+  pub count : length ds ≤ 50
+  pub first : StartsLow ds
+  pub links : AreLinks p.high ds
+
+abbrev pub IsOfKind : Page → Items → Type 0
+IsOfKind p Meta = IsMeta p
+IsOfKind p (Entries v) = IsLeaf p v.items
+IsOfKind p (Downlinks v) = IsInternal p v.items
+
+pub record IsPage (p : Page) : Type 0 where
+  pub cycle : p.cycle < 2 ^ 32
+  pub deletion : p.deletion < 2 ^ 64
+  pub left : IfSome p.left IsBlock
+  pub right : IfSome p.right IsBlock
+  pub high : IfSome p.high IsWhole
+  pub kind : IsOfKind p p.items

@@ -1,0 +1,75 @@
+-- What reading takes for a page, before it is compared.
+use Rattle.std.specs.Prelude.{◌≡◌, ℕ, zero, suc, ◌/◌, ◌%◌, Bool, true, false, ◌==◌, if◌then◌else◌, nat_lt, Option, Some, None, List, [], ◌∷◌, ◌++◌, length, take, drop, get_or, slice_index}
+use Rattle.byteorder.specs.Endian.{little_number}
+use Rattle.index_model.specs.Row.{Row}
+use Rattle.index_model.specs.declared.entry.Entry.{Entry}
+use Rattle.index_model.specs.declared.bound.Bound.{Bound}
+use Rattle.page_codec.specs.declared.page.PageState.{PageState}
+use Rattle.page_codec.specs.declared.page.PageState.TheVariants.{Live, HalfDead, Deleted}
+use Rattle.page_codec.specs.declared.page.Downlink.{Downlink}
+use Rattle.page_codec.specs.declared.page.Items.{Items}
+use Rattle.page_codec.specs.declared.page.Items.TheVariants.{Meta, Entries, Downlinks}
+use Rattle.page_codec.specs.declared.page.Page.{Page}
+
+infixl 10 ◌>>=◌
+abbrev pub ◌>>=◌ : {A B : Type 0} → Option A → (A → Option B) → Option B
+None >>= f = None
+(Some x) >>= f = f x
+
+-- no bound, where the offset is 0
+abbrev pub slot_from : ℕ → ℕ → ℕ → List ℕ → Option (Option Bound)
+slot_from len block offset key =
+    if offset == 0 then Some None
+    else if nat_lt 64 len then None
+    else if block == 4294967295 then None
+    else Some (Some (record { key = key; row = Some (record { block = block; offset = offset }) }))
+
+-- what stands in 71 bytes
+unfoldable pub slot_at : List ℕ → Option (Option Bound)
+slot_at bytes = slot_from (slice_index bytes 0) (little_number 4 (drop 65 bytes)) (little_number 2 (drop 69 bytes)) (take (slice_index bytes 0) (drop 1 bytes))
+
+abbrev pub whole : Bound → Option Entry
+whole b = b.row >>= λ r. Some (record { key = b.key; row = r })
+
+unfoldable pub entry_at : List ℕ → Option Entry
+entry_at bytes = slot_at bytes >>= λ b. b >>= λ w. whole w
+
+unfoldable pub downlink_at : List ℕ → Option Downlink
+downlink_at bytes = slot_at bytes >>= λ b. Some (record { bound = b; child = little_number 4 (drop 71 bytes) })
+
+-- so many items, each in so many bytes
+unfoldable pub items_at : {A : Type 0} → (List ℕ → Option A) → ℕ → ℕ → List ℕ → Option (List A)
+items_at item width zero bytes = Some []
+items_at item width (suc n) bytes = item bytes >>= λ x. items_at item width n (drop width bytes) >>= λ xs. Some (x ∷ xs)
+
+unfoldable pub items_of : ℕ → ℕ → List ℕ → Option Items
+items_of kind count bytes =
+    if nat_lt 50 count then None
+    else if kind == 1 then Some Meta
+    else if kind == 2 then (items_at entry_at 71 count bytes >>= λ es. Some (Entries (record { items = es })))
+    else if kind == 3 then (items_at downlink_at 75 count bytes >>= λ ds. Some (Downlinks (record { items = ds })))
+    else None
+
+abbrev pub state_at : ℕ → Option PageState
+state_at byte = if byte == 0 then Some Live else if byte == 1 then Some HalfDead else if byte == 2 then Some Deleted else None
+
+abbrev pub link_at : ℕ → Option ℕ
+link_at n = if n == 4294967295 then None else Some n
+
+unfoldable pub page_at : List ℕ → Option Page
+page_at bytes =
+    state_at (slice_index bytes 10) >>= λ state.
+    slot_at (drop 36 bytes) >>= λ high.
+    items_of (slice_index bytes 8) (little_number 2 (drop 32 bytes)) (drop 107 bytes) >>= λ items.
+    Some (record {
+      block = little_number 4 (drop 4 bytes);
+      level = slice_index bytes 9;
+      state = state;
+      split = slice_index bytes 11 % 2 == 1;
+      left = link_at (little_number 4 (drop 12 bytes));
+      right = link_at (little_number 4 (drop 16 bytes));
+      high = high;
+      cycle = little_number 4 (drop 20 bytes);
+      deletion = little_number 8 (drop 24 bytes);
+      items = items;
+    })

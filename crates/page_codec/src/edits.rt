@@ -1,0 +1,81 @@
+//! Copies and edits of pages.
+
+ghost use Rattle.std.specs.Prelude.{◌≡◌, ◌<◌, ◌≤◌, ◌+◌, length, insert, take, drop};
+ghost use Rattle.page_codec.specs.Edits.{entries_of, HasEntries, with_entries};
+
+use crate::page::{Downlink, Items, Page, PageState};
+use arrayvec::ArrayVec;
+use index_model::{Bound, Entry, Key, RowAddr};
+
+fn same_entries(entries: &ArrayVec<Entry, 50>) -> ArrayVec<Entry, 50>
+    ensures { result ≡ entries.now }
+{
+    let mut copy = ArrayVec::new();
+    let _ = copy.try_extend_from_slice(entries.as_slice());
+    copy
+}
+
+fn same_links(links: &ArrayVec<Downlink, 50>) -> ArrayVec<Downlink, 50>
+    ensures { result ≡ links.now }
+{
+    let mut copy = ArrayVec::new();
+    let _ = copy.try_extend_from_slice(links.as_slice());
+    copy
+}
+
+fn same_items(items: &Items) -> Items
+    ensures { result ≡ items.now }
+{
+    match items {
+        Items::Meta => Items::Meta,
+        Items::Entries(entries) => Items::Entries(same_entries(entries)),
+        Items::Downlinks(links) => Items::Downlinks(same_links(links)),
+    }
+}
+
+impl Page {
+    /// The same page again, with no memory.
+    pub fn copy(&self) -> Page
+        ensures { result ≡ self.now }
+    {
+        Page {
+            block: self.block,
+            level: self.level,
+            state: self.state,
+            split: self.split,
+            left: self.left,
+            right: self.right,
+            high: self.high,
+            cycle: self.cycle,
+            deletion: self.deletion,
+            items: same_items(&self.items),
+        }
+    }
+}
+
+/// Puts an entry at a place.
+pub fn add_entry(page: &mut Page, at: usize, entry: Entry)
+    requires leaf { HasEntries page.old.items }
+    requires room { length (entries_of page.old.items) < 50 }
+    requires place { at ≤ length (entries_of page.old.items) }
+    ensures { page.new ≡ with_entries page.old (insert (entries_of page.old.items) at entry) }
+{
+    if let Items::Entries(entries) = &mut page.items {
+        entries.insert(at, entry);
+    }
+}
+
+/// Keeps the first entries, and gives those behind.
+pub fn cut_entries(page: &mut Page, at: usize) -> ArrayVec<Entry, 50>
+    requires leaf { HasEntries page.old.items }
+    requires place { at ≤ length (entries_of page.old.items) }
+    ensures kept { page.new ≡ with_entries page.old (take at (entries_of page.old.items)) }
+    ensures behind { result.items ≡ drop at (entries_of page.old.items) }
+{
+    let mut behind = ArrayVec::new();
+    if let Items::Entries(entries) = &mut page.items {
+        let _ = behind.try_extend_from_slice(&entries.as_slice()[at..]);
+        entries.truncate(at);
+    }
+    behind
+}

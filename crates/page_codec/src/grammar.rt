@@ -1,0 +1,231 @@
+//! Which pages there are.
+
+ghost use Rattle.std.specs.Prelude.{◌≡◌, ◌↔◌, ◌≤◌, IsTrue, IfSome, List, length};
+ghost use Rattle.std.specs.List.{AllByRecursion};
+ghost use Rattle.index_model.specs.Order.{IsEntry, IsUpTo};
+ghost use Rattle.page_codec.specs.Grammar.{IsBlock, IsWhole, IsDownlink, EntryBefore, LinkBefore, Below, FirstAfter, AreEntries, AreLinks, StartsLow, IsMeta, IsLiveLeaf, IsHalfDeadLeaf, IsDeletedLeaf, IsLeaf, IsInternal, IsOfKind, IsPage};
+
+use crate::page::{Downlink, Items, Page, PageState};
+use index_model::{Bound, Entry, Key, RowAddr};
+
+fn is_block(n: u32) -> bool
+    ensures { IsTrue result ↔ IsBlock n }
+{
+    0 < n && n < 65536
+}
+
+fn is_link(link: Option<u32>) -> bool
+    ensures { IsTrue result ↔ IfSome link IsBlock }
+{
+    match link {
+        None => true,
+        Some(n) => is_block(n),
+    }
+}
+
+fn is_whole(bound: &Bound) -> bool
+    ensures { IsTrue result ↔ IsWhole bound.now }
+{
+    let _key = bound.key.len();
+    match &bound.row {
+        None => false,
+        Some(row) => {
+            let _row = row.block();
+            true
+        }
+    }
+}
+
+fn is_slot(bound: &Option<Bound>) -> bool
+    ensures { IsTrue result ↔ IfSome bound.now IsWhole }
+{
+    match bound {
+        None => true,
+        Some(bound) => is_whole(bound),
+    }
+}
+
+fn is_up_to(high: &Option<Bound>, entry: &Entry) -> bool
+    ensures { IsTrue result ↔ IsUpTo high.now entry.now }
+{
+    match high {
+        None => true,
+        Some(high) => !high.is_below(entry),
+    }
+}
+
+fn is_before(entry: &Entry, tail: &[Entry]) -> bool
+    ensures { IsTrue result ↔ FirstAfter EntryBefore entry.now tail.now }
+{
+    match tail {
+        [] => true,
+        [next, ..] => entry.bound().is_below(next),
+    }
+}
+
+fn are_entries(entries: &[Entry], high: &Option<Bound>) -> bool
+    ensures { IsTrue result ↔ AreEntries high.now entries.now }
+{
+    let mut rest = entries;
+    while let [first, tail @ ..] = rest {
+        first.seen();
+        if !is_up_to(high, first) || !is_before(first, tail) {
+            return false;
+        }
+        rest = tail;
+    }
+    true
+}
+
+fn is_downlink(link: &Downlink) -> bool
+    ensures { IsTrue result ↔ IsDownlink link.now }
+{
+    is_slot(&link.bound) && is_block(link.child)
+}
+
+fn is_below(high: &Option<Bound>, link: &Downlink) -> bool
+    ensures { IsTrue result ↔ Below high.now link.now }
+{
+    match high {
+        None => true,
+        Some(_) => link.bound < *high,
+    }
+}
+
+fn is_before_link(link: &Downlink, tail: &[Downlink]) -> bool
+    ensures { IsTrue result ↔ FirstAfter LinkBefore link.now tail.now }
+{
+    match tail {
+        [] => true,
+        [next, ..] => link.bound < next.bound,
+    }
+}
+
+fn are_links(links: &[Downlink], high: &Option<Bound>) -> bool
+    ensures { IsTrue result ↔ AreLinks high.now links.now }
+{
+    let mut rest = links;
+    while let [first, tail @ ..] = rest {
+        if !is_downlink(first) || !is_below(high, first) || !is_before_link(first, tail) {
+            return false;
+        }
+        rest = tail;
+    }
+    true
+}
+
+fn starts_low(links: &[Downlink]) -> bool
+    ensures { IsTrue result ↔ StartsLow links.now }
+{
+    match links {
+        [] => false,
+        [first, ..] => first.bound.is_none(),
+    }
+}
+
+fn is_live(page: &Page) -> bool
+    ensures { IsTrue result ↔ (page.now.state ≡ PageState.Live) }
+{
+    matches!(page.state, PageState::Live)
+}
+
+fn is_meta(page: &Page) -> bool
+    ensures { IsTrue result ↔ IsMeta page.now }
+{
+    page.block == 0
+        && page.level <= 31
+        && is_live(page)
+        && !page.split
+        && page.cycle == 0
+        && page.deletion == 0
+        && page.left.is_none()
+        && page.right.is_some()
+        && page.high.is_none()
+}
+
+fn is_live_leaf(page: &Page, entries: &[Entry]) -> bool
+    ensures { IsTrue result ↔ IsLiveLeaf page.now entries.now }
+{
+    page.deletion == 0
+        && page.high.is_some() == page.right.is_some()
+        && (!page.split || page.right.is_some())
+        && are_entries(entries, &page.high)
+}
+
+fn is_half_dead_leaf(page: &Page, entries: &[Entry]) -> bool
+    ensures { IsTrue result ↔ IsHalfDeadLeaf page.now entries.now }
+{
+    page.deletion == 0
+        && page.high.is_some()
+        && page.right.is_some()
+        && !page.split
+        && entries.is_empty()
+}
+
+fn is_deleted_leaf(page: &Page, entries: &[Entry]) -> bool
+    ensures { IsTrue result ↔ IsDeletedLeaf page.now entries.now }
+{
+    page.left.is_none()
+        && page.right.is_some()
+        && page.high.is_none()
+        && !page.split
+        && page.cycle == 0
+        && entries.is_empty()
+}
+
+fn is_leaf(page: &Page, entries: &[Entry]) -> bool
+    requires { length entries.now ≤ 50 }
+    ensures { IsTrue result ↔ IsLeaf page.now entries.now }
+{
+    is_block(page.block)
+        && page.level == 0
+        && match page.state {
+            PageState::Live => is_live_leaf(page, entries),
+            PageState::HalfDead => is_half_dead_leaf(page, entries),
+            PageState::Deleted => is_deleted_leaf(page, entries),
+        }
+}
+
+fn is_internal(page: &Page, links: &[Downlink]) -> bool
+    requires { length links.now ≤ 50 }
+    ensures { IsTrue result ↔ IsInternal page.now links.now }
+{
+    is_block(page.block)
+        && 0 < page.level
+        && page.level <= 31
+        && is_live(page)
+        && page.high.is_some() == page.right.is_some()
+        && (!page.split || page.right.is_some())
+        && page.cycle == 0
+        && page.deletion == 0
+        && starts_low(links)
+        && are_links(links, &page.high)
+}
+
+fn is_of_kind(page: &Page) -> bool
+    ensures { IsTrue result ↔ IsOfKind page.now page.now.items }
+{
+    match &page.items {
+        Items::Meta => is_meta(page),
+        Items::Entries(entries) => is_leaf(page, entries.as_slice()),
+        Items::Downlinks(links) => is_internal(page, links.as_slice()),
+    }
+}
+
+/// Whether the page has a spelling.
+pub fn is_page(page: &Page) -> bool
+    ensures { IsTrue result ↔ IsPage page.now }
+{
+    let _cycle = page.cycle;
+    let _deletion = page.deletion;
+    if !is_link(page.left) {
+        return false;
+    }
+    if !is_link(page.right) {
+        return false;
+    }
+    if !is_slot(&page.high) {
+        return false;
+    }
+    is_of_kind(page)
+}
