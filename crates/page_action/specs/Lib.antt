@@ -1,0 +1,6 @@
+pub mod States
+pub mod Reuse
+pub mod Contents
+pub mod Causes
+pub mod Props
+pub mod Stored

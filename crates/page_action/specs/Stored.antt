@@ -1,0 +1,36 @@
+-- What a store keeps of each page, and which pages an act may change.
+use Rattle.std.specs.Prelude.{◌≡◌, ◌≢◌, ◌⊎◌, ℕ, suc, ◌≤◌, ◌<◌, List, [], ◌∷◌, length}
+use Rattle.index_model.specs.declared.limits.Limits.{Limits}
+use Rattle.page_codec.specs.Grammar.{IsPage}
+use Rattle.page_codec.specs.Spelling.{count_of}
+use Rattle.page_codec.specs.declared.page.Page.{Page}
+
+-- the page is one of the format, with no more items than the limits allow
+pub record IsStorable (limits : Limits) (page : Page) : Type 0 where
+  pub admitted : IsPage page
+  pub few : count_of page.items ≤ limits.items
+
+-- a page as it is stored at a block
+pub record IsStored (limits : Limits) (block : ℕ) (page : Page) : Type 0 where
+  pub storable : IsStorable limits page
+  pub block_is : page.block ≡ block
+
+-- each of these pages, from this block on, is stored at its block
+abbrev pub AreStored : Limits → ℕ → List Page → Type 0
+AreStored limits block [] = Unit {0}
+AreStored limits block (page ∷ pages) = IsStored limits block page × AreStored limits (suc block) pages
+
+-- none of these is of this block
+abbrev pub IsApartFrom : ℕ → List Page → Type 0
+IsApartFrom block [] = Unit {0}
+IsApartFrom block (page ∷ pages) = (page.block ≢ block) × IsApartFrom block pages
+
+-- a block in use, or the next unused one
+abbrev pub IsPlaceable : Limits → ℕ → ℕ → Type 0
+IsPlaceable limits used block = (block ≤ used) × (block < limits.pages)
+
+-- the pages of an act: each may be stored, at a block that is in use or the next unused one; no block is named twice
+abbrev pub AreActable : Limits → ℕ → List Page → Type 0
+AreActable limits used [] = Unit {0}
+AreActable limits used (page ∷ pages) =
+    IsStorable limits page × IsPlaceable limits used page.block × IsApartFrom page.block pages × AreActable limits used pages

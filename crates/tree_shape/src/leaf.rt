@@ -1,0 +1,96 @@
+//! Entries on a leaf.
+
+ghost use Rattle.std.specs.Prelude.{◌≡◌, ◌<◌, ◌≤◌, length, true, false, IfOk, IfErr, OnOk, OnErr, IfSome, insert, drop, not};
+ghost use Rattle.index_model.specs.Order.{is_among, is_past, bound_of, IsAscending};
+ghost use Rattle.index_model.specs.Range.{below_admits};
+ghost use Rattle.page_codec.specs.Edits.{entries_of, HasEntries, with_entries};
+ghost use Rattle.tree_shape.specs.Leaf.{IsPlaceOf, IsCopiedFrom, AreParts};
+
+use arrayvec::ArrayVec;
+use index_model::{Bound, Entry, Key};
+use page_codec::{Items, Page};
+
+/// How many of the entries stand before the entry.
+fn count_before(entries: &[Entry], entry: &Entry) -> usize
+    ensures within { result ≤ length entries.now }
+    ensures parts { IsAscending entries.now → AreParts (λ x. is_past (bound_of x) entry.now) entries.now result }
+{
+    entries.partition_point(|x| x.bound().is_below(entry))
+}
+
+/// How many of the entries do not lie beyond the bound.
+fn count_up_to(entries: &[Entry], bound: &Bound) -> usize
+    ensures within { result ≤ length entries.now }
+    ensures parts { IsAscending entries.now → AreParts (λ x. not (is_past bound.now x)) entries.now result }
+{
+    entries.partition_point(|x| !bound.is_below(x))
+}
+
+/// How many of the entries have a key below this one.
+fn count_below(entries: &[Entry], below: &Option<Key>) -> usize
+    ensures within { result ≤ length entries.now }
+    ensures parts { IsAscending entries.now → AreParts (λ x. below_admits below.now x.key) entries.now result }
+{
+    match below {
+        None => entries.len(),
+        Some(below) => entries.partition_point(|x| x.key < *below),
+    }
+}
+
+/// Where the entry stands among ascending entries (`Ok`), or the place that it would take (`Err`).
+pub fn find(entries: &[Entry], entry: &Entry) -> Result<usize, usize>
+    ensures there { OnOk result (is_among entries.now entry.now ≡ true) }
+    ensures absent { IsAscending entries.now → OnErr result (is_among entries.now entry.now ≡ false) }
+    ensures place { IsAscending entries.now → IfErr result (IsPlaceOf entry.now entries.now) }
+    ensures within { IfErr result (λ at. at ≤ length entries.now) }
+{
+    let at = count_before(entries, entry);
+    if at < entries.len() && entries[at].is_same(entry) {
+        Ok(at)
+    } else {
+        Err(at)
+    }
+}
+
+/// Puts an entry into a leaf, at this place.
+pub fn put(page: &mut Page, at: usize, entry: Entry)
+    requires leaf { HasEntries page.old.items }
+    requires room { length (entries_of page.old.items) < 50 }
+    requires place { at ≤ length (entries_of page.old.items) }
+    ensures { page.new ≡ with_entries page.old (insert (entries_of page.old.items) at entry) }
+{
+    if let Items::Entries(entries) = &mut page.items {
+        entries.insert(at, entry);
+    }
+}
+
+fn tail(entries: &[Entry], at: usize) -> &[Entry]
+    requires { at ≤ length entries.now }
+    ensures value { result.now ≡ drop at entries.now }
+    ensures len { length result.now ≤ length entries.now }
+{
+    &entries[at..]
+}
+
+fn copy_of(entries: &[Entry]) -> ArrayVec<Entry, 50>
+    requires { length entries.now ≤ 50 }
+    ensures { result.items ≡ entries.now }
+{
+    let mut copy = ArrayVec::new();
+    let _ = copy.try_extend_from_slice(entries);
+    copy
+}
+
+/// The entries that lie beyond the frontier and have a key below `below`, in their order.
+pub fn matches_beyond(
+    entries: &[Entry],
+    frontier: &Bound,
+    below: &Option<Key>,
+) -> ArrayVec<Entry, 50>
+    requires { length entries.now ≤ 50 }
+    ensures { IsAscending entries.now → IsCopiedFrom entries.now frontier.now below.now result.items }
+{
+    let beyond = tail(entries, count_up_to(entries, frontier));
+    let count = count_below(beyond, below);
+    copy_of(&beyond[..count])
+}
