@@ -1,9 +1,12 @@
 //! Latches.
 
+ghost use Rattle.std.specs.Prelude.{◌≡◌};
+
 /// How a page is latched.
-#[derive(Clone, Copy, Debug, PartialEq, Eq)]
+#[derive(Clone, Copy, Debug, Default, PartialEq, Eq)]
 pub enum Mode {
     /// Beside other shared ones.
+    #[default]
     Shared,
     /// Beside no other.
     Exclusive,
@@ -11,8 +14,22 @@ pub enum Mode {
     Cleanup,
 }
 
+impl Mode {
+    ghost use Rattle.latch_table.specs.Holdings.{excludes};
+
+    /// Whether a latch of this mode that one session holds excludes one that another asks for.
+    pub fn excludes(self, asked: Mode) -> bool
+        ensures { result ≡ excludes self asked }
+    {
+        match self {
+            Mode::Shared => !matches!(asked, Mode::Shared),
+            Mode::Exclusive | Mode::Cleanup => true,
+        }
+    }
+}
+
 /// A latch of a page.
-#[derive(Clone, Copy, Debug, PartialEq, Eq)]
+#[derive(Clone, Copy, Debug, Default, PartialEq, Eq)]
 pub struct Latch {
     pub block: u32,
     pub mode: Mode,

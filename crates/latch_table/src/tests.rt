@@ -1,0 +1,61 @@
+use super::*;
+use index_model::{Fault, Session};
+use std::test::*;
+
+#[test]
+fn sessions_beside_each_other(rt: HostRuntime) {
+    let Ok(first) = Session::new(0) else {
+        return;
+    };
+    let Ok(last) = Session::new(63) else {
+        return;
+    };
+    let mut table = LatchTable::new();
+    assert_eq!(rt; table.latch(first, 5, Mode::Shared), Ok(()));
+    assert_eq!(rt; table.latch(last, 5, Mode::Shared), Ok(()));
+    assert_eq!(rt;
+        table.latch(last, 5, Mode::Exclusive),
+        Err(Fault::Blocked(5))
+    );
+    table.release(first, 5);
+    assert_eq!(rt; table.latch(last, 5, Mode::Exclusive), Ok(()));
+    assert_eq!(rt; table.latch(first, 5, Mode::Shared), Err(Fault::Blocked(5)));
+    assert!(rt; !table.conflicts(last, 5, Mode::Cleanup));
+}
+
+#[test]
+fn pins_exclude_cleanup_alone(rt: HostRuntime) {
+    let Ok(first) = Session::new(1) else {
+        return;
+    };
+    let Ok(other) = Session::new(2) else {
+        return;
+    };
+    let mut table = LatchTable::new();
+    table.pin(first, 9);
+    assert_eq!(rt;
+        table.latch(other, 9, Mode::Cleanup),
+        Err(Fault::Blocked(9))
+    );
+    assert_eq!(rt; table.latch(first, 9, Mode::Cleanup), Ok(()));
+    table.release(first, 9);
+    assert_eq!(rt; table.latch(other, 9, Mode::Exclusive), Ok(()));
+    table.release(other, 9);
+    table.unpin(first, 9);
+    assert_eq!(rt; table.latch(other, 9, Mode::Cleanup), Ok(()));
+}
+
+#[test]
+fn eight_latches(rt: HostRuntime) {
+    let Ok(session) = Session::new(7) else {
+        return;
+    };
+    let mut table = LatchTable::new();
+    for block in 1..9 {
+        assert_eq!(rt; table.latch(session, block, Mode::Exclusive), Ok(()));
+    }
+    assert_eq!(rt;
+        table.latch(session, 9, Mode::Shared),
+        Err(Fault::Blocked(9))
+    );
+}
