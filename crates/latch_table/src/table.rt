@@ -28,7 +28,7 @@ impl Model for LatchTable {
 }
 
 impl LatchTable {
-    ghost use Rattle.latch_table.specs.Holdings.{nothing_held, is_held_by_another, latched, released, pinned, unpinned, HasRoom};
+    ghost use Rattle.latch_table.specs.Holdings.{nothing_held, is_held_by_another, latched, released, pinned, unpinned, with_holding, HasRoom};
 
     /// A table in which nobody holds anything.
     pub fn new() -> LatchTable
@@ -91,6 +91,13 @@ impl LatchTable {
         ensures { self.new ≡ unpinned self.old session block }
     {
         self.holdings[session.number() as usize].unpin(block);
+    }
+
+    /// Lets go all that the session holds.
+    pub fn let_go(&mut self, session: Session)
+        ensures { self.new ≡ with_holding self.old session nothing_held }
+    {
+        self.holdings[session.number() as usize] = Held::nothing();
     }
 }
 

@@ -4,3 +4,4 @@ pub mod Contents
 pub mod Causes
 pub mod Props
 pub mod Stored
+pub mod MapStore

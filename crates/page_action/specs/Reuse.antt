@@ -24,12 +24,16 @@ abbrev pub began_after : ℕ → Option ℕ → Bool
 began_after number None = true
 began_after number (Some begun) = nat_le number begun
 
+-- the session is that one
+abbrev pub is_the : Option ℕ → ℕ → Bool
+is_the None session = false
+is_the (Some other) session = session == other
+
 -- each running call of the sessions from this number on, but for one session's, began after so many others
 abbrev pub others_began_after : ℕ → ℕ → Option ℕ → List (Option ℕ) → Bool
 others_began_after number from but [] = true
-others_began_after number from None (call ∷ running) = began_after number call && others_began_after number (suc from) None running
-others_began_after number from (Some session) (call ∷ running) =
-    ((from == session) || began_after number call) && others_began_after number (suc from) (Some session) running
+others_began_after number from but (call ∷ running) =
+    (is_the but from || began_after number call) && others_began_after number (suc from) but running
 
 -- a deleted page may be reused once every running call began after its deletion number
 abbrev pub is_reusable : State → ℕ → Bool

@@ -2,6 +2,10 @@
 //! index is written over, and a plain map that implements it.
 #![tactic(auto)]
 
+mod map_store;
 mod page_store;
+mod reuse;
 
+pub use map_store::MapStore;
 pub use page_store::PageStore;
+pub use reuse::others_began_after;
