@@ -60,7 +60,7 @@ abbrev pub where_acted : State → Backing → Backing → List Page → Circums
 where_acted st old new changed = record nothing_wrong {
   device_failed = has_failed old new;
   is_stopped = old.stopped || is_at_end st.acts;
-  log_is_full = nat_le old.room (length changed);
+  log_is_full = nat_le old.promised (length changed);
   frames_are_pinned = are_frames_pinned st (map (λ page. page.block) changed);
 }
 

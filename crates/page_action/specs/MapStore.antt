@@ -26,6 +26,7 @@ abbrev pub backing_of : MapStore → Backing
 backing_of store = record {
   durable = store.durable;
   room = (store.limits.log_bytes - 6) / 4096;
+  promised = (store.limits.log_bytes - 6) / 4096;
   stopped = false;
   honest = true;
   failures = 0;

@@ -34,6 +34,8 @@ pub record Backing : Type 0 where
   pub durable : ℕ
   -- how many images one more act could hold now
   pub room : ℕ
+  -- the greatest room since the act before: an act of fewer images is not refused for want of room
+  pub promised : ℕ
   -- the log failed before
   pub stopped : Bool
   -- each read so far answered as the model of the device says

@@ -2,6 +2,7 @@
 
 ghost use Rattle.std.specs.Prelude.{◌≡◌, ℕ, suc, ◌+◌, ◌≤◌, ◌<◌, not, true, false, IfOk, IfErr, IfSome, OnOk, OnErr, Some, None, length, slice_get, slice_set, if◌then◌else◌, is_none};
 ghost use Rattle.index_model.specs.Faults.{HasCause};
+ghost use Rattle.index_model.specs.Limits.{AreLimits};
 ghost use Rattle.latch_table.specs.Holdings.{HasRoom, holding_of, is_held_by_another, latched, released, pinned, unpinned, with_holding, nothing_held};
 ghost use Rattle.page_action.specs.Causes.{where_read, where_acted, where_latched, where_begun, where_forced};
 ghost use Rattle.page_action.specs.Reuse.{IsFresh, IsFull, is_deleted, is_reusable_without};
@@ -34,6 +35,10 @@ pub trait PageStore {
         ensures state { state self.new ≡ state self.old }
         ensures page { (backing self.new).honest ≡ true → IfOk result (λ p. slice_get (state self.old).pages block ≡ Some p) }
         ensures stored { IfOk result (IsStored (state self.old).limits block) }
+        ensures used { OnOk result (block < length (state self.old).pages) }
+        ensures inside { OnOk result (length (state self.old).pages ≤ (state self.old).limits.pages) }
+        ensures alive { OnOk result ((backing self.new).stopped ≡ true → (backing self.old).stopped ≡ true) }
+        ensures promised { (backing self.new).promised ≡ (backing self.old).promised }
         ensures cause { IfErr result (HasCause (where_read (state self.old) (backing self.old) (backing self.new) block)) };
 
     /// Changes one to four pages at once, or none, and answers the number of the act, counted from 1 since opening.
@@ -114,6 +119,7 @@ pub trait PageStore {
         ensures state { state self.new ≡ state self.old }
         ensures number { IfOk result (λ n. n ≡ (state self.old).acts) }
         ensures durable { OnOk result ((backing self.new).durable ≡ (state self.old).acts) }
+        ensures promised { (backing self.new).promised ≡ (backing self.old).promised }
         ensures cause { IfErr result (HasCause (where_forced (backing self.old) (backing self.new))) };
 
     /// Makes all acts durable, writes each changed page to its place and closes the log, which then has its whole
@@ -126,9 +132,11 @@ pub trait PageStore {
         ensures room { OnOk result (5 ≤ (backing self.new).room) }
         ensures cause { IfErr result (HasCause (where_forced (backing self.old) (backing self.new))) };
 
-    /// How many images one more act could hold now.
+    /// How many images one more act could hold now. A force between now and that act may cost one image of room, yet an
+    /// act of fewer images is not refused with `LogFull`.
     fn room(&self) -> u32
-        ensures { result ≡ (backing self.now).room };
+        ensures value { result ≡ (backing self.now).room }
+        ensures promised { result ≤ (backing self.now).promised };
 
     /// Whether the log has failed: every call that reads or writes is refused with `Stopped`.
     fn is_stopped(&self) -> bool
@@ -140,7 +148,8 @@ pub trait PageStore {
 
     /// The limits that the index was made with.
     fn limits(&self) -> Limits
-        ensures { result ≡ (state self.now).limits };
+        ensures value { result ≡ (state self.now).limits }
+        ensures allowed { AreLimits result };
 
     /// None for a block that is not deleted, else whether it would be reusable if that session's call were not running.
     fn free_for(&self, session: Session, block: u32) -> Option<bool>

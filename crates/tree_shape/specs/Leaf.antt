@@ -1,10 +1,14 @@
 -- Places on a leaf, and what a scan copies from one.
 use Rattle.std.specs.Prelude.{◌≡◌, ℕ, ◌≤◌, Bool, true, false, ◌&&◌, Option, Some, List, length, take, drop}
 use Rattle.std.specs.List.{AllByRecursion}
-use Rattle.index_model.specs.Order.{bound_of, is_past, is_among, IsPast, AscendsPast}
+use Rattle.index_model.specs.Order.{bound_of, is_past, is_among, IsPast, IsUpTo, AscendsPast}
 use Rattle.index_model.specs.Range.{below_admits}
 use Rattle.index_model.specs.declared.bound.Bound.{Bound}
 use Rattle.index_model.specs.declared.entry.Entry.{Entry}
+
+use Rattle.page_codec.specs.Edits.{HasEntries}
+use Rattle.page_codec.specs.declared.page.Page.{Page}
+use Rattle.page_codec.specs.declared.page.PageState.TheVariants.{Live, HalfDead, Deleted}
 
 -- the entries up to a place pass the test, and those from there on don't
 pub record AreParts (passes : Entry → Bool) (entries : List Entry) (at : ℕ) : Type 0 where
@@ -21,3 +25,10 @@ pub record IsPlaceOf (e : Entry) (entries : List Entry) (at : ℕ) : Type 0 wher
 pub record IsCopiedFrom (entries : List Entry) (frontier : Bound) (below : Option (List ℕ)) (copied : List Entry) : Type 0 where
   pub ascends : AscendsPast (Some frontier) copied
   pub each : (e : Entry) → is_among copied e ≡ (is_among entries e && (is_past frontier e && below_admits below e.key))
+
+-- a live leaf, not flagged, whose high key the entry doesn't pass
+pub record MayHold (page : Page) (e : Entry) : Type 0 where
+  pub leaf : HasEntries page.items
+  pub alive : page.state ≡ Live
+  pub whole : page.split ≡ false
+  pub within : IsUpTo page.high e

@@ -1,14 +1,16 @@
 //! Entries on a leaf.
 
-ghost use Rattle.std.specs.Prelude.{◌≡◌, ◌<◌, ◌≤◌, length, true, false, IfOk, IfErr, OnOk, OnErr, IfSome, insert, drop, not};
-ghost use Rattle.index_model.specs.Order.{is_among, is_past, bound_of, IsAscending};
+ghost use Rattle.std.specs.Prelude.{◌≡◌, ◌<◌, ◌≤◌, ◌+◌, ◌||◌, ◌↔◌, IsTrue, length, true, false, IfOk, IfErr, OnOk, OnErr, IfSome, insert, drop, not};
+ghost use Rattle.index_model.specs.Order.{is_among, same_entry, is_past, bound_of, IsAscending};
 ghost use Rattle.index_model.specs.Range.{below_admits};
+ghost use Rattle.index_model.specs.declared.entry.Entry.{Entry};
+ghost use Rattle.page_codec.specs.Grammar.{IsPage};
 ghost use Rattle.page_codec.specs.Edits.{entries_of, HasEntries, with_entries};
-ghost use Rattle.tree_shape.specs.Leaf.{IsPlaceOf, IsCopiedFrom, AreParts};
+ghost use Rattle.tree_shape.specs.Leaf.{IsPlaceOf, IsCopiedFrom, AreParts, MayHold};
 
 use arrayvec::ArrayVec;
 use index_model::{Bound, Entry, Key};
-use page_codec::{Items, Page};
+use page_codec::{Items, Page, PageState};
 
 /// How many of the entries stand before the entry.
 fn count_before(entries: &[Entry], entry: &Entry) -> usize
@@ -52,13 +54,42 @@ pub fn find(entries: &[Entry], entry: &Entry) -> Result<usize, usize>
     }
 }
 
-/// Puts an entry into a leaf, at this place.
+/// Whether the page is a live leaf, not flagged, whose high key the entry does not pass.
+pub fn may_hold(page: &Page, entry: &Entry) -> bool
+    ensures { IsTrue result ↔ MayHold page.now entry.now }
+{
+    if !is_live(page.state) || page.split || !is_leaf(&page.items) {
+        return false;
+    }
+    match &page.high {
+        None => true,
+        Some(high) => !high.is_below(entry),
+    }
+}
+
+fn is_live(state: PageState) -> bool
+    ensures { IsTrue result ↔ (state ≡ PageState.Live) }
+{
+    matches!(state, PageState::Live)
+}
+
+fn is_leaf(items: &Items) -> bool
+    ensures { IsTrue result ↔ HasEntries items.now }
+{
+    matches!(items, Items::Entries(_))
+}
+
+/// Puts an entry into a leaf, at the place that [`find`] gave.
 pub fn put(page: &mut Page, at: usize, entry: Entry)
     requires leaf { HasEntries page.old.items }
     requires room { length (entries_of page.old.items) < 50 }
     requires place { at ≤ length (entries_of page.old.items) }
-    ensures { page.new ≡ with_entries page.old (insert (entries_of page.old.items) at entry) }
+    ensures put { page.new ≡ with_entries page.old (insert (entries_of page.old.items) at entry) }
+    ensures among { (y : Entry) → is_among (entries_of page.new.items) y ≡ (same_entry entry y || is_among (entries_of page.old.items) y) }
+    ensures page { IsPage page.old → MayHold page.old entry → IsPlaceOf entry (entries_of page.old.items) at → IsPage page.new }
+    ensures count { length (entries_of page.new.items) ≡ length (entries_of page.old.items) + 1 }
 {
+    entry.seen();
     if let Items::Entries(entries) = &mut page.items {
         entries.insert(at, entry);
     }

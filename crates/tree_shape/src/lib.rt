@@ -3,4 +3,4 @@
 
 mod leaf;
 
-pub use leaf::{find, matches_beyond, put};
+pub use leaf::{find, matches_beyond, may_hold, put};

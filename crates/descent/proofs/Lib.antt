@@ -1,0 +1,4 @@
+pub mod Looking
+pub mod Tables
+pub mod Contents
+pub mod Quiet

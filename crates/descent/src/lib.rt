@@ -1,0 +1,7 @@
+//! How every operation comes to a page: it is read latched, and the root is found from the metapage. And the words that
+//! the steps of all operations share.
+#![tactic(auto)]
+
+mod reading;
+
+pub use reading::{look, root};

@@ -1,0 +1,6 @@
+//! An insert, one page a step.
+#![tactic(auto)]
+
+mod insert;
+
+pub use insert::{InsertAt, InsertOp, InsertStep};
