@@ -1,0 +1,22 @@
+-- What holds at each moment since an earlier one.
+use Rattle.std.specs.Prelude.{◌≡◌, ℕ, List, [], ◌∷◌, ◌++◌, Contains}
+use Rattle.device.specs.Disk.{Moment, Trace, MayLeave}
+
+-- P holds of each
+abbrev pub Each : (Moment → Type 0) → List Moment → Type 0
+Each P [] = Unit {0}
+Each P (m ∷ ms) = P m × Each P ms
+
+-- from old on, a device came to new, and P held at each moment since (at old itself it need not)
+pub record Goes (P : Moment → Type 0) (old new : Trace) : Type 0 where
+  pub since : List Moment
+  pub is : new.now ∷ new.past ≡ since ++ old.now ∷ old.past
+  pub each : Each P since
+
+-- a crash at old, or at a moment since, may have left this image
+pub record MayHaveLeft (old new : Trace) (image : List ℕ) : Type 0 where
+  pub since : List Moment
+  pub is : new.now ∷ new.past ≡ since ++ old.now ∷ old.past
+  pub moment : Moment
+  pub among : Contains (since ++ old.now ∷ []) moment
+  pub left : MayLeave moment image
