@@ -11,6 +11,10 @@ use Rattle.device.specs.declared.plan.Plan.{Plan}
 abbrev pub trace_of : MemDevice → Trace
 trace_of m = done (first m.start.items) m.calls.items
 
+-- how many of its calls have failed
+abbrev pub failures_of : MemDevice → ℕ
+failures_of m = m.failures.value
+
 -- which of its calls are made to fail
 abbrev pub plan_of : MemDevice → Plan
 plan_of m = m.plan

@@ -1,5 +1,5 @@
 -- What holds at each moment since an earlier one.
-use Rattle.std.specs.Prelude.{◌≡◌, ℕ, List, [], ◌∷◌, ◌++◌, Contains}
+use Rattle.std.specs.Prelude.{◌≡◌, ◌⊎◌, ℕ, List, [], ◌∷◌, ◌++◌}
 use Rattle.device.specs.Disk.{Moment, Trace, MayLeave}
 
 -- P holds of each
@@ -13,10 +13,13 @@ pub record Goes (P : Moment → Type 0) (old new : Trace) : Type 0 where
   pub is : new.now ∷ new.past ≡ since ++ old.now ∷ old.past
   pub each : Each P since
 
+-- P holds of one of them
+abbrev pub AtSome : (Moment → Type 0) → List Moment → Type 0
+AtSome P [] = ⊥
+AtSome P (m ∷ ms) = P m ⊎ AtSome P ms
+
 -- a crash at old, or at a moment since, may have left this image
 pub record MayHaveLeft (old new : Trace) (image : List ℕ) : Type 0 where
   pub since : List Moment
   pub is : new.now ∷ new.past ≡ since ++ old.now ∷ old.past
-  pub moment : Moment
-  pub among : Contains (since ++ old.now ∷ []) moment
-  pub left : MayLeave moment image
+  pub left : AtSome (λ m. MayLeave m image) (since ++ old.now ∷ [])

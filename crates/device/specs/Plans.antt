@@ -1,5 +1,5 @@
 -- Which calls of a device in memory are made to fail.
-use Rattle.std.specs.Prelude.{ℕ, ◌-◌, Bool, true, false, ◌==◌, ◌||◌, if◌then◌else◌}
+use Rattle.std.specs.Prelude.{ℕ, ◌-◌, false, ◌==◌, ◌||◌, if◌then◌else◌}
 use Rattle.device.specs.declared.plan.Plan.{Plan}
 use Rattle.device.specs.declared.plan.Fate.{Fate}
 use Rattle.device.specs.declared.plan.Fate.TheVariants.{Runs, Fails, Dead}

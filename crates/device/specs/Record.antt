@@ -1,7 +1,7 @@
 -- What a record of writes and syncs says of a device.
-use Rattle.std.specs.Prelude.{◌≡◌, ℕ, suc, ◌+◌, ◌/◌, ◌-◌, ◌==◌, Bool, true, false, ◌&&◌, nat_le, if◌then◌else◌, List, [], ◌∷◌, ◌++◌, length, take, drop, replicate, Vec}
+use Rattle.std.specs.Prelude.{◌≡◌, ℕ, suc, ◌+◌, ◌/◌, ◌-◌, ◌==◌, Bool, true, ◌&&◌, nat_le, if◌then◌else◌, List, [], ◌∷◌, ◌++◌, length, take, drop, replicate, Vec}
 use Rattle.std.specs.declared.alloc.Global.{Global}
-use Rattle.device.specs.Disk.{Moment, Trace, next, wrote, synced, put}
+use Rattle.device.specs.Disk.{Trace, next, wrote, synced, put}
 use Rattle.device.specs.declared.record.Call.{Call}
 use Rattle.device.specs.declared.record.Call.TheVariants.{Write, Sync}
 

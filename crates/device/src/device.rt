@@ -40,12 +40,14 @@ pub trait Device {
     fn write_at(&mut self, at: u64, bytes: &[u8]) -> Result<(), Fault>
         requires range { at + length bytes.now ≤ length (trace self.old).now.seen }
         ensures trace { Writes at bytes.now result (trace self.old) (trace self.new) }
+        ensures len { length (trace self.new).now.seen ≡ length (trace self.old).now.seen }
         ensures honest { is_honest self.new ≡ is_honest self.old }
         ensures failures { Counts result (failures self.old) (failures self.new) };
 
     /// Makes all that was written stand through a crash. At `Io` the device is as it was.
     fn sync(&mut self) -> Result<(), Fault>
         ensures trace { Syncs result (trace self.old) (trace self.new) }
+        ensures len { length (trace self.new).now.seen ≡ length (trace self.old).now.seen }
         ensures honest { is_honest self.new ≡ is_honest self.old }
         ensures failures { Counts result (failures self.old) (failures self.new) };
 

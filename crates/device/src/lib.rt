@@ -10,3 +10,6 @@ mod record;
 
 pub use device::Device;
 pub use memory::{CrashImage, MemDevice};
+
+#[cfg(test)]
+mod tests;

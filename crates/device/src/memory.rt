@@ -1,6 +1,6 @@
 //! A device in memory.
 
-ghost use Rattle.std.specs.Prelude.{◌≡◌, ◌⊎◌, ◌↔◌, ◌+◌, ◌<◌, ◌≤◌, ◌^◌, Bool, true, IsTrue, IsOk, OnOk, IfOk, IfErr, length, replicate, slice_range};
+ghost use Rattle.std.specs.Prelude.{◌≡◌, ◌⊎◌, ◌↔◌, ◌+◌, ◌<◌, ◌≤◌, ◌^◌, suc, Bool, true, IsTrue, IsOk, OnOk, OnErr, IfOk, IfErr, length, replicate, slice_range};
 ghost use Rattle.device.specs.Disk.{MayLeave, first, next, wrote, Counts, Writes, Syncs};
 ghost use Rattle.device.specs.Record.{done, are_inside};
 
@@ -118,7 +118,18 @@ impl MemDevice {
     }
 }
 
+fn count_failure(failures: &mut Count) -> Fault
+    ensures counted { failures.new.value ≡ suc failures.old.value }
+    ensures io { result ≡ Fault.Io }
+{
+    failures.add_one();
+    Fault::Io
+}
+
 impl Device for MemDevice {
+    ghost use Rattle.device.specs.Memory.{trace_of, failures_of, plan_of};
+    ghost use Rattle.device.specs.Plans.{fate_of, after_call};
+
     ghost trace = { λ m. done (first m.start.items) m.calls.items };
 
     ghost failures = { λ m. m.failures.value };
@@ -131,41 +142,59 @@ impl Device for MemDevice {
         self.bytes.len() as u64
     }
 
-    fn read_at(&mut self, at: u64, buf: &mut [u8]) -> Result<(), Fault> {
+    fn read_at(&mut self, at: u64, buf: &mut [u8]) -> Result<(), Fault>
+        requires range { at + length buf.old ≤ length (trace_of self.old).now.seen }
+        ensures read { OnOk result (buf.new ≡ slice_range (trace_of self.old).now.seen at (at + length buf.old)) }
+        ensures trace { trace_of self.new ≡ trace_of self.old }
+        ensures failures { Counts result (failures_of self.old) (failures_of self.new) }
+        ensures fate { IsOk result ↔ (fate_of (plan_of self.old) ≡ Fate.Runs) }
+        ensures plan { plan_of self.new ≡ after_call (plan_of self.old) }
+    {
         let Fate::Runs = self.plan.next() else {
-            self.failures.add_one();
-            return Err(Fault::Io);
+            return Err(count_failure(&mut self.failures));
         };
         let at = at as usize;
         buf.copy_from_slice(&self.bytes[at..at + buf.len()]);
         Ok(())
     }
 
-    fn write_at(&mut self, at: u64, bytes: &[u8]) -> Result<(), Fault> {
+    fn write_at(&mut self, at: u64, bytes: &[u8]) -> Result<(), Fault>
+        requires range { at + length bytes.now ≤ length (trace_of self.old).now.seen }
+        ensures trace { Writes at bytes.now result (trace_of self.old) (trace_of self.new) }
+        ensures len { length (trace_of self.new).now.seen ≡ length (trace_of self.old).now.seen }
+        ensures failures { Counts result (failures_of self.old) (failures_of self.new) }
+        ensures fate { IsOk result → fate_of (plan_of self.old) ≡ Fate.Runs }
+        ensures dead { fate_of (plan_of self.old) ≡ Fate.Dead → trace_of self.new ≡ trace_of self.old }
+        // A write that fails is kept as written, unless it could not be recorded.
+        ensures kept { OnErr result ((trace_of self.new ≡ next (wrote at bytes.now (trace_of self.old).now) (trace_of self.old))
+            ⊎ (trace_of self.new ≡ trace_of self.old)) }
+        ensures plan { plan_of self.new ≡ after_call (plan_of self.old) }
+    {
         let fate = self.plan.next();
         if fate == Fate::Dead {
-            self.failures.add_one();
-            return Err(Fault::Io);
+            return Err(count_failure(&mut self.failures));
         }
         let Ok(()) = write_noted(self.alloc, &mut self.calls, &mut self.bytes, at, bytes) else {
-            self.failures.add_one();
-            return Err(Fault::Io);
+            return Err(count_failure(&mut self.failures));
         };
         if fate == Fate::Fails {
-            self.failures.add_one();
-            return Err(Fault::Io);
+            return Err(count_failure(&mut self.failures));
         }
         Ok(())
     }
 
-    fn sync(&mut self) -> Result<(), Fault> {
+    fn sync(&mut self) -> Result<(), Fault>
+        ensures trace { Syncs result (trace_of self.old) (trace_of self.new) }
+        ensures len { length (trace_of self.new).now.seen ≡ length (trace_of self.old).now.seen }
+        ensures failures { Counts result (failures_of self.old) (failures_of self.new) }
+        ensures fate { IsOk result → fate_of (plan_of self.old) ≡ Fate.Runs }
+        ensures plan { plan_of self.new ≡ after_call (plan_of self.old) }
+    {
         let Fate::Runs = self.plan.next() else {
-            self.failures.add_one();
-            return Err(Fault::Io);
+            return Err(count_failure(&mut self.failures));
         };
         let Ok(()) = sync_noted(&mut self.calls) else {
-            self.failures.add_one();
-            return Err(Fault::Io);
+            return Err(count_failure(&mut self.failures));
         };
         Ok(())
     }

@@ -1,4 +1,4 @@
-use Rattle.std.proofs.Common.{◌≡◌, ◌∙◌, sym, ap, subst, IsTrue, length, take, rules}
+use Rattle.std.proofs.Common.{◌≡◌, sym, subst, IsTrue, length, take, rules}
 use Rattle.device.specs.Record.{are_inside}
 use Rattle.device.proofs.Noting.{inside-take}
 use Rattle.device.proofs.record.dropped.Goals as goal

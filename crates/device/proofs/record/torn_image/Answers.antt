@@ -1,4 +1,4 @@
-use Rattle.std.proofs.Common.{◌≡◌, ◌-◌, ◌∙◌, ℕ, sym, subst, IsTrue, length, take, drop, rules}
+use Rattle.std.proofs.Common.{◌≡◌, ◌-◌, ℕ, sym, subst, IsTrue, length, take, drop, rules}
 use Rattle.device.specs.Record.{are_inside, synced_calls, synced_over}
 use Rattle.device.proofs.Noting.{image_inside}
 use Rattle.device.proofs.record.torn_image.Goals as goal

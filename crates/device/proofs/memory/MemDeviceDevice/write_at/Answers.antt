@@ -1,4 +1,4 @@
-use Rattle.std.proofs.Common.{◌≡◌, ◌+◌, ◌≤◌, ap, inr, refl, length, arith}
+use Rattle.std.proofs.Common.{◌+◌, ◌≤◌, ap, inl, inr, refl, length, arith}
 use Rattle.device.proofs.Noting.{note_trace, written_replayed, written_sized, written_inside, written_small}
 use Rattle.device.proofs.memory.MemDeviceDevice.write_at.Goals as goal
 
@@ -29,8 +29,10 @@ invariant_of-self-else-eq-2 c =
     }
 
 pub returns-then-eq-2-clause-trace : goal.returns-then-eq-2-clause-trace
-returns-then-eq-2-clause-trace c =
-    inr (c.args.bytes.now, refl, note_trace 0 c.args.bytes.now c.args.at c.args.self.now.calls.items c.write_noted.new.calls.items c.in-Ok.ensures.noted _)
+returns-then-eq-2-clause-trace c = inr (c.args.bytes.now, refl, note_trace 0 _ c.args.at _ _ c.in-Ok.ensures.noted _)
+
+pub returns-then-eq-2-clause-kept : goal.returns-then-eq-2-clause-kept
+returns-then-eq-2-clause-kept c = inl (note_trace 0 _ c.args.at _ _ c.in-Ok.ensures.noted _)
 
 pub returns-clause-trace : goal.returns-clause-trace
-returns-clause-trace c = note_trace 0 c.args.bytes.now c.args.at c.args.self.now.calls.items c.write_noted.new.calls.items c.in-Ok.ensures.noted _
+returns-clause-trace c = note_trace 0 _ c.args.at _ _ c.in-Ok.ensures.noted _
