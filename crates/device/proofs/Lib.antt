@@ -1,0 +1,4 @@
+pub mod Going
+pub mod Standing
+mod Noting
+mod Steps

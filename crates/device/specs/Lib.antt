@@ -1,0 +1,6 @@
+pub mod Disk
+pub mod Moments
+pub mod Places
+pub mod Plans
+pub mod Record
+pub mod Memory

@@ -1,0 +1,15 @@
+//! A device by its bytes: what a read gives, what a crash may leave, how often it failed; and one in memory that can
+//! be made to fail and to crash.
+#![tactic(auto)]
+
+mod count;
+mod device;
+mod memory;
+mod plan;
+mod record;
+
+pub use device::Device;
+pub use memory::{CrashImage, MemDevice};
+
+#[cfg(test)]
+mod tests;

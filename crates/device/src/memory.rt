@@ -1,0 +1,201 @@
+//! A device in memory.
+
+ghost use Rattle.std.specs.Prelude.{◌≡◌, ◌⊎◌, ◌↔◌, ◌+◌, ◌<◌, ◌≤◌, ◌^◌, suc, Bool, true, IsTrue, IsOk, OnOk, OnErr, IfOk, IfErr, length, replicate, slice_range};
+ghost use Rattle.device.specs.Disk.{MayLeave, first, next, wrote, Counts, Writes, Syncs};
+ghost use Rattle.device.specs.Record.{done, are_inside};
+
+use crate::count::Count;
+use crate::device::Device;
+use crate::plan::{Fate, Plan};
+use crate::record::{Call, dropped, sync_noted, torn_image, write_noted};
+use index_model::Fault;
+use std::alloc::Global;
+
+/// What a crash leaves of a device in memory.
+#[derive(Clone, Copy, Debug, PartialEq, Eq)]
+pub enum CrashImage {
+    /// The bytes at the last successful sync.
+    Drop,
+    /// All bytes as written.
+    Keep,
+    /// The bytes at the last successful sync, then each later write in order, its first half as written and each other
+    /// byte A5.
+    Tear,
+}
+
+/// A device in memory, which keeps the model. Calls of it can be made to fail, and it can be asked what a crash leaves.
+/// It records its writes and syncs; a call that cannot be recorded does nothing and answers `Io`.
+#[derive(Drop)]
+pub struct MemDevice {
+    alloc: Global,
+    start: Vec<u8>,
+    bytes: Vec<u8>,
+    calls: Vec<Call>,
+    failures: Count,
+    plan: Plan,
+    ghost replayed: { bytes.items ≡ (done (first start.items) calls.items).now.seen },
+    ghost inside: { IsTrue (are_inside (length start.items) calls.items) },
+    ghost sized: { length bytes.items ≡ length start.items },
+    ghost small: { length (done (first start.items) calls.items).now.seen < 2 ^ 63 },
+}
+
+impl MemDevice {
+    ghost use Rattle.device.specs.Memory.{trace_of, plan_of, left_by};
+    ghost use Rattle.device.specs.Plans.{no_plan, failing_at, stopping_at};
+
+    /// A device of so many bytes, all zero and synced, of which no call is made to fail. Without memory for them it is
+    /// refused with `NoMemory`.
+    pub fn new(alloc: Global, len: u64) -> Result<MemDevice, Fault>
+        ensures bytes { IfOk result (λ d. trace_of d ≡ first (replicate len 0)) }
+        ensures plan { IfOk result (λ d. plan_of d ≡ no_plan) }
+        ensures fault { IfErr result (λ e. e ≡ Fault.NoMemory) }
+    {
+        if len >= 1 << 63 {
+            return Err(Fault::NoMemory);
+        }
+        let Ok(start) = vec![in alloc; 0u8; len as usize] else {
+            return Err(Fault::NoMemory);
+        };
+        MemDevice::of_bytes(alloc, start)
+    }
+
+    /// The nth call from now, of reads, writes and syncs, fails once. 0: none does. An earlier such plan is dropped; one
+    /// of `stop_at` stands beside it.
+    pub fn fail_at(&mut self, n: u64)
+        ensures plan { plan_of self.new ≡ failing_at n (plan_of self.old) }
+        ensures trace { trace_of self.new ≡ trace_of self.old }
+    {
+        self.plan.fail_in = n;
+    }
+
+    /// The nth call from now, of reads, writes and syncs, fails, and so does each later one. 0: none does. An earlier
+    /// such plan is dropped, also where it has stopped the device; one of `fail_at` stands beside it.
+    pub fn stop_at(&mut self, n: u64)
+        ensures plan { plan_of self.new ≡ stopping_at n (plan_of self.old) }
+        ensures trace { trace_of self.new ≡ trace_of self.old }
+    {
+        self.plan.stop_in = n;
+        self.plan.stopped = false;
+    }
+
+    /// What a crash now leaves, as a device of its own: its bytes are synced, and no call of it is made to fail.
+    /// Without memory for it the call is refused with `NoMemory`.
+    pub fn crash(&self, alloc: Global, image: CrashImage) -> Result<MemDevice, Fault>
+        ensures bytes { IfOk result (λ d. trace_of d ≡ first (left_by image self.now)) }
+        ensures left { MayLeave (trace_of self.now).now (left_by image self.now) }
+        ensures plan { IfOk result (λ d. plan_of d ≡ no_plan) }
+        ensures fault { IfErr result (λ e. e ≡ Fault.NoMemory) }
+    {
+        let made = match image {
+            CrashImage::Keep => self.bytes.to_vec(alloc),
+            CrashImage::Drop => dropped(alloc, &self.start, &self.calls),
+            CrashImage::Tear => torn_image(alloc, &self.start, &self.calls),
+        };
+        let Ok(start) = made else {
+            return Err(Fault::NoMemory);
+        };
+        MemDevice::of_bytes(alloc, start)
+    }
+
+    /// A device of these bytes, all synced, of which no call is made to fail.
+    fn of_bytes(alloc: Global, start: Vec<u8>) -> Result<MemDevice, Fault>
+        requires { length start.items < 2 ^ 63 }
+        ensures bytes { IfOk result (λ d. trace_of d ≡ first start.items) }
+        ensures plan { IfOk result (λ d. plan_of d ≡ no_plan) }
+        ensures fault { IfErr result (λ e. e ≡ Fault.NoMemory) }
+    {
+        let Ok(bytes) = start.to_vec(alloc) else {
+            return Err(Fault::NoMemory);
+        };
+        Ok(MemDevice {
+            alloc,
+            start,
+            bytes,
+            calls: Vec::new(alloc),
+            failures: Count::new(),
+            plan: Plan::NONE,
+        })
+    }
+}
+
+fn count_failure(failures: &mut Count) -> Fault
+    ensures counted { failures.new.value ≡ suc failures.old.value }
+    ensures io { result ≡ Fault.Io }
+{
+    failures.add_one();
+    Fault::Io
+}
+
+impl Device for MemDevice {
+    ghost use Rattle.device.specs.Memory.{trace_of, failures_of, plan_of};
+    ghost use Rattle.device.specs.Plans.{fate_of, after_call};
+
+    ghost trace = { λ m. done (first m.start.items) m.calls.items };
+
+    ghost failures = { λ m. m.failures.value };
+
+    ghost is_honest = { λ _. true };
+
+    ghost small = { λ m. m.small };
+
+    fn len(&self) -> u64 {
+        self.bytes.len() as u64
+    }
+
+    fn read_at(&mut self, at: u64, buf: &mut [u8]) -> Result<(), Fault>
+        requires range { at + length buf.old ≤ length (trace_of self.old).now.seen }
+        ensures read { OnOk result (buf.new ≡ slice_range (trace_of self.old).now.seen at (at + length buf.old)) }
+        ensures trace { trace_of self.new ≡ trace_of self.old }
+        ensures failures { Counts result (failures_of self.old) (failures_of self.new) }
+        ensures fate { IsOk result ↔ (fate_of (plan_of self.old) ≡ Fate.Runs) }
+        ensures plan { plan_of self.new ≡ after_call (plan_of self.old) }
+    {
+        let Fate::Runs = self.plan.next() else {
+            return Err(count_failure(&mut self.failures));
+        };
+        let at = at as usize;
+        buf.copy_from_slice(&self.bytes[at..at + buf.len()]);
+        Ok(())
+    }
+
+    fn write_at(&mut self, at: u64, bytes: &[u8]) -> Result<(), Fault>
+        requires range { at + length bytes.now ≤ length (trace_of self.old).now.seen }
+        ensures trace { Writes at bytes.now result (trace_of self.old) (trace_of self.new) }
+        ensures len { length (trace_of self.new).now.seen ≡ length (trace_of self.old).now.seen }
+        ensures failures { Counts result (failures_of self.old) (failures_of self.new) }
+        ensures fate { IsOk result → fate_of (plan_of self.old) ≡ Fate.Runs }
+        ensures dead { fate_of (plan_of self.old) ≡ Fate.Dead → trace_of self.new ≡ trace_of self.old }
+        // A write that fails is kept as written, unless it could not be recorded.
+        ensures kept { OnErr result ((trace_of self.new ≡ next (wrote at bytes.now (trace_of self.old).now) (trace_of self.old))
+            ⊎ (trace_of self.new ≡ trace_of self.old)) }
+        ensures plan { plan_of self.new ≡ after_call (plan_of self.old) }
+    {
+        let fate = self.plan.next();
+        if fate == Fate::Dead {
+            return Err(count_failure(&mut self.failures));
+        }
+        let Ok(()) = write_noted(self.alloc, &mut self.calls, &mut self.bytes, at, bytes) else {
+            return Err(count_failure(&mut self.failures));
+        };
+        if fate == Fate::Fails {
+            return Err(count_failure(&mut self.failures));
+        }
+        Ok(())
+    }
+
+    fn sync(&mut self) -> Result<(), Fault>
+        ensures trace { Syncs result (trace_of self.old) (trace_of self.new) }
+        ensures len { length (trace_of self.new).now.seen ≡ length (trace_of self.old).now.seen }
+        ensures failures { Counts result (failures_of self.old) (failures_of self.new) }
+        ensures fate { IsOk result → fate_of (plan_of self.old) ≡ Fate.Runs }
+        ensures plan { plan_of self.new ≡ after_call (plan_of self.old) }
+    {
+        let Fate::Runs = self.plan.next() else {
+            return Err(count_failure(&mut self.failures));
+        };
+        let Ok(()) = sync_noted(&mut self.calls) else {
+            return Err(count_failure(&mut self.failures));
+        };
+        Ok(())
+    }
+}
