@@ -1,0 +1,29 @@
+-- How lines and what stands in them are spelled.
+use Rattle.std.specs.Prelude.{◌≡◌, ℕ, Bool, ◌==◌, if◌then◌else◌, Option, Some, None, List, [], ◌∷◌, ◌++◌, length}
+use Rattle.std.specs.Fmt.{decimal}
+use Rattle.hex.specs.Hex.{encode_lower}
+use Rattle.index_model.specs.Row.{Row}
+use Rattle.index_model.specs.declared.entry.Entry.{Entry}
+
+-- a byte put before the first word
+abbrev pub with_first : ℕ → List (List ℕ) → List (List ℕ)
+with_first byte [] = (byte ∷ []) ∷ []
+with_first byte (word ∷ words) = (byte ∷ word) ∷ words
+
+-- a line's words, which single spaces part: always one more than there are spaces
+abbrev pub words_of : List ℕ → List (List ℕ)
+words_of [] = [] ∷ []
+words_of (byte ∷ line) = if byte == 32 then [] ∷ words_of line else with_first byte (words_of line)
+
+-- lower-case hex, `-` for no byte
+abbrev pub key_text : List ℕ → List ℕ
+key_text [] = 45 ∷ []
+key_text (byte ∷ bytes) = encode_lower (byte ∷ bytes)
+
+-- `(block,offset)`
+abbrev pub row_text : Row → List ℕ
+row_text row = 40 ∷ (decimal row.block ++ (44 ∷ (decimal row.offset ++ 41 ∷ [])))
+
+-- a key and a row, parted by a space
+abbrev pub entry_text : Entry → List ℕ
+entry_text entry = key_text entry.key ++ (32 ∷ row_text entry.row)

@@ -1,0 +1,79 @@
+//! The program over any streams.
+
+use crate::command::{program, setting};
+use crate::play::{End, play};
+use crate::refusal::print_refusal;
+use clap::{ArgMatches, Error};
+use index_model::Fault;
+use std::alloc::Global;
+use std::convert::AsStr;
+use std::io::{self, Read, Write};
+
+/// Runs the command of these words, the program's own name first, and answers its status: 0 where all was done, 2
+/// where it was refused. `input` is read by `play`. A refusal is printed on `err`.
+pub fn execute<'a, S: AsStr, R: Read, W: Write, E: Write>(
+    alloc: Global,
+    words: &'a [S],
+    input: &mut R,
+    out: &mut W,
+    err: &mut E,
+) -> u8 {
+    match command(alloc, words, input, out, err) {
+        Ok(End::Done) => 0,
+        Ok(End::Said) => 2,
+        Ok(End::Refused(fault)) => refuse(err, fault),
+        Err(error) => refuse(err, fault_of(&error)),
+    }
+}
+
+fn refuse<E: Write>(err: &mut E, fault: Fault) -> u8 {
+    let _ = print_refusal(err, fault);
+    2
+}
+
+/// What a stream that failed is refused with.
+fn fault_of(error: &io::Error) -> Fault {
+    match error.kind() {
+        io::ErrorKind::OutOfMemory => Fault::NoMemory,
+        _ => Fault::Io,
+    }
+}
+
+fn command<'a, S: AsStr, R: Read, W: Write, E: Write>(
+    alloc: Global,
+    words: &'a [S],
+    input: &mut R,
+    out: &mut W,
+    err: &mut E,
+) -> io::Result<End> {
+    let Ok(program) = program(alloc) else {
+        return Ok(End::Refused(Fault::NoMemory));
+    };
+    match program.try_get_matches_from(words) {
+        Ok(matches) => run(alloc, &matches, input, out, err),
+        Err(error) => print_usage(&error, out, err),
+    }
+}
+
+/// Prints what clap has to say: what was asked for, or what is wrong.
+fn print_usage<W: Write, E: Write>(error: &Error, out: &mut W, err: &mut E) -> io::Result<End> {
+    if error.use_stderr() {
+        write!(err, "{error}")?;
+        return Ok(End::Said);
+    }
+    write!(out, "{error}")?;
+    Ok(End::Done)
+}
+
+fn run<R: Read, W: Write, E: Write>(
+    alloc: Global,
+    matches: &ArgMatches<'_>,
+    input: &mut R,
+    out: &mut W,
+    err: &mut E,
+) -> io::Result<End> {
+    match matches.subcommand() {
+        Some(("play", matches)) => play(alloc, &setting(matches), input, out, err),
+        _ => Ok(End::Said),
+    }
+}

@@ -1,0 +1,217 @@
+//! The lines of a script.
+
+use crate::number::{key, number, number_u32, row};
+use crate::words::Words;
+use index_model::{Entry, Fault, Key, Range, RowAddr};
+
+/// What a crash leaves of the bytes that weren't synced.
+#[derive(Clone, Copy, Debug, PartialEq, Eq)]
+pub enum Crash {
+    /// All of them.
+    Keep,
+    /// None of them.
+    Drop,
+    /// The first half of each write.
+    Tear,
+}
+
+/// The rows of a `bulk` line.
+#[derive(Drop)]
+pub struct Rows<'a> {
+    words: Words<'a>,
+}
+
+impl<'a> Rows<'a> {
+    /// The next row, or None behind the last.
+    pub fn next(&mut self) -> Option<RowAddr> {
+        row(self.words.next()?)?.ok()
+    }
+}
+
+/// A line of a script. Its first number is that of a session.
+#[derive(Drop)]
+pub enum Line<'a> {
+    /// An empty line or a comment.
+    Nothing,
+    Insert(u32, Entry),
+    Scan(u32, Range),
+    Bulk(u32, Rows<'a>),
+    Cleanup(u32),
+    Step(u32),
+    Run(u32),
+    Next(u32),
+    End(u32),
+    /// An insert, run to its end.
+    Put(u32, Entry),
+    /// A scan, run to its end.
+    List(u32, Range),
+    Force,
+    Flush,
+    Checkpoint,
+    /// The device call of this number from now on, from 1, fails.
+    Fail(u64),
+    /// The device calls from this number from now on, from 1, fail.
+    Stop(u64),
+    Crash(Crash),
+    Dump,
+}
+
+/// Why a line stands for nothing that could be done.
+#[derive(Clone, Copy, Debug, PartialEq, Eq)]
+pub enum LineError {
+    /// It has no form of the table of lines.
+    NotAnEvent,
+    /// It has, but its key is too long (6), or else its row is none (7).
+    Refused(Fault),
+}
+
+/// The line of this text.
+pub fn parse(text: &[u8]) -> Result<Line<'_>, LineError> {
+    if text.is_empty() || text[0] == b'#' {
+        return Ok(Line::Nothing);
+    }
+    let mut words = Words::new(text);
+    let Some(read) = event(&mut words) else {
+        return Err(LineError::NotAnEvent);
+    };
+    if words.next().is_some() {
+        return Err(LineError::NotAnEvent);
+    }
+    match read {
+        Ok(line) => Ok(line),
+        Err(fault) => Err(LineError::Refused(fault)),
+    }
+}
+
+fn event<'a>(words: &mut Words<'a>) -> Option<Result<Line<'a>, Fault>> {
+    let name = words.next()?;
+    if let Some(line) = plain(name) {
+        return Some(Ok(line));
+    }
+    if let Some(line) = counted(name, words) {
+        return Some(Ok(line));
+    }
+    let session = number_u32(words.next()?)?;
+    if let Some(line) = of_session(name, session) {
+        return Some(Ok(line));
+    }
+    with_values(name, session, words)
+}
+
+/// A line of one word.
+fn plain(name: &[u8]) -> Option<Line<'static>> {
+    match name {
+        b"force" => Some(Line::Force),
+        b"flush" => Some(Line::Flush),
+        b"checkpoint" => Some(Line::Checkpoint),
+        b"dump" => Some(Line::Dump),
+        _ => None,
+    }
+}
+
+/// A line of the device.
+fn counted<'a>(name: &[u8], words: &mut Words<'a>) -> Option<Line<'a>> {
+    match name {
+        b"fail" => Some(Line::Fail(count(words.next()?)?)),
+        b"stop" => Some(Line::Stop(count(words.next()?)?)),
+        b"crash" => Some(Line::Crash(crash_named(words.next()?)?)),
+        _ => None,
+    }
+}
+
+fn count(text: &[u8]) -> Option<u64> {
+    let number = number(text)?;
+    if number == 0 { None } else { Some(number) }
+}
+
+fn crash_named(text: &[u8]) -> Option<Crash> {
+    match text {
+        b"keep" => Some(Crash::Keep),
+        b"drop" => Some(Crash::Drop),
+        b"tear" => Some(Crash::Tear),
+        _ => None,
+    }
+}
+
+/// A line of a session and nothing else.
+fn of_session(name: &[u8], session: u32) -> Option<Line<'static>> {
+    match name {
+        b"cleanup" => Some(Line::Cleanup(session)),
+        b"step" => Some(Line::Step(session)),
+        b"run" => Some(Line::Run(session)),
+        b"next" => Some(Line::Next(session)),
+        b"end" => Some(Line::End(session)),
+        _ => None,
+    }
+}
+
+/// A line of a session with an entry, a range or rows.
+fn with_values<'a>(
+    name: &[u8],
+    session: u32,
+    words: &mut Words<'a>,
+) -> Option<Result<Line<'a>, Fault>> {
+    match name {
+        b"insert" => Some(entry(words)?.map(|entry| Line::Insert(session, entry))),
+        b"put" => Some(entry(words)?.map(|entry| Line::Put(session, entry))),
+        b"scan" => Some(range(words)?.map(|range| Line::Scan(session, range))),
+        b"list" => Some(range(words)?.map(|range| Line::List(session, range))),
+        b"bulk" => Some(bulk_rows(words)?.map(|rows| Line::Bulk(session, rows))),
+        _ => None,
+    }
+}
+
+/// A key and a row. The key's fault comes before the row's.
+fn entry(words: &mut Words<'_>) -> Option<Result<Entry, Fault>> {
+    let key = key(words.next()?)?;
+    let row = row(words.next()?)?;
+    Some(entry_of(key, row))
+}
+
+fn entry_of(key: Result<Key, Fault>, row: Result<RowAddr, Fault>) -> Result<Entry, Fault> {
+    let key = key?;
+    let row = row?;
+    Ok(Entry { key, row })
+}
+
+/// Two ends of a range.
+fn range(words: &mut Words<'_>) -> Option<Result<Range, Fault>> {
+    let from = end(words.next()?)?;
+    let below = end(words.next()?)?;
+    Some(range_of(from, below))
+}
+
+fn range_of(
+    from: Result<Option<Key>, Fault>,
+    below: Result<Option<Key>, Fault>,
+) -> Result<Range, Fault> {
+    let from = from?;
+    let below = below?;
+    Ok(Range { from, below })
+}
+
+/// A key, or `*` for an open end.
+fn end(text: &[u8]) -> Option<Result<Option<Key>, Fault>> {
+    if text == b"*".as_slice() {
+        return Some(Ok(None));
+    }
+    match key(text)? {
+        Ok(key) => Some(Ok(Some(key))),
+        Err(fault) => Some(Err(fault)),
+    }
+}
+
+/// All words that are left, each a row.
+fn bulk_rows<'a>(words: &mut Words<'a>) -> Option<Result<Rows<'a>, Fault>> {
+    let all = words.copy();
+    let mut is_bad = false;
+    while let Some(word) = words.next() {
+        if row(word)?.is_err() {
+            is_bad = true;
+        }
+    }
+    if is_bad {
+        return Some(Err(Fault::BadRow));
+    }
+    Some(Ok(Rows { words: all }))
+}

@@ -1,0 +1,142 @@
+//! Scripts.
+
+ghost use Rattle.std.specs.Prelude.{◌≡◌, ◌≤◌, ◌+◌, length, drop};
+
+use crate::answer::{print_answer, print_entry, print_refused};
+use crate::dump::print_page;
+use crate::engine::{Engine, Setting, Sink};
+use crate::line::{Line, LineError, parse};
+use crate::refusal::print_no_event;
+use index_model::{Entry, Fault, Range};
+use page_codec::Page;
+use std::alloc::Global;
+use std::io::{self, Read, Write};
+
+/// How a command ended.
+#[derive(Clone, Copy, Debug, PartialEq, Eq)]
+pub enum End {
+    /// All was done.
+    Done,
+    /// What was wrong is said.
+    Said,
+    /// It is to be said why.
+    Refused(Fault),
+}
+
+/// Prints what an engine gives.
+#[derive(Drop)]
+struct Printer<'a, W> {
+    out: &'a mut W,
+}
+
+impl<W: Write> Sink for Printer<'_, W> {
+    fn entry(&mut self, entry: &Entry) -> io::Result<()> {
+        print_entry(self.out, entry)
+    }
+
+    fn page(&mut self, page: &Page) -> io::Result<()> {
+        print_page(self.out, page)
+    }
+}
+
+/// Reads a script to its end and runs it, printing an answer for each line. The first line that is no event ends it.
+pub fn play<R: Read, W: Write, E: Write>(
+    alloc: Global,
+    setting: &Setting,
+    input: &mut R,
+    out: &mut W,
+    err: &mut E,
+) -> io::Result<End> {
+    let mut engine = match Engine::new(setting) {
+        Ok(engine) => engine,
+        Err(fault) => return Ok(End::Refused(fault)),
+    };
+    let mut script = Vec::new(alloc);
+    input.read_to_end(&mut script)?;
+    run(&mut engine, script.as_slice(), out, err)
+}
+
+fn run<W: Write, E: Write>(
+    engine: &mut Engine,
+    script: &[u8],
+    out: &mut W,
+    err: &mut E,
+) -> io::Result<End> {
+    let mut number = 0u64;
+    let mut rest = script;
+    while !rest.is_empty() {
+        number = number.saturating_add(1);
+        let end = line_end(rest);
+        if !play_line(engine, &rest[..end], out)? {
+            print_no_event(err, number)?;
+            return Ok(End::Said);
+        }
+        rest = behind(rest, end);
+    }
+    Ok(End::Done)
+}
+
+/// Where the first line ends.
+fn line_end(script: &[u8]) -> usize
+    ensures { result ≤ length script.now }
+{
+    script
+        .iter()
+        .position(|byte| *byte == b'\n')
+        .unwrap_or(script.len())
+}
+
+/// What is behind the line that ends there, and behind its newline.
+fn behind(script: &[u8], end: usize) -> &[u8]
+    requires { end ≤ length script.now }
+    ensures { result.now ≡ drop (end + 1) script.now }
+{
+    if end == script.len() {
+        &script[end..]
+    } else {
+        &script[end + 1..]
+    }
+}
+
+/// Does what a line says and prints the answer; false where it is no event.
+fn play_line<W: Write>(engine: &mut Engine, text: &[u8], out: &mut W) -> io::Result<bool> {
+    match parse(text) {
+        Ok(line) => play_event(engine, &line, out),
+        Err(LineError::NotAnEvent) => Ok(false),
+        Err(LineError::Refused(fault)) => {
+            print_refused(out, fault)?;
+            Ok(true)
+        }
+    }
+}
+
+/// The same for a line that was read. The lines that the engine doesn't know yet are no events.
+fn play_event<W: Write>(engine: &mut Engine, line: &Line<'_>, out: &mut W) -> io::Result<bool> {
+    match line {
+        Line::Nothing => {}
+        Line::Put(session, entry) => print_answer(out, &engine.put(*session, entry))?,
+        Line::List(session, range) => play_list(engine, *session, range, out)?,
+        Line::Dump => play_dump(engine, out)?,
+        _ => return Ok(false),
+    }
+    Ok(true)
+}
+
+fn play_list<W: Write>(
+    engine: &mut Engine,
+    session: u32,
+    range: &Range,
+    out: &mut W,
+) -> io::Result<()> {
+    match engine.list(session, range, &mut Printer { out })? {
+        Ok(count) => writeln!(out, "done {count}"),
+        Err(fault) => print_refused(out, fault),
+    }
+}
+
+fn play_dump<W: Write>(engine: &mut Engine, out: &mut W) -> io::Result<()> {
+    match engine.dump(&mut Printer { out })? {
+        Ok(()) => Ok(()),
+        Err(fault) => print_refused(out, fault),
+    }
+}

@@ -1,0 +1,94 @@
+//! Keys, rows, entries and bounds as text.
+
+use index_model::{Bound, Entry, Key, RowAddr};
+use std::{fmt, str};
+
+/// A key as text: lower-case hex, `-` for the empty one.
+#[derive(Clone, Copy)]
+pub struct ShownKey {
+    pub key: Key,
+}
+
+impl fmt::Display for ShownKey {
+    fn fmt<W: fmt::Write>(&self, f: &mut fmt::Formatter<W>) -> fmt::Result {
+        let bytes = self.key.bytes();
+        if bytes.is_empty() {
+            return f.write_str("-");
+        }
+        let mut digits = [0; 128];
+        let digits = &mut digits[..2 * bytes.len()];
+        let _ = hex::encode_to_slice(bytes, digits);
+        match str::from_utf8(digits) {
+            Ok(text) => f.write_str(text),
+            Err(_) => Err(fmt::Error),
+        }
+    }
+}
+
+/// A row as text: `(block,offset)`.
+#[derive(Clone, Copy)]
+pub struct ShownRow {
+    pub row: RowAddr,
+}
+
+impl fmt::Display for ShownRow {
+    fn fmt<W: fmt::Write>(&self, f: &mut fmt::Formatter<W>) -> fmt::Result {
+        let block = self.row.block();
+        let offset = self.row.offset();
+        write!(f, "({block},{offset})")
+    }
+}
+
+/// An entry as text: its key and its row, parted by one space.
+#[derive(Clone, Copy)]
+pub struct ShownEntry {
+    pub entry: Entry,
+}
+
+impl fmt::Display for ShownEntry {
+    fn fmt<W: fmt::Write>(&self, f: &mut fmt::Formatter<W>) -> fmt::Result {
+        let key = ShownKey {
+            key: self.entry.key,
+        };
+        let row = ShownRow {
+            row: self.entry.row,
+        };
+        write!(f, "{key} {row}")
+    }
+}
+
+/// A bound as text: an entry, or `before` behind the key where it is the place before all rows of the key.
+#[derive(Clone, Copy)]
+pub struct ShownBound {
+    pub bound: Bound,
+}
+
+impl fmt::Display for ShownBound {
+    fn fmt<W: fmt::Write>(&self, f: &mut fmt::Formatter<W>) -> fmt::Result {
+        let key = ShownKey {
+            key: self.bound.key,
+        };
+        match self.bound.row {
+            None => write!(f, "{key} before"),
+            Some(row) => {
+                let row = ShownRow { row };
+                write!(f, "{key} {row}")
+            }
+        }
+    }
+}
+
+/// The number of a block, or `-`.
+#[derive(Clone, Copy)]
+pub struct ShownLink {
+    pub link: Option<u32>,
+}
+
+impl fmt::Display for ShownLink {
+    fn fmt<W: fmt::Write>(&self, f: &mut fmt::Formatter<W>) -> fmt::Result {
+        match self.link {
+            None => f.write_str("-"),
+            Some(block) => write!(f, "{block}"),
+        }
+    }
+}
