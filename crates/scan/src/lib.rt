@@ -1,0 +1,6 @@
+//! A forward scan of a range, one page a step.
+#![tactic(auto)]
+
+mod steps;
+
+pub use steps::{ScanAt, ScanOp, ScanStep};
