@@ -88,11 +88,13 @@ pub record IsMoving (old new : State) (before after : ScanOp) : Type 0 where
   pub from : before.at ≡ Start
   pub op : after ≡ record before { at = At 1 }
 
--- a leaf is read
+-- the last leaf is read
 pub record IsReading (old new : State) (before after : ScanOp) (count : ℕ) : Type 0 where
   pub quiet : IsQuiet before.session old new
   pub fits : ScanFits new after
   pub none : waiting before ≡ []
+  pub from : (block : ℕ) × (before.at ≡ At block)
+  pub last : after.at ≡ Last
   pub read : IsRead old before after
   pub count_is : count ≡ length (waiting after)
 

@@ -34,6 +34,8 @@ returns-clause-stepped g c honest order fits =
       quiet = pins.0;
       fits = record { session = fits.session; stands = pins.1; started = fits.started };
       none = c.requires.none;
+      from = (c.args.block, c.requires.at);
+      last = refl;
       read = reads_leaf old new before _ c.args.block page order fits c.requires.at c.requires.none found refl copied;
       count_is = c.ready.ensures;
     })

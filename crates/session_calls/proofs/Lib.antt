@@ -1,0 +1,5 @@
+pub mod Ending
+pub mod Going
+pub mod Scanning
+pub mod Refusing
+pub mod Beginning

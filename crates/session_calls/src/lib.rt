@@ -1,0 +1,12 @@
+//! One event of one session's call, over the history of all actions.
+#![tactic(auto)]
+
+mod answer;
+mod begins;
+mod moves;
+mod op;
+
+pub use answer::Answer;
+pub use begins::{begin_insert, begin_scan};
+pub use moves::{end, next, step};
+pub use op::Op;

@@ -1,0 +1,132 @@
+//! Events of a running call.
+
+ghost use Rattle.std.specs.Prelude.{◌≡◌, true, Bool, List, ℕ, None, Some, if◌then◌else◌};
+ghost use Rattle.index_model.specs.Actions.{Action};
+ghost use Rattle.index_model.specs.Calls.{Call};
+ghost use Rattle.index_model.specs.declared.entry.Entry.{Entry};
+ghost use Rattle.page_action.specs.States.{State, Continues, after_end};
+ghost use Rattle.session_calls.specs.Sessions.{SlotFits, CallFits, SessionGoes, where_stepped, where_asked_next, ends_call};
+ghost use Rattle.page_action.specs.Causes.{nothing_wrong};
+
+use index_model::{Fault, Session};
+use insert_split::{InsertOp, InsertStep};
+use page_action::PageStore;
+use scan::{ScanOp, ScanStep};
+
+use crate::answer::Answer;
+use crate::op::Op;
+
+/// Makes one step of a session's call. Where the answer ends the call, the slot is empty afterwards, and what the session
+/// held is let go. A slot with no call is refused with `NoSession`, or `Stopped`.
+pub fn step<S: PageStore>(store: &mut S, slot: &mut Option<Op>) -> Answer
+    ensures steps { Continues S.follows store.old store.new }
+    ensures goes { (S.backing store.new).honest ≡ true → (start : Entry → Bool) (history : List Action) (number : ℕ) (call : Call)
+        → SlotFits (S.state store.old) start history number call slot.old
+        → SessionGoes (where_stepped call.ask (S.state store.old) (S.backing store.old) (S.backing store.new) call.session)
+            (S.state store.old) (S.state store.new) start history number call slot.new result }
+{
+    let (answer, is_over) = match slot {
+        None => (idle(store), false),
+        Some(Op::Insert(op)) => step_insert(store, op),
+        Some(Op::Scan(op)) => step_scan(store, op),
+    };
+    if is_over {
+        *slot = None;
+    }
+    answer
+}
+
+// A session with no call has no step.
+fn idle<S: PageStore>(store: &S) -> Answer {
+    if store.is_stopped() {
+        Answer::Refused(Fault::Stopped)
+    } else {
+        Answer::Refused(Fault::NoSession)
+    }
+}
+
+fn step_insert<S: PageStore>(store: &mut S, op: &mut InsertOp) -> (Answer, bool)
+    ensures steps { Continues S.follows store.old store.new }
+    ensures goes { (S.backing store.new).honest ≡ true → (start : Entry → Bool) (history : List Action) (number : ℕ) (call : Call)
+        → CallFits (S.state store.old) start history number call (Op.Insert op.old)
+        → SessionGoes (where_stepped call.ask (S.state store.old) (S.backing store.old) (S.backing store.new) call.session)
+            (S.state store.old) (S.state store.new) start history number call (if result.1 then None else Some (Op.Insert op.new)) result.0 }
+{
+    match op.step(store) {
+        Ok(InsertStep::Going) => (Answer::Going, false),
+        Ok(InsertStep::Added { action, unfinished }) => {
+            store.end(op.session);
+            (Answer::Added { action, unfinished }, true)
+        }
+        Err(fault) => refuse(store, op.session, fault),
+    }
+}
+
+fn step_scan<S: PageStore>(store: &mut S, op: &mut ScanOp) -> (Answer, bool)
+    ensures steps { Continues S.follows store.old store.new }
+    ensures goes { (S.backing store.new).honest ≡ true → (start : Entry → Bool) (history : List Action) (number : ℕ) (call : Call)
+        → CallFits (S.state store.old) start history number call (Op.Scan op.old)
+        → SessionGoes (where_stepped call.ask (S.state store.old) (S.backing store.old) (S.backing store.new) call.session)
+            (S.state store.old) (S.state store.new) start history number call (if result.1 then None else Some (Op.Scan op.new)) result.0 }
+{
+    match op.step(store) {
+        Ok(ScanStep::Going) => (Answer::Going, false),
+        Ok(ScanStep::Ready(count)) => (Answer::Ready(count), false),
+        Ok(ScanStep::Done) => {
+            store.end(op.session);
+            (Answer::Done, true)
+        }
+        Err(fault) => refuse(store, op.session, fault),
+    }
+}
+
+// A refused step: a call that is blocked goes on, and every other is over.
+fn refuse<S: PageStore>(store: &mut S, session: Session, fault: Fault) -> (Answer, bool)
+    ensures steps { Continues S.follows store.old store.new }
+    ensures backing { S.backing store.new ≡ S.backing store.old }
+    ensures answer { result.0 ≡ Answer.Refused fault }
+    ensures over { result.1 ≡ ends_call fault }
+    ensures state { S.state store.new ≡ (if ends_call fault then after_end session (S.state store.old) else S.state store.old) }
+{
+    if ends_call(fault) {
+        store.end(session);
+        (Answer::Refused(fault), true)
+    } else {
+        (Answer::Refused(fault), false)
+    }
+}
+
+fn ends_call(fault: Fault) -> bool
+    ensures { result ≡ ends_call fault }
+{
+    !matches!(fault, Fault::Blocked(_))
+}
+
+/// The next entry that a session's scan has ready. A call that is no scan, and a slot with no call, are refused with
+/// `NoSession`. Nothing else is changed.
+pub fn next(slot: &mut Option<Op>) -> Answer
+    ensures goes { (st : State) (start : Entry → Bool) (history : List Action) (number : ℕ) (call : Call)
+        → SlotFits st start history number call slot.old
+        → SessionGoes (where_asked_next call.ask) st st start history number call slot.new result }
+{
+    match slot {
+        Some(Op::Scan(op)) => Answer::Gave(op.next()),
+        _ => Answer::Refused(Fault::NoSession),
+    }
+}
+
+/// Gives a session's call up: nothing is logged, and what the session held is let go. A slot with no call is refused with
+/// `NoSession`.
+pub fn end<S: PageStore>(store: &mut S, slot: &mut Option<Op>) -> Answer
+    ensures steps { Continues S.follows store.old store.new }
+    ensures goes { (start : Entry → Bool) (history : List Action) (number : ℕ) (call : Call)
+        → SlotFits (S.state store.old) start history number call slot.old
+        → SessionGoes nothing_wrong (S.state store.old) (S.state store.new) start history number call slot.new result }
+{
+    let Some(op) = slot else {
+        return Answer::Refused(Fault::NoSession);
+    };
+    store.end(op.session());
+    *slot = None;
+    Answer::Ended
+}
