@@ -8,6 +8,7 @@ mod page;
 mod put;
 mod reading;
 mod writing;
+mod written;
 
 pub use edits::{add_entry, cut_entries};
 pub use grammar::is_page;

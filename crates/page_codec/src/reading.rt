@@ -10,12 +10,12 @@ ghost use Rattle.page_codec.specs.declared.page.Page.{Page};
 
 use crate::grammar::is_page;
 use crate::page::{Downlink, Items, Page, PageState};
-use crate::writing::encode;
+use crate::written::is_written;
 use arrayvec::ArrayVec;
 use byteorder::{ByteOrder, LittleEndian};
 use index_model::{Bound, Entry, Key, RowAddr};
 
-fn tail(bytes: &[u8], at: usize) -> &[u8]
+pub fn tail(bytes: &[u8], at: usize) -> &[u8]
     requires { at ≤ length bytes.now }
     ensures value { result.now ≡ drop at bytes.now }
     ensures len { length result.now + at ≡ length bytes.now }
@@ -201,14 +201,6 @@ fn read(bytes: &[u8], page: &mut Page) -> bool
     page.cycle = u32_at(bytes, 20);
     page.deletion = u64_at(bytes, 24);
     true
-}
-
-fn is_written(page: &Page, bytes: &[u8; 4096]) -> bool
-    ensures { IsTrue result ↔ (bytes.now ≡ page_bytes page.now) }
-{
-    let mut again = [0; 4096];
-    encode(page, &mut again);
-    again == *bytes
 }
 
 /// Whether the bytes are those of a block that was never written: 4,096 zeros. No page has these bytes.

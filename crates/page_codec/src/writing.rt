@@ -35,7 +35,7 @@ fn put_bound(out: &mut [u8], at: usize, bound: &Bound) -> usize
 }
 
 #[tactic(auto, unfolding(crate::specs::Spelling::slot_bytes))]
-fn put_slot(out: &mut [u8], at: usize, slot: &Option<Bound>) -> usize
+pub fn put_slot(out: &mut [u8], at: usize, slot: &Option<Bound>) -> usize
     requires { at + 71 ≤ length out.old }
     ensures next { result ≡ at + 71 }
     ensures front { take result out.new ≡ take at out.old ++ slot_bytes slot.now }
@@ -59,7 +59,7 @@ fn put_entries(out: &mut [u8], at: usize, entries: &[Entry]) -> usize
 }
 
 #[tactic(auto, unfolding(crate::specs::Spelling::entry_bytes))]
-fn put_entry(out: &mut [u8], at: usize, entry: &Entry) -> usize
+pub fn put_entry(out: &mut [u8], at: usize, entry: &Entry) -> usize
     requires { at + 71 ≤ length out.old }
     ensures next { result ≡ at + 71 }
     ensures front { take result out.new ≡ take at out.old ++ entry_bytes entry.now }
@@ -80,7 +80,7 @@ fn put_downlinks(out: &mut [u8], at: usize, links: &[Downlink]) -> usize
 }
 
 #[tactic(auto, unfolding(crate::specs::Spelling::downlink_bytes))]
-fn put_downlink(out: &mut [u8], at: usize, link: &Downlink) -> usize
+pub fn put_downlink(out: &mut [u8], at: usize, link: &Downlink) -> usize
     requires { at + 75 ≤ length out.old }
     ensures next { result ≡ at + 75 }
     ensures front { take result out.new ≡ take at out.old ++ downlink_bytes link.now }
@@ -138,7 +138,7 @@ fn flags_of(page: &Page) -> u8
 }
 
 #[tactic(auto, unfolding(crate::specs::Spelling::head_bytes))]
-fn put_head(out: &mut [u8], page: &Page) -> usize
+pub fn put_head(out: &mut [u8], page: &Page) -> usize
     requires { 36 ≤ length out.old }
     ensures next { result ≡ 36 }
     ensures front { take result out.new ≡ head_bytes page.now }
