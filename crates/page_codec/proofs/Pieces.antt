@@ -1,5 +1,6 @@
 -- What bytes begin with, piece by piece.
 use Rattle.std.proofs.Common.{◌≡◌, ℕ, ◌+◌, ◌-◌, ◌≤◌, List, [], ◌∷◌, ◌++◌, length, take, drop, get_or, replicate, refl, sym, ap, ◌∙◌, arith, sub-one, length-append, length-take-le, append_assoc, take-append-drop, subst}
+use Rattle.std.specs.Prelude.{IsTrue, ◌↔◌, Bool, true, false}
 use Rattle.std.specs.List.{flat_map}
 use Rattle.std.proofs.lemmas.List.{drop-take, take_all, take-take, take_at, drop_at, length-replicate, length-drop}
 use Rattle.std.proofs.lemmas.List.Concat.{flat_map-cons}
@@ -97,3 +98,15 @@ goes_on {A} spelled width xs x here next some is long first moved =
       part = λ h. subst (λ (b : List ℕ). Begins (flat_map spelled (behind xs)) b) (sym moved)
           (items_later spelled width x (behind xs) here long (subst (λ (zs : List A). Begins (flat_map spelled zs) here) parts h));
     }
+
+-- where the first of two pieces is refused, both are
+pub refused_first : (a b bytes : List ℕ) (first : Bool) → first ≡ false → (IsTrue first ↔ Begins a bytes) → IsTrue false ↔ Begins (a ++ b) bytes
+refused_first a b bytes first no_ test = (λ never. absurd cc, λ h. let yes = test.1 (begins_front a b bytes h) in absurd cc)
+
+-- where the first of two pieces stands, the second decides
+pub second_decides : (a b bytes next : List ℕ) (n : ℕ) (second : Bool) → length a ≡ n → next ≡ drop n bytes → Begins a bytes
+    → (IsTrue second ↔ Begins b next) → IsTrue second ↔ Begins (a ++ b) bytes
+second_decides a b bytes next n second long moved first test = (
+  λ yes. begins_both a b bytes n long first (subst (λ (x : List ℕ). Begins b x) moved (test.0 yes)),
+  λ h. test.1 (subst (λ (x : List ℕ). Begins b x) (sym moved) (begins_behind a b bytes n long h)),
+)

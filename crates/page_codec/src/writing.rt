@@ -35,7 +35,7 @@ fn put_bound(out: &mut [u8], at: usize, bound: &Bound) -> usize
 }
 
 #[tactic(auto, unfolding(crate::specs::Spelling::slot_bytes))]
-pub fn put_slot(out: &mut [u8], at: usize, slot: &Option<Bound>) -> usize
+fn put_slot(out: &mut [u8], at: usize, slot: &Option<Bound>) -> usize
     requires { at + 71 ≤ length out.old }
     ensures next { result ≡ at + 71 }
     ensures front { take result out.new ≡ take at out.old ++ slot_bytes slot.now }
@@ -59,7 +59,7 @@ fn put_entries(out: &mut [u8], at: usize, entries: &[Entry]) -> usize
 }
 
 #[tactic(auto, unfolding(crate::specs::Spelling::entry_bytes))]
-pub fn put_entry(out: &mut [u8], at: usize, entry: &Entry) -> usize
+fn put_entry(out: &mut [u8], at: usize, entry: &Entry) -> usize
     requires { at + 71 ≤ length out.old }
     ensures next { result ≡ at + 71 }
     ensures front { take result out.new ≡ take at out.old ++ entry_bytes entry.now }
@@ -80,7 +80,7 @@ fn put_downlinks(out: &mut [u8], at: usize, links: &[Downlink]) -> usize
 }
 
 #[tactic(auto, unfolding(crate::specs::Spelling::downlink_bytes))]
-pub fn put_downlink(out: &mut [u8], at: usize, link: &Downlink) -> usize
+fn put_downlink(out: &mut [u8], at: usize, link: &Downlink) -> usize
     requires { at + 75 ≤ length out.old }
     ensures next { result ≡ at + 75 }
     ensures front { take result out.new ≡ take at out.old ++ downlink_bytes link.now }
