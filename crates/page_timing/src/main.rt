@@ -5,10 +5,10 @@
 use arrayvec::ArrayVec;
 use index_model::{Entry, Key, RowAddr};
 use page_codec::{Downlink, Items, Page, PageState, decode, encode};
-use std::env;
-use std::io;
-use std::rt::{Clock, Print};
+use std::io::Eprint;
+use std::rt::Clock;
 use std::time::Instant;
+use std::{env, io};
 
 /// How often a page is encoded and decoded.
 const ROUNDS: u32 = 400_000;
@@ -89,7 +89,7 @@ fn a_second(nanos: u128) -> u128 {
     1_000_000_000 * u128::from(ROUNDS) / nanos.max(1)
 }
 
-fn time(rt: &(impl Clock + Print), name: &str, page: &mut Page) -> io::Result<()> {
+fn time(rt: &(impl Clock + Eprint), name: &str, page: &mut Page) -> io::Result<()> {
     let mut bytes = [0; 4096];
     let mut good = 0;
     let wrote = nanos_to_encode(rt, page, &mut bytes)?;
