@@ -1,0 +1,33 @@
+-- The entries that can be there: those of the start, and those that a history adds.
+use Rattle.std.specs.Prelude.{◌≡◌, ℕ, Bool, true, false, List, [], ◌∷◌}
+use Rattle.index_model.specs.Order.{is_among}
+use Rattle.index_model.specs.Range.{matches}
+use Rattle.index_model.specs.Actions.{Effect, Add, Remove, Shape, Action, ThereAtSomeMoment, ThereThroughout}
+use Rattle.index_model.specs.Calls.{IsAnyEntry, IsUpToLast}
+use Rattle.index_model.specs.declared.entry.Entry.{Entry}
+use Rattle.index_model.specs.declared.range.Range.{Range}
+
+-- the entry that an effect adds, before others
+abbrev pub with_added : Effect → List Entry → List Entry
+with_added (Add e) others = e ∷ others
+with_added (Remove es) others = others
+with_added Shape others = others
+
+-- the entries that a history adds
+abbrev pub added_by : List Action → List Entry
+added_by [] = []
+added_by (a ∷ history) = with_added a.effect (added_by history)
+
+-- the entry matches, and was there at some moment
+pub record MayBeGiven (start : Entry → Bool) (history : List Action) (range : Range) (began now : ℕ) (e : Entry) : Type 0 where
+  pub matched : matches range e ≡ true
+  pub was_there : ThereAtSomeMoment start history began now e
+
+-- how far a scan that has finished, or hasn't, owes entries: all, or up to the last one given
+abbrev pub Reach : Bool → List Entry → Entry → Type 0
+Reach true given e = IsAnyEntry e
+Reach false given e = IsUpToLast given e
+
+-- the entry is given, if it is within reach, matches and was there throughout
+pub record IsGivenIfOwed (start : Entry → Bool) (history : List Action) (range : Range) (began now : ℕ) (given : List Entry) (IsWithin : Entry → Type 0) (e : Entry) : Type 0 where
+  pub if_owed : IsWithin e → matches range e ≡ true → ThereThroughout start history began now e → is_among given e ≡ true
