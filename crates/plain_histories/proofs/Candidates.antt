@@ -24,8 +24,11 @@ is_equal Greater e = absurd cc
 pub same_is : (a b : Entry) → same_entry a b ≡ true → a ≡ b
 same_is a b e = exact_entries a b (is_equal (entry_cmp a b) e)
 
-same_itself : (e : Entry) → same_entry e e ≡ true
+pub same_itself : (e : Entry) → same_entry e e ≡ true
 same_itself e = ap is_eq (tied_itself entries_total e)
+
+pub same_decides : (a b : Entry) → a ≡ b → same_entry a b ≡ true
+same_decides a b e = subst (λ (x : Entry). same_entry a x ≡ true) e (same_itself a)
 
 or_true : (a : Bool) → (a || true) ≡ true
 or_true true = refl

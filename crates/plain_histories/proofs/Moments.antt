@@ -1,5 +1,6 @@
 -- Moments of an interval, one after the other.
-use Rattle.std.proofs.Common.{◌≡◌, ℕ, zero, suc, ◌+◌, ◌-◌, ◌≤◌, ◌<◌, Bool, true, false, List, [], ◌∷◌, length, take, refl, ap, ◌∙◌, sym, arith}
+use Rattle.std.proofs.Common.{◌≡◌, ℕ, zero, suc, ◌+◌, ◌-◌, ◌≤◌, ◌<◌, Bool, true, false, List, [], ◌∷◌, Some, None, length, take, get_or, refl, ap, ◌∙◌, sym, arith}
+use Rattle.std.specs.Prelude.{slice_get}
 use Rattle.std.proofs.lemmas.List.{take_all}
 use borrow.Author.Count.{below_more}
 use Rattle.plain_histories.specs.Plain.{history_of, action_of}
@@ -16,6 +17,19 @@ length-history_of (a ∷ actions) = ap suc (length-history_of actions)
 
 pub whole_history : (k : ℕ) (actions : List PlainAction) → length actions ≤ k → history_of actions ≡ take k (history_of actions)
 whole_history k actions le = sym (take_all k (history_of actions) (omega (arith, length-history_of actions)))
+
+-- behind the last action there is none
+pub no_action : (k : ℕ) (actions : List PlainAction) → length actions ≤ k → slice_get (history_of actions) k ≡ None
+no_action k [] le = refl
+no_action zero (a ∷ actions) le = absurd (omega arith)
+no_action (suc k) (a ∷ actions) le = no_action k actions (omega arith)
+
+-- the action at a place means the action of the history at this place
+pub action_found : (k : ℕ) (actions : List PlainAction) (a : PlainAction) → k < length actions → a ≡ get_or actions k a
+    → slice_get (history_of actions) k ≡ Some (action_of a)
+action_found k [] a lt is = absurd (omega arith)
+action_found zero (b ∷ actions) a lt is = ap (λ (x : PlainAction). Some (action_of x)) (sym is)
+action_found (suc k) (b ∷ actions) a lt is = action_found k actions a (omega arith) is
 
 -- a test has this answer at each moment from `began` on and before `k`
 abbrev pub IsSoFar : (ℕ → Bool) → Bool → ℕ → ℕ → Type 0

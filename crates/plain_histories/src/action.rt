@@ -16,6 +16,6 @@ pub enum PlainEffect {
 /// An action: what it does, and the number of the call that it belongs to.
 #[derive(Drop)]
 pub struct PlainAction {
-    pub by: u32,
+    pub by: usize,
     pub effect: PlainEffect,
 }

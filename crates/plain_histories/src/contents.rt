@@ -8,6 +8,14 @@ ghost use Rattle.plain_histories.specs.Plain.{effect_of, history_of};
 use crate::action::{PlainAction, PlainEffect};
 use index_model::Entry;
 
+/// Whether the two are one entry.
+#[tactic(auto, using(crate::proofs::Candidates::same_is, crate::proofs::Candidates::same_decides))]
+pub fn is_same(a: &Entry, b: &Entry) -> bool
+    ensures { IsTrue result ↔ (a.now ≡ b.now) }
+{
+    a.compare(b).is_eq()
+}
+
 /// Whether the entry is one of the list.
 pub fn is_among(list: &[Entry], entry: &Entry) -> bool
     ensures { result ≡ spec_is_among list.now entry.now }
