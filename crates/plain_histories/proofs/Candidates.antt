@@ -6,6 +6,7 @@ use Rattle.std.specs.Ordering.{is_eq}
 use Rattle.std.specs.declared.cmp.Ordering.{Ordering}
 use Rattle.std.specs.declared.cmp.Ordering.TheVariants.{Less, Equal, Greater}
 use Rattle.std.proofs.lemmas.Cmp.{tied_itself}
+use Rattle.index_model.specs.Row.{Row}
 use Rattle.index_model.specs.Order.{entry_cmp, same_entry, is_among, IsAscending}
 use Rattle.index_model.specs.Range.{matches}
 use Rattle.index_model.specs.Actions.{Effect, Add, Remove, Shape, Action, said_of, later_or, last_said, contents_after, is_there_after, ThereThroughout}
@@ -13,7 +14,7 @@ use Rattle.index_model.specs.Calls.{GivesOnly, GivesAll}
 use Rattle.index_model.specs.declared.entry.Entry.{Entry}
 use Rattle.index_model.specs.declared.range.Range.{Range}
 use Rattle.index_model.proofs.Order.{entries_total, exact_entries}
-use Rattle.plain_histories.specs.Named.{with_added, added_by, IsGivenIfOwed, MayBeGiven}
+use Rattle.plain_histories.specs.Named.{with_added, added_by, IsGivenIfOwed, MayBeGiven, IsGone, AreGone}
 
 is_equal : (o : Ordering) → is_eq o ≡ true → o ≡ Equal
 is_equal Less e = absurd cc
@@ -144,3 +145,13 @@ pub all_may : (start : Entry → Bool) (history : List Action) (range : Range) (
     → GivesOnly start history range began now given → AllByRecursion (MayBeGiven start history range began now) given
 all_may start history range began now given only =
     among_all (MayBeGiven start history range began now) given (λ e among. record { matched = only.matched e among; was_there = only.was_there e among })
+
+pub are_gone : (start : List Entry) (history : List Action) (began ended : ℕ) (dead : Row → Bool)
+    → AllByRecursion (IsGone (is_among start) history began ended dead) start
+    → AllByRecursion (IsGone (is_among start) history began ended dead) (added_by history) → AreGone (is_among start) history began ended dead
+are_gone start history began ended dead first added e is_dead before after =
+    (all_of_there (IsGone (is_among start) history began ended dead) start history began e first added before).unless_added is_dead before after
+
+pub each_gone : (start : Entry → Bool) (history : List Action) (began ended : ℕ) (dead : Row → Bool) → AreGone start history began ended dead
+    → (xs : List Entry) → AllByRecursion (IsGone start history began ended dead) xs
+each_gone start history began ended dead gone xs = all_of_every (IsGone start history began ended dead) xs (λ e. record { unless_added = gone e })

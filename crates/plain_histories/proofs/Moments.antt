@@ -1,5 +1,5 @@
 -- Moments of an interval, one after the other.
-use Rattle.std.proofs.Common.{◌≡◌, ℕ, zero, suc, ◌+◌, ◌-◌, ◌≤◌, ◌<◌, Bool, true, false, List, [], ◌∷◌, Some, None, length, take, get_or, refl, ap, ◌∙◌, sym, arith}
+use Rattle.std.proofs.Common.{◌≡◌, ℕ, zero, suc, ◌+◌, ◌-◌, ◌≤◌, ◌<◌, Bool, true, false, List, [], ◌∷◌, Some, None, length, take, drop, get_or, refl, ap, ◌∙◌, sym, arith}
 use Rattle.std.specs.Prelude.{slice_get}
 use Rattle.std.proofs.lemmas.List.{take_all}
 use borrow.Author.Count.{below_more}
@@ -11,12 +11,26 @@ take_history_of zero actions = refl
 take_history_of (suc k) [] = refl
 take_history_of (suc k) (a ∷ actions) = ap (λ h. action_of a ∷ h) (take_history_of k actions)
 
+pub drop_history_of : (k : ℕ) (actions : List PlainAction) → history_of (drop k actions) ≡ drop k (history_of actions)
+drop_history_of zero actions = refl
+drop_history_of (suc k) [] = refl
+drop_history_of (suc k) (a ∷ actions) = drop_history_of k actions
+
 pub length-history_of : (actions : List PlainAction) → length (history_of actions) ≡ length actions
 length-history_of [] = refl
 length-history_of (a ∷ actions) = ap suc (length-history_of actions)
 
 pub whole_history : (k : ℕ) (actions : List PlainAction) → length actions ≤ k → history_of actions ≡ take k (history_of actions)
 whole_history k actions le = sym (take_all k (history_of actions) (omega (arith, length-history_of actions)))
+
+pub nothing_behind : (k : ℕ) (actions : List PlainAction) → length actions ≤ k → history_of [] ≡ drop k (history_of actions)
+nothing_behind k [] le = by k
+  where
+    by : (n : ℕ) → history_of [] ≡ drop n (history_of [])
+    by zero = refl
+    by (suc n) = refl
+nothing_behind zero (a ∷ actions) le = absurd (omega arith)
+nothing_behind (suc k) (a ∷ actions) le = nothing_behind k actions (omega arith)
 
 -- behind the last action there is none
 pub no_action : (k : ℕ) (actions : List PlainAction) → length actions ≤ k → slice_get (history_of actions) k ≡ None

@@ -1,9 +1,10 @@
 -- The entries that can be there: those of the start, and those that a history adds.
 use Rattle.std.specs.Prelude.{◌≡◌, ℕ, Bool, true, false, List, [], ◌∷◌}
+use Rattle.index_model.specs.Row.{Row}
 use Rattle.index_model.specs.Order.{is_among}
 use Rattle.index_model.specs.Range.{matches}
-use Rattle.index_model.specs.Actions.{Effect, Add, Remove, Shape, Action, ThereAtSomeMoment, ThereThroughout}
-use Rattle.index_model.specs.Calls.{IsAnyEntry, IsUpToLast}
+use Rattle.index_model.specs.Actions.{Effect, Add, Remove, Shape, Action, is_there_after, ThereAtSomeMoment, ThereThroughout}
+use Rattle.index_model.specs.Calls.{IsAnyEntry, IsUpToLast, IsAddedIn, actions_between}
 use Rattle.index_model.specs.declared.entry.Entry.{Entry}
 use Rattle.index_model.specs.declared.range.Range.{Range}
 
@@ -31,3 +32,14 @@ Reach false given e = IsUpToLast given e
 -- the entry is given, if it is within reach, matches and was there throughout
 pub record IsGivenIfOwed (start : Entry → Bool) (history : List Action) (range : Range) (began now : ℕ) (given : List Entry) (IsWithin : Entry → Type 0) (e : Entry) : Type 0 where
   pub if_owed : IsWithin e → matches range e ≡ true → ThereThroughout start history began now e → is_among given e ≡ true
+
+-- a dead entry that was there at the beginning isn't there at the end, unless it was added meanwhile
+pub record IsGone (start : Entry → Bool) (history : List Action) (began ended : ℕ) (dead : Row → Bool) (e : Entry) : Type 0 where
+  pub unless_added : dead e.row ≡ true → is_there_after start history began e ≡ true → is_there_after start history ended e ≡ true
+      → IsAddedIn (actions_between began ended history) e
+
+-- ... and so for every entry
+abbrev pub AreGone : (Entry → Bool) → List Action → ℕ → ℕ → (Row → Bool) → Type 0
+AreGone start history began ended dead =
+    (e : Entry) → dead e.row ≡ true → is_there_after start history began e ≡ true → is_there_after start history ended e ≡ true
+      → IsAddedIn (actions_between began ended history) e

@@ -68,7 +68,7 @@ pub fn contents_has(start: &[Entry], history: &[PlainAction], entry: &Entry) -> 
 }
 
 #[tactic(auto, using(crate::proofs::Moments::take_history_of, crate::proofs::Moments::whole_history))]
-fn first_actions(history: &[PlainAction], k: usize) -> &[PlainAction]
+pub fn first_actions(history: &[PlainAction], k: usize) -> &[PlainAction]
     ensures { history_of result.now ≡ take k (history_of history.now) }
 {
     if k < history.len() { &history[..k] } else { history }

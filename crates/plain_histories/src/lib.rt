@@ -3,12 +3,14 @@
 #![tactic(auto)]
 
 mod action;
+mod bulk_delete;
 mod call;
 mod contents;
 mod insert;
 mod scan;
 
 pub use action::{PlainAction, PlainEffect};
+pub use bulk_delete::{is_bulk_delete_answer, is_dead};
 pub use call::{PlainAsk, PlainCall, PlainEnding};
 pub use contents::{contents_has, is_among, is_there_after, is_there_at_some_moment, is_there_throughout};
 
