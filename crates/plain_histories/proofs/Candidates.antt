@@ -10,11 +10,11 @@ use Rattle.index_model.specs.Row.{Row}
 use Rattle.index_model.specs.Order.{entry_cmp, same_entry, is_among, IsAscending}
 use Rattle.index_model.specs.Range.{matches}
 use Rattle.index_model.specs.Actions.{Effect, Add, Remove, Shape, Action, said_of, later_or, last_said, contents_after, is_there_after, ThereThroughout}
-use Rattle.index_model.specs.Calls.{GivesOnly, GivesAll}
+use Rattle.index_model.specs.Calls.{GivesOnly, GivesAll, AreRemovable}
 use Rattle.index_model.specs.declared.entry.Entry.{Entry}
 use Rattle.index_model.specs.declared.range.Range.{Range}
 use Rattle.index_model.proofs.Order.{entries_total, exact_entries}
-use Rattle.plain_histories.specs.Named.{with_added, added_by, IsGivenIfOwed, MayBeGiven, IsGone, AreGone}
+use Rattle.plain_histories.specs.Named.{with_added, added_by, IsGivenIfOwed, MayBeGiven, IsGone, AreGone, IsRemovable}
 
 is_equal : (o : Ordering) → is_eq o ≡ true → o ≡ Equal
 is_equal Less e = absurd cc
@@ -155,3 +155,12 @@ are_gone start history began ended dead first added e is_dead before after =
 pub each_gone : (start : Entry → Bool) (history : List Action) (began ended : ℕ) (dead : Row → Bool) → AreGone start history began ended dead
     → (xs : List Entry) → AllByRecursion (IsGone start history began ended dead) xs
 each_gone start history began ended dead gone xs = all_of_every (IsGone start history began ended dead) xs (λ e. record { unless_added = gone e })
+
+pub are_removable : (was_there : Entry → Bool) (dead : Row → Bool) (es : List Entry) → AllByRecursion (IsRemovable was_there dead) es → AreRemovable was_there dead es
+are_removable was_there dead es all e among =
+    let removable = all_of_among (IsRemovable was_there dead) es e all among in
+    (removable.is_dead, removable.is_there)
+
+pub each_removable : (was_there : Entry → Bool) (dead : Row → Bool) (es : List Entry) → AreRemovable was_there dead es → AllByRecursion (IsRemovable was_there dead) es
+each_removable was_there dead es h =
+    among_all (IsRemovable was_there dead) es (λ e among. record { is_dead = (h e among).0; is_there = (h e among).1 })

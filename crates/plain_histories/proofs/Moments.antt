@@ -16,12 +16,12 @@ drop_history_of zero actions = refl
 drop_history_of (suc k) [] = refl
 drop_history_of (suc k) (a ∷ actions) = drop_history_of k actions
 
-pub length-history_of : (actions : List PlainAction) → length (history_of actions) ≡ length actions
-length-history_of [] = refl
-length-history_of (a ∷ actions) = ap suc (length-history_of actions)
+pub length_history_of : (actions : List PlainAction) → length (history_of actions) ≡ length actions
+length_history_of [] = refl
+length_history_of (a ∷ actions) = ap suc (length_history_of actions)
 
 pub whole_history : (k : ℕ) (actions : List PlainAction) → length actions ≤ k → history_of actions ≡ take k (history_of actions)
-whole_history k actions le = sym (take_all k (history_of actions) (omega (arith, length-history_of actions)))
+whole_history k actions le = sym (take_all k (history_of actions) (omega (arith, length_history_of actions)))
 
 pub nothing_behind : (k : ℕ) (actions : List PlainAction) → length actions ≤ k → history_of [] ≡ drop k (history_of actions)
 nothing_behind k [] le = by k

@@ -1,10 +1,10 @@
 -- The entries that can be there: those of the start, and those that a history adds.
-use Rattle.std.specs.Prelude.{◌≡◌, ℕ, Bool, true, false, List, [], ◌∷◌}
+use Rattle.std.specs.Prelude.{◌≡◌, ℕ, suc, ◌≤◌, Bool, true, false, Some, slice_get, List, [], ◌∷◌}
 use Rattle.index_model.specs.Row.{Row}
 use Rattle.index_model.specs.Order.{is_among}
 use Rattle.index_model.specs.Range.{matches}
 use Rattle.index_model.specs.Actions.{Effect, Add, Remove, Shape, Action, is_there_after, ThereAtSomeMoment, ThereThroughout}
-use Rattle.index_model.specs.Calls.{IsAnyEntry, IsUpToLast, IsAddedIn, actions_between}
+use Rattle.index_model.specs.Calls.{IsAnyEntry, IsUpToLast, IsAddedIn, actions_between, Call, end_of, MayAct, IsOwned}
 use Rattle.index_model.specs.declared.entry.Entry.{Entry}
 use Rattle.index_model.specs.declared.range.Range.{Range}
 
@@ -42,4 +42,19 @@ pub record IsGone (start : Entry → Bool) (history : List Action) (began ended 
 abbrev pub AreGone : (Entry → Bool) → List Action → ℕ → ℕ → (Row → Bool) → Type 0
 AreGone start history began ended dead =
     (e : Entry) → dead e.row ≡ true → is_there_after start history began e ≡ true → is_there_after start history ended e ≡ true
-      → IsAddedIn (actions_between began ended history) e
+    → IsAddedIn (actions_between began ended history) e
+
+-- the entry has its row in the set and was there just before
+pub record IsRemovable (was_there : Entry → Bool) (dead : Row → Bool) (e : Entry) : Type 0 where
+  pub is_dead : dead e.row ≡ true
+  pub is_there : was_there e ≡ true
+
+-- the call may have done the action that comes after `before` others
+pub record HasRight (start : Entry → Bool) (history : List Action) (before : ℕ) (action : Action) (call : Call) : Type 0 where
+  pub since : call.began ≤ before
+  pub until : suc before ≤ end_of history call.ending call.until
+  pub may : MayAct (is_there_after start history before) (suc before) action.effect call.ask call.added
+
+-- the action that comes after `before` others, if there is one, is owned
+pub record IsOwnedAt (start : Entry → Bool) (history : List Action) (calls : List Call) (before : ℕ) : Type 0 where
+  pub owned : (action : Action) → slice_get history before ≡ Some action → IsOwned start history calls before action

@@ -45,7 +45,11 @@ fn is_added_in(actions: &[PlainAction], entry: &Entry) -> bool
 fn actions_behind(history: &[PlainAction], k: usize) -> &[PlainAction]
     ensures { history_of result.now ≡ drop k (history_of history.now) }
 {
-    if k < history.len() { &history[k..] } else { &[] }
+    if k < history.len() {
+        &history[k..]
+    } else {
+        &[]
+    }
 }
 
 fn between(history: &[PlainAction], began: usize, ended: usize) -> &[PlainAction]
@@ -54,7 +58,14 @@ fn between(history: &[PlainAction], began: usize, ended: usize) -> &[PlainAction
     actions_behind(first_actions(history, ended), began)
 }
 
-fn is_gone(start: &[Entry], history: &[PlainAction], began: usize, ended: usize, dead: &[RowAddr], entry: &Entry) -> bool
+fn is_gone(
+    start: &[Entry],
+    history: &[PlainAction],
+    began: usize,
+    ended: usize,
+    dead: &[RowAddr],
+    entry: &Entry,
+) -> bool
     ensures { IsTrue result ↔ IsGone (is_among start.now) (history_of history.now) began ended (has_row dead.now) entry.now }
 {
     if !is_dead(dead, &entry.row) {
@@ -111,7 +122,13 @@ fn all_added_gone(
 }
 
 #[tactic(auto, using(crate::proofs::Candidates::are_gone, crate::proofs::Candidates::each_gone))]
-fn are_gone(start: &[Entry], history: &[PlainAction], began: usize, ended: usize, dead: &[RowAddr]) -> bool
+fn are_gone(
+    start: &[Entry],
+    history: &[PlainAction],
+    began: usize,
+    ended: usize,
+    dead: &[RowAddr],
+) -> bool
     ensures { IsTrue result ↔ AreGone (is_among start.now) (history_of history.now) began ended (has_row dead.now) }
 {
     all_gone(start, history, began, ended, dead, start)
@@ -134,7 +151,11 @@ fn removes_so_many(number: usize, actions: &[PlainAction], count: u64) -> bool
     match actions {
         [] => count == 0,
         [first, rest @ ..] => {
-            let here = if first.by == number { removed(&first.effect) } else { 0 };
+            let here = if first.by == number {
+                removed(&first.effect)
+            } else {
+                0
+            };
             here <= count && removes_so_many(number, rest, count - here)
         }
     }

@@ -71,7 +71,11 @@ pub fn contents_has(start: &[Entry], history: &[PlainAction], entry: &Entry) -> 
 pub fn first_actions(history: &[PlainAction], k: usize) -> &[PlainAction]
     ensures { history_of result.now ≡ take k (history_of history.now) }
 {
-    if k < history.len() { &history[..k] } else { history }
+    if k < history.len() {
+        &history[..k]
+    } else {
+        history
+    }
 }
 
 /// Whether the entry is there after the first `k` actions, or after all where there are fewer.
@@ -83,7 +87,13 @@ pub fn is_there_after(start: &[Entry], history: &[PlainAction], k: usize, entry:
 
 /// Whether the entry is there after k actions, for some k of `began` to `ended`.
 #[tactic(auto, using(crate::proofs::Moments::none_so_far, crate::proofs::Moments::one_more))]
-pub fn is_there_at_some_moment(start: &[Entry], history: &[PlainAction], began: usize, ended: usize, entry: &Entry) -> bool
+pub fn is_there_at_some_moment(
+    start: &[Entry],
+    history: &[PlainAction],
+    began: usize,
+    ended: usize,
+    entry: &Entry,
+) -> bool
     requires { ended < 2 ^ 63 }
     ensures { IsTrue result ↔ ThereAtSomeMoment (spec_is_among start.now) (history_of history.now) began ended entry.now }
 {
@@ -97,7 +107,13 @@ pub fn is_there_at_some_moment(start: &[Entry], history: &[PlainAction], began: 
 
 /// Whether the entry is there after k actions, for each k of `began` to `ended`.
 #[tactic(auto, using(crate::proofs::Moments::none_so_far, crate::proofs::Moments::one_more))]
-pub fn is_there_throughout(start: &[Entry], history: &[PlainAction], began: usize, ended: usize, entry: &Entry) -> bool
+pub fn is_there_throughout(
+    start: &[Entry],
+    history: &[PlainAction],
+    began: usize,
+    ended: usize,
+    entry: &Entry,
+) -> bool
     requires { ended < 2 ^ 63 }
     ensures { IsTrue result ↔ ThereThroughout (spec_is_among start.now) (history_of history.now) began ended entry.now }
 {

@@ -72,7 +72,14 @@ fn add_is_right(
     }
 }
 
-fn insert_may_fail(start: &[Entry], history: &[PlainAction], began: usize, ended: usize, entry: &Entry, fault: Fault) -> bool
+fn insert_may_fail(
+    start: &[Entry],
+    history: &[PlainAction],
+    began: usize,
+    ended: usize,
+    entry: &Entry,
+    fault: Fault,
+) -> bool
     requires { ended < 2 ^ 63 }
     ensures { IsTrue result ↔ InsertMayFail (is_among start.now) (history_of history.now) began ended entry.now fault }
 {

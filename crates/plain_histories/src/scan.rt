@@ -52,14 +52,28 @@ pub fn is_up_to_last(list: &[Entry], entry: &Entry) -> bool
     is_up_to_last_or(&None, list, entry)
 }
 
-fn may_be_given(start: &[Entry], history: &[PlainAction], range: &Range, began: usize, now: usize, entry: &Entry) -> bool
+fn may_be_given(
+    start: &[Entry],
+    history: &[PlainAction],
+    range: &Range,
+    began: usize,
+    now: usize,
+    entry: &Entry,
+) -> bool
     requires { now < 2 ^ 63 }
     ensures { IsTrue result ↔ MayBeGiven (spec_is_among start.now) (history_of history.now) range.now began now entry.now }
 {
     range.contains(entry) && is_there_at_some_moment(start, history, began, now, entry)
 }
 
-fn all_may_be_given(start: &[Entry], history: &[PlainAction], range: &Range, began: usize, now: usize, given: &[Entry]) -> bool
+fn all_may_be_given(
+    start: &[Entry],
+    history: &[PlainAction],
+    range: &Range,
+    began: usize,
+    now: usize,
+    given: &[Entry],
+) -> bool
     requires { now < 2 ^ 63 }
     ensures { IsTrue result ↔ AllByRecursion (MayBeGiven (spec_is_among start.now) (history_of history.now) range.now began now) given.now }
 {
@@ -141,13 +155,21 @@ fn all_added_given_if_owed(
                 }
                 _ => true,
             };
-            is_fine && all_added_given_if_owed(start, history, range, began, now, whole, given, rest)
+            is_fine
+                && all_added_given_if_owed(start, history, range, began, now, whole, given, rest)
         }
     }
 }
 
 #[tactic(auto, using(crate::proofs::Candidates::gives_only, crate::proofs::Candidates::all_may))]
-fn gives_only(start: &[Entry], history: &[PlainAction], range: &Range, began: usize, now: usize, given: &[Entry]) -> bool
+fn gives_only(
+    start: &[Entry],
+    history: &[PlainAction],
+    range: &Range,
+    began: usize,
+    now: usize,
+    given: &[Entry],
+) -> bool
     requires { now < 2 ^ 63 }
     ensures { IsTrue result ↔ GivesOnly (spec_is_among start.now) (history_of history.now) range.now began now given.now }
 {
@@ -155,7 +177,15 @@ fn gives_only(start: &[Entry], history: &[PlainAction], range: &Range, began: us
 }
 
 #[tactic(auto, using(crate::proofs::Candidates::gives_all, crate::proofs::Candidates::owed_of_all))]
-fn gives_all(start: &[Entry], history: &[PlainAction], range: &Range, began: usize, now: usize, whole: bool, given: &[Entry]) -> bool
+fn gives_all(
+    start: &[Entry],
+    history: &[PlainAction],
+    range: &Range,
+    began: usize,
+    now: usize,
+    whole: bool,
+    given: &[Entry],
+) -> bool
     requires interval { began ≤ now }
     requires short { now < 2 ^ 63 }
     ensures { IsTrue result ↔ GivesAll (spec_is_among start.now) (history_of history.now) range.now began now given.now (Reach whole given.now) }
@@ -166,19 +196,35 @@ fn gives_all(start: &[Entry], history: &[PlainAction], range: &Range, began: usi
 
 /// Whether these are the right answer of a scan that has finished: `began` and `ended` are the lengths of
 /// the history when it began and when it ended.
-pub fn is_scan_answer(start: &[Entry], history: &[PlainAction], range: &Range, began: usize, ended: usize, given: &[Entry]) -> bool
+pub fn is_scan_answer(
+    start: &[Entry],
+    history: &[PlainAction],
+    range: &Range,
+    began: usize,
+    ended: usize,
+    given: &[Entry],
+) -> bool
     requires interval { began ≤ ended }
     requires short { ended < 2 ^ 63 }
     ensures { IsTrue result ↔ IsScanAnswer (spec_is_among start.now) (history_of history.now) range.now began ended given.now }
 {
-    gives_only(start, history, range, began, ended, given) && gives_all(start, history, range, began, ended, true, given)
+    gives_only(start, history, range, began, ended, given)
+        && gives_all(start, history, range, began, ended, true, given)
 }
 
 /// Whether these are a right answer of a scan so far: `now` is the present length of the history.
-pub fn is_scan_answer_so_far(start: &[Entry], history: &[PlainAction], range: &Range, began: usize, now: usize, given: &[Entry]) -> bool
+pub fn is_scan_answer_so_far(
+    start: &[Entry],
+    history: &[PlainAction],
+    range: &Range,
+    began: usize,
+    now: usize,
+    given: &[Entry],
+) -> bool
     requires interval { began ≤ now }
     requires short { now < 2 ^ 63 }
     ensures { IsTrue result ↔ IsScanAnswerSoFar (spec_is_among start.now) (history_of history.now) range.now began now given.now }
 {
-    gives_only(start, history, range, began, now, given) && gives_all(start, history, range, began, now, false, given)
+    gives_only(start, history, range, began, now, given)
+        && gives_all(start, history, range, began, now, false, given)
 }
