@@ -1,5 +1,5 @@
 -- A page's bytes, by their four pieces.
-use Rattle.std.proofs.Common.{◌≡◌, ℕ, ◌-◌, ◌+◌, ◌≤◌, List, ◌++◌, length, take, drop, replicate, refl, sym, ap, ◌∙◌, append_assoc, arith, length-append}
+use Rattle.std.proofs.Common.{◌≡◌, ℕ, ◌-◌, ◌+◌, List, ◌++◌, length, drop, replicate, refl, sym, ap, ◌∙◌, append_assoc, arith, length-append}
 use Rattle.std.proofs.lemmas.List.{drop_at, drop-drop, length-drop, length-replicate}
 use Rattle.page_codec.specs.Grammar.{IsPage}
 use Rattle.page_codec.specs.Begins.{Begins, size_of}

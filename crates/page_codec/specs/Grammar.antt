@@ -1,9 +1,9 @@
 -- Which pages the format admits: of each kind, every condition on its fields and its items.
-use Rattle.std.specs.Prelude.{◌≡◌, ℕ, ◌<◌, ◌≤◌, ◌^◌, ◌↔◌, Bool, true, false, Option, Some, None, IfSome, IsSome, IsNone, List, [], ◌∷◌, length, map}
+use Rattle.std.specs.Prelude.{◌≡◌, ℕ, ◌<◌, ◌≤◌, ◌^◌, ◌↔◌, true, false, Option, Some, None, IfSome, IsSome, IsNone, List, [], ◌∷◌, length}
 use Rattle.std.specs.List.{AllByRecursion}
 use Rattle.std.specs.Option.{option_cmp}
-use Rattle.std.specs.Ordering.{is_lt, is_gt}
-use Rattle.index_model.specs.Row.{Row, IsRow}
+use Rattle.std.specs.Ordering.{is_lt}
+use Rattle.index_model.specs.Row.{IsRow}
 use Rattle.index_model.specs.Order.{bound_cmp, bound_of, is_past, IsUpTo, IsAscending, IsEntry}
 use Rattle.index_model.specs.declared.entry.Entry.{Entry}
 use Rattle.index_model.specs.declared.bound.Bound.{Bound}
@@ -24,7 +24,8 @@ pub record IsWhole (b : Bound) : Type 0 where
   pub row : IfSome b.row IsRow
   pub present : IsSome b.row
 
--- the first of these, if there is one, stands in R to the item before them, and each to the one before it
+-- the first of these, if there is one, stands in R to the item before them, and each to the one
+-- before it
 abbrev pub FollowedBy : {A : Type 0} → (A → A → Type 0) → A → List A → Type 0
 FollowedBy R a [] = Unit {0}
 FollowedBy R a (b ∷ bs) = R a b × FollowedBy R b bs
@@ -86,7 +87,8 @@ pub record IsMeta (p : Page) : Type 0 where
   pub right : IsSome p.right
   pub high : IsNone p.high
 
--- a live leaf: a high key exactly if there is a right link, the incomplete split only with a right link
+-- a live leaf: a high key exactly if there is a right link, the incomplete split only with a right
+-- link
 pub record IsLiveLeaf (p : Page) (es : List Entry) : Type 0 where
   pub deletion : p.deletion ≡ 0
   pub high : IsSome p.high ↔ IsSome p.right
@@ -123,8 +125,8 @@ pub record IsLeaf (p : Page) (es : List Entry) : Type 0 where
   pub count : length es ≤ 50
   pub rest : IsLeafIn p.state p es
 
--- an internal page: level 1 to 31, live, a high key exactly if there is a right link, the incomplete split only with
--- a right link, 1 to 50 downlinks of which the first has minus infinity
+-- an internal page: level 1 to 31, live, a high key exactly if there is a right link, the
+-- incomplete split only with a right link, 1 to 50 downlinks of which the first has minus infinity
 pub record IsInternal (p : Page) (ds : List Downlink) : Type 0 where
   pub block : IsBlock p.block
   pub level : (0 < p.level) × (p.level ≤ 31)

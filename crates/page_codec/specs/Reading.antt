@@ -1,8 +1,7 @@
--- What the reader takes bytes for before they are judged and compared: it tests as little as it can. Only private
--- functions speak of it; the public calls speak of `IsPage` and `page_bytes`.
-use Rattle.std.specs.Prelude.{◌≡◌, ℕ, zero, suc, ◌/◌, ◌%◌, Bool, true, false, ◌==◌, if◌then◌else◌, nat_lt, Option, Some, None, List, [], ◌∷◌, ◌++◌, length, take, drop, get_or, slice_index}
+-- What the reader takes bytes for before they are judged and compared: it tests as little as it
+-- can. Only private functions speak of it; the public calls speak of `IsPage` and `page_bytes`.
+use Rattle.std.specs.Prelude.{ℕ, zero, suc, ◌%◌, ◌==◌, if◌then◌else◌, nat_lt, Option, Some, None, List, [], ◌∷◌, take, drop, slice_index}
 use Rattle.byteorder.specs.Endian.{little_number}
-use Rattle.index_model.specs.Row.{Row}
 use Rattle.index_model.specs.declared.entry.Entry.{Entry}
 use Rattle.index_model.specs.declared.bound.Bound.{Bound}
 use Rattle.page_codec.specs.declared.page.PageState.{PageState}
@@ -28,7 +27,12 @@ slot_from len block offset key =
 
 -- the bound in the first 71 bytes, or none
 unfoldable pub slot_at : List ℕ → Option (Option Bound)
-slot_at bytes = slot_from (slice_index bytes 0) (little_number 4 (drop 65 bytes)) (little_number 2 (drop 69 bytes)) (take (slice_index bytes 0) (drop 1 bytes))
+slot_at bytes =
+    slot_from
+    (slice_index bytes 0)
+    (little_number 4 (drop 65 bytes))
+    (little_number 2 (drop 69 bytes))
+    (take (slice_index bytes 0) (drop 1 bytes))
 
 -- the entry that a bound with a row is
 abbrev pub whole : Bound → Option Entry
@@ -58,7 +62,11 @@ items_of kind count bytes =
 
 -- the state that a byte names
 abbrev pub state_at : ℕ → Option PageState
-state_at byte = if byte == 0 then Some Live else if byte == 1 then Some HalfDead else if byte == 2 then Some Deleted else None
+state_at byte =
+    if byte == 0 then Some Live
+    else if byte == 1 then Some HalfDead
+    else if byte == 2 then Some Deleted
+    else None
 
 -- the link that a number is
 abbrev pub link_at : ℕ → Option ℕ

@@ -1,5 +1,5 @@
 -- The 4,096 bytes of each page.
-use Rattle.std.specs.Prelude.{◌≡◌, ℕ, ◌+◌, ◌-◌, Bool, true, false, Option, Some, None, List, [], ◌∷◌, ◌++◌, length, replicate}
+use Rattle.std.specs.Prelude.{ℕ, ◌+◌, ◌-◌, Bool, true, false, Option, Some, None, List, [], ◌∷◌, ◌++◌, length, replicate}
 use Rattle.std.specs.List.{flat_map}
 use Rattle.byteorder.specs.Endian.{little_bytes}
 use Rattle.index_model.specs.Row.{Row}
@@ -75,8 +75,8 @@ items_bytes Meta = []
 items_bytes (Entries v) = flat_map entry_bytes v.items
 items_bytes (Downlinks v) = flat_map downlink_bytes v.items
 
--- the first 36 bytes: `BLP1`, block, kind, level, state, flags, left and right link, cycle, deletion number, number of
--- items, two zeros
+-- the first 36 bytes: `BLP1`, block, kind, level, state, flags, left and right link, cycle,
+-- deletion number, number of items, two zeros
 unfoldable pub head_bytes : Page → List ℕ
 head_bytes p =
     (66 ∷ 76 ∷ 80 ∷ 49 ∷ []) ++ (little_bytes 4 p.block

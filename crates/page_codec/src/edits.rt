@@ -53,7 +53,8 @@ impl Page {
     }
 }
 
-/// Puts an entry at a place of a leaf, 0 to the number of its entries; those from there on move up by one.
+/// Puts an entry at a place of a leaf, 0 to the number of its entries; those from there on move up
+/// by one.
 pub fn add_entry(page: &mut Page, at: usize, entry: Entry)
     requires leaf { HasEntries page.old.items }
     requires room { length (entries_of page.old.items) < 50 }

@@ -1,5 +1,5 @@
-//! Pages of an index, and their 4,096 bytes: a page that decodes is exactly a page of the format, so
-//! damaged or hostile bytes are detected, and what was written is what is read, byte for byte.
+//! Pages of an index, and their 4,096 bytes: a page that decodes is exactly a page of the format,
+//! so damaged or hostile bytes are detected, and what was written is what is read, byte for byte.
 #![tactic(auto)]
 
 mod edits;

@@ -203,17 +203,17 @@ fn read(bytes: &[u8], page: &mut Page) -> bool
     true
 }
 
-/// Whether the bytes are those of a block that was never written: 4,096 zeros. No page has these bytes.
+/// Whether the bytes are those of a block that was never written: 4,096 zeros. No page has these
+/// bytes.
 pub fn is_unused(bytes: &[u8; 4096]) -> bool
     ensures { IsTrue result ↔ (bytes.now ≡ replicate 4096 0) }
 {
     *bytes == [0; 4096]
 }
 
-/// The page of these bytes: `Some(page)` exactly if they are the bytes that [`encode`] writes for a page
-/// that the format admits, and `None` exactly if they are those of no such page, as after any damage to
-/// a bit that the format fixes. It takes no memory but the page that it answers, and fails for no
-/// other reason.
+/// The page of these bytes: `Some(page)` exactly if they are the bytes that [`encode`] writes for a
+/// page that the format admits, and `None` exactly if they are those of no such page. It takes no
+/// memory beside the page that it answers, and fails for no other reason.
 pub fn decode(bytes: &[u8; 4096]) -> Option<Page>
     ensures found { IfSome result (λ p. IsPage p × (bytes.now ≡ page_bytes p)) }
     ensures only { (p : Page) → IsPage p → bytes.now ≡ page_bytes p → result ≡ Some p }

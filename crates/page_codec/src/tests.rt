@@ -32,7 +32,8 @@ fn entry(key: &[u8]) -> Entry {
     }
 }
 
-/// Entry 0 has the empty key, entry 49 the greatest of 64 bytes, entry i between them the key 7, 2i.
+/// Entry 0 has the empty key, entry 49 the greatest of 64 bytes, entry i between them the key 7,
+/// 2i.
 fn nth_entry(i: u8) -> Entry {
     match i {
         0 => entry(&[]),
@@ -139,7 +140,8 @@ fn fresh_pages(rt: HostRuntime) {
     assert!(rt; decode(&[0; 4096]).is_none());
 }
 
-/// The high key stands at 36, entry i at 107 + 71 i: its key from 1 on, its block at 65, its offset at 69.
+/// The high key stands at 36, entry i at 107 + 71 i: its key from 1 on, its block at 65, its offset
+/// at 69.
 #[test]
 fn damaged_leaf(rt: HostRuntime) {
     let head = [

@@ -1,12 +1,11 @@
 -- The Add of an insert.
-use Rattle.std.proofs.Common.{◌≡◌, ℕ, suc, ◌≤◌, Bool, true, false, List, Some, refl, sym, ap, subst, ◌∙◌, not, arith}
+use Rattle.std.proofs.Common.{◌≡◌, ℕ, suc, Bool, true, false, List, Some, sym, ap, subst, ◌∙◌, not, arith}
 use Rattle.std.specs.Prelude.{slice_get, IsTrue, ◌↔◌, None}
 use Rattle.std.proofs.lemmas.Option.{same_Some}
-use Rattle.index_model.specs.Actions.{Effect, Add, Action, is_there_after}
+use Rattle.index_model.specs.Actions.{Add, Action, is_there_after}
 use Rattle.index_model.specs.Calls.{IsAdded}
 use Rattle.index_model.specs.declared.entry.Entry.{Entry}
 use Rattle.plain_histories.specs.Plain.{effect_of, action_of}
-use Rattle.plain_histories.specs.declared.action.PlainEffect.{PlainEffect}
 use Rattle.plain_histories.specs.declared.action.PlainEffect.TheVariants.{Adds}
 use Rattle.plain_histories.specs.declared.action.PlainAction.{PlainAction}
 

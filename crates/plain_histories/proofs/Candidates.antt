@@ -1,5 +1,5 @@
 -- Why it is enough to look at the entries of the start and at those that a history adds.
-use Rattle.std.proofs.Common.{◌≡◌, ◌↔◌, ℕ, zero, suc, ◌≤◌, Bool, true, false, ◌||◌, Option, Some, None, List, [], ◌∷◌, take, refl, sym, ap, subst, ◌∙◌, arith, inl, inr, ◌⊎◌}
+use Rattle.std.proofs.Common.{◌≡◌, ℕ, zero, suc, ◌≤◌, Bool, true, false, ◌||◌, Option, Some, None, List, [], ◌∷◌, take, refl, sym, ap, subst, ◌∙◌, arith, inl, inr, ◌⊎◌}
 use Rattle.std.specs.Prelude.{unwrap_or, if◌then◌else◌}
 use Rattle.std.specs.List.{AllByRecursion}
 use Rattle.std.specs.Ordering.{is_eq}
@@ -8,8 +8,7 @@ use Rattle.std.specs.declared.cmp.Ordering.TheVariants.{Less, Equal, Greater}
 use Rattle.std.proofs.lemmas.Cmp.{tied_itself}
 use Rattle.index_model.specs.Row.{Row}
 use Rattle.index_model.specs.Order.{entry_cmp, same_entry, is_among, IsAscending}
-use Rattle.index_model.specs.Range.{matches}
-use Rattle.index_model.specs.Actions.{Effect, Add, Remove, Shape, Action, said_of, later_or, last_said, contents_after, is_there_after, ThereThroughout}
+use Rattle.index_model.specs.Actions.{Effect, Add, Remove, Shape, Action, said_of, later_or, last_said, is_there_after}
 use Rattle.index_model.specs.Calls.{GivesOnly, GivesAll, AreRemovable}
 use Rattle.index_model.specs.declared.entry.Entry.{Entry}
 use Rattle.index_model.specs.declared.range.Range.{Range}

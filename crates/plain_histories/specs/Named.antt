@@ -33,7 +33,8 @@ Reach false given e = IsUpToLast given e
 pub record IsGivenIfOwed (start : Entry → Bool) (history : List Action) (range : Range) (began now : ℕ) (given : List Entry) (IsWithin : Entry → Type 0) (e : Entry) : Type 0 where
   pub if_owed : IsWithin e → matches range e ≡ true → ThereThroughout start history began now e → is_among given e ≡ true
 
--- a dead entry that was there at the beginning isn't there at the end, unless it was added meanwhile
+-- a dead entry that was there at the beginning isn't there at the end, unless it was added
+-- meanwhile
 pub record IsGone (start : Entry → Bool) (history : List Action) (began ended : ℕ) (dead : Row → Bool) (e : Entry) : Type 0 where
   pub unless_added : dead e.row ≡ true → is_there_after start history began e ≡ true → is_there_after start history ended e ≡ true
       → IsAddedIn (actions_between began ended history) e

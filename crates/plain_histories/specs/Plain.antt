@@ -1,5 +1,5 @@
 -- What plain values mean.
-use Rattle.std.specs.Prelude.{ℕ, Bool, false, ◌||◌, List, [], ◌∷◌}
+use Rattle.std.specs.Prelude.{Bool, false, ◌||◌, List, [], ◌∷◌}
 use Rattle.std.specs.Ordering.{is_eq}
 use Rattle.index_model.specs.Row.{Row}
 use Rattle.index_model.specs.Order.{row_cmp}

@@ -66,7 +66,9 @@ fn is_gone(
     dead: &[RowAddr],
     entry: &Entry,
 ) -> bool
-    ensures { IsTrue result ↔ IsGone (is_among start.now) (history_of history.now) began ended (has_row dead.now) entry.now }
+    ensures { IsTrue result ↔
+        IsGone (is_among start.now) (history_of history.now) began ended (has_row dead.now)
+        entry.now }
 {
     if !is_dead(dead, &entry.row) {
         return true;
@@ -88,7 +90,9 @@ fn all_gone(
     dead: &[RowAddr],
     candidates: &[Entry],
 ) -> bool
-    ensures { IsTrue result ↔ AllByRecursion (IsGone (is_among start.now) (history_of history.now) began ended (has_row dead.now)) candidates.now }
+    ensures { IsTrue result ↔
+        AllByRecursion (IsGone (is_among start.now) (history_of history.now) began ended
+        (has_row dead.now)) candidates.now }
 {
     match candidates {
         [] => true,
@@ -107,7 +111,9 @@ fn all_added_gone(
     dead: &[RowAddr],
     actions: &[PlainAction],
 ) -> bool
-    ensures { IsTrue result ↔ AllByRecursion (IsGone (is_among start.now) (history_of history.now) began ended (has_row dead.now)) (added_by (history_of actions.now)) }
+    ensures { IsTrue result ↔
+        AllByRecursion (IsGone (is_among start.now) (history_of history.now) began ended
+        (has_row dead.now)) (added_by (history_of actions.now)) }
 {
     match actions {
         [] => true,
@@ -129,7 +135,8 @@ fn are_gone(
     ended: usize,
     dead: &[RowAddr],
 ) -> bool
-    ensures { IsTrue result ↔ AreGone (is_among start.now) (history_of history.now) began ended (has_row dead.now) }
+    ensures { IsTrue result ↔
+        AreGone (is_among start.now) (history_of history.now) began ended (has_row dead.now) }
 {
     all_gone(start, history, began, ended, dead, start)
         && all_added_gone(start, history, began, ended, dead, history)
@@ -161,8 +168,9 @@ fn removes_so_many(number: usize, actions: &[PlainAction], count: u64) -> bool
     }
 }
 
-/// Whether this is the right answer of the bulk delete of this number over the rows of `dead`, when it has
-/// finished: `began` and `ended` are the lengths of the history when it began and when it ended.
+/// Whether this is the right answer of the bulk delete of this number over the rows of `dead`, when
+/// it has finished: `began` and `ended` are the lengths of the history when it began and when it
+/// ended.
 pub fn is_bulk_delete_answer(
     start: &[Entry],
     history: &[PlainAction],
@@ -172,7 +180,9 @@ pub fn is_bulk_delete_answer(
     dead: &[RowAddr],
     stats: &VacuumStats,
 ) -> bool
-    ensures { IsTrue result ↔ IsBulkDeleteAnswer (is_among start.now) (history_of history.now) number began ended (has_row dead.now) stats.now }
+    ensures { IsTrue result ↔
+        IsBulkDeleteAnswer (is_among start.now) (history_of history.now) number began ended
+        (has_row dead.now) stats.now }
 {
     are_gone(start, history, began, ended, dead)
         && removes_so_many(number, between(history, began, ended), stats.tuples_removed)

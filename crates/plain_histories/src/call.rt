@@ -20,7 +20,8 @@ pub enum PlainAsk {
 pub enum PlainEnding {
     /// It still runs.
     Runs,
-    /// An insert: its entry is added by the action of this number; the fault is that of a split left unfinished.
+    /// An insert: its entry is added by the action of this number; the fault is that of a split
+    /// left unfinished.
     HasAdded(usize, Option<Fault>),
     /// A scan: it gave all.
     HasFinished,

@@ -57,7 +57,8 @@ fn last(history: &[PlainAction], entry: &Entry) -> Option<bool>
     }
 }
 
-/// Whether the entry is in the contents after the whole history, which began with the entries of `start`.
+/// Whether the entry is in the contents after the whole history, which began with the entries of
+/// `start`.
 pub fn contents_has(start: &[Entry], history: &[PlainAction], entry: &Entry) -> bool
     ensures { result ≡ contents_after (spec_is_among start.now) (history_of history.now) entry.now }
 {
@@ -80,7 +81,8 @@ pub fn first_actions(history: &[PlainAction], k: usize) -> &[PlainAction]
 
 /// Whether the entry is there after the first `k` actions, or after all where there are fewer.
 pub fn is_there_after(start: &[Entry], history: &[PlainAction], k: usize, entry: &Entry) -> bool
-    ensures { result ≡ spec_is_there_after (spec_is_among start.now) (history_of history.now) k entry.now }
+    ensures { result ≡ spec_is_there_after (spec_is_among start.now) (history_of history.now) k
+        entry.now }
 {
     contents_has(start, first_actions(history, k), entry)
 }
@@ -95,7 +97,9 @@ pub fn is_there_at_some_moment(
     entry: &Entry,
 ) -> bool
     requires { ended < 2 ^ 63 }
-    ensures { IsTrue result ↔ ThereAtSomeMoment (spec_is_among start.now) (history_of history.now) began ended entry.now }
+    ensures { IsTrue result ↔
+        ThereAtSomeMoment (spec_is_among start.now) (history_of history.now) began ended
+        entry.now }
 {
     for k in began..ended + 1 {
         if is_there_after(start, history, k, entry) {
@@ -115,7 +119,9 @@ pub fn is_there_throughout(
     entry: &Entry,
 ) -> bool
     requires { ended < 2 ^ 63 }
-    ensures { IsTrue result ↔ ThereThroughout (spec_is_among start.now) (history_of history.now) began ended entry.now }
+    ensures { IsTrue result ↔
+        ThereThroughout (spec_is_among start.now) (history_of history.now) began ended
+        entry.now }
 {
     for k in began..ended + 1 {
         if !is_there_after(start, history, k, entry) {

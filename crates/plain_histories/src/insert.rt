@@ -12,7 +12,8 @@ use crate::contents::{is_same, is_there_after, is_there_at_some_moment};
 use index_model::{Entry, Fault};
 
 fn is_add_of(action: &PlainAction, number: usize, entry: &Entry) -> bool
-    ensures { IsTrue result ↔ (action_of action.now ≡ record { by = number; effect = Add entry.now }) }
+    ensures { IsTrue result ↔
+        (action_of action.now ≡ record { by = number; effect = Add entry.now }) }
 {
     match &action.effect {
         PlainEffect::Adds(added) => action.by == number && is_same(added, entry),
@@ -22,7 +23,12 @@ fn is_add_of(action: &PlainAction, number: usize, entry: &Entry) -> bool
 }
 
 fn is_add_at(history: &[PlainAction], before: usize, number: usize, entry: &Entry) -> bool
-    ensures { IsTrue result ↔ (slice_get (history_of history.now) before ≡ Some (record { by = number; effect = Add entry.now })) }
+    ensures { IsTrue result ↔
+        (slice_get (history_of history.now) before ≡ Some (record {
+          by = number;
+          effect = Add
+              entry.now;
+        })) }
 {
     match history.get(before) {
         None => false,
@@ -30,7 +36,8 @@ fn is_add_at(history: &[PlainAction], before: usize, number: usize, entry: &Entr
     }
 }
 
-/// Whether the action of this number, from 1, is the Add of this call and entry, which wasn't there just before.
+/// Whether the action of this number, from 1, is the Add of this call and entry, which wasn't there
+/// just before.
 pub fn is_added(
     start: &[Entry],
     history: &[PlainAction],
@@ -40,7 +47,9 @@ pub fn is_added(
     entry: &Entry,
     action: usize,
 ) -> bool
-    ensures { IsTrue result ↔ IsAdded (is_among start.now) (history_of history.now) number began ended entry.now action }
+    ensures { IsTrue result ↔
+        IsAdded (is_among start.now) (history_of history.now) number began ended entry.now
+        action }
 {
     if action == 0 {
         return false;
@@ -64,7 +73,9 @@ fn add_is_right(
     entry: &Entry,
     added: Option<usize>,
 ) -> bool
-    ensures { IsTrue result ↔ AddIsRight (is_among start.now) (history_of history.now) number began ended entry.now added }
+    ensures { IsTrue result ↔
+        AddIsRight (is_among start.now) (history_of history.now) number began ended entry.now
+        added }
 {
     match added {
         None => true,
@@ -81,7 +92,9 @@ fn insert_may_fail(
     fault: Fault,
 ) -> bool
     requires { ended < 2 ^ 63 }
-    ensures { IsTrue result ↔ InsertMayFail (is_among start.now) (history_of history.now) began ended entry.now fault }
+    ensures { IsTrue result ↔
+        InsertMayFail (is_among start.now) (history_of history.now) began ended entry.now
+        fault }
 {
     match fault {
         Fault::Exists => is_there_at_some_moment(start, history, began, ended, entry),
@@ -99,7 +112,9 @@ fn insert_ends_right(
     ending: &PlainEnding,
 ) -> bool
     requires { ended < 2 ^ 63 }
-    ensures { IsTrue result ↔ InsertEndsRight (is_among start.now) (history_of history.now) began ended entry.now added (ending_of ending.now) }
+    ensures { IsTrue result ↔
+        InsertEndsRight (is_among start.now) (history_of history.now) began ended entry.now
+        added (ending_of ending.now) }
 {
     match ending {
         PlainEnding::Runs => true,
@@ -113,8 +128,9 @@ fn insert_ends_right(
     }
 }
 
-/// Whether this is the right answer of the insert of this number: `began` and `ended` are the lengths of the
-/// history when it began and when it ended, or now, `added` the number of its Add, if it has one.
+/// Whether this is the right answer of the insert of this number: `began` and `ended` are the
+/// lengths of the history when it began and when it ended, or now, `added` the number of its Add,
+/// if it has one.
 pub fn is_insert_answer(
     start: &[Entry],
     history: &[PlainAction],
@@ -126,7 +142,9 @@ pub fn is_insert_answer(
     ending: &PlainEnding,
 ) -> bool
     requires { ended < 2 ^ 63 }
-    ensures { IsTrue result ↔ IsInsertAnswer (is_among start.now) (history_of history.now) number began ended entry.now added (ending_of ending.now) }
+    ensures { IsTrue result ↔
+        IsInsertAnswer (is_among start.now) (history_of history.now) number began ended
+        entry.now added (ending_of ending.now) }
 {
     add_is_right(start, history, number, began, ended, entry, added)
         && insert_ends_right(start, history, began, ended, entry, added, ending)

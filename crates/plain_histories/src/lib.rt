@@ -1,5 +1,5 @@
-//! The words of histories and calls, computed: a plain, slow program over a few actions and calls, for
-//! tests to compare an index with. Nothing here is meant for use outside tests.
+//! The words of histories and calls, computed: a plain, slow program over a few actions and calls,
+//! for tests to compare an index with. Nothing here is meant for use outside tests.
 #![tactic(auto)]
 
 mod action;

@@ -32,7 +32,9 @@ fn all_removable(
     dead: &[RowAddr],
     entries: &[Entry],
 ) -> bool
-    ensures { IsTrue result ↔ AllByRecursion (IsRemovable (spec_is_there_after (is_among start.now) (history_of history.now) before) (has_row dead.now)) entries.now }
+    ensures { IsTrue result ↔
+        AllByRecursion (IsRemovable (spec_is_there_after (is_among start.now) (history_of
+        history.now) before) (has_row dead.now)) entries.now }
 {
     match entries {
         [] => true,
@@ -52,7 +54,9 @@ fn are_removable(
     dead: &[RowAddr],
     entries: &[Entry],
 ) -> bool
-    ensures { IsTrue result ↔ AreRemovable (spec_is_there_after (is_among start.now) (history_of history.now) before) (has_row dead.now) entries.now }
+    ensures { IsTrue result ↔
+        AreRemovable (spec_is_there_after (is_among start.now) (history_of history.now)
+        before) (has_row dead.now) entries.now }
 {
     all_removable(start, history, before, dead, entries)
 }
@@ -66,7 +70,9 @@ fn may_add(
     added: Option<usize>,
 ) -> bool
     requires { before + 1 < 2 ^ 64 }
-    ensures { IsTrue result ↔ MayAct (spec_is_there_after (is_among start.now) (history_of history.now) before) (suc before) (Add entry.now) (ask_of ask.now) added }
+    ensures { IsTrue result ↔
+        MayAct (spec_is_there_after (is_among start.now) (history_of history.now) before) (suc
+        before) (Add entry.now) (ask_of ask.now) added }
 {
     match ask {
         PlainAsk::Inserts(asked) => {
@@ -88,7 +94,9 @@ fn may_remove(
     ask: &PlainAsk,
     added: Option<usize>,
 ) -> bool
-    ensures { IsTrue result ↔ MayAct (spec_is_there_after (is_among start.now) (history_of history.now) before) (suc before) (Remove entries.now.items) (ask_of ask.now) added }
+    ensures { IsTrue result ↔
+        MayAct (spec_is_there_after (is_among start.now) (history_of history.now) before) (suc
+        before) (Remove entries.now.items) (ask_of ask.now) added }
 {
     match ask {
         PlainAsk::Inserts(_) => false,
@@ -103,7 +111,8 @@ fn may_remove(
 }
 
 fn may_reshape(ask: &PlainAsk) -> bool
-    ensures { (was_there : Entry → Bool) (action : ℕ) (added : Option ℕ) → IsTrue result ↔ MayAct was_there action Shape (ask_of ask.now) added }
+    ensures { (was_there : Entry → Bool) (action : ℕ) (added : Option ℕ) → IsTrue result ↔
+        MayAct was_there action Shape (ask_of ask.now) added }
 {
     match ask {
         PlainAsk::Inserts(_) => true,
@@ -122,7 +131,9 @@ fn may_act(
     added: Option<usize>,
 ) -> bool
     requires { before + 1 < 2 ^ 64 }
-    ensures { IsTrue result ↔ MayAct (spec_is_there_after (is_among start.now) (history_of history.now) before) (suc before) (effect_of effect.now) (ask_of ask.now) added }
+    ensures { IsTrue result ↔
+        MayAct (spec_is_there_after (is_among start.now) (history_of history.now) before) (suc
+        before) (effect_of effect.now) (ask_of ask.now) added }
 {
     match effect {
         PlainEffect::Adds(entry) => may_add(start, history, before, entry, ask, added),
@@ -139,7 +150,9 @@ fn has_right(
     call: &PlainCall,
 ) -> bool
     requires { before + 1 < 2 ^ 64 }
-    ensures { IsTrue result ↔ HasRight (is_among start.now) (history_of history.now) before (action_of action.now) (call_of call.now) }
+    ensures { IsTrue result ↔
+        HasRight (is_among start.now) (history_of history.now) before (action_of action.now)
+        (call_of call.now) }
 {
     if before < call.began {
         return false;
@@ -165,7 +178,9 @@ fn is_owned(
     action: &PlainAction,
 ) -> bool
     requires { before + 1 < 2 ^ 64 }
-    ensures { IsTrue result ↔ IsOwned (is_among start.now) (history_of history.now) (calls_of calls.now) before (action_of action.now) }
+    ensures { IsTrue result ↔
+        IsOwned (is_among start.now) (history_of history.now) (calls_of calls.now) before
+        (action_of action.now) }
 {
     match calls.get(action.by) {
         None => false,
@@ -175,7 +190,8 @@ fn is_owned(
 
 fn is_owned_at(start: &[Entry], history: &[PlainAction], calls: &[PlainCall], before: usize) -> bool
     requires { before + 1 < 2 ^ 64 }
-    ensures { IsTrue result ↔ IsOwnedAt (is_among start.now) (history_of history.now) (calls_of calls.now) before }
+    ensures { IsTrue result ↔
+        IsOwnedAt (is_among start.now) (history_of history.now) (calls_of calls.now) before }
 {
     match history.get(before) {
         None => true,
@@ -183,9 +199,11 @@ fn is_owned_at(start: &[Entry], history: &[PlainAction], calls: &[PlainCall], be
     }
 }
 
-/// Whether every action is owned by the call that asked for it, the number of a call being its place.
+/// Whether every action is owned by the call that asked for it, the number of a call being its
+/// place.
 pub fn actions_are_owned(start: &[Entry], history: &[PlainAction], calls: &[PlainCall]) -> bool
-    ensures { IsTrue result ↔ ActionsAreOwned (is_among start.now) (history_of history.now) (calls_of calls.now) }
+    ensures { IsTrue result ↔
+        ActionsAreOwned (is_among start.now) (history_of history.now) (calls_of calls.now) }
 {
     for before in 0..history.len() {
         if !is_owned_at(start, history, calls, before) {

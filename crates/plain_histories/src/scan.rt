@@ -61,7 +61,9 @@ fn may_be_given(
     entry: &Entry,
 ) -> bool
     requires { now < 2 ^ 63 }
-    ensures { IsTrue result ↔ MayBeGiven (spec_is_among start.now) (history_of history.now) range.now began now entry.now }
+    ensures { IsTrue result ↔
+        MayBeGiven (spec_is_among start.now) (history_of history.now) range.now began now
+        entry.now }
 {
     range.contains(entry) && is_there_at_some_moment(start, history, began, now, entry)
 }
@@ -75,7 +77,9 @@ fn all_may_be_given(
     given: &[Entry],
 ) -> bool
     requires { now < 2 ^ 63 }
-    ensures { IsTrue result ↔ AllByRecursion (MayBeGiven (spec_is_among start.now) (history_of history.now) range.now began now) given.now }
+    ensures { IsTrue result ↔
+        AllByRecursion (MayBeGiven (spec_is_among start.now) (history_of history.now)
+        range.now began now) given.now }
 {
     match given {
         [] => true,
@@ -97,7 +101,9 @@ fn is_given_if_owed(
     entry: &Entry,
 ) -> bool
     requires { now < 2 ^ 63 }
-    ensures { IsTrue result ↔ IsGivenIfOwed (spec_is_among start.now) (history_of history.now) range.now began now given.now (Reach whole given.now) entry.now }
+    ensures { IsTrue result ↔
+        IsGivenIfOwed (spec_is_among start.now) (history_of history.now) range.now began now
+        given.now (Reach whole given.now) entry.now }
 {
     if !whole && !is_up_to_last(given, entry) {
         return true;
@@ -122,7 +128,9 @@ fn all_given_if_owed(
     candidates: &[Entry],
 ) -> bool
     requires { now < 2 ^ 63 }
-    ensures { IsTrue result ↔ AllByRecursion (IsGivenIfOwed (spec_is_among start.now) (history_of history.now) range.now began now given.now (Reach whole given.now)) candidates.now }
+    ensures { IsTrue result ↔
+        AllByRecursion (IsGivenIfOwed (spec_is_among start.now) (history_of history.now)
+        range.now began now given.now (Reach whole given.now)) candidates.now }
 {
     match candidates {
         [] => true,
@@ -144,7 +152,10 @@ fn all_added_given_if_owed(
     actions: &[PlainAction],
 ) -> bool
     requires { now < 2 ^ 63 }
-    ensures { IsTrue result ↔ AllByRecursion (IsGivenIfOwed (spec_is_among start.now) (history_of history.now) range.now began now given.now (Reach whole given.now)) (added_by (history_of actions.now)) }
+    ensures { IsTrue result ↔
+        AllByRecursion (IsGivenIfOwed (spec_is_among start.now) (history_of history.now)
+        range.now began now given.now (Reach whole given.now)) (added_by (history_of
+        actions.now)) }
 {
     match actions {
         [] => true,
@@ -171,7 +182,9 @@ fn gives_only(
     given: &[Entry],
 ) -> bool
     requires { now < 2 ^ 63 }
-    ensures { IsTrue result ↔ GivesOnly (spec_is_among start.now) (history_of history.now) range.now began now given.now }
+    ensures { IsTrue result ↔
+        GivesOnly (spec_is_among start.now) (history_of history.now) range.now began now
+        given.now }
 {
     is_ascending(given) && all_may_be_given(start, history, range, began, now, given)
 }
@@ -188,14 +201,16 @@ fn gives_all(
 ) -> bool
     requires interval { began ≤ now }
     requires short { now < 2 ^ 63 }
-    ensures { IsTrue result ↔ GivesAll (spec_is_among start.now) (history_of history.now) range.now began now given.now (Reach whole given.now) }
+    ensures { IsTrue result ↔
+        GivesAll (spec_is_among start.now) (history_of history.now) range.now began now
+        given.now (Reach whole given.now) }
 {
     all_given_if_owed(start, history, range, began, now, whole, given, start)
         && all_added_given_if_owed(start, history, range, began, now, whole, given, history)
 }
 
-/// Whether these are the right answer of a scan that has finished: `began` and `ended` are the lengths of
-/// the history when it began and when it ended.
+/// Whether these are the right answer of a scan that has finished: `began` and `ended` are the
+/// lengths of the history when it began and when it ended.
 pub fn is_scan_answer(
     start: &[Entry],
     history: &[PlainAction],
@@ -206,7 +221,9 @@ pub fn is_scan_answer(
 ) -> bool
     requires interval { began ≤ ended }
     requires short { ended < 2 ^ 63 }
-    ensures { IsTrue result ↔ IsScanAnswer (spec_is_among start.now) (history_of history.now) range.now began ended given.now }
+    ensures { IsTrue result ↔
+        IsScanAnswer (spec_is_among start.now) (history_of history.now) range.now began ended
+        given.now }
 {
     gives_only(start, history, range, began, ended, given)
         && gives_all(start, history, range, began, ended, true, given)
@@ -223,7 +240,9 @@ pub fn is_scan_answer_so_far(
 ) -> bool
     requires interval { began ≤ now }
     requires short { now < 2 ^ 63 }
-    ensures { IsTrue result ↔ IsScanAnswerSoFar (spec_is_among start.now) (history_of history.now) range.now began now given.now }
+    ensures { IsTrue result ↔
+        IsScanAnswerSoFar (spec_is_among start.now) (history_of history.now) range.now began
+        now given.now }
 {
     gives_only(start, history, range, began, now, given)
         && gives_all(start, history, range, began, now, false, given)

@@ -1,4 +1,4 @@
-use Rattle.std.proofs.Common.{◌∷◌, ◌↔◌, ◌≡◌, length, arith, List, ℕ, sym, Some, None, ap, ◌∙◌}
+use Rattle.std.proofs.Common.{◌∷◌, ◌↔◌, ◌≡◌, length, arith}
 use Rattle.std.specs.Prelude.{IsTrue}
 use Rattle.index_model.specs.Padded.{padded, length-padded}
 use Rattle.page_codec.specs.Begins.{Begins}

@@ -1,7 +1,4 @@
-use Rattle.std.proofs.Common.{◌↔◌, ◌≡◌, ◌++◌, take, length, arith, List, ℕ, sym, refl}
-use Rattle.std.specs.Prelude.{IsTrue}
 use Rattle.byteorder.specs.Endian.{little_bytes}
-use Rattle.page_codec.specs.Begins.{Begins}
 use Rattle.page_codec.specs.Spelling.{slot_bytes, downlink_bytes}
 use Rattle.page_codec.proofs.Pieces.{refused_first, second_decides}
 use Rattle.page_codec.proofs.written.is_downlink_at.Goals as goal

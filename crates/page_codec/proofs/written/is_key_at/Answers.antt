@@ -1,4 +1,4 @@
-use Rattle.std.proofs.Common.{[], ◌∷◌, ◌↔◌, ◌≡◌, length, refl, List, ℕ, subst, sym}
+use Rattle.std.proofs.Common.{[], ◌∷◌, ◌↔◌, length, refl, sym}
 use Rattle.std.specs.Prelude.{IsTrue}
 use Rattle.index_model.specs.Padded.{padded}
 use Rattle.page_codec.specs.Begins.{Begins}

@@ -1,7 +1,7 @@
-use Rattle.std.proofs.Common.{◌≡◌, ◌∙◌, sym, ap, subst, length, drop, replicate, List, ℕ, arith}
+use Rattle.std.proofs.Common.{◌≡◌, ◌∙◌, ap, length, drop, List, ℕ, arith}
 use Rattle.page_codec.specs.Begins.{Begins, size_of}
 use Rattle.page_codec.specs.Spelling.{head_bytes, slot_bytes, items_bytes}
-use Rattle.page_codec.proofs.Whole.{HasPieces, has_all, has_each}
+use Rattle.page_codec.proofs.Whole.{has_all, has_each}
 use Rattle.page_codec.proofs.written.is_written.Goals as goal
 
 pub returns-then-not-is_head_at : goal.returns-then-not-is_head_at

@@ -1,4 +1,3 @@
-use Rattle.std.proofs.Common.{arith}
 use Rattle.plain_histories.specs.Plain.{action_of, history_of}
 use Rattle.plain_histories.proofs.Moments.{no_action, action_found}
 use Rattle.plain_histories.proofs.Adds.{add_by, at_place, at_no_place}

@@ -1,5 +1,4 @@
-use Rattle.std.proofs.Common.{◌≡◌, ◌-◌, suc, arith, refl, Bool, true, false, not}
-use Rattle.std.specs.Prelude.{IsTrue}
+use Rattle.std.proofs.Common.{◌-◌, arith, refl}
 use Rattle.plain_histories.proofs.Adds.{behind, not_there}
 use Rattle.plain_histories.proofs.insert.is_added.Goals as goal
 

@@ -1,4 +1,4 @@
-use Rattle.std.proofs.Common.{ℕ, ◌≤◌, refl, length, arith}
+use Rattle.std.proofs.Common.{ℕ, refl, arith}
 use borrow.Author.Count.{below_more}
 use Rattle.index_model.specs.Order.{is_among}
 use Rattle.plain_histories.specs.Plain.{history_of, calls_of}
