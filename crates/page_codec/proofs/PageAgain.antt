@@ -1,18 +1,17 @@
 -- The bytes of a page are read as that page.
-use Rattle.std.proofs.Common.{◌≡◌, ℕ, zero, suc, ◌-◌, ◌+◌, ◌*◌, ◌%◌, ◌≤◌, ◌<◌, ◌^◌, Bool, true, false, eqb, ltb, List, [], ◌∷◌, ◌++◌, Option, Some, None, length, take, drop, replicate, refl, sym, ap, subst, ◌∙◌, append_assoc, arith, length-append}
-use Rattle.std.specs.Prelude.{IfSome, IsSome, nat_lt, ◌==◌, slice_index}
+use Rattle.std.proofs.Common.{◌≡◌, ℕ, ◌-◌, ◌+◌, ◌%◌, ◌≤◌, ◌<◌, ◌^◌, Bool, true, false, List, ◌++◌, Option, Some, None, length, drop, replicate, refl, sym, ap, subst, ◌∙◌, append_assoc, arith}
+use Rattle.std.specs.Prelude.{IfSome, nat_lt, ◌==◌, slice_index}
 use Rattle.std.specs.List.{flat_map, AllByRecursion}
 use Rattle.std.proofs.lemmas.Bool.Decides.{nat_tests}
-use Rattle.std.proofs.lemmas.List.{take_at, drop_at, drop-drop}
-use Rattle.byteorder.specs.Endian.{little_bytes, little_number}
+use Rattle.std.proofs.lemmas.List.{drop_at, drop-drop}
+use Rattle.byteorder.specs.Endian.{little_number}
 use Rattle.byteorder.specs.Numbers.{little_number-reads_back}
 use Rattle.index_model.specs.Order.{IsEntry}
 use Rattle.index_model.specs.declared.entry.Entry.{Entry}
 use Rattle.index_model.specs.declared.bound.Bound.{Bound}
-use Rattle.page_codec.specs.Grammar.{IsBlock, IsWhole, IsPage, IsDownlink, IsMeta, IsLeaf, IsLeafIn, IsInternal, IsOfKind}
+use Rattle.page_codec.specs.Grammar.{IsBlock, IsPage, IsDownlink, IsLeafIn, IsOfKind}
 use Rattle.page_codec.specs.Spelling.{bit, bit_of, link_number, kind_byte, count_of, state_byte, slot_bytes, entry_bytes, downlink_bytes, items_bytes, head_bytes, used_bytes, page_bytes}
 use Rattle.page_codec.specs.Reading.{◌>>=◌, slot_at, entry_at, downlink_at, items_at, items_of, state_at, link_at, page_at}
-use Rattle.page_codec.specs.declared.page.Downlink.{Downlink}
 use Rattle.page_codec.specs.declared.page.PageState.{PageState}
 use Rattle.page_codec.specs.declared.page.PageState.TheVariants.{Live, HalfDead, Deleted}
 use Rattle.page_codec.specs.declared.page.Items.{Items}

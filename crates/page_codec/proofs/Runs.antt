@@ -1,10 +1,9 @@
 -- One more item at the front.
-use Rattle.std.proofs.Common.{◌≡◌, ◌↔◌, List, [], ◌∷◌, Option, Some}
-use Rattle.std.specs.List.{AllByRecursion}
+use Rattle.std.proofs.Common.{List, [], ◌∷◌, Option, Some}
 use Rattle.index_model.specs.Order.{IsEntry, IsUpTo, AscendsPast, IsAscending, bound_of}
 use Rattle.index_model.specs.declared.entry.Entry.{Entry}
 use Rattle.index_model.specs.declared.bound.Bound.{Bound}
-use Rattle.page_codec.specs.Grammar.{IsDownlink, EntryBefore, LinkBefore, Below, FirstAfter, FollowedBy, Ascends, AreEntries, AreLinks}
+use Rattle.page_codec.specs.Grammar.{IsDownlink, EntryBefore, LinkBefore, Below, FirstAfter, Ascends, AreEntries, AreLinks}
 use Rattle.page_codec.specs.declared.page.Downlink.{Downlink}
 
 first_after : {A : Type 0} (R : A → A → Type 0) (a : A) (rest : List A) → Ascends R (a ∷ rest) → FirstAfter R a rest

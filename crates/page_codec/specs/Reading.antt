@@ -1,7 +1,7 @@
--- What reading takes for a page, before it is compared.
-use Rattle.std.specs.Prelude.{◌≡◌, ℕ, zero, suc, ◌/◌, ◌%◌, Bool, true, false, ◌==◌, if◌then◌else◌, nat_lt, Option, Some, None, List, [], ◌∷◌, ◌++◌, length, take, drop, get_or, slice_index}
+-- What the reader takes bytes for before they are judged and compared: it tests as little as it
+-- can. Only private functions speak of it; the public calls speak of `IsPage` and `page_bytes`.
+use Rattle.std.specs.Prelude.{ℕ, zero, suc, ◌%◌, ◌==◌, if◌then◌else◌, nat_lt, Option, Some, None, List, [], ◌∷◌, take, drop, slice_index}
 use Rattle.byteorder.specs.Endian.{little_number}
-use Rattle.index_model.specs.Row.{Row}
 use Rattle.index_model.specs.declared.entry.Entry.{Entry}
 use Rattle.index_model.specs.declared.bound.Bound.{Bound}
 use Rattle.page_codec.specs.declared.page.PageState.{PageState}
@@ -11,6 +11,7 @@ use Rattle.page_codec.specs.declared.page.Items.{Items}
 use Rattle.page_codec.specs.declared.page.Items.TheVariants.{Meta, Entries, Downlinks}
 use Rattle.page_codec.specs.declared.page.Page.{Page}
 
+-- what the second reads after the first, if both read something
 infixl 10 ◌>>=◌
 abbrev pub ◌>>=◌ : {A B : Type 0} → Option A → (A → Option B) → Option B
 None >>= f = None
@@ -24,16 +25,24 @@ slot_from len block offset key =
     else if block == 4294967295 then None
     else Some (Some (record { key = key; row = Some (record { block = block; offset = offset }) }))
 
--- what stands in 71 bytes
+-- the bound in the first 71 bytes, or none
 unfoldable pub slot_at : List ℕ → Option (Option Bound)
-slot_at bytes = slot_from (slice_index bytes 0) (little_number 4 (drop 65 bytes)) (little_number 2 (drop 69 bytes)) (take (slice_index bytes 0) (drop 1 bytes))
+slot_at bytes =
+    slot_from
+    (slice_index bytes 0)
+    (little_number 4 (drop 65 bytes))
+    (little_number 2 (drop 69 bytes))
+    (take (slice_index bytes 0) (drop 1 bytes))
 
+-- the entry that a bound with a row is
 abbrev pub whole : Bound → Option Entry
 whole b = b.row >>= λ r. Some (record { key = b.key; row = r })
 
+-- the entry in the first 71 bytes
 unfoldable pub entry_at : List ℕ → Option Entry
 entry_at bytes = slot_at bytes >>= λ b. b >>= λ w. whole w
 
+-- the downlink in the first 75 bytes
 unfoldable pub downlink_at : List ℕ → Option Downlink
 downlink_at bytes = slot_at bytes >>= λ b. Some (record { bound = b; child = little_number 4 (drop 71 bytes) })
 
@@ -42,6 +51,7 @@ unfoldable pub items_at : {A : Type 0} → (List ℕ → Option A) → ℕ → �
 items_at item width zero bytes = Some []
 items_at item width (suc n) bytes = item bytes >>= λ x. items_at item width n (drop width bytes) >>= λ xs. Some (x ∷ xs)
 
+-- so many items of the kind that this byte names
 unfoldable pub items_of : ℕ → ℕ → List ℕ → Option Items
 items_of kind count bytes =
     if nat_lt 50 count then None
@@ -50,12 +60,19 @@ items_of kind count bytes =
     else if kind == 3 then (items_at downlink_at 75 count bytes >>= λ ds. Some (Downlinks (record { items = ds })))
     else None
 
+-- the state that a byte names
 abbrev pub state_at : ℕ → Option PageState
-state_at byte = if byte == 0 then Some Live else if byte == 1 then Some HalfDead else if byte == 2 then Some Deleted else None
+state_at byte =
+    if byte == 0 then Some Live
+    else if byte == 1 then Some HalfDead
+    else if byte == 2 then Some Deleted
+    else None
 
+-- the link that a number is
 abbrev pub link_at : ℕ → Option ℕ
 link_at n = if n == 4294967295 then None else Some n
 
+-- the page, whatever its first four bytes, its padding and its end are
 unfoldable pub page_at : List ℕ → Option Page
 page_at bytes =
     state_at (slice_index bytes 10) >>= λ state.

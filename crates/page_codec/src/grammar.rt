@@ -1,4 +1,4 @@
-//! Which pages there are.
+//! Which pages the format admits, judged.
 
 ghost use Rattle.std.specs.Prelude.{◌≡◌, ◌↔◌, ◌≤◌, IsTrue, IfSome, List, length};
 ghost use Rattle.std.specs.List.{AllByRecursion};
@@ -59,7 +59,7 @@ fn is_before(entry: &Entry, tail: &[Entry]) -> bool
 {
     match tail {
         [] => true,
-        [next, ..] => entry.bound().is_below(next),
+        [next, ..] => entry < next,
     }
 }
 
@@ -212,7 +212,7 @@ fn is_of_kind(page: &Page) -> bool
     }
 }
 
-/// Whether the page has a spelling.
+/// Whether the format admits the page: exactly such pages are read from bytes.
 pub fn is_page(page: &Page) -> bool
     ensures { IsTrue result ↔ IsPage page.now }
 {

@@ -1,4 +1,5 @@
-//! Pages as bytes.
+//! Pages of an index, and their 4,096 bytes: a page that decodes is exactly a page of the format,
+//! so damaged or hostile bytes are detected, and what was written is what is read, byte for byte.
 #![tactic(auto)]
 
 mod edits;
@@ -7,6 +8,7 @@ mod page;
 mod put;
 mod reading;
 mod writing;
+mod written;
 
 pub use edits::{add_entry, cut_entries};
 pub use grammar::is_page;

@@ -1,6 +1,6 @@
 //! A page from its bytes.
 
-ghost use Rattle.std.specs.Prelude.{◌≡◌, ◌≤◌, ◌+◌, ◌*◌, length, drop, [], if◌then◌else◌, Some, None, replicate, IfSome, ◌↔◌, IsTrue};
+ghost use Rattle.std.specs.Prelude.{◌≡◌, ◌≢◌, ◌≤◌, ◌+◌, ◌*◌, length, drop, [], if◌then◌else◌, Some, None, replicate, IfSome, IsNone, ◌↔◌, IsTrue};
 ghost use Rattle.std.specs.Option.{option_map};
 ghost use Rattle.byteorder.specs.Endian.{little_number};
 ghost use Rattle.page_codec.specs.Reading.{slot_at, entry_at, downlink_at, items_at, items_of, state_at, link_at, page_at};
@@ -10,12 +10,12 @@ ghost use Rattle.page_codec.specs.declared.page.Page.{Page};
 
 use crate::grammar::is_page;
 use crate::page::{Downlink, Items, Page, PageState};
-use crate::writing::encode;
+use crate::written::is_written;
 use arrayvec::ArrayVec;
 use byteorder::{ByteOrder, LittleEndian};
 use index_model::{Bound, Entry, Key, RowAddr};
 
-fn tail(bytes: &[u8], at: usize) -> &[u8]
+pub fn tail(bytes: &[u8], at: usize) -> &[u8]
     requires { at ≤ length bytes.now }
     ensures value { result.now ≡ drop at bytes.now }
     ensures len { length result.now + at ≡ length bytes.now }
@@ -203,25 +203,21 @@ fn read(bytes: &[u8], page: &mut Page) -> bool
     true
 }
 
-fn is_written(page: &Page, bytes: &[u8; 4096]) -> bool
-    ensures { IsTrue result ↔ (bytes.now ≡ page_bytes page.now) }
-{
-    let mut again = [0; 4096];
-    encode(page, &mut again);
-    again == *bytes
-}
-
-/// Whether the bytes are those of a block that was never written.
+/// Whether the bytes are those of a block that was never written: 4,096 zeros. No page has these
+/// bytes.
 pub fn is_unused(bytes: &[u8; 4096]) -> bool
     ensures { IsTrue result ↔ (bytes.now ≡ replicate 4096 0) }
 {
     *bytes == [0; 4096]
 }
 
-/// The page of these bytes, if they are those of a page.
+/// The page of these bytes: `Some(page)` exactly if they are the bytes that [`encode`] writes for a
+/// page that the format admits, and `None` exactly if they are those of no such page. It takes no
+/// memory beside the page that it answers, and fails for no other reason.
 pub fn decode(bytes: &[u8; 4096]) -> Option<Page>
     ensures found { IfSome result (λ p. IsPage p × (bytes.now ≡ page_bytes p)) }
     ensures only { (p : Page) → IsPage p → bytes.now ≡ page_bytes p → result ≡ Some p }
+    ensures none { IsNone result ↔ ((p : Page) → IsPage p → bytes.now ≢ page_bytes p) }
 {
     let mut page = Page {
         block: 0,

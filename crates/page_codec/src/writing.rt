@@ -138,7 +138,7 @@ fn flags_of(page: &Page) -> u8
 }
 
 #[tactic(auto, unfolding(crate::specs::Spelling::head_bytes))]
-fn put_head(out: &mut [u8], page: &Page) -> usize
+pub fn put_head(out: &mut [u8], page: &Page) -> usize
     requires { 36 ≤ length out.old }
     ensures next { result ≡ 36 }
     ensures front { take result out.new ≡ head_bytes page.now }
@@ -180,7 +180,9 @@ fn clear_from(out: &mut [u8], at: usize)
     out[at..].fill(0);
 }
 
-/// Writes the bytes of a page.
+/// Writes the bytes of a page over all 4,096 bytes of `out`, in one pass and without memory. Those
+/// of a page that the format admits are read by [`decode`](crate::decode) as this page again; those
+/// of any other page are defined too, but are read as no page, or as another one.
 pub fn encode(page: &Page, out: &mut [u8; 4096])
     ensures { out.new ≡ page_bytes page.now }
 {

@@ -1,0 +1,4 @@
+pub mod Moments
+pub mod Candidates
+pub mod Adds
+pub mod Owners
