@@ -1,0 +1,4 @@
+pub mod Images
+pub mod Groups
+pub mod Publish
+pub mod Kept

@@ -1,0 +1,8 @@
+//! A redo log: whole pages, in groups behind gates, of which a crash leaves a first part that has all that was forced.
+#![tactic(auto)]
+
+mod lay;
+mod log;
+mod publish;
+
+pub use log::{LOG_START, Log};
