@@ -24,7 +24,7 @@ pub none : {A : Type 0} (xs : List A) → length xs ≡ 0 → xs ≡ []
 none [] e = refl
 none (x ∷ xs) e = absurd (omega arith)
 
-whole_list : {A : Type 0} (xs : List A) → take (length xs) xs ≡ xs
+pub whole_list : {A : Type 0} (xs : List A) → take (length xs) xs ≡ xs
 whole_list [] = refl
 whole_list (x ∷ xs) = ap (λ l. x ∷ l) (whole_list xs)
 

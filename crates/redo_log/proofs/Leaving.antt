@@ -45,7 +45,7 @@ shut_stands limits start size gs gate c good shut fits h =
       is = range_is start size q c h (omega (arith, length-append (spelled gs) (gate ∷ []))) ∙ append_assoc (spelled gs) (gate ∷ []) rest;
     }
 
-spelled-push : (gs : List (List Page)) (g : List Page) (rest : List ℕ) → spelled (gs ++ g ∷ []) ++ rest ≡ spelled gs ++ (1 ∷ (body g ++ rest))
+pub spelled-push : (gs : List (List Page)) (g : List Page) (rest : List ℕ) → spelled (gs ++ g ∷ []) ++ rest ≡ spelled gs ++ (1 ∷ (body g ++ rest))
 spelled-push [] g rest = ap (λ (l : List ℕ). 1 ∷ (l ++ rest)) (append-nil (body g))
 spelled-push (h ∷ gs) g rest =
     append_assoc (1 ∷ body h) (spelled (gs ++ g ∷ [])) rest

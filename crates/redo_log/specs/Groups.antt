@@ -8,11 +8,15 @@ use Rattle.page_codec.specs.Grammar.{IsPage}
 use Rattle.page_codec.specs.Spelling.{count_of}
 use Rattle.redo_log.specs.Images.{images_bytes}
 
+-- its block is below the number of pages, and it has no more items than a page may
+pub record IsWithin (limits : Limits) (p : Page) : Type 0 where
+  pub block : p.block < limits.pages
+  pub items : count_of p.items ≤ limits.items
+
 -- a page that an index of these limits may have
 pub record IsImage (limits : Limits) (p : Page) : Type 0 where
   pub page : IsPage p
-  pub block : p.block < limits.pages
-  pub items : count_of p.items ≤ limits.items
+  pub within : IsWithin limits p
 
 abbrev pub AreImages : Limits → List Page → Type 0
 AreImages limits ps = AllByRecursion (IsImage limits) ps

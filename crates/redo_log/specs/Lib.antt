@@ -2,3 +2,4 @@ pub mod Images
 pub mod Groups
 pub mod Publish
 pub mod Kept
+pub mod Reading

@@ -4,5 +4,6 @@
 mod lay;
 mod log;
 mod publish;
+mod reading;
 
-pub use log::{LOG_START, Log};
+pub use log::{LOG_START, Log, Replayed};

@@ -4,14 +4,17 @@ ghost use Rattle.std.specs.Prelude.{◌⊎◌, ◌≡◌, ◌≤◌, ◌<◌, �
 ghost use Rattle.device.specs.Disk.{Moment};
 ghost use Rattle.device.specs.Moments.{Goes};
 ghost use Rattle.device.specs.Places.{ChangesOnly};
+ghost use Rattle.index_model.specs.Limits.{AreLimits};
 ghost use Rattle.page_codec.specs.declared.page.Page.{Page};
-ghost use Rattle.redo_log.specs.Groups.{AreImages};
+ghost use Rattle.redo_log.specs.Groups.{AreImages, Spells, log_range};
 
 use crate::lay::{lay_images, seal};
 use crate::publish::{publish, shut};
+use crate::reading::read_groups;
 use device::Device;
 use index_model::{Fault, Limits};
 use page_codec::Page;
+use std::alloc::Global;
 
 /// Where the log begins on a device.
 pub const LOG_START: u64 = 4096;
@@ -36,6 +39,7 @@ pub struct Log {
 }
 
 impl Log {
+    ghost use Rattle.redo_log.specs.Reading.{Replays, IsOpened, ReplayFails};
     ghost use Rattle.redo_log.specs.Kept.{Keeps, Restarts, RestartsOrEmpty, SameLog, IoOrStopped, limits_of, is_stopped, actions_of, waiting_count, end_of, end_with};
 
     /// How many images one more action could hold now.
@@ -150,4 +154,55 @@ impl Log {
         self.stopped = false;
         Ok(())
     }
+
+    /// Opens the log that lies on a device, and gives the images of its open groups, in order. It reads the log's range
+    /// once. Refused: where the device fails (`Io`), where memory is refused (`NoMemory`), and with `LogDamaged`
+    /// exactly where an open group is none.
+    pub fn replay<D: Device>(
+        alloc: Global,
+        device: &mut D,
+        limits: Limits,
+    ) -> Result<Replayed, Fault>
+        requires limits { AreLimits limits }
+        requires range { LOG_START + limits.log_bytes ≤ length (D.trace device.old).now.seen }
+
+        ensures ok { IfOk result (λ r. IsTrue (D.is_honest device.new)
+            → Replays limits (D.trace device.old).now r.log r.images.items) }
+        ensures damaged { IsErrOf result Fault.LogDamaged → IsTrue (D.is_honest device.new)
+            → (groups : List (List Page)) → Spells limits (log_range limits (D.trace device.old).now.seen) groups → ⊥ }
+        ensures opened { IfOk result (λ r. IsOpened limits r.log) }
+
+        ensures trace { D.trace device.new ≡ D.trace device.old }
+        ensures honest { IsTrue (D.is_honest device.new) → IsTrue (D.is_honest device.old) }
+        ensures cause { ReplayFails result (D.failures device.old) (D.failures device.new) }
+    {
+        let Ok(mut buffer) = vec![in alloc; 0u8; limits.log_bytes as usize] else {
+            return Err(Fault::NoMemory);
+        };
+        let Ok(()) = device.read_at(LOG_START, &mut buffer) else {
+            return Err(Fault::Io);
+        };
+        match read_groups(alloc, &limits, &buffer) {
+            Ok((images, at)) => Ok(Replayed {
+                log: Log {
+                    limits,
+                    at,
+                    count: 0,
+                    actions: 0,
+                    stopped: false,
+                    buffer,
+                },
+                images,
+            }),
+            Err(fault) => Err(fault),
+        }
+    }
+}
+
+/// A log as it was found.
+#[derive(Drop)]
+pub struct Replayed {
+    pub log: Log,
+    /// The images of its open groups, in order.
+    pub images: Vec<Page>,
 }
