@@ -1,0 +1,8 @@
+mod Appending
+mod Forcing
+pub mod ImageLists
+pub mod Leaving
+mod Parsing
+mod Replaying
+mod Resetting
+mod Stages

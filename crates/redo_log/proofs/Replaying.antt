@@ -1,0 +1,71 @@
+-- From what was read to a log that keeps it.
+use Rattle.std.proofs.Common.{◌≡◌, ◌≢◌, ℕ, ◌+◌, ◌-◌, ◌*◌, ◌<◌, ◌≤◌, List, [], ◌∷◌, ◌++◌, length, take, drop, get_or, false, refl, sym, ◌∙◌, ap, subst, arith, append_assoc, length-append, length-drop, length-take-le}
+use Rattle.std.proofs.lemmas.List.{append-nil, get_or-drop, get_or-take, get_or_append_left}
+use Rattle.std.specs.Prelude.{slice_range}
+use Rattle.device.specs.Disk.{Moment}
+use Rattle.device.specs.Places.{Has, OnDisk}
+use Rattle.index_model.specs.declared.limits.Limits.{Limits}
+use Rattle.page_codec.specs.declared.page.Page.{Page}
+use Rattle.redo_log.specs.Images.{images_of}
+use Rattle.redo_log.specs.Groups.{spelled, Spells, log_range}
+use Rattle.redo_log.specs.Kept.{Keeps, IsSettled}
+use Rattle.redo_log.specs.Reading.{IsRead, IsFirm, Replays}
+use Rattle.redo_log.specs.declared.log.Log.{Log}
+use Rattle.redo_log.proofs.ImageLists.{same_eq}
+use Rattle.redo_log.proofs.Forcing.{whole_list}
+
+-- what was read is the log's range
+pub range_read : (seen read bytes : List ℕ) (n size : ℕ) → bytes ≡ read → read ≡ slice_range seen 4096 (4096 + n) → n ≡ size → bytes ≡ take size (drop 4096 seen)
+range_read seen read bytes n size same is e =
+    let k : 4096 + n - 4096 ≡ size = omega (arith, e) in
+    same ∙ (is ∙ ap (λ (j : ℕ). take j (drop 4096 seen)) k)
+
+-- a range that begins so stands there
+has_range : (start size : ℕ) (file q rest : List ℕ) → take size (drop start file) ≡ q ++ rest → start + size ≤ length file → Has start q file
+has_range start size file q rest is fits =
+    let long : length (take size (drop start file)) ≡ size = length-take-le size (drop start file) (omega (arith, length-drop start file, fits)) in
+    let shorter : length q ≤ size = omega (arith, long, ap length is, length-append q rest) in
+    record {
+      within = omega (arith, fits, shorter);
+      each = λ i lt.
+          sym (get_or-drop start file i 0)
+          ∙ (sym (get_or-take size (drop start file) i 0 (omega (arith, lt, shorter)))
+          ∙ (ap (λ (l : List ℕ). get_or l i 0) is ∙ get_or_append_left q rest 0 i lt));
+    }
+
+pub replayed : (limits : Limits) (m : Moment) (log : Log) (bytes : List ℕ) (images : List Page) (at : ℕ) → bytes ≡ log_range limits m.seen → 4096 + limits.log_bytes ≤ length m.seen → IsRead limits bytes images at
+    → log.limits ≡ limits → log.at ≡ at → log.count ≡ 0 → log.stopped ≡ false → Replays limits m log images
+replayed limits m log bytes images at are fits r limits_are at_is idle alive =
+    let s = r.spells in
+    let there : take limits.log_bytes (drop 4096 m.seen) ≡ (spelled r.groups ++ s.gate ∷ []) ++ s.rest = sym are ∙ (s.is ∙ sym (append_assoc (spelled r.groups) (s.gate ∷ []) s.rest)) in
+    let has = has_range 4096 limits.log_bytes m.seen (spelled r.groups ++ s.gate ∷ []) s.rest there fits in
+    let long : length (spelled r.groups ++ s.gate ∷ []) ≤ limits.log_bytes = omega (
+      arith,
+      length-append (spelled r.groups) (s.gate ∷ []),
+      r.end_is,
+      r.within,
+      ap length are,
+      length-take-le limits.log_bytes (drop 4096 m.seen) (omega (arith, length-drop 4096 m.seen, fits)),
+    ) in
+    record {
+      groups = r.groups;
+      spells = subst (λ (l : List ℕ). Spells limits l r.groups) are s;
+      images_are = r.images_are;
+      only = λ others is. r.only others (subst (λ (l : List ℕ). Spells limits l others) (sym are) is);
+      keeps = λ firm. record {
+        alive = alive;
+        groups = r.groups;
+        settled = subst (λ (l : Limits). IsSettled l 4096 log.at r.groups m) (sym limits_are) (record {
+          good = s.good;
+          end = at_is ∙ r.end_is;
+          gate = s.gate;
+          closed = s.closed;
+          on_disk = record { has = has; firm = λ i lt. firm.firm i (omega (arith, lt, long)) };
+        });
+        waiting = [];
+        waits = record { counted = sym idle; images = tt; buffered = ap (λ (n : ℕ). take (4096 * n) (drop 4 log.buffer.items)) idle };
+        few = omega arith;
+        durable = same_eq _ _ (ap images_of (sym (whole_list r.groups)));
+        all = same_eq _ _ (append-nil (images_of r.groups));
+      };
+    }

@@ -1,0 +1,85 @@
+-- What the closing of a log leaves.
+use Rattle.std.proofs.Common.{◌≡◌, ◌≢◌, ◌⊎◌, inl, inr, ⊎_elim, ℕ, zero, suc, ◌+◌, ◌*◌, ◌^◌, ◌<◌, ◌≤◌, List, [], ◌∷◌, ◌++◌, length, take, drop, false, Result, Ok, Err, refl, sym, ◌∙◌, ap, subst, arith, length-append}
+use Rattle.std.specs.Prelude.{OnOk}
+use Rattle.device.specs.Disk.{Moment, Trace, MayLeave, Writes, Syncs, next, wrote, synced}
+use Rattle.device.specs.Moments.{Goes}
+use Rattle.device.specs.Places.{Has, OnDisk, ChangesOnly}
+use Rattle.device.proofs.Going.{steps, goes_on, writes_goes, syncs_goes, goes_weaker}
+use Rattle.device.proofs.Standing.{only_wider, only_more, wrote_only, wrote_has, synced_only, synced_on}
+use Rattle.index_model.specs.declared.limits.Limits.{Limits}
+use Rattle.page_codec.specs.declared.page.Page.{Page}
+use Rattle.redo_log.specs.Images.{images_of}
+use Rattle.redo_log.specs.Groups.{spelled}
+use Rattle.redo_log.specs.Kept.{Keeps, IsSettled, Holds, RestartsOrEmpty}
+use Rattle.redo_log.specs.declared.log.Log.{Log}
+use Rattle.redo_log.proofs.Forcing.{none}
+use Rattle.redo_log.proofs.Leaving.{resetting}
+use Rattle.redo_log.proofs.ImageLists.{same_refl, same_eq}
+
+-- one byte is written at a place, and synced: at each moment only that byte changes
+module _ (at : ℕ) (t : Trace) (inside : at + 1 ≤ length t.now.seen) where
+  abbrev P : Moment → Type 0
+  P = ChangesOnly at 1 t.now
+
+  one_only : (b : List ℕ) → length b ≡ 1 → P (wrote at b t.now)
+  one_only b n = subst (λ (k : ℕ). ChangesOnly at k t.now (wrote at b t.now)) n (wrote_only at b t.now (omega arith))
+
+  pub byte_written : {T E : Type 0} (r : Result T E) (u : Trace) → Writes at (0 ∷ []) r t u → Goes P t u
+  byte_written r u w = writes_goes P at (0 ∷ []) r t u w (λ b n. one_only b n)
+
+  module _ (u : Trace) (is : u ≡ next (wrote at (0 ∷ []) t.now) t) where
+    u_only : P u.now
+    u_only = subst P (sym (ap (λ (v : Trace). v.now) is)) (one_only (0 ∷ []) refl)
+
+    pub byte_synced : {T E : Type 0} (r : Result T E) (v : Trace) → Syncs r u v → Goes P t v
+    byte_synced r v w = goes_on P t u v (steps P t u _ is (one_only (0 ∷ []) refl)) (syncs_goes P r u v w (only_more at 1 _ _ _ u_only (synced_only at 1 u.now)))
+
+    pub byte_on_disk : {T E : Type 0} (r : Result T E) (v : Trace) → Syncs r u v → OnOk r (OnDisk at (0 ∷ []) v.now)
+    byte_on_disk (Ok a) v is' =
+        subst (λ (x : Trace). OnDisk at (0 ∷ []) x.now) (sym is')
+        (synced_on at (0 ∷ []) u.now (subst (λ (x : Trace). Has at (0 ∷ []) x.now.seen) (sym is) (wrote_has at (0 ∷ []) t.now inside)))
+    byte_on_disk (Err e) v is' = tt
+
+-- while the first gate is closed a crash leaves the actions that were there, or nothing
+pub reset_goes : (log : Log) (old new : Trace) (acts : List (List Page)) (forced : ℕ) → Keeps log old.now acts forced → 0 < log.at → Goes (ChangesOnly 4096 1 old.now) old new
+    → Goes (RestartsOrEmpty log.limits (take forced acts)) old new
+reset_goes log old new acts forced k some gone = goes_weaker _ _ old new (λ n only image left. ⊎_elim
+    (λ s. inl (record { groups = k.groups; spells = s; same = k.durable }))
+    (λ s. inr (record { groups = []; spells = s; same = same_refl [] }))
+    (resetting log.limits 4096 log.limits.log_bytes k.groups k.settled.gate old.now n k.settled.good k.settled.closed k.settled.on_disk
+    (omega (arith, some, k.settled.end)) (omega (arith, log.room, k.settled.end)) only image left)) gone
+
+pub in_range : (log : Log) (old new : Trace) → Goes (ChangesOnly 4096 1 old.now) old new → Goes (ChangesOnly 4096 log.limits.log_bytes old.now) old new
+in_range log old new gone = goes_weaker _ _ old new (λ n only. only_wider 4096 1 4096 log.limits.log_bytes old.now n (omega arith) (omega (arith, log.least)) only) gone
+
+-- with no group on the disk and no image waiting there are no actions
+no_groups : (gs : List (List Page)) → length (spelled gs) ≡ 0 → gs ≡ []
+no_groups [] e = refl
+no_groups (g ∷ gs) e = absurd (omega arith)
+
+pub empty_keeps : (log : Log) (m : Moment) (acts : List (List Page)) (forced : ℕ) → Keeps log m acts forced → log.at ≡ 0 → log.count ≡ 0 → Keeps log m [] 0
+empty_keeps log m acts forced k start idle =
+    let no_more : k.waiting ≡ [] = none k.waiting (omega (arith, k.waits.counted, idle)) in
+    let nothing : k.groups ≡ [] = no_groups k.groups (omega (arith, k.settled.end, start)) in
+    record {
+      alive = k.alive;
+      groups = k.groups;
+      settled = k.settled;
+      waiting = k.waiting;
+      waits = k.waits;
+      few = omega arith;
+      durable = same_eq _ _ (ap images_of nothing);
+      all = same_eq _ _ (ap (λ (l : List Page). images_of k.groups ++ l) no_more ∙ ap (λ (l : List (List Page)). images_of l ++ []) nothing);
+    }
+
+pub reset_keeps : (log : Log) (m : Moment) → log.at ≡ 0 → log.count ≡ 0 → log.stopped ≡ false → OnDisk 4096 (0 ∷ []) m → Keeps log m [] 0
+reset_keeps log m start idle alive on = record {
+  alive = alive;
+  groups = [];
+  settled = record { good = tt; end = start; gate = 0; closed = λ (e : 0 ≡ 1). absurd (omega arith); on_disk = on };
+  waiting = [];
+  waits = record { counted = sym idle; images = tt; buffered = ap (λ (n : ℕ). take (4096 * n) (drop 4 log.buffer.items)) idle };
+  few = omega arith;
+  durable = same_refl [];
+  all = same_refl [];
+}

@@ -1,0 +1,52 @@
+-- The bytes of a log: groups of images, each behind a gate.
+use Rattle.std.specs.Prelude.{◌≡◌, ◌≢◌, ℕ, ◌+◌, ◌*◌, ◌^◌, ◌<◌, ◌≤◌, List, [], ◌∷◌, ◌++◌, length, take, drop}
+use Rattle.std.specs.Int.{w32, to_le_bytes}
+use Rattle.std.specs.List.{AllByRecursion}
+use Rattle.index_model.specs.declared.limits.Limits.{Limits}
+use Rattle.page_codec.specs.declared.page.Page.{Page}
+use Rattle.page_codec.specs.Grammar.{IsPage}
+use Rattle.page_codec.specs.Spelling.{count_of}
+use Rattle.redo_log.specs.Images.{images_bytes}
+
+-- its block is below the number of pages, and it has no more items than a page may
+pub record IsWithin (limits : Limits) (p : Page) : Type 0 where
+  pub block : p.block < limits.pages
+  pub items : count_of p.items ≤ limits.items
+
+-- a page that an index of these limits may have
+pub record IsImage (limits : Limits) (p : Page) : Type 0 where
+  pub page : IsPage p
+  pub within : IsWithin limits p
+
+abbrev pub AreImages : Limits → List Page → Type 0
+AreImages limits ps = AllByRecursion (IsImage limits) ps
+
+-- one image or more, whose number fits into its place
+pub record IsGroup (limits : Limits) (group : List Page) : Type 0 where
+  pub some : 0 < length group
+  pub few : length group < 2 ^ 32
+  pub images : AreImages limits group
+
+abbrev pub AreGroups : Limits → List (List Page) → Type 0
+AreGroups limits groups = AllByRecursion (IsGroup limits) groups
+
+-- the number of images and the images
+abbrev pub body : List Page → List ℕ
+body group = to_le_bytes w32 (length group) ++ images_bytes group
+
+-- the groups, each behind an open gate
+abbrev pub spelled : List (List Page) → List ℕ
+spelled [] = []
+spelled (group ∷ groups) = 1 ∷ body group ++ spelled groups
+
+-- the bytes are these groups, open, then a gate that isn't 1, and anything
+pub record Spells (limits : Limits) (bytes : List ℕ) (groups : List (List Page)) : Type 0 where
+  pub good : AreGroups limits groups
+  pub gate : ℕ
+  pub closed : gate ≢ 1
+  pub rest : List ℕ
+  pub is : bytes ≡ spelled groups ++ gate ∷ rest
+
+-- the log's range of a device
+abbrev pub log_range : Limits → List ℕ → List ℕ
+log_range limits file = take limits.log_bytes (drop 4096 file)

@@ -1,0 +1,93 @@
+-- What a log stands for, at a moment of its device and after a crash.
+use Rattle.std.specs.Prelude.{◌≡◌, ◌≢◌, ◌⊎◌, ℕ, suc, Result, MatchResult, ◌+◌, ◌*◌, ◌≤◌, Bool, false, true, List, [], ◌∷◌, ◌++◌, length, take, drop}
+use Rattle.device.specs.Disk.{Moment, MayLeave}
+use Rattle.device.specs.Places.{OnDisk}
+use Rattle.index_model.specs.declared.fault.Fault.{Fault}
+use Rattle.index_model.specs.declared.fault.Fault.TheVariants.{Io, Stopped}
+use Rattle.index_model.specs.declared.limits.Limits.{Limits}
+use Rattle.page_codec.specs.declared.page.Page.{Page}
+use Rattle.redo_log.specs.Images.{SameImages, images_bytes, images_of}
+use Rattle.redo_log.specs.Groups.{AreImages, AreGroups, spelled, Spells, log_range}
+use Rattle.redo_log.specs.declared.log.Log.{Log}
+
+-- the sizes that it was made with
+abbrev pub limits_of : Log → Limits
+limits_of log = log.limits
+
+-- a write or sync of it failed before
+abbrev pub is_stopped : Log → Bool
+is_stopped log = log.stopped
+
+-- how many actions were appended since it was opened
+abbrev pub actions_of : Log → ℕ
+actions_of log = log.actions
+
+-- how many images wait for a force
+abbrev pub waiting_count : Log → ℕ
+waiting_count log = log.count
+
+-- where its open groups end, in its range
+abbrev pub end_of : Log → ℕ
+end_of log = log.at
+
+-- where the group that waits would end with n images more, the closed gate behind it among them
+abbrev pub end_with : Log → ℕ → ℕ
+end_with log n = log.at + (6 + 4096 * (log.count + n))
+
+-- it has the same sizes and the same number of actions
+pub record SameLog (old new : Log) : Type 0 where
+  pub limits : limits_of new ≡ limits_of old
+  pub actions : actions_of new ≡ actions_of old
+
+-- refused with Io where the device failed once in this call, with Stopped on a log that was stopped; nothing else fails
+abbrev pub IoOrStopped : {T : Type 0} → Result T Fault → Bool → ℕ → ℕ → Type 0
+IoOrStopped result was_stopped old new = MatchResult result (λ _. new ≡ old)
+    (λ e. ((e ≡ Io) × (new ≡ suc old)) ⊎ ((e ≡ Stopped) × (was_stopped ≡ true) × (new ≡ old)))
+
+-- its groups stand on the disk, and behind them a gate that isn't 1
+pub record IsSettled (limits : Limits) (start at : ℕ) (groups : List (List Page)) (m : Moment) : Type 0 where
+  pub good : AreGroups limits groups
+  pub end : at ≡ length (spelled groups)
+  pub gate : ℕ
+  pub closed : gate ≢ 1
+  pub on_disk : OnDisk start (spelled groups ++ gate ∷ []) m
+
+-- these images wait in its buffer
+pub record Waits (log : Log) (waiting : List Page) : Type 0 where
+  pub counted : length waiting ≡ log.count
+  pub images : AreImages log.limits waiting
+  pub buffered : take (4096 * log.count) (drop 4 log.buffer.items) ≡ images_bytes waiting
+
+-- the log keeps these actions, of which the first so many are forced: on the disk stand the last images of the forced
+-- ones, and with those that wait the last images of all
+pub record Keeps (log : Log) (m : Moment) (acts : List (List Page)) (forced : ℕ) : Type 0 where
+  pub alive : log.stopped ≡ false
+  pub groups : List (List Page)
+  pub settled : IsSettled log.limits 4096 log.at groups m
+  pub waiting : List Page
+  pub waits : Waits log waiting
+  pub few : forced ≤ length acts
+  pub durable : SameImages (images_of groups) (images_of (take forced acts))
+  pub all : SameImages (images_of groups ++ waiting) (images_of acts)
+
+-- what replay gives of these bytes, applied in order, is for each block the last image that these actions have of it,
+-- and nothing for a block that they don't name
+pub record Holds (limits : Limits) (image : List ℕ) (acts : List (List Page)) : Type 0 where
+  pub groups : List (List Page)
+  pub spells : Spells limits (log_range limits image) groups
+  pub same : SameImages (images_of groups) (images_of acts)
+
+-- some first part of the actions with every forced one
+pub record HoldsFirst (limits : Limits) (acts : List (List Page)) (forced : ℕ) (image : List ℕ) : Type 0 where
+  pub part : ℕ
+  pub from : forced ≤ part
+  pub to : part ≤ length acts
+  pub holds : Holds limits image (take part acts)
+
+-- a crash at this moment leaves some first part of the actions with every forced one
+abbrev pub Restarts : Limits → List (List Page) → ℕ → Moment → Type 0
+Restarts limits acts forced m = (image : List ℕ) → MayLeave m image → HoldsFirst limits acts forced image
+
+-- a crash at this moment leaves these actions, or nothing
+abbrev pub RestartsOrEmpty : Limits → List (List Page) → Moment → Type 0
+RestartsOrEmpty limits acts m = (image : List ℕ) → MayLeave m image → Holds limits image acts ⊎ Holds limits image []

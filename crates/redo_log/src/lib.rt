@@ -1,0 +1,9 @@
+//! A redo log: whole pages, in groups behind gates, of which a crash leaves a first part that has all that was forced.
+#![tactic(auto)]
+
+mod lay;
+mod log;
+mod publish;
+mod reading;
+
+pub use log::{LOG_START, Log, Replayed};
