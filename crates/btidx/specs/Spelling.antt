@@ -1,8 +1,11 @@
 -- How lines and what stands in them are spelled.
-use Rattle.std.specs.Prelude.{◌≡◌, ℕ, Bool, ◌==◌, if◌then◌else◌, Option, Some, None, List, [], ◌∷◌, ◌++◌, length}
+use Rattle.std.specs.Prelude.{◌≡◌, ℕ, Bool, ◌==◌, if◌then◌else◌, Option, Some, None, List, [], ◌∷◌, ◌++◌, length, Result, MatchResult, ◌<◌, ◌%◌, true, ◌&&◌, ◌||◌, nat_le}
+use Rattle.std.specs.List.{list_all}
 use Rattle.std.specs.Fmt.{decimal}
 use Rattle.hex.specs.Hex.{encode_lower}
-use Rattle.index_model.specs.Row.{Row}
+use Rattle.index_model.specs.Row.{Row, IsRow}
+use Rattle.index_model.specs.declared.fault.Fault.{Fault}
+use Rattle.index_model.specs.declared.fault.Fault.TheVariants.{BadRow, KeyTooLong}
 use Rattle.index_model.specs.declared.entry.Entry.{Entry}
 
 -- a byte put before the first word
@@ -27,3 +30,17 @@ row_text row = 40 ∷ (decimal row.block ++ (44 ∷ (decimal row.offset ++ 41 �
 -- a key and a row, parted by a space
 abbrev pub entry_text : Entry → List ℕ
 entry_text entry = key_text entry.key ++ (32 ∷ row_text entry.row)
+
+-- what the row that a text spells is answered with: the row, or that there is no such row
+abbrev pub ReadsRow : Row → Result Row Fault → Type 0
+ReadsRow row read = MatchResult read (λ valid. (valid ≡ row) × IsRow valid) (λ fault. (fault ≡ BadRow) × (¬ IsRow row))
+
+-- `0` to `9` and `a` to `f`
+abbrev pub is_key_digit : ℕ → Bool
+is_key_digit byte = (nat_le 48 byte && nat_le byte 57) || (nat_le 97 byte && nat_le byte 102)
+
+-- the text of more bytes than a key has
+pub record IsLongKeyText (text : List ℕ) : Type 0 where
+  pub long : 128 < length text
+  pub even : length text % 2 ≡ 0
+  pub digits : list_all is_key_digit text ≡ true
