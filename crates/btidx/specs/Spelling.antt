@@ -1,5 +1,5 @@
 -- How lines and what stands in them are spelled.
-use Rattle.std.specs.Prelude.{◌≡◌, ℕ, Bool, ◌==◌, if◌then◌else◌, Option, Some, None, List, [], ◌∷◌, ◌++◌, length, Result, MatchResult, ◌<◌, ◌%◌, true, ◌&&◌, ◌||◌, nat_le}
+use Rattle.std.specs.Prelude.{◌≡◌, ℕ, Bool, ◌==◌, if◌then◌else◌, Option, Some, None, List, [], ◌∷◌, ◌++◌, length, Result, MatchResult, ◌<◌, ◌%◌, true, ◌&&◌, ◌||◌, nat_le, codes}
 use Rattle.std.specs.List.{list_all}
 use Rattle.std.specs.Fmt.{decimal}
 use Rattle.hex.specs.Hex.{encode_lower}
@@ -7,6 +7,7 @@ use Rattle.index_model.specs.Row.{Row, IsRow}
 use Rattle.index_model.specs.declared.fault.Fault.{Fault}
 use Rattle.index_model.specs.declared.fault.Fault.TheVariants.{BadRow, KeyTooLong}
 use Rattle.index_model.specs.declared.entry.Entry.{Entry}
+use Rattle.index_model.specs.declared.bound.Bound.{Bound}
 
 -- a byte put before the first word
 abbrev pub with_first : ℕ → List (List ℕ) → List (List ℕ)
@@ -44,3 +45,17 @@ pub record IsLongKeyText (text : List ℕ) : Type 0 where
   pub long : 128 < length text
   pub even : length text % 2 ≡ 0
   pub digits : list_all is_key_digit text ≡ true
+
+-- the rows of a bound: one, or the place before all
+abbrev pub place_text : Option Row → List ℕ
+place_text None = codes "before"
+place_text (Some row) = row_text row
+
+-- a key and its rows, parted by a space
+abbrev pub bound_text : Bound → List ℕ
+bound_text bound = key_text bound.key ++ (32 ∷ place_text bound.row)
+
+-- the number of a block, or `-`
+abbrev pub link_text : Option ℕ → List ℕ
+link_text None = 45 ∷ []
+link_text (Some block) = decimal block
