@@ -34,7 +34,7 @@ parted_at text at found =
 
 -- and of digits before a comma, those
 pub parts_of_digits : (text front back : List ℕ) (at : ℕ) → position (λ byte. byte == 44) text ≡ Some at → AllDigits 10 front → text ≡ front ++ (44 ∷ back)
-  → (take at text ≡ front) × (drop (at + 1) text ≡ back)
+    → (take at text ≡ front) × (drop (at + 1) text ≡ back)
 parts_of_digits text front back at found digits spelled =
     let place : Some at ≡ Some (length front) = sym found ∙ rw spelled (comma_behind_digits front back digits) in
     let same : at ≡ length front = cc in

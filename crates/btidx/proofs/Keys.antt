@@ -10,8 +10,8 @@ length-encode_lower key = length-encode_with lower_digits key
 
 -- the text of a key, decoded into room for it, gives the key
 pub decoded_key : (text key out : List ℕ) (room : ℕ) (answer : Result (Unit {0}) FromHexError)
-  → MatchResult (decode_sized text room) (λ bytes. (answer ≡ Ok tt) × (out ≡ bytes)) (λ error. answer ≡ Err error)
-  → IsBytes key → length key ≡ room → text ≡ encode_lower key → (answer ≡ Ok tt) × (out ≡ key)
+    → MatchResult (decode_sized text room) (λ bytes. (answer ≡ Ok tt) × (out ≡ bytes)) (λ error. answer ≡ Err error)
+    → IsBytes key → length key ≡ room → text ≡ encode_lower key → (answer ≡ Ok tt) × (out ≡ key)
 decoded_key text key out room answer decoded bytes fits spelled =
     rw (spelled, decode_sized-encode_lower key room fits bytes) at decoded
 

@@ -27,7 +27,7 @@ IsUtf8-decimal n small = IsUtf8-from_ascii (decimal n) (IsAscii-decimal n small)
 
 -- what a plain text is read as, it spells
 pub decimal-parsed : (text : List ℕ) (n : ℕ) → ParsesUnsigned {E = ℕ} 64 10 text (Ok n)
-  → get_or text 0 0 ≢ 43 → (get_or text 0 0 ≡ 48 → length text ≡ 1) → text ≡ decimal n
+    → get_or text 0 0 ≢ 43 → (get_or text 0 0 ≡ 48 → length text ≡ 1) → text ≡ decimal n
 decimal-parsed text n parsed plain zeros =
     let own = numerals_by_value (AllDigits 10) tells_digits in
     let answer : Result ℕ ℕ = Ok n in

@@ -92,5 +92,8 @@ fn print_stats<W: Write>(out: &mut W, stats: &VacuumStats) -> io::Result<()>
     let new = stats.pages_newly_deleted;
     let deleted = stats.pages_deleted;
     let free = stats.pages_free;
-    writeln!(out, "finished pages={pages} tuples={tuples} removed={removed} new={new} deleted={deleted} free={free}")
+    writeln!(
+        out,
+        "finished pages={pages} tuples={tuples} removed={removed} new={new} deleted={deleted} free={free}"
+    )
 }

@@ -3,10 +3,9 @@
 use crate::execute::execute;
 use crate::line::{Crash, Line, LineError, parse};
 use index_model::Fault;
-use std::io;
 use std::process::Abort;
-use std::str;
 use std::test::*;
+use std::{io, str};
 
 /// Runs the program on a script, and compares all that it prints.
 fn runs(
@@ -59,28 +58,51 @@ fn scripts(rt: HostRuntime) -> Result<(), Fail> {
 #[test]
 fn command_lines(rt: HostRuntime) -> Result<(), Fail> {
     let few = ["btidx", "play", "--items", "3"];
-    runs(&rt, few.as_slice(), "", "", "btidx: refused 18 BadLimits\n", 2)?;
+    runs(
+        &rt,
+        few.as_slice(),
+        "",
+        "",
+        "btidx: refused 18 BadLimits\n",
+        2,
+    )?;
     let mut input = io::empty();
     let mut out = Vec::new(rt.alloc());
     let mut err = Vec::new(rt.alloc());
     let wide = ["btidx", "play", "--items", "4294967296"];
-    assert_eq!(rt; execute(rt.alloc(), wide.as_slice(), &mut input, &mut out, &mut err), 2);
+    assert_eq!(rt;
+        execute(rt.alloc(), wide.as_slice(), &mut input, &mut out, &mut err),
+        2
+    );
     assert!(rt; out.is_empty() && !err.is_empty());
     err.clear();
     let help = ["btidx", "play", "--help"];
-    assert_eq!(rt; execute(rt.alloc(), help.as_slice(), &mut input, &mut out, &mut err), 0);
+    assert_eq!(rt;
+        execute(rt.alloc(), help.as_slice(), &mut input, &mut out, &mut err),
+        0
+    );
     assert!(rt; !out.is_empty() && err.is_empty());
     Ok(())
 }
 
 #[test]
 fn forms_of_lines(rt: HostRuntime) -> Result<(), Fail> {
-    assert!(rt; matches!(parse(b"fail 18446744073709551615"), Ok(Line::Fail(18446744073709551615))));
+    assert!(rt;
+        matches!(
+            parse(b"fail 18446744073709551615"),
+            Ok(Line::Fail(18446744073709551615))
+        )
+    );
     assert!(rt; matches!(parse(b"crash tear"), Ok(Line::Crash(Crash::Tear))));
     assert!(rt; matches!(parse(b"scan 4294967295 * -"), Ok(Line::Scan(4294967295, _))));
     assert!(rt; matches!(parse(b"bulk 2"), Ok(Line::Bulk(2, _))));
     let bad = "bulk 2 (0,4) (0,0)";
-    assert!(rt; matches!(parse(bad.as_bytes()), Err(LineError::Refused(Fault::BadRow))));
+    assert!(rt;
+        matches!(
+            parse(bad.as_bytes()),
+            Err(LineError::Refused(Fault::BadRow))
+        )
+    );
     for text in [
         "fail 0",
         "fail 18446744073709551616",
@@ -101,7 +123,10 @@ fn forms_of_lines(rt: HostRuntime) -> Result<(), Fail> {
         "crash now",
         "force 1",
     ] {
-        assert!(rt; matches!(parse(text.as_bytes()), Err(LineError::NotAnEvent)), "{text}");
+        assert!(rt;
+            matches!(parse(text.as_bytes()), Err(LineError::NotAnEvent)),
+            "{text}"
+        );
     }
     Ok(())
 }

@@ -10,4 +10,4 @@ returns-in-None-clause-only c = λ row low small spelled.
 pub returns-in-Some-clause-only : goal.returns-in-Some-clause-only
 returns-in-Some-clause-only c = λ row low small spelled.
     c.numbers.ensures.only row.block row.offset low small
-      (c.in-Some.ensures.only (decimal row.block ++ (44 ∷ decimal row.offset)) (spelled ∙ row_text-inside row))
+    (c.in-Some.ensures.only (decimal row.block ++ (44 ∷ decimal row.offset)) (spelled ∙ row_text-inside row))

@@ -14,4 +14,4 @@ returns-in-Some-clause-found c =
 pub returns-in-Some-clause-only : goal.returns-in-Some-clause-only
 returns-in-Some-clause-only c = λ front back digits spelled.
     rw (take_rest c.args.text.now (c.in-Some.at + 1))
-      (parts_of_digits c.args.text.now front back c.in-Some.at (sym c.comma.ensures ∙ c.in-Some.is) digits spelled)
+    (parts_of_digits c.args.text.now front back c.in-Some.at (sym c.comma.ensures ∙ c.in-Some.is) digits spelled)
