@@ -51,3 +51,16 @@ words_of-parted line at found =
 -- a rest cut at its own length
 pub take_rest : (line : List ℕ) (from : ℕ) → take (length line - from) (drop from line) ≡ drop from line
 take_rest line from = take_all (length line - from) (drop from line) (simp length-drop (omega arith))
+
+with_first-some : (byte : ℕ) (words : List (List ℕ)) → with_first byte words ≡ [] → ⊥
+with_first-some byte [] none = cc
+with_first-some byte (word ∷ words) none = cc
+
+-- each line has a word
+pub words_of-some : (line : List ℕ) → words_of line ≡ [] → ⊥
+words_of-some [] none = cc
+words_of-some (byte ∷ line) none =
+    (elim (byte == 32) as (λ test. cond test ([] ∷ words_of line) (with_first byte (words_of line)) ≡ [] → ⊥) [
+      | true ↦ λ e. cc
+      | false ↦ λ e. with_first-some byte (words_of line) e
+    ]) none

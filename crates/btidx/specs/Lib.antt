@@ -1,2 +1,4 @@
 pub mod Spelling
 pub mod Left
+pub mod Printing
+pub mod Script

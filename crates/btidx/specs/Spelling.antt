@@ -1,9 +1,13 @@
 -- How lines and what stands in them are spelled.
-use Rattle.std.specs.Prelude.{◌≡◌, ℕ, Bool, ◌==◌, if◌then◌else◌, Option, Some, None, List, [], ◌∷◌, ◌++◌, length}
+use Rattle.std.specs.Prelude.{◌≡◌, ℕ, Bool, ◌==◌, if◌then◌else◌, Option, Some, None, List, [], ◌∷◌, ◌++◌, length, Result, MatchResult, ◌<◌, ◌%◌, true, ◌&&◌, ◌||◌, nat_le, codes}
+use Rattle.std.specs.List.{list_all}
 use Rattle.std.specs.Fmt.{decimal}
 use Rattle.hex.specs.Hex.{encode_lower}
-use Rattle.index_model.specs.Row.{Row}
+use Rattle.index_model.specs.Row.{Row, IsRow}
+use Rattle.index_model.specs.declared.fault.Fault.{Fault}
+use Rattle.index_model.specs.declared.fault.Fault.TheVariants.{BadRow, KeyTooLong}
 use Rattle.index_model.specs.declared.entry.Entry.{Entry}
+use Rattle.index_model.specs.declared.bound.Bound.{Bound}
 
 -- a byte put before the first word
 abbrev pub with_first : ℕ → List (List ℕ) → List (List ℕ)
@@ -27,3 +31,31 @@ row_text row = 40 ∷ (decimal row.block ++ (44 ∷ (decimal row.offset ++ 41 �
 -- a key and a row, parted by a space
 abbrev pub entry_text : Entry → List ℕ
 entry_text entry = key_text entry.key ++ (32 ∷ row_text entry.row)
+
+-- what the row that a text spells is answered with: the row, or that there is no such row
+abbrev pub ReadsRow : Row → Result Row Fault → Type 0
+ReadsRow row read = MatchResult read (λ valid. (valid ≡ row) × IsRow valid) (λ fault. (fault ≡ BadRow) × (¬ IsRow row))
+
+-- `0` to `9` and `a` to `f`
+abbrev pub is_key_digit : ℕ → Bool
+is_key_digit byte = (nat_le 48 byte && nat_le byte 57) || (nat_le 97 byte && nat_le byte 102)
+
+-- the text of more bytes than a key has
+pub record IsLongKeyText (text : List ℕ) : Type 0 where
+  pub long : 128 < length text
+  pub even : length text % 2 ≡ 0
+  pub digits : list_all is_key_digit text ≡ true
+
+-- the rows of a bound: one, or the place before all
+abbrev pub place_text : Option Row → List ℕ
+place_text None = codes "before"
+place_text (Some row) = row_text row
+
+-- a key and its rows, parted by a space
+abbrev pub bound_text : Bound → List ℕ
+bound_text bound = key_text bound.key ++ (32 ∷ place_text bound.row)
+
+-- the number of a block, or `-`
+abbrev pub link_text : Option ℕ → List ℕ
+link_text None = 45 ∷ []
+link_text (Some block) = decimal block

@@ -1,5 +1,8 @@
 //! What an event answers, and how it is printed.
 
+ghost use Rattle.std.specs.Prelude.{Some};
+ghost use Rattle.btidx.specs.Printing.{PrintsLine, answer_text, given_text, refused_text, stats_text};
+
 use crate::show::ShownEntry;
 use index_model::{Entry, Fault, VacuumStats};
 use std::io::{self, Write};
@@ -27,7 +30,9 @@ pub enum Answer {
 }
 
 /// Prints the line of an answer.
-pub fn print_answer<W: Write>(out: &mut W, answer: &Answer) -> io::Result<()> {
+pub fn print_answer<W: Write>(out: &mut W, answer: &Answer) -> io::Result<()>
+    ensures { PrintsLine (W.contents out.old) (W.contents out.new) result (answer_text answer.now) }
+{
     match answer {
         Answer::Begun => writeln!(out, "begun"),
         Answer::Going => writeln!(out, "going"),
@@ -47,13 +52,17 @@ pub fn print_answer<W: Write>(out: &mut W, answer: &Answer) -> io::Result<()> {
 }
 
 /// Prints `entry KEY ROW`.
-pub fn print_entry<W: Write>(out: &mut W, entry: &Entry) -> io::Result<()> {
+pub fn print_entry<W: Write>(out: &mut W, entry: &Entry) -> io::Result<()>
+    ensures { PrintsLine (W.contents out.old) (W.contents out.new) result (given_text (Some entry.now)) }
+{
     let entry = ShownEntry { entry: *entry };
     writeln!(out, "entry {entry}")
 }
 
 /// Prints `refused N`, with the block that the fault names behind it.
-pub fn print_refused<W: Write>(out: &mut W, fault: Fault) -> io::Result<()> {
+pub fn print_refused<W: Write>(out: &mut W, fault: Fault) -> io::Result<()>
+    ensures { PrintsLine (W.contents out.old) (W.contents out.new) result (refused_text fault) }
+{
     let number = fault.number();
     match fault.block() {
         None => writeln!(out, "refused {number}"),
@@ -61,7 +70,10 @@ pub fn print_refused<W: Write>(out: &mut W, fault: Fault) -> io::Result<()> {
     }
 }
 
-fn print_added<W: Write>(out: &mut W, action: u64, unfinished: Option<Fault>) -> io::Result<()> {
+fn print_added<W: Write>(out: &mut W, action: u64, unfinished: Option<Fault>) -> io::Result<()>
+    ensures { PrintsLine (W.contents out.old) (W.contents out.new) result
+        (answer_text (Answer.Added action unfinished)) }
+{
     match unfinished {
         None => writeln!(out, "added {action}"),
         Some(fault) => {
@@ -71,16 +83,17 @@ fn print_added<W: Write>(out: &mut W, action: u64, unfinished: Option<Fault>) ->
     }
 }
 
-fn print_stats<W: Write>(out: &mut W, stats: &VacuumStats) -> io::Result<()> {
+fn print_stats<W: Write>(out: &mut W, stats: &VacuumStats) -> io::Result<()>
+    ensures { PrintsLine (W.contents out.old) (W.contents out.new) result (stats_text stats.now) }
+{
     let pages = stats.num_pages;
     let tuples = stats.num_index_tuples;
     let removed = stats.tuples_removed;
     let new = stats.pages_newly_deleted;
     let deleted = stats.pages_deleted;
     let free = stats.pages_free;
-    write!(
+    writeln!(
         out,
-        "finished pages={pages} tuples={tuples} removed={removed} "
-    )?;
-    writeln!(out, "new={new} deleted={deleted} free={free}")
+        "finished pages={pages} tuples={tuples} removed={removed} new={new} deleted={deleted} free={free}"
+    )
 }

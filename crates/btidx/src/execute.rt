@@ -1,5 +1,7 @@
 //! The program over any streams.
 
+ghost use Rattle.std.specs.Prelude.{◌≡◌, ◌≤◌};
+
 use crate::command::{program, setting};
 use crate::play::{End, play};
 use crate::refusal::print_refusal;
@@ -17,8 +19,10 @@ pub fn execute<'a, S: AsStr, R: Read, W: Write, E: Write>(
     input: &mut R,
     out: &mut W,
     err: &mut E,
-) -> u8 {
-    match command(alloc, words, input, out, err) {
+) -> u8
+    ensures { result ≤ 2 }
+{
+    match flushed(command(alloc, words, input, out, err), out) {
         Ok(End::Done) => 0,
         Ok(End::Said) => 2,
         Ok(End::Refused(fault)) => refuse(err, fault),
@@ -26,7 +30,15 @@ pub fn execute<'a, S: AsStr, R: Read, W: Write, E: Write>(
     }
 }
 
-fn refuse<E: Write>(err: &mut E, fault: Fault) -> u8 {
+/// The same end, unless what was printed can't be handed on.
+fn flushed<W: Write>(end: io::Result<End>, out: &mut W) -> io::Result<End> {
+    out.flush()?;
+    end
+}
+
+fn refuse<E: Write>(err: &mut E, fault: Fault) -> u8
+    ensures { result ≡ 2 }
+{
     let _ = print_refusal(err, fault);
     2
 }

@@ -1,5 +1,11 @@
 //! The lines of a script.
 
+ghost use Rattle.std.specs.Prelude.{◌≡◌, ℕ, Some, None, Ok, List, [], ◌∷◌, ◌++◌, IfSome, IfOk, ◌↔◌, IsTrue};
+ghost use Rattle.std.specs.Fmt.{decimal};
+ghost use Rattle.index_model.specs.Row.{Row};
+ghost use Rattle.btidx.specs.Spelling.{key_text, row_text};
+ghost use Rattle.btidx.specs.Script.{line_words, entry_words, range_words, end_text, crash_text, Spells};
+
 use crate::number::{key, number, number_u32, row};
 use crate::words::Words;
 use index_model::{Entry, Fault, Key, Range, RowAddr};
@@ -23,8 +29,14 @@ pub struct Rows<'a> {
 
 impl<'a> Rows<'a> {
     /// The next row, or None behind the last.
-    pub fn next(&mut self) -> Option<RowAddr> {
-        row(self.words.next()?)?.ok()
+    pub fn next(&mut self) -> Option<RowAddr>
+        ensures { (row : Row) → result ≡ Some row → self.old.words ≡ row_text row ∷ self.new.words }
+    {
+        let word = self.words.next()?;
+        match row(word)? {
+            Ok(row) => Some(row),
+            Err(_) => None,
+        }
     }
 }
 
@@ -66,7 +78,9 @@ pub enum LineError {
 }
 
 /// The line of this text.
-pub fn parse(text: &[u8]) -> Result<Line<'_>, LineError> {
+pub fn parse(text: &[u8]) -> Result<Line<'_>, LineError>
+    ensures { IfOk result (Spells text.now) }
+{
     if text.is_empty() || text[0] == b'#' {
         return Ok(Line::Nothing);
     }
@@ -74,7 +88,7 @@ pub fn parse(text: &[u8]) -> Result<Line<'_>, LineError> {
     let Some(read) = event(&mut words) else {
         return Err(LineError::NotAnEvent);
     };
-    if words.next().is_some() {
+    if !words.have_ended() {
         return Err(LineError::NotAnEvent);
     }
     match read {
@@ -83,48 +97,79 @@ pub fn parse(text: &[u8]) -> Result<Line<'_>, LineError> {
     }
 }
 
-fn event<'a>(words: &mut Words<'a>) -> Option<Result<Line<'a>, Fault>> {
+fn event<'a>(words: &mut Words<'a>) -> Option<Result<Line<'a>, Fault>>
+    ensures { (line : Line) → result ≡ Some (Ok line) → words.old ≡ line_words line ++ words.new }
+{
     let name = words.next()?;
     if let Some(line) = plain(name) {
         return Some(Ok(line));
     }
-    if let Some(line) = counted(name, words) {
+    let value = words.next()?;
+    if let Some(line) = counted(name, value) {
         return Some(Ok(line));
     }
-    let session = number_u32(words.next()?)?;
+    one_session(name, value, words)
+}
+
+/// A line of a session.
+fn one_session<'a>(
+    name: &[u8],
+    value: &[u8],
+    words: &mut Words<'a>,
+) -> Option<Result<Line<'a>, Fault>>
+    ensures { (line : Line) → result ≡ Some (Ok line)
+        → name.now ∷ value.now ∷ words.old ≡ line_words line ++ words.new }
+{
+    let session = number_u32(value)?;
     if let Some(line) = of_session(name, session) {
         return Some(Ok(line));
     }
     with_values(name, session, words)
 }
 
+fn is(name: &[u8], word: &[u8]) -> bool
+    ensures { IsTrue result ↔ (name.now ≡ word.now) }
+{
+    name == word
+}
+
 /// A line of one word.
-fn plain(name: &[u8]) -> Option<Line<'static>> {
+fn plain(name: &[u8]) -> Option<Line<'static>>
+    ensures { IfSome result (λ line. name.now ∷ [] ≡ line_words line) }
+{
+    if is(name, b"checkpoint") {
+        return Some(Line::Checkpoint);
+    }
     match name {
         b"force" => Some(Line::Force),
         b"flush" => Some(Line::Flush),
-        b"checkpoint" => Some(Line::Checkpoint),
         b"dump" => Some(Line::Dump),
         _ => None,
     }
 }
 
 /// A line of the device.
-fn counted<'a>(name: &[u8], words: &mut Words<'a>) -> Option<Line<'a>> {
+fn counted(name: &[u8], value: &[u8]) -> Option<Line<'static>>
+    ensures { IfSome result (λ line. name.now ∷ value.now ∷ [] ≡ line_words line) }
+{
     match name {
-        b"fail" => Some(Line::Fail(count(words.next()?)?)),
-        b"stop" => Some(Line::Stop(count(words.next()?)?)),
-        b"crash" => Some(Line::Crash(crash_named(words.next()?)?)),
+        b"fail" => Some(Line::Fail(count(value)?)),
+        b"stop" => Some(Line::Stop(count(value)?)),
+        b"crash" => Some(Line::Crash(crash_named(value)?)),
         _ => None,
     }
 }
 
-fn count(text: &[u8]) -> Option<u64> {
+fn count(text: &[u8]) -> Option<u64>
+    ensures { IfSome result (λ number. text.now ≡ decimal number) }
+{
     let number = number(text)?;
     if number == 0 { None } else { Some(number) }
 }
 
-fn crash_named(text: &[u8]) -> Option<Crash> {
+fn crash_named(text: &[u8]) -> Option<Crash>
+    ensures { IfSome result (λ crash. text.now ≡ crash_text crash) }
+{
     match text {
         b"keep" => Some(Crash::Keep),
         b"drop" => Some(Crash::Drop),
@@ -134,9 +179,13 @@ fn crash_named(text: &[u8]) -> Option<Crash> {
 }
 
 /// A line of a session and nothing else.
-fn of_session(name: &[u8], session: u32) -> Option<Line<'static>> {
+fn of_session(name: &[u8], session: u32) -> Option<Line<'static>>
+    ensures { IfSome result (λ line. name.now ∷ decimal session ∷ [] ≡ line_words line) }
+{
+    if is(name, b"cleanup") {
+        return Some(Line::Cleanup(session));
+    }
     match name {
-        b"cleanup" => Some(Line::Cleanup(session)),
         b"step" => Some(Line::Step(session)),
         b"run" => Some(Line::Run(session)),
         b"next" => Some(Line::Next(session)),
@@ -150,7 +199,10 @@ fn with_values<'a>(
     name: &[u8],
     session: u32,
     words: &mut Words<'a>,
-) -> Option<Result<Line<'a>, Fault>> {
+) -> Option<Result<Line<'a>, Fault>>
+    ensures { (line : Line) → result ≡ Some (Ok line)
+        → name.now ∷ decimal session ∷ words.old ≡ line_words line ++ words.new }
+{
     match name {
         b"insert" => Some(entry(words)?.map(|entry| Line::Insert(session, entry))),
         b"put" => Some(entry(words)?.map(|entry| Line::Put(session, entry))),
@@ -162,20 +214,28 @@ fn with_values<'a>(
 }
 
 /// A key and a row. The key's fault comes before the row's.
-fn entry(words: &mut Words<'_>) -> Option<Result<Entry, Fault>> {
+fn entry(words: &mut Words<'_>) -> Option<Result<Entry, Fault>>
+    ensures { IfSome result (λ read. IfOk read
+        (λ entry. words.old ≡ entry_words entry ++ words.new)) }
+{
     let key = key(words.next()?)?;
     let row = row(words.next()?)?;
     Some(entry_of(key, row))
 }
 
-fn entry_of(key: Result<Key, Fault>, row: Result<RowAddr, Fault>) -> Result<Entry, Fault> {
+fn entry_of(key: Result<Key, Fault>, row: Result<RowAddr, Fault>) -> Result<Entry, Fault>
+    ensures { IfOk result (λ entry. (key ≡ Ok entry.key) × (row ≡ Ok entry.row)) }
+{
     let key = key?;
     let row = row?;
     Ok(Entry { key, row })
 }
 
 /// Two ends of a range.
-fn range(words: &mut Words<'_>) -> Option<Result<Range, Fault>> {
+fn range(words: &mut Words<'_>) -> Option<Result<Range, Fault>>
+    ensures { IfSome result (λ read. IfOk read
+        (λ range. words.old ≡ range_words range ++ words.new)) }
+{
     let from = end(words.next()?)?;
     let below = end(words.next()?)?;
     Some(range_of(from, below))
@@ -184,14 +244,18 @@ fn range(words: &mut Words<'_>) -> Option<Result<Range, Fault>> {
 fn range_of(
     from: Result<Option<Key>, Fault>,
     below: Result<Option<Key>, Fault>,
-) -> Result<Range, Fault> {
+) -> Result<Range, Fault>
+    ensures { IfOk result (λ range. (from ≡ Ok range.from) × (below ≡ Ok range.below)) }
+{
     let from = from?;
     let below = below?;
     Ok(Range { from, below })
 }
 
 /// A key, or `*` for an open end.
-fn end(text: &[u8]) -> Option<Result<Option<Key>, Fault>> {
+fn end(text: &[u8]) -> Option<Result<Option<Key>, Fault>>
+    ensures { IfSome result (λ read. IfOk read (λ key. text.now ≡ end_text key)) }
+{
     if text == b"*".as_slice() {
         return Some(Ok(None));
     }
@@ -202,7 +266,9 @@ fn end(text: &[u8]) -> Option<Result<Option<Key>, Fault>> {
 }
 
 /// All words that are left, each a row.
-fn bulk_rows<'a>(words: &mut Words<'a>) -> Option<Result<Rows<'a>, Fault>> {
+fn bulk_rows<'a>(words: &mut Words<'a>) -> Option<Result<Rows<'a>, Fault>>
+    ensures { IfSome result (λ read. IfOk read (λ rows. words.old ≡ rows.words ++ words.new)) }
+{
     let all = words.copy();
     let mut is_bad = false;
     while let Some(word) = words.next() {

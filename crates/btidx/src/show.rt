@@ -1,5 +1,8 @@
 //! Keys, rows, entries and bounds as text.
 
+ghost use Rattle.std.specs.Prelude.{◌≡◌, ◌≤◌, ◌*◌, Some, length};
+ghost use Rattle.hex.specs.Hex.{encode_lower};
+
 use index_model::{Bound, Entry, Key, RowAddr};
 use std::{fmt, str};
 
@@ -10,6 +13,11 @@ pub struct ShownKey {
 }
 
 impl fmt::Display for ShownKey {
+    ghost use Rattle.std.specs.Prelude.{Some};
+    ghost use Rattle.btidx.specs.Spelling.{key_text};
+
+    ghost output = { λ shown. Some (key_text shown.key) };
+
     fn fmt<W: fmt::Write>(&self, f: &mut fmt::Formatter<W>) -> fmt::Result {
         let bytes = self.key.bytes();
         if bytes.is_empty() {
@@ -17,7 +25,7 @@ impl fmt::Display for ShownKey {
         }
         let mut digits = [0; 128];
         let digits = &mut digits[..2 * bytes.len()];
-        let _ = hex::encode_to_slice(bytes, digits);
+        put_digits(bytes, digits);
         match str::from_utf8(digits) {
             Ok(text) => f.write_str(text),
             Err(_) => Err(fmt::Error),
@@ -32,6 +40,11 @@ pub struct ShownRow {
 }
 
 impl fmt::Display for ShownRow {
+    ghost use Rattle.std.specs.Prelude.{Some};
+    ghost use Rattle.btidx.specs.Spelling.{row_text};
+
+    ghost output = { λ shown. Some (row_text shown.row) };
+
     fn fmt<W: fmt::Write>(&self, f: &mut fmt::Formatter<W>) -> fmt::Result {
         let block = self.row.block();
         let offset = self.row.offset();
@@ -46,6 +59,11 @@ pub struct ShownEntry {
 }
 
 impl fmt::Display for ShownEntry {
+    ghost use Rattle.std.specs.Prelude.{Some};
+    ghost use Rattle.btidx.specs.Spelling.{entry_text};
+
+    ghost output = { λ shown. Some (entry_text shown.entry) };
+
     fn fmt<W: fmt::Write>(&self, f: &mut fmt::Formatter<W>) -> fmt::Result {
         let key = ShownKey {
             key: self.entry.key,
@@ -64,6 +82,11 @@ pub struct ShownBound {
 }
 
 impl fmt::Display for ShownBound {
+    ghost use Rattle.std.specs.Prelude.{Some};
+    ghost use Rattle.btidx.specs.Spelling.{bound_text};
+
+    ghost output = { λ shown. Some (bound_text shown.bound) };
+
     fn fmt<W: fmt::Write>(&self, f: &mut fmt::Formatter<W>) -> fmt::Result {
         let key = ShownKey {
             key: self.bound.key,
@@ -85,10 +108,22 @@ pub struct ShownLink {
 }
 
 impl fmt::Display for ShownLink {
+    ghost use Rattle.std.specs.Prelude.{Some};
+    ghost use Rattle.btidx.specs.Spelling.{link_text};
+
+    ghost output = { λ shown. Some (link_text shown.link) };
+
     fn fmt<W: fmt::Write>(&self, f: &mut fmt::Formatter<W>) -> fmt::Result {
         match self.link {
             None => f.write_str("-"),
             Some(block) => write!(f, "{block}"),
         }
     }
+}
+
+fn put_digits(bytes: &[u8], digits: &mut [u8])
+    requires { length digits.old ≡ 2 * length bytes.now }
+    ensures { digits.new ≡ encode_lower bytes.now }
+{
+    let _ = hex::encode_to_slice(bytes, digits);
 }

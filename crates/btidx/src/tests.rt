@@ -1,2 +1,132 @@
-use super::*;
+//! What no clause says: the texts that the program prints, and how it ends.
+
+use crate::execute::execute;
+use crate::line::{Crash, Line, LineError, parse};
+use index_model::Fault;
+use std::process::Abort;
 use std::test::*;
+use std::{io, str};
+
+/// Runs the program on a script, and compares all that it prints.
+fn runs(
+    rt: &(impl Abort + AllocGlobal + Print + Eprint),
+    words: &[&str],
+    script: &str,
+    printed: &str,
+    said: &str,
+    status: u8,
+) -> Result<(), Fail> {
+    let mut input = script.as_bytes();
+    let mut out = Vec::new(rt.alloc());
+    let mut err = Vec::new(rt.alloc());
+    let ended = execute(rt.alloc(), words, &mut input, &mut out, &mut err);
+    assert_eq!(rt; str::from_utf8(out.as_slice()), Ok(printed));
+    assert_eq!(rt; str::from_utf8(err.as_slice()), Ok(said));
+    assert_eq!(rt; ended, status);
+    Ok(())
+}
+
+#[test]
+fn scripts(rt: HostRuntime) -> Result<(), Fail> {
+    let play = ["btidx", "play"];
+    runs(
+        &rt,
+        play.as_slice(),
+        "put 0 61 (1,1)\nput 0 61 (0,2)\n# words\n\nput 0 61 (0,1)\nlist 0 * *",
+        "added 1\nadded 2\nadded 3\nentry 61 (0,1)\nentry 61 (0,2)\nentry 61 (1,1)\ndone 3\n",
+        "",
+        0,
+    )?;
+    runs(
+        &rt,
+        play.as_slice(),
+        "put 0 61 (0,1)\n# words\n\nputt 0 61 (0,1)\nput 0 62 (0,2)\n",
+        "added 1\n",
+        "btidx: line 4: not an event\n",
+        2,
+    )?;
+    runs(
+        &rt,
+        play.as_slice(),
+        "put 9 61 (0,0)\nput 9 61 (0,1)\nlist 0 - 61\ndump\n",
+        "refused 7\nrefused 12\ndone 0\n0 meta root=1 level=0\n1 leaf live left=- right=- high=- split=0 cycle=0 n=0\n",
+        "",
+        0,
+    )
+}
+
+#[test]
+fn command_lines(rt: HostRuntime) -> Result<(), Fail> {
+    let few = ["btidx", "play", "--items", "3"];
+    runs(
+        &rt,
+        few.as_slice(),
+        "",
+        "",
+        "btidx: refused 18 BadLimits\n",
+        2,
+    )?;
+    let mut input = io::empty();
+    let mut out = Vec::new(rt.alloc());
+    let mut err = Vec::new(rt.alloc());
+    let wide = ["btidx", "play", "--items", "4294967296"];
+    assert_eq!(rt;
+        execute(rt.alloc(), wide.as_slice(), &mut input, &mut out, &mut err),
+        2
+    );
+    assert!(rt; out.is_empty() && !err.is_empty());
+    err.clear();
+    let help = ["btidx", "play", "--help"];
+    assert_eq!(rt;
+        execute(rt.alloc(), help.as_slice(), &mut input, &mut out, &mut err),
+        0
+    );
+    assert!(rt; !out.is_empty() && err.is_empty());
+    Ok(())
+}
+
+#[test]
+fn forms_of_lines(rt: HostRuntime) -> Result<(), Fail> {
+    assert!(rt;
+        matches!(
+            parse(b"fail 18446744073709551615"),
+            Ok(Line::Fail(18446744073709551615))
+        )
+    );
+    assert!(rt; matches!(parse(b"crash tear"), Ok(Line::Crash(Crash::Tear))));
+    assert!(rt; matches!(parse(b"scan 4294967295 * -"), Ok(Line::Scan(4294967295, _))));
+    assert!(rt; matches!(parse(b"bulk 2"), Ok(Line::Bulk(2, _))));
+    let bad = "bulk 2 (0,4) (0,0)";
+    assert!(rt;
+        matches!(
+            parse(bad.as_bytes()),
+            Err(LineError::Refused(Fault::BadRow))
+        )
+    );
+    for text in [
+        "fail 0",
+        "fail 18446744073709551616",
+        "step",
+        "step 01",
+        "step +1",
+        "step 4294967296",
+        "step 1 ",
+        " step 1",
+        "step  1",
+        "put 0 6A (0,1)",
+        "put 0 6 (0,1)",
+        "put 0 61 (0,01)",
+        "put 0 61 (0,65536)",
+        "put 0 61 0,1",
+        "put 0 * (0,1)",
+        "bulk 2  (0,4)",
+        "crash now",
+        "force 1",
+    ] {
+        assert!(rt;
+            matches!(parse(text.as_bytes()), Err(LineError::NotAnEvent)),
+            "{text}"
+        );
+    }
+    Ok(())
+}

@@ -1,6 +1,6 @@
 //! A line, word by word.
 
-ghost use Rattle.std.specs.Prelude.{◌≡◌, [], ◌∷◌, MatchOption};
+ghost use Rattle.std.specs.Prelude.{◌≡◌, [], ◌∷◌, ◌↔◌, IsTrue, MatchOption};
 
 use std::marker::Model;
 
@@ -35,6 +35,16 @@ impl<'a> Words<'a> {
         ensures { result ≡ self.now }
     {
         Words { rest: self.rest }
+    }
+
+    /// Whether no word is left.
+    pub fn have_ended(&self) -> bool
+        ensures { IsTrue result ↔ (self.now ≡ []) }
+    {
+        match self.rest {
+            None => true,
+            Some(_) => false,
+        }
     }
 
     /// The next word, or None where the line has ended.
