@@ -25,9 +25,9 @@ set_beyond (y ∷ ys) (suc i) x le = ap (λ zs. y ∷ zs) (set_beyond ys i x (om
 pub released_again : (table : Table) (session block : ℕ) (mode : Mode) → released (latched table session block mode) session block ≡ table
 released_again table session block mode =
     elim (cases_lt session (length table)) [
-      inl lt ↦ released-latched table session block mode lt
-    | inr ge ↦ (let none = set_beyond table session (record { latches = record { block = block; mode = mode } ∷ (holding_of table session).latches; pins = (holding_of table session).pins }) ge in
-        ap (λ (t : Table). released t session block) none ∙ set_beyond table session _ ge)
+      | inl lt ↦ released-latched table session block mode lt
+      | inr ge ↦ (let none = set_beyond table session (record { latches = record { block = block; mode = mode } ∷ (holding_of table session).latches; pins = (holding_of table session).pins }) ge in
+          ap (λ (t : Table). released t session block) none ∙ set_beyond table session _ ge)
     ]
 
 pub looked : (st : State) (session block : ℕ) (mode : Mode) → with_table (with_table st (latched st.table session block mode)) (released (latched st.table session block mode) session block) ≡ st
@@ -42,7 +42,7 @@ pins_set (h ∷ table) (suc session) holding same = ap (λ (ps : List ℕ). h.pi
 pub read_under_latch : (st : State) (old new : Backing) (session block page : ℕ) (mode : Mode) → where_read (with_table st (latched st.table session block mode)) old new page ≡ where_read st old new page
 read_under_latch st old new session block page mode =
     ap (λ (ps : List ℕ). let c : Circumstances = record (where_read st old new page) { frames_are_pinned = nat_le st.frames (count_apart ([] ++ ps)) } in c)
-      (pins_set st.table session (record { latches = record { block = block; mode = mode } ∷ (holding_of st.table session).latches; pins = (holding_of st.table session).pins }) refl)
+    (pins_set st.table session (record { latches = record { block = block; mode = mode } ∷ (holding_of st.table session).latches; pins = (holding_of st.table session).pins }) refl)
 
 -- the causes of a reading are causes of a latched one
 pub looked_cause : (st : State) (old new : Backing) (session block : ℕ) (f : Fault) → HasCause (where_read st old new block) f → HasCause (where_looked st old new session block) f

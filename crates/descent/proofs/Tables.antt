@@ -39,8 +39,8 @@ pub any_excluded : (latches : List Latch) (block : ℕ) (asked : Mode) → latch
 any_excluded [] block asked h = absurd cc
 any_excluded (l ∷ latches) block asked h =
     elim (or_cases ((l.block == block) && excludes l.mode Shared) (latches_exclude latches block Shared) h) [
-      inl here ↦ (let parts = and_parts (l.block == block) (excludes l.mode Shared) here in rw (parts.0, excludes_any l.mode asked parts.1) refl)
-    | inr there ↦ rw (any_excluded latches block asked there) (elim ((l.block == block) && excludes l.mode asked) as (λ v. (v || true) ≡ true) [ true ↦ refl | false ↦ refl ])
+      | inl here ↦ (let parts = and_parts (l.block == block) (excludes l.mode Shared) here in rw (parts.0, excludes_any l.mode asked parts.1) refl)
+      | inr there ↦ rw (any_excluded latches block asked there) (elim ((l.block == block) && excludes l.mode asked) as (λ v. (v || true) ≡ true) [ true ↦ refl | false ↦ refl ])
     ]
 
 true_false : true ≡ false → ⊥
@@ -53,22 +53,22 @@ pub apart_with : (table : Table) (session : ℕ) (holding : Holding) → session
     → AreApart (with_holding table session holding)
 apart_with table session holding below apart mine theirs one two block differ alone =
     elim (cases_eq one session) [
-      inl is_one ↦ (
-        let not_two : two ≢ session = λ same. differ (is_one ∙ sym same) in
-        let held : holding_of (with_holding table session holding) one ≡ holding = ap (holding_of (with_holding table session holding)) is_one ∙ holding_of-with_holding table session holding below in
-        ap (λ (h : Holding). latches_exclude h.latches block Exclusive) (holding_of-with_holding_other table session two holding not_two)
-        ∙ mine two block not_two (sym (ap (λ (h : Holding). latches_exclude h.latches block Shared) held) ∙ alone))
-    | inr not_one ↦ (
-        let kept : holding_of (with_holding table session holding) one ≡ holding_of table one = holding_of-with_holding_other table session one holding not_one in
-        let was : HoldsAlone table one block = sym (ap (λ (h : Holding). latches_exclude h.latches block Shared) kept) ∙ alone in
-        elim (cases_eq two session) [
-          inl is_two ↦ (
-            ap (λ (h : Holding). latches_exclude h.latches block Exclusive) (ap (holding_of (with_holding table session holding)) is_two ∙ holding_of-with_holding table session holding below)
-            ∙ theirs one block not_one was)
-        | inr not_two ↦ (
-            ap (λ (h : Holding). latches_exclude h.latches block Exclusive) (holding_of-with_holding_other table session two holding not_two)
-            ∙ apart one two block differ was)
-        ])
+      | inl is_one ↦ (
+          let not_two : two ≢ session = λ same. differ (is_one ∙ sym same) in
+          let held : holding_of (with_holding table session holding) one ≡ holding = ap (holding_of (with_holding table session holding)) is_one ∙ holding_of-with_holding table session holding below in
+          ap (λ (h : Holding). latches_exclude h.latches block Exclusive) (holding_of-with_holding_other table session two holding not_two)
+          ∙ mine two block not_two (sym (ap (λ (h : Holding). latches_exclude h.latches block Shared) held) ∙ alone))
+      | inr not_one ↦ (
+          let kept : holding_of (with_holding table session holding) one ≡ holding_of table one = holding_of-with_holding_other table session one holding not_one in
+          let was : HoldsAlone table one block = sym (ap (λ (h : Holding). latches_exclude h.latches block Shared) kept) ∙ alone in
+          elim (cases_eq two session) [
+            | inl is_two ↦ (
+                ap (λ (h : Holding). latches_exclude h.latches block Exclusive) (ap (holding_of (with_holding table session holding)) is_two ∙ holding_of-with_holding table session holding below)
+                ∙ theirs one block not_one was)
+            | inr not_two ↦ (
+                ap (λ (h : Holding). latches_exclude h.latches block Exclusive) (holding_of-with_holding_other table session two holding not_two)
+                ∙ apart one two block differ was)
+          ])
     ]
 
 -- the same latches with other pins
@@ -76,8 +76,8 @@ pub apart_pins : (table : Table) (session : ℕ) (pins : List ℕ) → session <
     → AreApart (with_holding table session (record { latches = (holding_of table session).latches; pins = pins }))
 apart_pins table session pins below apart =
     apart_with table session (record { latches = (holding_of table session).latches; pins = pins }) below apart
-      (λ other block differ alone. apart session other block (λ same. differ (sym same)) alone)
-      (λ other block differ alone. apart other session block differ alone)
+    (λ other block differ alone. apart session other block (λ same. differ (sym same)) alone)
+    (λ other block differ alone. apart other session block differ alone)
 
 -- nothing held
 pub apart_nothing : (table : Table) (session : ℕ) → session < length table → AreApart table → AreApart (with_holding table session nothing_held)
@@ -93,8 +93,8 @@ out_of_table (h ∷ table) (suc other) le = out_of_table table other (omega arit
 free_of : (table : Table) (session block : ℕ) (mode : Mode) (other : ℕ) → other ≢ session → is_held_by_another table session block mode ≡ false → latches_exclude (holding_of table other).latches block mode ≡ false
 free_of table session block mode other differ free =
     elim (cases_lt other (length table)) [
-      inl lt ↦ or_left_false (latches_exclude (holding_of table other).latches block mode) (pins_exclude (holding_of table other).pins block mode) (is_held_by_another-free table session block mode other lt differ free)
-    | inr ge ↦ ap (λ (h : Holding). latches_exclude h.latches block mode) (out_of_table table other ge)
+      | inl lt ↦ or_left_false (latches_exclude (holding_of table other).latches block mode) (pins_exclude (holding_of table other).pins block mode) (is_held_by_another-free table session block mode other lt differ free)
+      | inr ge ↦ ap (λ (h : Holding). latches_exclude h.latches block mode) (out_of_table table other ge)
     ]
 
 -- one latch more, which nothing of the others' excludes
@@ -103,22 +103,22 @@ apart_latched table session block mode below apart free =
     let old : List Latch = (holding_of table session).latches in
     let new : Holding = record { latches = record { block = block; mode = mode } ∷ old; pins = (holding_of table session).pins } in
     apart_with table session new below apart
-      (λ other b differ alone.
-        elim (or_cases ((block == b) && excludes mode Shared) (latches_exclude old b Shared) alone) [
-          inl here ↦ (
-            let parts = and_parts (block == b) (excludes mode Shared) here in
-            let same : block ≡ b = eqb-true block b parts.0 in
-            subst (λ (n : ℕ). latches_exclude (holding_of table other).latches n Exclusive ≡ false) same
-              (sym (excluded_latches (holding_of table other).latches block mode parts.1) ∙ free_of table session block mode other differ free))
-        | inr there ↦ apart session other b (λ same. differ (sym same)) there
-        ])
-      (λ other b differ alone.
-        or_both_false ((block == b) && excludes mode Exclusive) (latches_exclude old b Exclusive)
-          (elim (cases_Bool (block == b)) [
-            inl same ↦ (
-              let is : b ≡ block = sym (eqb-true block b same) in
-              let there : latches_exclude (holding_of table other).latches block mode ≡ true = any_excluded (holding_of table other).latches block mode (subst (λ (n : ℕ). HoldsAlone table other n) is alone) in
-              absurd (true_false (sym there ∙ free_of table session block mode other differ free)))
-          | inr differs ↦ rw differs refl
-          ])
-          (apart other session b differ alone))
+    (λ other b differ alone.
+    elim (or_cases ((block == b) && excludes mode Shared) (latches_exclude old b Shared) alone) [
+      | inl here ↦ (
+          let parts = and_parts (block == b) (excludes mode Shared) here in
+          let same : block ≡ b = eqb-true block b parts.0 in
+          subst (λ (n : ℕ). latches_exclude (holding_of table other).latches n Exclusive ≡ false) same
+          (sym (excluded_latches (holding_of table other).latches block mode parts.1) ∙ free_of table session block mode other differ free))
+      | inr there ↦ apart session other b (λ same. differ (sym same)) there
+    ])
+    (λ other b differ alone.
+    or_both_false ((block == b) && excludes mode Exclusive) (latches_exclude old b Exclusive)
+    (elim (cases_Bool (block == b)) [
+      | inl same ↦ (
+          let is : b ≡ block = sym (eqb-true block b same) in
+          let there : latches_exclude (holding_of table other).latches block mode ≡ true = any_excluded (holding_of table other).latches block mode (subst (λ (n : ℕ). HoldsAlone table other n) is alone) in
+          absurd (true_false (sym there ∙ free_of table session block mode other differ free)))
+      | inr differs ↦ rw differs refl
+    ])
+    (apart other session b differ alone))

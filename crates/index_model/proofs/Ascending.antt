@@ -64,8 +64,8 @@ either false = inr refl
 pub is_past-falls : (b : Bound) (x e : Entry) → is_past b e ≡ false → is_past (bound_of x) e ≡ true → is_past b x ≡ false
 is_past-falls b x e within before =
     elim (either (is_past b x)) [
-      inl past ↦ (let k : is_past b e ≡ true = is_past-trans b x e past before in absurd cc)
-    | inr h ↦ h
+      | inl past ↦ (let k : is_past b e ≡ true = is_past-trans b x e past before in absurd cc)
+      | inr h ↦ h
     ]
 
 pub IsPast-trans : (low : Option Bound) (e f : Entry) → IsPast low e → is_past (bound_of e) f ≡ true → IsPast low f
@@ -95,8 +95,8 @@ pub is_among-past : (low : Option Bound) (xs : List Entry) (e : Entry) → Ascen
 is_among-past low [] e h m = absurd cc
 is_among-past low (x ∷ xs) e h m =
     elim (or_cases (same_entry x e) (is_among xs e) m) [
-      inl same ↦ subst (λ (y : Entry). IsPast low y) (same_entry-is x e same) h.0
-    | inr rest ↦ IsPast-trans low x e h.0 (is_among-past (Some (bound_of x)) xs e h.1 rest)
+      | inl same ↦ subst (λ (y : Entry). IsPast low y) (same_entry-is x e same) h.0
+      | inr rest ↦ IsPast-trans low x e h.0 (is_among-past (Some (bound_of x)) xs e h.1 rest)
     ]
 
 -- ... and not beyond its end
@@ -104,18 +104,18 @@ pub is_among-reached : (low : Option Bound) (xs : List Entry) (e : Entry) → As
 is_among-reached low [] e h m = absurd cc
 is_among-reached low (x ∷ xs) e h m =
     elim (or_cases (same_entry x e) (is_among xs e) m) [
-      inl same ↦ (subst (λ (y : Entry). IsReached (last_or (Some (bound_of x)) xs) y) (same_entry-is x e same) (first xs x x h.1 (is_past-self x)))
-    | inr rest ↦ is_among-reached (Some (bound_of x)) xs e h.1 rest
+      | inl same ↦ (subst (λ (y : Entry). IsReached (last_or (Some (bound_of x)) xs) y) (same_entry-is x e same) (first xs x x h.1 (is_past-self x)))
+      | inr rest ↦ is_among-reached (Some (bound_of x)) xs e h.1 rest
     ]
   where
     -- the last of an ascending list isn't less than an entry that its start isn't less than
     first : (xs : List Entry) (x e : Entry) → AscendsPast (Some (bound_of x)) xs → is_past (bound_of x) e ≡ false → IsReached (last_or (Some (bound_of x)) xs) e
     first [] x e h not = not
     first (y ∷ ys) x e h not = first ys y e h.1 (
-      elim (either (is_past (bound_of y) e)) [
-        inl past ↦ (let k : is_past (bound_of x) e ≡ true = is_past-trans (bound_of x) y e h.0 past in absurd cc)
-      | inr n ↦ n
-      ])
+        elim (either (is_past (bound_of y) e)) [
+          | inl past ↦ (let k : is_past (bound_of x) e ≡ true = is_past-trans (bound_of x) y e h.0 past in absurd cc)
+          | inr n ↦ n
+        ])
 
 pub is_among-append : (xs ys : List Entry) (e : Entry) → is_among (xs ++ ys) e ≡ (is_among xs e || is_among ys e)
 is_among-append [] ys e = refl
@@ -147,8 +147,8 @@ pub AllByRecursion-among : (P : Entry → Type 0) (xs : List Entry) (e : Entry) 
 AllByRecursion-among P [] e h m = absurd cc
 AllByRecursion-among P (x ∷ xs) e h m =
     elim (or_cases (same_entry x e) (is_among xs e) m) [
-      inl same ↦ subst P (same_entry-is x e same) h.0
-    | inr rest ↦ AllByRecursion-among P xs e h.1 rest
+      | inl same ↦ subst P (same_entry-is x e same) h.0
+      | inr rest ↦ AllByRecursion-among P xs e h.1 rest
     ]
 
 pub AllByRecursion-append : {A : Type 0} (P : A → Type 0) (xs ys : List A) → AllByRecursion P xs → AllByRecursion P ys → AllByRecursion P (xs ++ ys)

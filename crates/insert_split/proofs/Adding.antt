@@ -41,12 +41,13 @@ takes_leaf old new session block low order nothing free is =
     let mid_held : holding_of mid session ≡ held_of nothing_held block = holds_latch old.table session block below nothing in
     let room : length (holding_of mid session).pins < 2 = subst (λ (h : Holding). length h.pins < 2) (sym mid_held) (omega arith) in
     let end : Table = pinned mid session block in
-    let end_held : holding_of end session ≡ leaf_held block = holding_of-pinned mid session block mid_below room ∙ ap (λ (h : Holding). let k : Holding = record { latches = h.latches; pins = block ∷ h.pins } in k) mid_held in
-    (quiet_table session old new end is order
-        (apart_pins mid session _ mid_below mid_apart)
-        (length-pinned mid session block ∙ mid_many ∙ many)
-        (λ other differ. holding_of-pinned_other mid session other block differ ∙ holding_of-latched_other old.table session other block Exclusive differ),
-     ap (λ (st : State). holding_of st.table session) is ∙ end_held)
+    let end_held : holding_of end session ≡ leaf_held block = holding_of-pinned mid session block mid_below room ∙ ap (λ (h : Holding). let k : Holding = record { latches = h.latches; pins = block ∷ h.pins } in k) mid_held in (
+      quiet_table session old new end is order
+          (apart_pins mid session _ mid_below mid_apart)
+          (length-pinned mid session block ∙ mid_many ∙ many)
+          (λ other differ. holding_of-pinned_other mid session other block differ ∙ holding_of-latched_other old.table session other block Exclusive differ),
+      ap (λ (st : State). holding_of st.table session) is ∙ end_held,
+    )
 
 true_false : true ≡ false → ⊥
 true_false h = cc

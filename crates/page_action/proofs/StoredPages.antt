@@ -40,24 +40,24 @@ module _ (limits : Limits) (pages : List Page) (page : Page) (storable : IsStora
   pub stored-with_page : AreStored limits 0 pages → AreStored limits 0 (with_page pages page)
   stored-with_page h =
       elim (cases_lt page.block (length pages)) [
-        inl lt ↦ rw (lt-ltb page.block (length pages) lt)
-          (stored-set limits 0 page.block pages page h (stored_at limits (0 + page.block) page storable (sym (zero_plus page.block))))
-      | inr ge ↦ rw (le-ltb page.block (length pages) ge)
-          (stored-add limits 0 pages page h (stored_at limits (0 + length pages) page storable (omega arith)))
+        | inl lt ↦ rw (lt-ltb page.block (length pages) lt)
+            (stored-set limits 0 page.block pages page h (stored_at limits (0 + page.block) page storable (sym (zero_plus page.block))))
+        | inr ge ↦ rw (le-ltb page.block (length pages) ge)
+            (stored-add limits 0 pages page h (stored_at limits (0 + length pages) page storable (omega arith)))
       ]
 
   pub with_page-longer : length pages ≤ length (with_page pages page)
   with_page-longer =
       elim (cases_lt page.block (length pages)) [
-        inl lt ↦ rw (lt-ltb page.block (length pages) lt) (omega (arith, length-set {A = Page} pages page.block page))
-      | inr ge ↦ rw (le-ltb page.block (length pages) ge) (omega (arith, length-append pages (page ∷ [])))
+        | inl lt ↦ rw (lt-ltb page.block (length pages) lt) (omega (arith, length-set {A = Page} pages page.block page))
+        | inr ge ↦ rw (le-ltb page.block (length pages) ge) (omega (arith, length-append pages (page ∷ [])))
       ]
 
   pub with_page-few : page.block < limits.pages → length pages ≤ limits.pages → length (with_page pages page) ≤ limits.pages
   with_page-few inside few =
       elim (cases_lt page.block (length pages)) [
-        inl lt ↦ rw (lt-ltb page.block (length pages) lt) (omega (arith, length-set {A = Page} pages page.block page))
-      | inr ge ↦ rw (le-ltb page.block (length pages) ge) (omega (arith, length-append pages (page ∷ [])))
+        | inl lt ↦ rw (lt-ltb page.block (length pages) lt) (omega (arith, length-set {A = Page} pages page.block page))
+        | inr ge ↦ rw (le-ltb page.block (length pages) ge) (omega (arith, length-append pages (page ∷ [])))
       ]
 
 -- what is left at a place begins with the element there
@@ -72,8 +72,8 @@ drop_at_item xs i x lt found = (let one : suc i ≡ i + 1 = omega arith in by xs
 pub length-with_count : (counted : List ℕ) (pages : List Page) (page : Page) → length counted ≡ length pages → length (with_count counted page) ≡ length (with_page pages page)
 length-with_count counted pages page same =
     elim (cases_lt page.block (length pages)) [
-      inl lt ↦ rw (same, lt-ltb page.block (length pages) lt) (length-set {A = ℕ} counted page.block (number_to_count page.state page.deletion) ∙ same ∙ sym (length-set {A = Page} pages page.block page))
-    | inr ge ↦ rw (same, le-ltb page.block (length pages) ge) (omega (arith, length-append counted (number_to_count page.state page.deletion ∷ []), length-append pages (page ∷ [])))
+      | inl lt ↦ rw (same, lt-ltb page.block (length pages) lt) (length-set {A = ℕ} counted page.block (number_to_count page.state page.deletion) ∙ same ∙ sym (length-set {A = Page} pages page.block page))
+      | inr ge ↦ rw (same, le-ltb page.block (length pages) ge) (omega (arith, length-append counted (number_to_count page.state page.deletion ∷ []), length-append pages (page ∷ [])))
     ]
 
 -- a page in use is stored at its block

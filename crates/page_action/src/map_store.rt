@@ -215,11 +215,7 @@ impl PageStore for MapStore {
         if at >= self.pages.len() || !is_deleted(self.pages[at].state) {
             return None;
         }
-        Some(others_began_after(
-            &self.running,
-            self.counted[at],
-            Some(session.number()),
-        ))
+        Some(others_began_after(&self.running, self.counted[at], Some(session.number())))
     }
 
     fn cycle(&self) -> u32 {

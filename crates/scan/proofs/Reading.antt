@@ -42,11 +42,12 @@ pub pins_leaf : (old new : State) (session : ℕ) → session < 64 → IsInOrder
 pins_leaf old new session low order nothing is =
     let many : length old.table ≡ 64 = order.holdings in
     let below : session < length old.table = omega arith in
-    let room : length (holding_of old.table session).pins < 2 = subst (λ (h : Holding). length h.pins < 2) (sym nothing) (omega arith) in
-    (quiet_table session old new (pinned old.table session 1) is order (apart_pins old.table session _ below order.apart) (length-pinned old.table session 1 ∙ many)
-        (λ other differ. holding_of-pinned_other old.table session other 1 differ),
-     ap (λ (st : State). holding_of st.table session) is ∙ holding_of-pinned old.table session 1 below room
-     ∙ ap (λ (h : Holding). let k : Holding = record { latches = h.latches; pins = 1 ∷ h.pins } in k) nothing)
+    let room : length (holding_of old.table session).pins < 2 = subst (λ (h : Holding). length h.pins < 2) (sym nothing) (omega arith) in (
+      quiet_table session old new (pinned old.table session 1) is order (apart_pins old.table session _ below order.apart) (length-pinned old.table session 1 ∙ many)
+          (λ other differ. holding_of-pinned_other old.table session other 1 differ),
+      ap (λ (st : State). holding_of st.table session) is ∙ holding_of-pinned old.table session 1 below room
+          ∙ ap (λ (h : Holding). let k : Holding = record { latches = h.latches; pins = 1 ∷ h.pins } in k) nothing,
+    )
 
 parts_of : (a b c : Bool) → (a && (b && c)) ≡ true → (a ≡ true) × (b ≡ true) × (c ≡ true)
 parts_of true true true h = (refl, refl, refl)
@@ -77,9 +78,9 @@ module _ (old new : State) (before after : ScanOp) (block : ℕ) (page : Page) (
     matched = λ e m. (let p = given_parts e m in rw (fits.started e p.1, p.2) refl);
     there = λ e m. there_is e ∙ (given_parts e m).0;
     complete = λ e behind match there.
-      elim (cases_Bool (is_past before.frontier e)) [
-        inl past ↦ inr (copied.each e ∙ rw (sym (there_is e) ∙ there, past, (and_parts (from_admits before.range.from e.key) (below_admits before.range.below e.key) match).1) refl)
-      | inr not ↦ inl (behind_at e not)
-      ];
+        elim (cases_Bool (is_past before.frontier e)) [
+          | inl past ↦ inr (copied.each e ∙ rw (sym (there_is e) ∙ there, past, (and_parts (from_admits before.range.from e.key) (below_admits before.range.below e.key) match).1) refl)
+          | inr not ↦ inl (behind_at e not)
+        ];
     onward = λ e m. subst (λ (a : ScanAt). IsBehind after.frontier a e) (sym last) tt;
   }

@@ -47,6 +47,7 @@ past_start range e = by range.from
     none : (key : List ℕ) (e' : Entry) → is_past (record { key = []; row = None }) (record e' { key = key }) ≡ true
     none [] e' = refl
     none (x ∷ xs) e' = refl
+
     by : (from : Option (List ℕ)) → is_past (record { key = unwrap_or from []; row = None }) e ≡ from_admits from e.key
     by None = none e.key e
     by (Some k) = from_key k e
@@ -62,12 +63,12 @@ pub insert_begun : (old new : State) (start : Entry → Bool) (history : List Ac
     → new ≡ after_begin session old → op ≡ record { session = session; entry = e; at = InsertStart } → IsBegun old new start history number session (AskInsert e) (Some (Insert op))
 insert_begun old new start history number session e op low m idle is op_is =
     subst (λ (st : State). IsBegun old st start history number session (AskInsert e) (Some (Insert op))) (sym is)
-      (subst (λ (x : InsertOp). IsBegun old (after_begin session old) start history number session (AskInsert e) (Some (Insert x))) (sym op_is) (record {
-        world = begun_matches old session start history m;
-        others = begun_others old session;
-        meets = record { began = omega arith; until = omega arith; right = record { add = tt; end = tt } };
-        holds = (refl, record { ask = refl; session = refl; added = refl; fits = record { session = low; stands = idle } });
-      }))
+    (subst (λ (x : InsertOp). IsBegun old (after_begin session old) start history number session (AskInsert e) (Some (Insert x))) (sym op_is) (record {
+      world = begun_matches old session start history m;
+      others = begun_others old session;
+      meets = record { began = omega arith; until = omega arith; right = record { add = tt; end = tt } };
+      holds = (refl, record { ask = refl; session = refl; added = refl; fits = record { session = low; stands = idle } });
+    }))
 
 nothing_given : (start : Entry → Bool) (history : List Action) (range : Range) (began : ℕ) → GivesOnly start history range began began []
 nothing_given start history range began = record { ascending = tt; matched = λ e h. absurd cc; was_there = λ e h. absurd cc }
@@ -77,15 +78,17 @@ pub scan_begun : (old new : State) (start : Entry → Bool) (history : List Acti
     → new ≡ after_begin session old → op ≡ fresh_scan session range → IsBegun old new start history number session (AskScan range) (Some (Scan op))
 scan_begun old new start history number session range op low m idle is op_is =
     subst (λ (st : State). IsBegun old st start history number session (AskScan range) (Some (Scan op))) (sym is)
-      (subst (λ (x : ScanOp). IsBegun old (after_begin session old) start history number session (AskScan range) (Some (Scan x))) (sym op_is) (record {
-        world = begun_matches old session start history m;
-        others = begun_others old session;
-        meets = record {
-          began = omega arith;
-          until = omega arith;
-          right = record { only = nothing_given start history range (length history); all = λ e within match through. absurd within };
-        };
-        holds = (refl, record {
+    (subst (λ (x : ScanOp). IsBegun old (after_begin session old) start history number session (AskScan range) (Some (Scan x))) (sym op_is) (record {
+      world = begun_matches old session start history m;
+      others = begun_others old session;
+      meets = record {
+        began = omega arith;
+        until = omega arith;
+        right = record { only = nothing_given start history range (length history); all = λ e within match through. absurd within };
+      };
+      holds = (
+        refl,
+        record {
           ask = refl;
           session = refl;
           fits = record { session = low; stands = idle; started = λ e past. sym (past_start range e) ∙ past };
@@ -97,8 +100,9 @@ scan_begun old new start history number session range op low m idle is op_is =
             reached = λ e h. absurd cc;
             onward = λ e not. tt;
           };
-        });
-      }))
+        },
+      );
+    }))
 
 -- a slot that runs no call is idle
 pub idle_slot : (st : State) (start : Entry → Bool) (history : List Action) (session : ℕ) (slot : Option Op) → is_some slot ≡ false → SlotStands st start history session slot → Matches st start history × IsIdle st session

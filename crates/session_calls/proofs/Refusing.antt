@@ -31,15 +31,15 @@ module _ (at : Circumstances) (old new : State) (start : Entry → Bool) (histor
       let mine : new ≡ after_end call.session old = is ∙ ap (λ (t : ℕ). after_end t old) session_is in
       let my_low : call.session < 64 = subst (λ (t : ℕ). t < 64) session_is low in
       quiet_goes at old new start history number call (ended call (Failed fault) (length history)) None (Refused fault) fits.world
-        (quiet_then_end call.session old old new my_low (quiet_none call.session old old refl fits.world.order) mine) (refl, refuses) cause
-        (meets_failed start history number call fits.meets fits.running fault may)
-        ((λ h. cc), subst (λ (st : State). IsIdle st call.session) (sym mine) (ended_idle old call.session my_low fits.world.order))
+      (quiet_then_end call.session old old new my_low (quiet_none call.session old old refl fits.world.order) mine) (refl, refuses) cause
+      (meets_failed start history number call fits.meets fits.running fault may)
+      ((λ h. cc), subst (λ (st : State). IsIdle st call.session) (sym mine) (ended_idle old call.session my_low fits.world.order))
 
   -- one that doesn't
   pub blocked : (block : ℕ) → new ≡ old → HasCause at (Blocked block) → SessionGoes at old new start history number call (Some op) (Refused (Blocked block))
   blocked block same cause =
       quiet_goes at old new start history number call call (Some op) (Refused (Blocked block)) fits.world (quiet_none call.session old new same fits.world.order) (refl, refl) cause fits.meets
-        (fits.running, subst (λ (st : State). OpRuns st start history call op) (sym same) fits.runs)
+      (fits.running, subst (λ (st : State). OpRuns st start history call op) (sym same) fits.runs)
 
   may_of : (fault : Fault) → (fault ≢ Exists) → call.added ≡ None → (e : Entry) → call.ask ≡ AskInsert e → (call.added ≡ None) × InsertMayFail start history call.began (length history) e fault
   may_of fault differs none e asked = (none, λ is. absurd (differs is))
@@ -78,13 +78,13 @@ pub insert_refused : (old new : State) (first second : Backing) (start : Entry �
 insert_refused old new first second start history number call before after fault fits same is cause =
     let at_op : Circumstances = where_inserting old first second before.session before.entry in
     let at_is : at_op ≡ where_stepped call.ask old first second call.session =
-      ap (λ (t : ℕ). where_inserting old first second t before.entry) fits.runs.session ∙ ap (λ (a : Ask). where_stepped a old first second call.session) (sym fits.runs.ask) in
+    ap (λ (t : ℕ). where_inserting old first second t before.entry) fits.runs.session ∙ ap (λ (a : Ask). where_stepped a old first second call.session) (sym fits.runs.ask) in
     subst (λ (x : Circumstances). SessionGoes x old new start history number call (if ends_call fault then None else Some (Insert after)) (Refused fault)) at_is
-      (subst (λ (op : InsertOp). SessionGoes at_op old new start history number call (if ends_call fault then None else Some (Insert op)) (Refused fault)) (sym same)
-        (refused at_op old new start history number call (Insert before) before.session fits fits.runs.session fits.runs.fits.session fault refl
-          (is ∙ ap (λ (op : InsertOp). if ends_call fault then after_end op.session old else old) same) cause
-          (λ e asked. fits.runs.added)
-          (λ e asked there. (let k : before.entry ≡ e = cc in subst (λ (x : Entry). entry_on_live_leaf old.pages x ≡ true) k there))))
+    (subst (λ (op : InsertOp). SessionGoes at_op old new start history number call (if ends_call fault then None else Some (Insert op)) (Refused fault)) (sym same)
+    (refused at_op old new start history number call (Insert before) before.session fits fits.runs.session fits.runs.fits.session fault refl
+    (is ∙ ap (λ (op : InsertOp). if ends_call fault then after_end op.session old else old) same) cause
+    (λ e asked. fits.runs.added)
+    (λ e asked there. (let k : before.entry ≡ e = cc in subst (λ (x : Entry). entry_on_live_leaf old.pages x ≡ true) k there))))
 
 -- a refused step of a scan
 pub scan_refused : (old new : State) (first second : Backing) (start : Entry → Bool) (history : List Action) (number : ℕ) (call : Call) (before after : ScanOp) (fault : Fault)
@@ -94,13 +94,13 @@ pub scan_refused : (old new : State) (first second : Backing) (start : Entry →
 scan_refused old new first second start history number call before after fault fits same is cause =
     let at_op : Circumstances = where_scanning old first second before.session in
     let at_is : at_op ≡ where_stepped call.ask old first second call.session =
-      ap (λ (t : ℕ). where_scanning old first second t) fits.runs.session ∙ ap (λ (a : Ask). where_stepped a old first second call.session) (sym fits.runs.ask) in
+    ap (λ (t : ℕ). where_scanning old first second t) fits.runs.session ∙ ap (λ (a : Ask). where_stepped a old first second call.session) (sym fits.runs.ask) in
     subst (λ (x : Circumstances). SessionGoes x old new start history number call (if ends_call fault then None else Some (Scan after)) (Refused fault)) at_is
-      (subst (λ (op : ScanOp). SessionGoes at_op old new start history number call (if ends_call fault then None else Some (Scan op)) (Refused fault)) (sym same)
-        (refused at_op old new start history number call (Scan before) before.session fits fits.runs.session fits.runs.fits.session fault refl
-          (is ∙ ap (λ (op : ScanOp). if ends_call fault then after_end op.session old else old) same) cause
-          (λ e asked. (let k : AskScan before.range ≡ AskInsert e = sym fits.runs.ask ∙ asked in absurd cc))
-          (λ e asked there. (let k : AskScan before.range ≡ AskInsert e = sym fits.runs.ask ∙ asked in absurd cc))))
+    (subst (λ (op : ScanOp). SessionGoes at_op old new start history number call (if ends_call fault then None else Some (Scan op)) (Refused fault)) (sym same)
+    (refused at_op old new start history number call (Scan before) before.session fits fits.runs.session fits.runs.fits.session fault refl
+    (is ∙ ap (λ (op : ScanOp). if ends_call fault then after_end op.session old else old) same) cause
+    (λ e asked. (let k : AskScan before.range ≡ AskInsert e = sym fits.runs.ask ∙ asked in absurd cc))
+    (λ e asked there. (let k : AskScan before.range ≡ AskInsert e = sym fits.runs.ask ∙ asked in absurd cc))))
 
 session_is_of : (st : State) (start : Entry → Bool) (history : List Action) (call : Call) (op : Op) → OpRuns st start history call op → (session_of op ≡ call.session) × (session_of op < 64)
 session_is_of st start history call (Insert op) h = (h.session, h.fits.session)
@@ -114,6 +114,6 @@ end_goes at old new start history number call op fits is =
     let mine : new ≡ after_end call.session old = is ∙ ap (λ (t : ℕ). after_end t old) of.0 in
     let low : call.session < 64 = subst (λ (t : ℕ). t < 64) of.0 of.1 in
     quiet_goes at old new start history number call (ended call GivenUp (length history)) None Ended fits.world
-      (quiet_then_end call.session old old new low (quiet_none call.session old old refl fits.world.order) mine) (refl, refl) tt
-      (meets_given_up start history number call fits.meets fits.running)
-      ((λ h. cc), subst (λ (st : State). IsIdle st call.session) (sym mine) (ended_idle old call.session low fits.world.order))
+    (quiet_then_end call.session old old new low (quiet_none call.session old old refl fits.world.order) mine) (refl, refl) tt
+    (meets_given_up start history number call fits.meets fits.running)
+    ((λ h. cc), subst (λ (st : State). IsIdle st call.session) (sym mine) (ended_idle old call.session low fits.world.order))

@@ -82,12 +82,12 @@ module _ (st : State) (start : Entry → Bool) (history : List Action) (began : 
     matched = λ e h. rw range (elim (old_or_fresh e h) [ inl a ↦ far.matched e (given_before e a) | inr b ↦ read.matched e b ]);
     was_there = λ e h. elim (old_or_fresh e h) [ inl a ↦ far.was_there e (given_before e a) | inr b ↦ there_at_present st start history began e m le (read.there e b) ];
     complete = λ e within match through.
-      let match_before : matches before.range e ≡ true = subst (λ (r : Range). matches r e ≡ true) range match in
-      let now : entry_on_live_leaf st.pages e ≡ true = m.contents e ∙ sym (there_now start history e) ∙ through (length history) le (omega arith) in
-      is_among-append given (waiting after) e ∙ elim (read.complete e within match_before now) [
-        inl behind ↦ or_left (is_among given e) (is_among (waiting after) e) (subst (λ (xs : List Entry). is_among xs e ≡ true) was_given (far.complete e behind match_before through))
-      | inr fresh ↦ or_right (is_among given e) (is_among (waiting after) e) fresh
-      ];
+        let match_before : matches before.range e ≡ true = subst (λ (r : Range). matches r e ≡ true) range match in
+        let now : entry_on_live_leaf st.pages e ≡ true = m.contents e ∙ sym (there_now start history e) ∙ through (length history) le (omega arith) in
+        is_among-append given (waiting after) e ∙ elim (read.complete e within match_before now) [
+          | inl behind ↦ or_left (is_among given e) (is_among (waiting after) e) (subst (λ (xs : List Entry). is_among xs e ≡ true) was_given (far.complete e behind match_before through))
+          | inr fresh ↦ or_right (is_among given e) (is_among (waiting after) e) fresh
+        ];
     reached = λ e h. all_behind e;
     onward = λ e not. absurd (not (all_behind e));
   }
@@ -97,13 +97,15 @@ pub reading_goes : (at : Circumstances) (old new : State) (start : Entry → Boo
     → CallFits old start history number call (Scan before) → after.session ≡ before.session → after.range ≡ before.range → IsReading old new before after count
     → SessionGoes at old new start history number call (Some (Scan after)) (Ready count)
 reading_goes at old new start history number call before after count fits session range step =
-    quiet_goes at old new start history number call call (Some (Scan after)) (Ready count) fits.world (subst (λ (t : ℕ). IsQuiet t old new) fits.runs.session step.quiet) (refl, refl) tt fits.meets
-      (fits.running, record {
+    quiet_goes at old new start history number call call (Some (Scan after)) (Ready count) fits.world (subst (λ (t : ℕ). IsQuiet t old new) fits.runs.session step.quiet) (refl, refl) tt fits.meets (
+      fits.running,
+      record {
         ask = fits.runs.ask ∙ ap AskScan (sym range);
         session = session ∙ fits.runs.session;
         fits = step.fits;
         so_far = so_far_read old start history call.began call.given before after fits.world (began_before start history number call fits.meets fits.running) range step.none step.from step.last step.read fits.runs.so_far;
-      })
+      },
+    )
 
 -- the step that finds all given
 pub done_goes : (at : Circumstances) (old new : State) (start : Entry → Bool) (history : List Action) (number : ℕ) (call : Call) (before : ScanOp)
@@ -122,21 +124,21 @@ done_goes at old new start history number call before fits none last is =
       all = λ e within match through. subst (λ (xs : List Entry). is_among xs e ≡ true) all (far.complete e (subst (λ (a : ScanAt). IsBehind before.frontier a e) (sym last) tt) match through);
     } in
     quiet_goes at old new start history number call (ended call EndsFinished (length history)) None Done fits.world
-      (quiet_then_end call.session old old new low (quiet_none call.session old old refl fits.world.order) is) (refl, refl) tt
-      (record {
-        began = began_before start history number call fits.meets fits.running;
-        until = omega arith;
-        right = subst (λ (a : Ask). AnswersRight start history number call.began (length history) a call.given call.added EndsFinished) (sym fits.runs.ask) answer;
-      })
-      ((λ h. cc), subst (λ (st : State). IsIdle st call.session) (sym is) (ended_idle old call.session low fits.world.order))
+    (quiet_then_end call.session old old new low (quiet_none call.session old old refl fits.world.order) is) (refl, refl) tt
+    (record {
+      began = began_before start history number call fits.meets fits.running;
+      until = omega arith;
+      right = subst (λ (a : Ask). AnswersRight start history number call.began (length history) a call.given call.added EndsFinished) (sym fits.runs.ask) answer;
+    })
+    ((λ h. cc), subst (λ (st : State). IsIdle st call.session) (sym is) (ended_idle old call.session low fits.world.order))
 
 -- what isn't beyond an entry that isn't beyond a bound isn't beyond the bound
 at_or_before : (b : Bound) (x e : Entry) → is_past (bound_of e) x ≡ false → is_past b e ≡ false → is_past b x ≡ false
 at_or_before b x e up h =
     elim (three_ways x e) [
-      inl same ↦ subst (λ (y : Entry). is_past b y ≡ false) (sym (same_entry-is x e same)) h
-    | inr (inl before) ↦ is_past-falls b x e h before
-    | inr (inr beyond) ↦ absurd (true_false (sym beyond ∙ up))
+      | inl same ↦ subst (λ (y : Entry). is_past b y ≡ false) (sym (same_entry-is x e same)) h
+      | inr (inl before) ↦ is_past-falls b x e h before
+      | inr (inr beyond) ↦ absurd (true_false (sym beyond ∙ up))
     ]
 
 -- what isn't beyond an entry that the scan has read beyond, it has read beyond too
@@ -176,13 +178,13 @@ module _ (start : Entry → Bool) (history : List Action) (began : ℕ) (given r
       was_there = λ x h. far.was_there x (given_among x h);
     };
     all = λ x within match through.
-      let up : is_past (bound_of e) x ≡ false = up_to_last x within in
-      let behind : IsBehind op.frontier op.at x = behind_falls op.frontier op.at x e up (far.reached e (given_among e e_among)) in
-      let among : is_among ((given ++ e ∷ []) ++ rest) x ≡ true = subst (λ (xs : List Entry). is_among xs x ≡ true) (sym joined) (far.complete x behind match through) in
-      elim (or_cases (is_among (given ++ e ∷ []) x) (is_among rest x) (sym (is_among-append (given ++ e ∷ []) rest x) ∙ among)) [
-        inl a ↦ a
-      | inr b ↦ absurd (true_false (sym (rest_beyond x b) ∙ up))
-      ];
+        let up : is_past (bound_of e) x ≡ false = up_to_last x within in
+        let behind : IsBehind op.frontier op.at x = behind_falls op.frontier op.at x e up (far.reached e (given_among e e_among)) in
+        let among : is_among ((given ++ e ∷ []) ++ rest) x ≡ true = subst (λ (xs : List Entry). is_among xs x ≡ true) (sym joined) (far.complete x behind match through) in
+        elim (or_cases (is_among (given ++ e ∷ []) x) (is_among rest x) (sym (is_among-append (given ++ e ∷ []) rest x) ∙ among)) [
+          | inl a ↦ a
+          | inr b ↦ absurd (true_false (sym (rest_beyond x b) ∙ up))
+        ];
   }
 
 -- an entry is given
@@ -197,13 +199,14 @@ gave_goes at st start history number call before after e fits next =
     let where_at : after.at ≡ before.at = ap (λ (x : ScanOp). x.at) next.1 in
     let answer = next_meets start history call.began call.given (waiting after) e before far next.0 in
     quiet_goes at st st start history number call (given_one call e) (Some (Scan after)) (Gave (Some e)) fits.world (quiet_none call.session st st refl fits.world.order) (refl, refl) tt
-      (record {
-        began = fits.meets.began;
-        until = fits.meets.until;
-        right = subst (λ (x : Ending). AnswersRight start history number call.began (end_of history x call.until) call.ask (call.given ++ e ∷ []) call.added x) (sym fits.running)
+    (record {
+      began = fits.meets.began;
+      until = fits.meets.until;
+      right = subst (λ (x : Ending). AnswersRight start history number call.began (end_of history x call.until) call.ask (call.given ++ e ∷ []) call.added x) (sym fits.running)
           (subst (λ (a : Ask). AnswersRight start history number call.began (length history) a (call.given ++ e ∷ []) call.added Running) (sym fits.runs.ask) answer);
-      })
-      (fits.running, record {
+    }) (
+      fits.running,
+      record {
         ask = fits.runs.ask ∙ ap AskScan (sym range);
         session = session ∙ fits.runs.session;
         fits = record { session = rw session fits.runs.fits.session; stands = rw (session, where_at) fits.runs.fits.stands; started = rw (frontier, range) fits.runs.fits.started };
@@ -215,14 +218,15 @@ gave_goes at st start history number call before after e fits next =
           reached = rw (same, frontier, where_at) far.reached;
           onward = rw (same, frontier, where_at) far.onward;
         };
-      })
+      },
+    )
 
 -- no entry is ready
 pub none_goes : (at : Circumstances) (st : State) (start : Entry → Bool) (history : List Action) (number : ℕ) (call : Call) (before after : ScanOp)
     → CallFits st start history number call (Scan before) → IsNext before None after → SessionGoes at st st start history number call (Some (Scan after)) (Gave None)
 none_goes at st start history number call before after fits next =
     quiet_goes at st st start history number call call (Some (Scan after)) (Gave None) fits.world (quiet_none call.session st st refl fits.world.order) (refl, refl) tt fits.meets
-      (fits.running, rw next.1 fits.runs)
+    (fits.running, rw next.1 fits.runs)
 
 -- what `next` answers
 pub next_goes : (at : Circumstances) (st : State) (start : Entry → Bool) (history : List Action) (number : ℕ) (call : Call) (before after : ScanOp) (answer : Option Entry)
@@ -237,4 +241,4 @@ pub ready_goes : (at : Circumstances) (old new : State) (start : Entry → Bool)
 ready_goes at old new start history number call before after count fits session range (inr step) = reading_goes at old new start history number call before after count fits session range step
 ready_goes at old new start history number call before after count fits session range (inl step) =
     quiet_goes at old new start history number call call (Some (Scan after)) (Ready count) fits.world (quiet_none call.session old new step.state fits.world.order) (refl, refl) tt fits.meets
-      (fits.running, rw (step.state, step.op) fits.runs)
+    (fits.running, rw (step.state, step.op) fits.runs)

@@ -8,13 +8,12 @@ ghost use Rattle.index_model.specs.declared.entry.Entry.{Entry};
 ghost use Rattle.page_action.specs.States.{Continues, after_begin};
 ghost use Rattle.session_calls.specs.Sessions.{SlotStands, SessionBegins, where_beginning};
 
+use crate::answer::Answer;
+use crate::op::Op;
 use index_model::{Entry, Fault, Range, Session};
 use insert_split::InsertOp;
 use page_action::PageStore;
 use scan::ScanOp;
-
-use crate::answer::Answer;
-use crate::op::Op;
 
 /// Begins an insert. Refused with `Stopped`; with `SessionBusy` where the session has a call.
 pub fn begin_insert<S: PageStore>(

@@ -8,13 +8,12 @@ ghost use Rattle.page_action.specs.States.{State, Continues, after_end};
 ghost use Rattle.session_calls.specs.Sessions.{SlotFits, CallFits, SessionGoes, where_stepped, where_asked_next, ends_call};
 ghost use Rattle.page_action.specs.Causes.{nothing_wrong};
 
+use crate::answer::Answer;
+use crate::op::Op;
 use index_model::{Fault, Session};
 use insert_split::{InsertOp, InsertStep};
 use page_action::PageStore;
 use scan::{ScanOp, ScanStep};
-
-use crate::answer::Answer;
-use crate::op::Op;
 
 /// Makes one step of a session's call. Where the answer ends the call, the slot is empty afterwards, and what the session
 /// held is let go. A slot with no call is refused with `NoSession`, or `Stopped`.
@@ -23,7 +22,7 @@ pub fn step<S: PageStore>(store: &mut S, slot: &mut Option<Op>) -> Answer
     ensures goes { (S.backing store.new).honest ≡ true → (start : Entry → Bool) (history : List Action) (number : ℕ) (call : Call)
         → SlotFits (S.state store.old) start history number call slot.old
         → SessionGoes (where_stepped call.ask (S.state store.old) (S.backing store.old) (S.backing store.new) call.session)
-            (S.state store.old) (S.state store.new) start history number call slot.new result }
+        (S.state store.old) (S.state store.new) start history number call slot.new result }
 {
     let (answer, is_over) = match slot {
         None => (idle(store), false),
@@ -50,7 +49,7 @@ fn step_insert<S: PageStore>(store: &mut S, op: &mut InsertOp) -> (Answer, bool)
     ensures goes { (S.backing store.new).honest ≡ true → (start : Entry → Bool) (history : List Action) (number : ℕ) (call : Call)
         → CallFits (S.state store.old) start history number call (Op.Insert op.old)
         → SessionGoes (where_stepped call.ask (S.state store.old) (S.backing store.old) (S.backing store.new) call.session)
-            (S.state store.old) (S.state store.new) start history number call (if result.1 then None else Some (Op.Insert op.new)) result.0 }
+        (S.state store.old) (S.state store.new) start history number call (if result.1 then None else Some (Op.Insert op.new)) result.0 }
 {
     match op.step(store) {
         Ok(InsertStep::Going) => (Answer::Going, false),
@@ -67,7 +66,7 @@ fn step_scan<S: PageStore>(store: &mut S, op: &mut ScanOp) -> (Answer, bool)
     ensures goes { (S.backing store.new).honest ≡ true → (start : Entry → Bool) (history : List Action) (number : ℕ) (call : Call)
         → CallFits (S.state store.old) start history number call (Op.Scan op.old)
         → SessionGoes (where_stepped call.ask (S.state store.old) (S.backing store.old) (S.backing store.new) call.session)
-            (S.state store.old) (S.state store.new) start history number call (if result.1 then None else Some (Op.Scan op.new)) result.0 }
+        (S.state store.old) (S.state store.new) start history number call (if result.1 then None else Some (Op.Scan op.new)) result.0 }
 {
     match op.step(store) {
         Ok(ScanStep::Going) => (Answer::Going, false),

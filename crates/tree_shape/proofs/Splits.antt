@@ -70,10 +70,12 @@ key_falls k x y p q = by (key_cmp x.key y.key) refl
   where
     total : IsTotalOrder key_cmp
     total = nat_list_cmp_total
+
     lt : (o : Ordering) → is_lt o ≡ true → o ≡ Less
     lt Less h = refl
     lt Equal h = absurd cc
     lt Greater h = absurd cc
+
     by : (o : Ordering) → key_cmp x.key y.key ≡ o → is_lt (key_cmp x.key k) ≡ true
     by Less h = ap is_lt (total.trans x.key y.key k h (lt (key_cmp y.key k) q))
     by Equal h = ap is_lt (total.congr x.key y.key k h) ∙ q
@@ -108,9 +110,9 @@ past_others e y (z ∷ zs) p h = (let q : is_past (bound_of e) z ≡ true = is_p
 behind : (e y : Entry) (ys : List Entry) → AscendsPast (Some (bound_of y)) ys → is_past (bound_of y) e ≡ false → same_entry y e ≡ false → AllByRecursion (λ x. is_past (bound_of e) x ≡ true) (y ∷ ys)
 behind e y ys h not_before differs =
     elim (three_ways y e) [
-      inl same ↦ (let k : true ≡ false = sym same ∙ differs in absurd cc)
-    | inr (inl before) ↦ (let k : true ≡ false = sym before ∙ not_before in absurd cc)
-    | inr (inr beyond) ↦ (beyond, past_others e y ys beyond h)
+      | inl same ↦ (let k : true ≡ false = sym same ∙ differs in absurd cc)
+      | inr (inl before) ↦ (let k : true ≡ false = sym before ∙ not_before in absurd cc)
+      | inr (inr beyond) ↦ (beyond, past_others e y ys beyond h)
     ]
 
 module _ (e : Entry) (xs : List Entry) (at : ℕ) (ascends : IsAscending xs) (le : at ≤ length xs) (parts : AreParts (λ x. is_past (bound_of x) e) xs at) where
@@ -134,15 +136,15 @@ module _ (e : Entry) (xs : List Entry) (at : ℕ) (ascends : IsAscending xs) (le
 pub absent_at : (e : Entry) (xs : List Entry) (at : ℕ) → IsPlaceOf e xs at → is_among xs e ≡ false
 absent_at e xs at place =
     subst (λ (ys : List Entry). is_among ys e ≡ false) (take-append-drop at xs)
-      (is_among-append (take at xs) (drop at xs) e
-      ∙ rw (none_same e (take at xs) (all_by _ _ (take at xs) (λ x p. is_past-not_same x e p) place.before))
-        (none_same e (drop at xs) (all_by _ _ (drop at xs) (λ x p. differs x p) place.behind)))
+    (is_among-append (take at xs) (drop at xs) e
+    ∙ rw (none_same e (take at xs) (all_by _ _ (take at xs) (λ x p. is_past-not_same x e p) place.before))
+    (none_same e (drop at xs) (all_by _ _ (drop at xs) (λ x p. differs x p) place.behind)))
   where
     differs : (x : Entry) → is_past (bound_of e) x ≡ true → same_entry x e ≡ false
     differs x p = elim (cases_Bool (same_entry x e)) [
-        inl same ↦ (let k : true ≡ false = sym p ∙ ap (λ (y : Entry). is_past (bound_of e) y) (same_entry-is x e same) ∙ is_past-self e in absurd cc)
+      | inl same ↦ (let k : true ≡ false = sym p ∙ ap (λ (y : Entry). is_past (bound_of e) y) (same_entry-is x e same) ∙ is_past-self e in absurd cc)
       | inr other ↦ other
-      ]
+    ]
 
 -- an entry that stands at a place is among the list
 pub among_at : (e y : Entry) (xs : List Entry) (at : ℕ) → at < length xs → y ≡ get_or xs at y → same_entry y e ≡ true → is_among xs e ≡ true
@@ -202,12 +204,14 @@ module _ (xs : List Entry) (frontier : Bound) (below : Option (List ℕ)) (at co
   pub copied_from : IsCopiedFrom xs frontier below (take count (drop at xs))
   copied_from = record {
     ascends = AscendsPast-from None (Some frontier) (take count (drop at xs)) (ascends_to (drop at xs) count (ascends_from xs at ascends))
-      (front_of (λ x. is_past frontier x ≡ true) (drop at xs) count back_past);
+        (front_of (λ x. is_past frontier x ≡ true) (drop at xs) count back_past);
     each = λ e. middle (is_among (take at xs) e) (is_among (take count (drop at xs)) e) (is_among (drop count (drop at xs)) e) (is_past frontier e) (below_admits below e.key)
         (λ m. true_not (is_past frontier e) (AllByRecursion-among (λ x. not (is_past frontier x) ≡ true) (take at xs) e first.front m))
-        (λ m. (AllByRecursion-among (λ x. is_past frontier x ≡ true) (take count (drop at xs)) e (front_of (λ x. is_past frontier x ≡ true) (drop at xs) count back_past) m,
-               AllByRecursion-among (λ x. below_admits below x.key ≡ true) (take count (drop at xs)) e second.front m))
+        (λ m. (
+          AllByRecursion-among (λ x. is_past frontier x ≡ true) (take count (drop at xs)) e (front_of (λ x. is_past frontier x ≡ true) (drop at xs) count back_past) m,
+          AllByRecursion-among (λ x. below_admits below x.key ≡ true) (take count (drop at xs)) e second.front m,
+        ))
         (λ m. AllByRecursion-among (λ x. below_admits below x.key ≡ false) (drop count (drop at xs)) e second.back m)
-      ∙ ap (λ (b : Bool). b && (is_past frontier e && below_admits below e.key))
-          (sym (among_parts xs at e ∙ ap (λ (b : Bool). is_among (take at xs) e || b) (among_parts (drop at xs) count e)));
+        ∙ ap (λ (b : Bool). b && (is_past frontier e && below_admits below e.key))
+        (sym (among_parts xs at e ∙ ap (λ (b : Bool). is_among (take at xs) e || b) (among_parts (drop at xs) count e)));
   }

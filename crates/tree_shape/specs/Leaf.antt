@@ -5,7 +5,6 @@ use Rattle.index_model.specs.Order.{bound_of, is_past, is_among, IsPast, IsUpTo,
 use Rattle.index_model.specs.Range.{below_admits}
 use Rattle.index_model.specs.declared.bound.Bound.{Bound}
 use Rattle.index_model.specs.declared.entry.Entry.{Entry}
-
 use Rattle.page_codec.specs.Edits.{HasEntries}
 use Rattle.page_codec.specs.declared.page.Page.{Page}
 use Rattle.page_codec.specs.declared.page.PageState.TheVariants.{Live, HalfDead, Deleted}

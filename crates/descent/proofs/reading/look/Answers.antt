@@ -20,10 +20,10 @@ returns-clause-cause g c room =
     let old = g.S.PageStore.backing c.args.store.now in
     let new = g.S.PageStore.backing c.release.new.self in
     if_err c.page-page.result (HasCause (where_read (g.S.PageStore.state c.latch.new.self) (g.S.PageStore.backing c.latch.new.self) (g.S.PageStore.backing c.page-page.new.self) c.args.block)) _
-      (λ f h. looked_cause st old new c.args.session c.args.block f
-        (subst (λ (x : Circumstances). HasCause x f) (
-            ap (λ (s : State). where_read s (g.S.PageStore.backing c.latch.new.self) (g.S.PageStore.backing c.page-page.new.self) c.args.block) c.in_ok-latch.ensures.done
-            ∙ ap (λ (b : Backing). where_read (with_table st (latched st.table c.args.session c.args.block Shared)) b (g.S.PageStore.backing c.page-page.new.self) c.args.block) c.latch.ensures.backing
-            ∙ ap (λ (b : Backing). where_read (with_table st (latched st.table c.args.session c.args.block Shared)) old b c.args.block) (sym c.release.ensures.backing)
-            ∙ read_under_latch st old new c.args.session c.args.block c.args.block Shared) h))
-      c.page-page.ensures.cause
+    (λ f h. looked_cause st old new c.args.session c.args.block f
+    (subst (λ (x : Circumstances). HasCause x f) (
+    ap (λ (s : State). where_read s (g.S.PageStore.backing c.latch.new.self) (g.S.PageStore.backing c.page-page.new.self) c.args.block) c.in_ok-latch.ensures.done
+    ∙ ap (λ (b : Backing). where_read (with_table st (latched st.table c.args.session c.args.block Shared)) b (g.S.PageStore.backing c.page-page.new.self) c.args.block) c.latch.ensures.backing
+    ∙ ap (λ (b : Backing). where_read (with_table st (latched st.table c.args.session c.args.block Shared)) old b c.args.block) (sym c.release.ensures.backing)
+    ∙ read_under_latch st old new c.args.session c.args.block c.args.block Shared) h))
+    c.page-page.ensures.cause

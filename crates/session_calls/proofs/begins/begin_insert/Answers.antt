@@ -6,4 +6,4 @@ pub returns-clause-begins : goal.returns-clause-begins
 returns-clause-begins g c start history number stands =
     let idle = idle_slot (g.S.PageStore.state c.args.store.now) start history c.args.session c.args.slot.now (sym c.is_some.ensures ∙ c.in_default.ensures.free) stands in
     insert_begun (g.S.PageStore.state c.args.store.now) (g.S.PageStore.state c.begin.new.store) start history number c.args.session c.args.entry c.new.result
-      c.in_default.ensures.low idle.0 idle.1 c.in_default.ensures.done c.new.ensures
+    c.in_default.ensures.low idle.0 idle.1 c.in_default.ensures.done c.new.ensures

@@ -13,9 +13,9 @@ returns-in-Ok-Added-clause-goes g c honest start history number call fits =
     let same = ap (λ (b : Backing). b.honest) (sym c.end.ensures.backing) ∙ honest in
     let stepped = rw c.in-Ok-Added.field-0-is at (c.in-Ok-Added.ensures.stepped same fits.world.order fits.runs.fits) in
     add_goes _ old mid (g.S.PageStore.state c.end.new.self) start history number call c.args.op.now.entry c.in-Ok-Added.action c.in-Ok-Added.unfinished
-      (subst (λ (t : ℕ). t < 64) fits.runs.session fits.runs.fits.session) fits.world fits.meets fits.running fits.runs.ask
-      (subst (λ (t : ℕ). IsAddition t old mid c.args.op.now.entry c.in-Ok-Added.action) fits.runs.session stepped.0)
-      (c.end.ensures.state ∙ ap (λ (t : ℕ). after_end t mid) (c.step.ensures.session ∙ fits.runs.session))
+    (subst (λ (t : ℕ). t < 64) fits.runs.session fits.runs.fits.session) fits.world fits.meets fits.running fits.runs.ask
+    (subst (λ (t : ℕ). IsAddition t old mid c.args.op.now.entry c.in-Ok-Added.action) fits.runs.session stepped.0)
+    (c.end.ensures.state ∙ ap (λ (t : ℕ). after_end t mid) (c.step.ensures.session ∙ fits.runs.session))
 
 pub returns-in-Err-clause-goes : goal.returns-in-Err-clause-goes
 returns-in-Err-clause-goes g c honest start history number call fits =
@@ -27,5 +27,5 @@ returns-in-Err-clause-goes g c honest start history number call fits =
     let fault = c.in-Err.fault in
     let after = c.step.new.self in
     rw (c.refuse.ensures.answer, c.refuse.ensures.over, c.refuse.ensures.backing)
-      (insert_refused old (g.S.PageStore.state c.refuse.new.store) first second start history number call c.args.op.now after fault fits step.op
-        (c.refuse.ensures.state ∙ ap (λ (st : State). if ends_call fault then after_end after.session st else st) step.state) step.cause)
+    (insert_refused old (g.S.PageStore.state c.refuse.new.store) first second start history number call c.args.op.now after fault fits step.op
+    (c.refuse.ensures.state ∙ ap (λ (st : State). if ends_call fault then after_end after.session st else st) step.state) step.cause)

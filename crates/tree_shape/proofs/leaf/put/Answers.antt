@@ -20,4 +20,4 @@ pub returns-in-Entries-clause-page : goal.returns-in-Entries-clause-page
 returns-in-Entries-clause-page c is_page may place =
     let items = c.insert.ensures.items ∙ ap (λ (i : Items). insert (entries_of i) c.args.at c.args.entry) (sym c.in-Entries.is) in
     subst (λ (zs : List Entry). IsPage (with_entries c.args.page.now zs)) (sym items)
-      (page_put c.args.page.now c.args.at c.args.entry c.seen.ensures is_page may place c.requires.room)
+    (page_put c.args.page.now c.args.at c.args.entry c.seen.ensures is_page may place c.requires.room)

@@ -24,9 +24,11 @@ returns-in-Ok-clause-stepped g c honest order fits =
     let stored = c.in_ok-page.ensures.stored in
     let at_one : changed.block ≡ 1 = ap (λ (p : Page). p.block) c.put.ensures.put ∙ stored.block_is ∙ stands.1 in
     let is = c.in-Ok.ensures.done ∙ ap (λ (ps : List Page). after_act ps (g.S.PageStore.state c.page.new.self)) c.from_ref.ensures.value ∙ ap (after_act (changed ∷ [])) c.page.ensures.state in
-    let held = subst (λ (b : ℕ). holding_of old.table session ≡ leaf_held b) stands.1 stands.0 in
-    (adds_entry old session e page changed order held found at_one (insert (entries_of page.items) c.in_ok-at.at e) c.put.ensures.put (c.in_ok-at.ensures.absent stored.storable.admitted) c.put.ensures.among
-        (g.S.PageStore.state c.act.new.self) c.in-Ok.action is (c.in-Ok.ensures.number ∙ ap (λ (st : State). suc st.acts) c.page.ensures.state), refl)
+    let held = subst (λ (b : ℕ). holding_of old.table session ≡ leaf_held b) stands.1 stands.0 in (
+      adds_entry old session e page changed order held found at_one (insert (entries_of page.items) c.in_ok-at.at e) c.put.ensures.put (c.in_ok-at.ensures.absent stored.storable.admitted) c.put.ensures.among
+          (g.S.PageStore.state c.act.new.self) c.in-Ok.action is (c.in-Ok.ensures.number ∙ ap (λ (st : State). suc st.acts) c.page.ensures.state),
+      refl,
+    )
 
 pub returns-in-Err-clause-stepped : goal.returns-in-Err-clause-stepped
 returns-in-Err-clause-stepped g c honest order fits =
@@ -43,5 +45,5 @@ returns-in-Err-clause-stepped g c honest order fits =
       state = c.in-Err.ensures.refused ∙ c.page.ensures.state;
       op = refl;
       cause = acted_cause old first second third c.args.self.now.session c.args.self.now.entry changed earlier.failures c.in_ok-page.ensures.alive c.page.ensures.promised at_one c.in-Err.fault
-        (subst (λ (ps : List Page). HasCause (where_acted old second third ps) c.in-Err.fault) c.from_ref.ensures.value cause);
+          (subst (λ (ps : List Page). HasCause (where_acted old second third ps) c.in-Err.fault) c.from_ref.ensures.value cause);
     }

@@ -24,11 +24,11 @@ returns-clause-stepped g c honest order fits =
     let only = c.is_only_leaf.ensures.0 c.if-not-is_only_leaf.false in
     let entries = c.as_slice.ensures.value ∙ ap entries_of (sym c.in-Entries.is) in
     let copied : IsCopiedFrom (entries_of page.items) before.frontier before.range.below c.matches_beyond-self.result.items =
-      subst (λ (es : List Entry). IsCopiedFrom es before.frontier before.range.below c.matches_beyond-self.result.items) entries
-        (c.matches_beyond-self.ensures (subst IsAscending (sym entries) (leaf_ascends page only.kind only.alive c.in_ok-page.ensures.stored.storable.admitted))) in
+    subst (λ (es : List Entry). IsCopiedFrom es before.frontier before.range.below c.matches_beyond-self.result.items) entries
+    (c.matches_beyond-self.ensures (subst IsAscending (sym entries) (leaf_ascends page only.kind only.alive c.in_ok-page.ensures.stored.storable.admitted))) in
     let is : new ≡ with_table old (pinned old.table before.session 1) =
-      c.pin.ensures.state ∙ ap (λ (st : State). with_table st (pinned st.table before.session c.args.block)) c.look.ensures.state
-      ∙ ap (λ (b : ℕ). with_table old (pinned old.table before.session b)) stands.1 in
+    c.pin.ensures.state ∙ ap (λ (st : State). with_table st (pinned st.table before.session c.args.block)) c.look.ensures.state
+    ∙ ap (λ (b : ℕ). with_table old (pinned old.table before.session b)) stands.1 in
     let pins = pins_leaf old new before.session fits.session order stands.0 is in
     inr (record {
       quiet = pins.0;
