@@ -4,7 +4,7 @@ ghost use Rattle.std.specs.Prelude.{◌≡◌, ℕ, Some, None, Ok, List, [], �
 ghost use Rattle.std.specs.Fmt.{decimal};
 ghost use Rattle.index_model.specs.Row.{Row};
 ghost use Rattle.btidx.specs.Spelling.{key_text, row_text};
-ghost use Rattle.btidx.specs.Script.{line_words, entry_words, range_words, end_text, crash_text, Spells};
+ghost use Rattle.btidx.specs.Script.{line_words, entry_words, range_words, end_text, crash_text, IsQuiet, Spells};
 
 use crate::number::{key, number, number_u32, row};
 use crate::words::Words;
@@ -79,7 +79,8 @@ pub enum LineError {
 
 /// The line of this text.
 pub fn parse(text: &[u8]) -> Result<Line<'_>, LineError>
-    ensures { IfOk result (Spells text.now) }
+    ensures ok { IfOk result (Spells text.now) }
+    ensures quiet { IsQuiet text.now → result ≡ Ok Line.Nothing }
 {
     if text.is_empty() || text[0] == b'#' {
         return Ok(Line::Nothing);
