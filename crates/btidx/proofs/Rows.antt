@@ -1,5 +1,5 @@
 -- The text of a row.
-use Rattle.std.proofs.Common.{◌≡◌, ◌∷◌, ◌++◌, [], ℕ, List, append_assoc, ap, sym}
+use Rattle.std.proofs.Common.{◌≡◌, ◌∷◌, ◌++◌, [], append_assoc, ap, sym}
 use Rattle.std.specs.Fmt.{decimal}
 use Rattle.index_model.specs.Row.{Row}
 use Rattle.btidx.specs.Spelling.{row_text}

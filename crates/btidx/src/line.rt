@@ -1,10 +1,10 @@
 //! The lines of a script.
 
-ghost use Rattle.std.specs.Prelude.{◌≡◌, ℕ, Some, None, Ok, List, [], ◌∷◌, ◌++◌, IfSome, IfOk, ◌↔◌, IsTrue};
+ghost use Rattle.std.specs.Prelude.{◌≡◌, ℕ, ◌<◌, ◌^◌, Some, None, Ok, Err, List, [], ◌∷◌, ◌++◌, IfSome, IfOk, IsOk, ◌↔◌, IsTrue, codes};
 ghost use Rattle.std.specs.Fmt.{decimal};
 ghost use Rattle.index_model.specs.Row.{Row};
 ghost use Rattle.btidx.specs.Spelling.{key_text, row_text};
-ghost use Rattle.btidx.specs.Script.{line_words, entry_words, range_words, end_text, crash_text, Spells};
+ghost use Rattle.btidx.specs.Script.{line_words, entry_words, range_words, end_text, crash_text, IsQuiet, Spells};
 
 use crate::number::{key, number, number_u32, row};
 use crate::words::Words;
@@ -79,7 +79,8 @@ pub enum LineError {
 
 /// The line of this text.
 pub fn parse(text: &[u8]) -> Result<Line<'_>, LineError>
-    ensures { IfOk result (Spells text.now) }
+    ensures ok { IfOk result (Spells text.now) }
+    ensures quiet { IsQuiet text.now → result ≡ Ok Line.Nothing }
 {
     if text.is_empty() || text[0] == b'#' {
         return Ok(Line::Nothing);
@@ -135,7 +136,11 @@ fn is(name: &[u8], word: &[u8]) -> bool
 
 /// A line of one word.
 fn plain(name: &[u8]) -> Option<Line<'static>>
-    ensures { IfSome result (λ line. name.now ∷ [] ≡ line_words line) }
+    ensures found { IfSome result (λ line. name.now ∷ [] ≡ line_words line) }
+    ensures force { name.now ≡ codes "force" → result ≡ Some Line.Force }
+    ensures flush { name.now ≡ codes "flush" → result ≡ Some Line.Flush }
+    ensures checkpoint { name.now ≡ codes "checkpoint" → result ≡ Some Line.Checkpoint }
+    ensures dump { name.now ≡ codes "dump" → result ≡ Some Line.Dump }
 {
     if is(name, b"checkpoint") {
         return Some(Line::Checkpoint);
@@ -161,14 +166,18 @@ fn counted(name: &[u8], value: &[u8]) -> Option<Line<'static>>
 }
 
 fn count(text: &[u8]) -> Option<u64>
-    ensures { IfSome result (λ number. text.now ≡ decimal number) }
+    ensures found { IfSome result (λ number. (text.now ≡ decimal number) × (0 < number)) }
+    ensures only { (n : ℕ) → 0 < n → n < 2 ^ 64 → text.now ≡ decimal n → result ≡ Some n }
 {
     let number = number(text)?;
     if number == 0 { None } else { Some(number) }
 }
 
 fn crash_named(text: &[u8]) -> Option<Crash>
-    ensures { IfSome result (λ crash. text.now ≡ crash_text crash) }
+    ensures found { IfSome result (λ crash. text.now ≡ crash_text crash) }
+    ensures keep { text.now ≡ codes "keep" → result ≡ Some Crash.Keep }
+    ensures drop { text.now ≡ codes "drop" → result ≡ Some Crash.Drop }
+    ensures tear { text.now ≡ codes "tear" → result ≡ Some Crash.Tear }
 {
     match text {
         b"keep" => Some(Crash::Keep),
@@ -180,7 +189,12 @@ fn crash_named(text: &[u8]) -> Option<Crash>
 
 /// A line of a session and nothing else.
 fn of_session(name: &[u8], session: u32) -> Option<Line<'static>>
-    ensures { IfSome result (λ line. name.now ∷ decimal session ∷ [] ≡ line_words line) }
+    ensures found { IfSome result (λ line. name.now ∷ decimal session ∷ [] ≡ line_words line) }
+    ensures cleanup { name.now ≡ codes "cleanup" → result ≡ Some (Line.Cleanup session) }
+    ensures step { name.now ≡ codes "step" → result ≡ Some (Line.Step session) }
+    ensures run { name.now ≡ codes "run" → result ≡ Some (Line.Run session) }
+    ensures next { name.now ≡ codes "next" → result ≡ Some (Line.Next session) }
+    ensures end { name.now ≡ codes "end" → result ≡ Some (Line.End session) }
 {
     if is(name, b"cleanup") {
         return Some(Line::Cleanup(session));
@@ -224,7 +238,10 @@ fn entry(words: &mut Words<'_>) -> Option<Result<Entry, Fault>>
 }
 
 fn entry_of(key: Result<Key, Fault>, row: Result<RowAddr, Fault>) -> Result<Entry, Fault>
-    ensures { IfOk result (λ entry. (key ≡ Ok entry.key) × (row ≡ Ok entry.row)) }
+    ensures ok { IfOk result (λ entry. (key ≡ Ok entry.key) × (row ≡ Ok entry.row)) }
+    ensures key_first { (fault : Fault) → key ≡ Err fault → result ≡ Err fault }
+    ensures then_row { (fault : Fault) → IsOk key → row ≡ Err fault → result ≡ Err fault }
+    ensures both { IsOk key → IsOk row → IsOk result }
 {
     let key = key?;
     let row = row?;
@@ -245,7 +262,10 @@ fn range_of(
     from: Result<Option<Key>, Fault>,
     below: Result<Option<Key>, Fault>,
 ) -> Result<Range, Fault>
-    ensures { IfOk result (λ range. (from ≡ Ok range.from) × (below ≡ Ok range.below)) }
+    ensures ok { IfOk result (λ range. (from ≡ Ok range.from) × (below ≡ Ok range.below)) }
+    ensures from_first { (fault : Fault) → from ≡ Err fault → result ≡ Err fault }
+    ensures then_below { (fault : Fault) → IsOk from → below ≡ Err fault → result ≡ Err fault }
+    ensures both { IsOk from → IsOk below → IsOk result }
 {
     let from = from?;
     let below = below?;

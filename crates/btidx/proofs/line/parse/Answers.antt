@@ -1,11 +1,10 @@
-use Rattle.std.proofs.Common.{refl, sym, ◌∙◌, ap, append-nil, ◌≡◌, Some, Ok, ◌++◌, [], List, ℕ}
-use Rattle.btidx.specs.Spelling.{words_of}
+use Rattle.std.proofs.Common.{refl, sym, ◌∙◌, ap, append-nil, ◌≡◌, Some, []}
 use Rattle.btidx.specs.Script.{line_words}
 use Rattle.btidx.proofs.Scripts.{spells_by_words}
 use Rattle.btidx.proofs.line.parse.Goals as goal
 
-pub returns-in-Ok : goal.returns-in-Ok
-returns-in-Ok c =
+pub returns-in-Ok-clause-ok : goal.returns-in-Ok-clause-ok
+returns-in-Ok-clause-ok c =
     let spelled = c.event.ensures c.in-Ok.line (c.in-Some.is ∙ ap Some c.in-Ok.is) in
     let ended : c.event.new.words ≡ [] = c.have_ended.ensures.0 c.if-not-have_ended.false in
     spells_by_words c.args.text.now c.in-Ok.line

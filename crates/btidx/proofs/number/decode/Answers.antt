@@ -1,4 +1,4 @@
-use Rattle.std.proofs.Common.{◌≡◌, true, false, sym, ◌∙◌, length, ap}
+use Rattle.std.proofs.Common.{sym, ◌∙◌, length}
 use Rattle.btidx.proofs.Keys.{decoded_key}
 use Rattle.btidx.proofs.number.decode.Goals as goal
 

@@ -1,4 +1,4 @@
-use Rattle.std.proofs.Common.{◌≡◌, ◌<◌, ◌≤◌, arith, length, ap, sym, ◌∙◌, List, ℕ, [], Some, Ok, refl}
+use Rattle.std.proofs.Common.{◌≡◌, arith, length, ap, sym, ◌∙◌, [], refl}
 use Rattle.btidx.specs.Spelling.{key_text}
 use Rattle.btidx.proofs.Keys.{dash_key, length-key_text-le}
 use Rattle.btidx.proofs.number.key.Goals as goal

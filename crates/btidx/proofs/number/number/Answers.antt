@@ -1,4 +1,4 @@
-use Rattle.std.proofs.Common.{ap, arith, ◌≤◌, ◌≡◌, get_or, sym, ◌∙◌, slice_index}
+use Rattle.std.proofs.Common.{arith, ◌≡◌, slice_index}
 use Rattle.btidx.proofs.Numerals.{first_of_decimal, zeros_of_decimal, IsUtf8-decimal}
 use Rattle.btidx.proofs.number.number.Goals as goal
 

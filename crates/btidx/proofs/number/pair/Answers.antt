@@ -1,4 +1,4 @@
-use Rattle.std.proofs.Common.{◌≡◌, ◌∷◌, ◌++◌, [], List, ℕ, append_assoc, ap, sym, ◌∙◌}
+use Rattle.std.proofs.Common.{◌∷◌, ◌++◌, ◌∙◌}
 use Rattle.std.specs.Fmt.{decimal}
 use Rattle.btidx.proofs.Rows.{row_text-inside}
 use Rattle.btidx.proofs.number.pair.Goals as goal

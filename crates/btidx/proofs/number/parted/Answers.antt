@@ -1,4 +1,4 @@
-use Rattle.std.proofs.Common.{◌≡◌, ◌+◌, sym, ◌∙◌}
+use Rattle.std.proofs.Common.{◌+◌, sym, ◌∙◌}
 use Rattle.btidx.proofs.Commas.{parted_at, parts_of_digits, no_digits}
 use Rattle.btidx.proofs.Parts.{take_rest}
 use Rattle.btidx.proofs.number.parted.Goals as goal

@@ -1,4 +1,4 @@
-use Rattle.std.proofs.Common.{◌≡◌, ◌<◌, ◌/◌, ◌*◌, arith, length, ap, sym, ◌∙◌, rules, length-take-le, true, refl}
+use Rattle.std.proofs.Common.{◌≡◌, arith, length, ap, sym, ◌∙◌, refl}
 use Rattle.std.proofs.lemmas.Bool.{true≢false}
 use Rattle.hex.specs.Hex.{encode_lower}
 use Rattle.btidx.proofs.Keys.{length-encode_lower, room_of_key}

@@ -1,4 +1,3 @@
-use Rattle.std.proofs.Common.{◌≡◌, [], sym, ◌∙◌}
 use Rattle.std.proofs.lemmas.Bool.{false≢true}
 use Rattle.btidx.proofs.Parts.{words_of-some}
 use Rattle.btidx.proofs.words.Words.have_ended.Goals as goal

@@ -1,4 +1,4 @@
-use Rattle.std.proofs.Common.{◌+◌, ◌-◌, length, take, drop, take_all, ◌≡◌, List, ℕ, sym, ◌∙◌}
+use Rattle.std.proofs.Common.{◌+◌, sym, ◌∙◌}
 use Rattle.btidx.proofs.Parts.{words_of-whole, words_of-parted, take_rest}
 use Rattle.btidx.proofs.words.Words.next.Goals as goal
 
