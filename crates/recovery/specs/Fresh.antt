@@ -1,0 +1,84 @@
+-- A device with an empty index on it.
+use Rattle.std.specs.Prelude.{◌≡◌, ◌⊎◌, ℕ, suc, ◌+◌, ◌*◌, ◌<◌, ◌≤◌, false, Some, None, List, [], ◌∷◌, ◌++◌, length, replicate, Result, MatchResult}
+use Rattle.std.specs.Int.{w32, to_le_bytes}
+use Rattle.device.specs.Disk.{Moment, Trace}
+use Rattle.device.specs.Places.{Has, OnDisk}
+use Rattle.index_model.specs.Limits.{AreLimits}
+use Rattle.index_model.specs.declared.fault.Fault.{Fault}
+use Rattle.index_model.specs.declared.fault.Fault.TheVariants.{Io, BadLimits, DeviceTooSmall}
+use Rattle.index_model.specs.declared.limits.Limits.{Limits}
+use Rattle.page_codec.specs.Edits.{entries_of, HasEntries}
+use Rattle.page_codec.specs.Grammar.{IsPage}
+use Rattle.page_codec.specs.Spelling.{page_bytes}
+use Rattle.page_codec.specs.declared.page.Items.TheVariants.{Meta}
+use Rattle.page_codec.specs.declared.page.Page.{Page}
+use Rattle.page_codec.specs.declared.page.PageState.TheVariants.{Live}
+
+-- where a block begins: behind the superblock and the log
+abbrev pub block_at : Limits → ℕ → ℕ
+block_at limits block = 4096 + limits.log_bytes + 4096 * block
+
+-- how many bytes an index takes
+abbrev pub size_of : Limits → ℕ
+size_of limits = block_at limits limits.pages
+
+-- the 4,096 bytes of a superblock: `BLINKIDX`, the layout 1, the three sizes, zeros
+unfoldable pub superblock_bytes : Limits → List ℕ
+superblock_bytes limits =
+    (((((66 ∷ 76 ∷ 73 ∷ 78 ∷ 75 ∷ 73 ∷ 68 ∷ 88 ∷ []) ++ to_le_bytes w32 1) ++ to_le_bytes w32 limits.items)
+    ++ to_le_bytes w32 limits.pages) ++ to_le_bytes w32 limits.log_bytes) ++ replicate 4072 0
+
+-- the metapage of an empty index: its root is the leaf at block 1
+pub record IsFirstMeta (p : Page) : Type 0 where
+  pub page : IsPage p
+  pub block : p.block ≡ 0
+  pub kind : p.items ≡ Meta
+  pub level : p.level ≡ 0
+  pub root : p.right ≡ Some 1
+
+-- the leaf of an empty index: live, whole and alone, without entries
+pub record IsFirstLeaf (p : Page) : Type 0 where
+  pub page : IsPage p
+  pub block : p.block ≡ 1
+  pub kind : HasEntries p.items
+  pub empty : entries_of p.items ≡ []
+  pub state : p.state ≡ Live
+  pub whole : p.split ≡ false
+  pub left : p.left ≡ None
+  pub right : p.right ≡ None
+  pub high : p.high ≡ None
+  pub cycle : p.cycle ≡ 0
+
+-- the bytes of each block from there to there are zeros
+abbrev pub AreZero : Limits → ℕ → ℕ → List ℕ → Type 0
+AreZero limits from to file = (block : ℕ) → from ≤ block → block < to → Has (block_at limits block) (replicate 4096 0) file
+
+-- the pages of an empty index, and zeros in all other blocks
+pub record HasPages (limits : Limits) (file : List ℕ) : Type 0 where
+  pub meta : Page
+  pub is_meta : IsFirstMeta meta
+  pub leaf : Page
+  pub is_leaf : IsFirstLeaf leaf
+  pub has_meta : Has (block_at limits 0) (page_bytes meta) file
+  pub has_leaf : Has (block_at limits 1) (page_bytes leaf) file
+  pub unused : AreZero limits 2 limits.pages file
+
+-- these pages and a closed log, and no crash changes them
+pub record HasBody (limits : Limits) (m : Moment) : Type 0 where
+  pub pages : HasPages limits m.seen
+  pub gate : OnDisk 4096 (0 ∷ []) m
+  pub firm : (i : ℕ) → 4096 ≤ i → m.loose i ≡ false
+
+-- an empty index, which no crash changes
+pub record IsFresh (limits : Limits) (m : Moment) : Type 0 where
+  pub superblock : OnDisk 0 (superblock_bytes limits) m
+  pub body : HasBody limits m
+
+-- done on limits in their ranges and a device that is long enough, no call of which failed; or refused: bad limits, or
+-- else too short a device, nothing changed; or a call of the device failed once
+abbrev pub CreateEnds : {T : Type 0} → Limits → Result T Fault → Trace → Trace → ℕ → ℕ → Type 0
+CreateEnds limits result old new failed fails = MatchResult result
+    (λ _. AreLimits limits × (size_of limits ≤ length old.now.seen) × (fails ≡ failed))
+    (λ e. ((e ≡ BadLimits) × (AreLimits limits → ⊥) × (new ≡ old) × (fails ≡ failed))
+    ⊎ ((e ≡ DeviceTooSmall) × AreLimits limits × (length old.now.seen < size_of limits) × (new ≡ old) × (fails ≡ failed))
+    ⊎ ((e ≡ Io) × (fails ≡ suc failed)))

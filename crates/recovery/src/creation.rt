@@ -1,0 +1,224 @@
+//! An index is made.
+
+ghost use Rattle.std.specs.Prelude.{◌≡◌, ◌+◌, ◌-◌, ◌*◌, ◌≤◌, ◌<◌, ◌++◌, [], ◌∷◌, length, take, replicate, OnOk, IsTrue};
+ghost use Rattle.std.specs.Int.{w32, to_le_bytes};
+ghost use Rattle.device.specs.Disk.{Counts};
+ghost use Rattle.device.specs.Places.{Has, OnDisk, ChangesOnly};
+ghost use Rattle.index_model.specs.Limits.{AreLimits};
+ghost use Rattle.page_codec.specs.Spelling.{page_bytes};
+ghost use Rattle.recovery.specs.Fresh.{block_at, size_of, superblock_bytes, IsFirstMeta, IsFirstLeaf, AreZero, HasPages, HasBody, IsFresh, CreateEnds};
+
+use arrayvec::ArrayVec;
+use device::Device;
+use index_model::{Fault, Limits};
+use page_codec::{Items, Page, PageState, encode};
+
+/// Where the log begins.
+const LOG_START: u64 = 4096;
+
+/// Where the block begins.
+fn block_at(limits: &Limits, block: u32) -> u64
+    requires allowed { AreLimits limits.now }
+    requires within { block ≤ limits.now.pages }
+    ensures { result ≡ block_at limits.now block }
+{
+    LOG_START + limits.log_bytes as u64 + 4096 * block as u64
+}
+
+/// The metapage of an empty index, whose root is the leaf at block 1.
+fn first_meta() -> Page
+    ensures { IsFirstMeta result }
+{
+    Page {
+        block: 0,
+        level: 0,
+        state: PageState::Live,
+        split: false,
+        left: None,
+        right: Some(1),
+        high: None,
+        cycle: 0,
+        deletion: 0,
+        items: Items::Meta,
+    }
+}
+
+/// The leaf of an empty index.
+fn first_leaf() -> Page
+    ensures { IsFirstLeaf result }
+{
+    Page {
+        block: 1,
+        level: 0,
+        state: PageState::Live,
+        split: false,
+        left: None,
+        right: None,
+        high: None,
+        cycle: 0,
+        deletion: 0,
+        items: Items::Entries(ArrayVec::new()),
+    }
+}
+
+/// Writes bytes at a place, and answers the place behind them.
+fn put(out: &mut [u8], at: usize, bytes: &[u8]) -> usize
+    requires { at + length bytes.now ≤ length out.old }
+    ensures next { result ≡ at + length bytes.now }
+    ensures front { take result out.new ≡ take at out.old ++ bytes.now }
+{
+    let end = at + bytes.len();
+    out[at..end].copy_from_slice(bytes);
+    end
+}
+
+/// Writes a number at a place, lowest byte first, and answers the place behind it.
+fn put_number(out: &mut [u8], at: usize, n: u32) -> usize
+    requires { at + 4 ≤ length out.old }
+    ensures next { result ≡ at + 4 }
+    ensures front { take result out.new ≡ take at out.old ++ to_le_bytes w32 n }
+{
+    put(out, at, &n.to_le_bytes())
+}
+
+/// Fills with zeros from there on.
+fn clear_from(out: &mut [u8], at: usize)
+    requires { at ≤ length out.old }
+    ensures { out.new ≡ take at out.old ++ replicate (length out.old - at) 0 }
+{
+    out[at..].fill(0);
+}
+
+/// Writes the bytes of the superblock over all 4,096 bytes.
+fn spell_superblock(limits: &Limits, out: &mut [u8; 4096])
+    ensures { out.new ≡ superblock_bytes limits.now }
+{
+    let at = put(out, 0, b"BLINKIDX");
+    let at = put_number(out, at, 1);
+    let at = put_number(out, at, limits.items);
+    let at = put_number(out, at, limits.pages);
+    let at = put_number(out, at, limits.log_bytes);
+    clear_from(out, at);
+}
+
+/// Writes bytes at a place of the device. Nothing else changes, even at `Io`.
+fn place<D: Device>(device: &mut D, at: u64, bytes: &[u8]) -> Result<(), Fault>
+    requires inside { at + length bytes.now ≤ length (D.trace device.old).now.seen }
+    ensures there { OnOk result (Has at bytes.now (D.trace device.new).now.seen) }
+    ensures only { ChangesOnly at (length bytes.now) (D.trace device.old).now (D.trace device.new).now }
+    ensures honest { D.is_honest device.new ≡ D.is_honest device.old }
+    ensures failures { Counts result (D.failures device.old) (D.failures device.new) }
+{
+    device.write_at(at, bytes)
+}
+
+/// Writes zeros over each block from the third on.
+fn place_zeros<D: Device>(device: &mut D, limits: &Limits) -> Result<(), Fault>
+    requires allowed { AreLimits limits.now }
+    requires inside { size_of limits.now ≤ length (D.trace device.old).now.seen }
+    ensures there { OnOk result (AreZero limits.now 2 limits.now.pages (D.trace device.new).now.seen) }
+    ensures only { ChangesOnly (block_at limits.now 2) (4096 * (limits.now.pages - 2)) (D.trace device.old).now (D.trace device.new).now }
+    ensures honest { D.is_honest device.new ≡ D.is_honest device.old }
+    ensures failures { Counts result (D.failures device.old) (D.failures device.new) }
+{
+    let zeros = [0; 4096];
+    for block in 2..limits.pages {
+        place(device, block_at(limits, block), &zeros)?;
+    }
+    Ok(())
+}
+
+/// Writes the page at its block.
+fn place_page<D: Device>(device: &mut D, limits: &Limits, page: &Page) -> Result<(), Fault>
+    requires allowed { AreLimits limits.now }
+    requires below { page.now.block < limits.now.pages }
+    requires inside { size_of limits.now ≤ length (D.trace device.old).now.seen }
+    ensures there { OnOk result (Has (block_at limits.now page.now.block) (page_bytes page.now) (D.trace device.new).now.seen) }
+    ensures long { length (page_bytes page.now) ≡ 4096 }
+    ensures only { ChangesOnly (block_at limits.now page.now.block) 4096 (D.trace device.old).now (D.trace device.new).now }
+    ensures honest { D.is_honest device.new ≡ D.is_honest device.old }
+    ensures failures { Counts result (D.failures device.old) (D.failures device.new) }
+{
+    let mut bytes = [0; 4096];
+    encode(page, &mut bytes);
+    place(device, block_at(limits, page.block), &bytes)
+}
+
+/// Writes the pages of an empty index, and zeros behind them.
+fn place_pages<D: Device>(device: &mut D, limits: &Limits) -> Result<(), Fault>
+    requires allowed { AreLimits limits.now }
+    requires inside { size_of limits.now ≤ length (D.trace device.old).now.seen }
+    ensures there { OnOk result (HasPages limits.now (D.trace device.new).now.seen) }
+    ensures only { ChangesOnly (block_at limits.now 0) (4096 * limits.now.pages) (D.trace device.old).now (D.trace device.new).now }
+    ensures honest { D.is_honest device.new ≡ D.is_honest device.old }
+    ensures failures { Counts result (D.failures device.old) (D.failures device.new) }
+{
+    place_zeros(device, limits)?;
+    place_page(device, limits, &first_meta())?;
+    place_page(device, limits, &first_leaf())
+}
+
+/// Writes all but the superblock, a closed gate at the beginning of the log, and syncs it.
+fn place_body<D: Device>(device: &mut D, limits: &Limits) -> Result<(), Fault>
+    requires allowed { AreLimits limits.now }
+    requires inside { size_of limits.now ≤ length (D.trace device.old).now.seen }
+    ensures there { OnOk result (HasBody limits.now (D.trace device.new).now) }
+    ensures len { length (D.trace device.new).now.seen ≡ length (D.trace device.old).now.seen }
+    ensures honest { D.is_honest device.new ≡ D.is_honest device.old }
+    ensures failures { Counts result (D.failures device.old) (D.failures device.new) }
+{
+    place(device, LOG_START, &[0])?;
+    place_pages(device, limits)?;
+    device.sync()
+}
+
+/// Writes the first 4,096 bytes and syncs them. Nothing else changes.
+fn place_front<D: Device>(device: &mut D, bytes: &[u8; 4096]) -> Result<(), Fault>
+    requires inside { 4096 ≤ length (D.trace device.old).now.seen }
+    ensures there { OnOk result (OnDisk 0 bytes.now (D.trace device.new).now) }
+    ensures only { ChangesOnly 0 4096 (D.trace device.old).now (D.trace device.new).now }
+    ensures honest { D.is_honest device.new ≡ D.is_honest device.old }
+    ensures failures { Counts result (D.failures device.old) (D.failures device.new) }
+{
+    place(device, 0, bytes)?;
+    device.sync()
+}
+
+/// Writes and syncs an empty index over whatever the device holds, in this order: zeros over the superblock; then the
+/// pages and a closed log; then the superblock. If it is stopped in between, it may be called again.
+fn write_index<D: Device>(device: &mut D, limits: &Limits) -> Result<(), Fault>
+    requires allowed { AreLimits limits.now }
+    requires inside { size_of limits.now ≤ length (D.trace device.old).now.seen }
+    ensures made { OnOk result (IsFresh limits.now (D.trace device.new).now) }
+    ensures len { length (D.trace device.new).now.seen ≡ length (D.trace device.old).now.seen }
+    ensures honest { D.is_honest device.new ≡ D.is_honest device.old }
+    ensures failures { Counts result (D.failures device.old) (D.failures device.new) }
+{
+    let mut front = [0; 4096];
+    place_front(device, &front)?;
+    place_body(device, limits)?;
+    spell_superblock(limits, &mut front);
+    place_front(device, &front)
+}
+
+/// Makes an empty index of these limits on the device, over whatever it holds: the superblock, a closed log, the
+/// metapage, one empty leaf, and zeros in all other blocks, all of it synced.
+///
+/// Refused, with the device as it was: limits out of their ranges (`BadLimits`); a device shorter than
+/// 4,096 + `log_bytes` + 4,096 * `pages` bytes (`DeviceTooSmall`). A failed device call answers `Io`; then the device
+/// is to be made anew, by this call. It takes no memory.
+pub fn create<D: Device>(device: &mut D, limits: &Limits) -> Result<(), Fault>
+    ensures made { OnOk result (IsFresh limits.now (D.trace device.new).now) }
+    ensures ends { CreateEnds limits.now result (D.trace device.old) (D.trace device.new)
+        (D.failures device.old) (D.failures device.new) }
+    ensures len { length (D.trace device.new).now.seen ≡ length (D.trace device.old).now.seen }
+    ensures honest { D.is_honest device.new ≡ D.is_honest device.old }
+{
+    if !limits.are_valid() {
+        return Err(Fault::BadLimits);
+    }
+    if device.len() < block_at(limits, limits.pages) {
+        return Err(Fault::DeviceTooSmall);
+    }
+    write_index(device, limits)
+}

@@ -1,0 +1,7 @@
+//! An index on a device: made, and opened after any crash.
+#![tactic(auto)]
+
+mod creation;
+
+pub use creation::create;
+
