@@ -1,22 +1,21 @@
 -- What taking the leaf and adding the entry leave of a store.
-use Rattle.std.proofs.Common.{◌≡◌, ◌≢◌, ◌⊎◌, ℕ, zero, suc, ◌+◌, ◌<◌, ◌≤◌, Bool, true, false, ◌&&◌, ◌||◌, ◌==◌, nat_le, nat_lt, Option, Some, None, List, [], ◌∷◌, ◌++◌, length, slice_get, slice_set, refl, sym, ap, subst, inl, inr, ◌∙◌, arith}
-use Rattle.std.proofs.lemmas.Bool.{or_cases, ltb-true, lt-ltb}
+use Rattle.std.proofs.Common.{◌≡◌, ◌≢◌, ℕ, zero, suc, ◌<◌, ◌≤◌, Bool, true, false, ◌||◌, nat_le, Some, List, [], ◌∷◌, length, slice_get, refl, sym, ap, subst, ◌∙◌, arith}
+use Rattle.std.proofs.lemmas.Bool.{ltb-true, lt-ltb}
 use Rattle.index_model.specs.Faults.{HasCause}
 use Rattle.index_model.specs.Order.{same_entry, is_among}
 use Rattle.index_model.specs.declared.entry.Entry.{Entry}
 use Rattle.index_model.specs.declared.fault.Fault.{Fault}
 use Rattle.index_model.specs.declared.fault.Fault.TheVariants.{NoMemory, Io, Stopped, Blocked, Exists, KeyTooLong, BadRow, IndexFull, LogFull, NoFrame, VacuumRunning, NoSession, SessionBusy, BadSuper, BadVersion, LogDamaged, PageDamaged, BadLimits, TooTall, DeviceTooSmall}
-use Rattle.latch_table.specs.Holdings.{Holding, Table, holding_of, nothing_held, with_holding, latched, pinned, latches_exclude, is_held_by_another}
-use Rattle.latch_table.specs.declared.mode.Mode.TheVariants.{Shared, Exclusive, Cleanup}
+use Rattle.latch_table.specs.Holdings.{Holding, Table, holding_of, nothing_held, latched, pinned, latches_exclude, is_held_by_another}
+use Rattle.latch_table.specs.declared.mode.Mode.TheVariants.{Shared, Exclusive}
 use Rattle.latch_table.proofs.Tables.{length-latched, length-pinned, holding_of-latched, holding_of-pinned, holding_of-latched_other, holding_of-pinned_other}
-use Rattle.page_codec.specs.Edits.{entries_of, HasEntries, with_entries}
-use Rattle.page_codec.specs.declared.page.Items.{Items}
+use Rattle.page_codec.specs.Edits.{entries_of, with_entries}
 use Rattle.page_codec.specs.declared.page.Page.{Page}
-use Rattle.page_action.specs.Causes.{where_acted, has_failed, is_at_end, are_frames_pinned}
+use Rattle.page_action.specs.Causes.{where_acted, is_at_end, are_frames_pinned}
 use Rattle.page_action.specs.Contents.{entry_on_live_leaf}
-use Rattle.page_action.specs.States.{State, Backing, with_table, with_page, with_pages, with_counts, after_act}
-use Rattle.tree_shape.specs.Tree.{IsMetaOf, IsOnlyLeaf, IsBlinkTree}
-use Rattle.descent.specs.Steps.{HoldsAlone, AreApart, IsInOrder, MayRely, OthersRely, IsQuiet, IsAddition}
+use Rattle.page_action.specs.States.{State, Backing, with_table, with_pages, after_act}
+use Rattle.tree_shape.specs.Tree.{IsOnlyLeaf, IsBlinkTree}
+use Rattle.descent.specs.Steps.{HoldsAlone, AreApart, IsInOrder, IsQuiet, IsAddition}
 use Rattle.descent.proofs.Contents.{contents_of_two, contents_of_tree, leaf_is}
 use Rattle.descent.proofs.Quiet.{quiet_table}
 use Rattle.descent.proofs.Tables.{apart_latched, apart_pins, any_excluded}

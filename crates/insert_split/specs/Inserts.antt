@@ -1,19 +1,19 @@
 -- What an insert knows between its steps, and what a step of it does.
-use Rattle.std.specs.Prelude.{◌≡◌, ◌⊎◌, ℕ, ◌+◌, ◌<◌, ◌≤◌, ◌&&◌, ◌||◌, ◌==◌, nat_le, Bool, true, false, Option, Some, None, Result, Ok, Err, List, [], ◌∷◌, length, slice_get}
+use Rattle.std.specs.Prelude.{◌≡◌, ◌⊎◌, ℕ, ◌<◌, ◌≤◌, ◌||◌, nat_le, Bool, true, false, Option, Some, None, Result, Ok, Err, [], ◌∷◌, length, slice_get}
 use Rattle.index_model.specs.Faults.{Circumstances, HasCause}
 use Rattle.index_model.specs.declared.entry.Entry.{Entry}
 use Rattle.index_model.specs.declared.fault.Fault.{Fault}
-use Rattle.index_model.specs.declared.fault.Fault.TheVariants.{NoMemory, Io, Stopped, Blocked, Exists, KeyTooLong, BadRow, IndexFull, LogFull, NoFrame, VacuumRunning, NoSession, SessionBusy, BadSuper, BadVersion, LogDamaged, PageDamaged, BadLimits, TooTall, DeviceTooSmall}
+use Rattle.index_model.specs.declared.fault.Fault.TheVariants.{Exists, IndexFull, PageDamaged}
 use Rattle.index_model.specs.Order.{is_among}
 use Rattle.tree_shape.specs.Leaf.{MayHold}
 use Rattle.latch_table.specs.Holdings.{Holding, holding_of, nothing_held, is_held_by_another}
-use Rattle.latch_table.specs.declared.mode.Mode.TheVariants.{Shared, Exclusive, Cleanup}
+use Rattle.latch_table.specs.declared.mode.Mode.TheVariants.{Shared, Exclusive}
 use Rattle.page_codec.specs.Edits.{entries_of}
 use Rattle.page_codec.specs.declared.page.Page.{Page}
 use Rattle.page_action.specs.Causes.{nothing_wrong, has_failed, is_at_end, are_frames_pinned}
 use Rattle.page_action.specs.Contents.{entry_on_live_leaf}
 use Rattle.page_action.specs.States.{State, Backing}
-use Rattle.descent.specs.Steps.{IsInOrder, IsQuiet, IsAddition}
+use Rattle.descent.specs.Steps.{IsQuiet, IsAddition}
 use Rattle.insert_split.specs.declared.insert.InsertAt.{InsertAt}
 use Rattle.insert_split.specs.declared.insert.InsertAt.TheVariants.{Start, At, Holding as Holds}
 use Rattle.insert_split.specs.declared.insert.InsertOp.{InsertOp}
@@ -39,6 +39,18 @@ pub record InsertFits (st : State) (op : InsertOp) : Type 0 where
 abbrev pub is_full_page : ℕ → Option Page → Bool
 is_full_page items None = false
 is_full_page items (Some page) = nat_le items (length (entries_of page.items))
+
+-- how many more steps may answer `Going`, at most
+abbrev pub steps_left : InsertAt → ℕ
+steps_left Start = 2
+steps_left (At block) = 1
+steps_left (Holds block) = 0
+
+-- a step that answers `Going` leaves fewer, whatever the pages are
+abbrev pub LeavesFewer : InsertAt → InsertAt → Result InsertStep Fault → Type 0
+LeavesFewer before after (Ok Going) = steps_left after < steps_left before
+LeavesFewer before after (Ok (Added action unfinished)) = Unit {0}
+LeavesFewer before after (Err fault) = Unit {0}
 
 -- why a step of an insert is refused, on pages that are a tree and a device that keeps its model
 abbrev pub where_inserting : State → Backing → Backing → ℕ → Entry → Circumstances

@@ -8,7 +8,7 @@ ghost use Rattle.page_codec.specs.Grammar.{IsPage};
 ghost use Rattle.tree_shape.specs.Leaf.{IsPlaceOf, MayHold};
 ghost use Rattle.page_action.specs.States.{State, Continues};
 ghost use Rattle.descent.specs.Steps.{IsInOrder};
-ghost use Rattle.insert_split.specs.Inserts.{InsertFits, InsertStepped, PlaceRefused};
+ghost use Rattle.insert_split.specs.Inserts.{InsertFits, InsertStepped, LeavesFewer, PlaceRefused};
 
 use descent::{look, root};
 use index_model::{Entry, Fault, Session};
@@ -74,6 +74,7 @@ impl InsertOp {
         ensures stepped { (S.backing store.new).honest ≡ true → IsInOrder (S.state store.old)
             → InsertFits (S.state store.old) self.old
             → InsertStepped (S.state store.old) (S.backing store.old) (S.state store.new) (S.backing store.new) self.old self.new result }
+        ensures fewer { LeavesFewer self.old.at self.new.at result }
     {
         match self.at {
             InsertAt::Start => self.find_root(store),
@@ -92,6 +93,7 @@ impl InsertOp {
         ensures stepped { (S.backing store.new).honest ≡ true → IsInOrder (S.state store.old)
             → InsertFits (S.state store.old) self.old
             → InsertStepped (S.state store.old) (S.backing store.old) (S.state store.new) (S.backing store.new) self.old self.new result }
+        ensures fewer { LeavesFewer self.old.at self.new.at result }
     {
         let block = root(store, self.session)?;
         self.at = InsertAt::At(block);
@@ -108,6 +110,7 @@ impl InsertOp {
         ensures stepped { (S.backing store.new).honest ≡ true → IsInOrder (S.state store.old)
             → InsertFits (S.state store.old) self.old
             → InsertStepped (S.state store.old) (S.backing store.old) (S.state store.new) (S.backing store.new) self.old self.new result }
+        ensures fewer { LeavesFewer self.old.at self.new.at result }
     {
         let page = look(store, self.session, block)?;
         if !may_hold(&page, &self.entry) {
@@ -129,6 +132,7 @@ impl InsertOp {
         ensures stepped { (S.backing store.new).honest ≡ true → IsInOrder (S.state store.old)
             → InsertFits (S.state store.old) self.old
             → InsertStepped (S.state store.old) (S.backing store.old) (S.state store.new) (S.backing store.new) self.old self.new result }
+        ensures fewer { LeavesFewer self.old.at self.new.at result }
     {
         if store.is_stopped() {
             return Err(Fault::Stopped);

@@ -1,13 +1,12 @@
 -- What each write of a new index leaves of the others.
-use Rattle.std.proofs.Common.{◌≡◌, ◌⊎◌, inl, inr, ⊎_elim, ℕ, suc, ◌+◌, ◌-◌, ◌*◌, ◌<◌, ◌≤◌, ◌∙◌, Result, Ok, Err, List, [], ◌∷◌, ◌++◌, length, replicate, refl, sym, ap, subst, arith}
+use Rattle.std.proofs.Common.{◌≡◌, ◌⊎◌, inl, inr, ⊎_elim, ℕ, ◌+◌, ◌-◌, ◌*◌, ◌<◌, ◌≤◌, ◌∙◌, Result, Ok, Err, List, [], ◌∷◌, ◌++◌, length, replicate, refl, sym, subst, arith}
 use Rattle.std.proofs.lemmas.List.{length-replicate}
 use Rattle.std.specs.Prelude.{OnOk}
 use Rattle.std.specs.Int.{w32, to_le_bytes}
 use Rattle.std.proofs.lemmas.Bool.{cases_lt}
-use Rattle.device.specs.Disk.{Moment, Trace, Syncs, synced, next}
+use Rattle.device.specs.Disk.{Moment, Trace, Syncs}
 use Rattle.device.specs.Places.{Has, OnDisk, ChangesOnly}
-use Rattle.device.proofs.Standing.{only_wider, only_more, has_kept, kept, synced_on, synced_only}
-use Rattle.index_model.specs.Limits.{AreLimits}
+use Rattle.device.proofs.Standing.{only_wider, only_more, has_kept, kept, synced_on}
 use Rattle.index_model.specs.declared.limits.Limits.{Limits}
 use Rattle.page_codec.specs.Spelling.{page_bytes}
 use Rattle.page_codec.specs.declared.page.Page.{Page}

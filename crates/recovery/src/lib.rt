@@ -4,4 +4,3 @@
 mod creation;
 
 pub use creation::create;
-

@@ -1,12 +1,10 @@
 -- What reading the leaf gives a scan.
-use Rattle.std.proofs.Common.{◌≡◌, ◌≢◌, ◌⊎◌, ℕ, zero, suc, ◌<◌, ◌≤◌, Bool, true, false, ◌&&◌, Option, Some, None, List, [], ◌∷◌, length, drop, slice_get, refl, sym, ap, subst, inl, inr, ◌∙◌, arith}
+use Rattle.std.proofs.Common.{◌≡◌, ℕ, ◌<◌, Bool, true, false, ◌&&◌, Some, [], ◌∷◌, length, slice_get, refl, sym, ap, subst, inl, inr, ◌∙◌, arith}
 use Rattle.std.proofs.lemmas.Bool.{cases_Bool, and_parts}
 use Rattle.index_model.specs.Order.{is_among, is_past, IsAscending}
-use Rattle.index_model.specs.Range.{matches, from_admits, below_admits}
-use Rattle.index_model.specs.declared.bound.Bound.{Bound}
+use Rattle.index_model.specs.Range.{from_admits, below_admits}
 use Rattle.index_model.specs.declared.entry.Entry.{Entry}
-use Rattle.index_model.specs.declared.range.Range.{Range}
-use Rattle.latch_table.specs.Holdings.{Holding, Table, holding_of, nothing_held, pinned}
+use Rattle.latch_table.specs.Holdings.{Holding, holding_of, nothing_held, pinned}
 use Rattle.latch_table.proofs.Tables.{length-pinned, holding_of-pinned, holding_of-pinned_other}
 use Rattle.page_codec.specs.Edits.{entries_of, HasEntries}
 use Rattle.page_codec.specs.Grammar.{IsLiveLeaf, IsLeafIn, IsOfKind, IsPage}
@@ -14,17 +12,17 @@ use Rattle.page_codec.specs.declared.page.Items.{Items}
 use Rattle.page_codec.specs.declared.page.Items.TheVariants.{Meta, Entries, Downlinks}
 use Rattle.page_codec.specs.declared.page.Page.{Page}
 use Rattle.page_codec.specs.declared.page.PageState.{PageState}
-use Rattle.page_codec.specs.declared.page.PageState.TheVariants.{Live, HalfDead, Deleted}
+use Rattle.page_codec.specs.declared.page.PageState.TheVariants.{Live}
 use Rattle.page_action.specs.Contents.{entry_on_live_leaf}
 use Rattle.page_action.specs.States.{State, with_table}
 use Rattle.tree_shape.specs.Leaf.{IsCopiedFrom}
-use Rattle.descent.specs.Steps.{AreApart, IsInOrder, IsQuiet}
+use Rattle.descent.specs.Steps.{IsInOrder, IsQuiet}
 use Rattle.descent.proofs.Contents.{contents_of_tree, leaf_is}
 use Rattle.descent.proofs.Quiet.{quiet_table}
 use Rattle.descent.proofs.Tables.{apart_pins}
-use Rattle.scan.specs.Scans.{waiting, IsBehind, leaf_pinned, ScanFits, IsRead, IsReading}
+use Rattle.scan.specs.Scans.{waiting, IsBehind, leaf_pinned, ScanFits, IsRead}
 use Rattle.scan.specs.declared.steps.ScanAt.{ScanAt}
-use Rattle.scan.specs.declared.steps.ScanAt.TheVariants.{Start, At, Last}
+use Rattle.scan.specs.declared.steps.ScanAt.TheVariants.{At, Last}
 use Rattle.scan.specs.declared.steps.ScanOp.{ScanOp}
 
 kind_ascends : (page : Page) (items : Items) → HasEntries items → page.state ≡ Live → IsOfKind page items → IsAscending (entries_of items)

@@ -1,5 +1,5 @@
 -- What a scan knows between its steps, and what a step of it does.
-use Rattle.std.specs.Prelude.{◌≡◌, ◌⊎◌, ℕ, suc, ◌+◌, ◌<◌, ◌≤◌, ◌||◌, Bool, true, false, Option, Some, None, Result, Ok, Err, List, [], ◌∷◌, length, drop}
+use Rattle.std.specs.Prelude.{◌≡◌, ◌⊎◌, ℕ, suc, ◌+◌, ◌*◌, ◌<◌, true, false, Option, Some, None, Result, Ok, Err, List, [], ◌∷◌, length, drop}
 use Rattle.index_model.specs.Faults.{Circumstances, HasCause}
 use Rattle.index_model.specs.Order.{is_among, is_past, AscendsPast}
 use Rattle.index_model.specs.Range.{matches, start_of, from_admits}
@@ -8,11 +8,11 @@ use Rattle.index_model.specs.declared.entry.Entry.{Entry}
 use Rattle.index_model.specs.declared.fault.Fault.{Fault}
 use Rattle.index_model.specs.declared.range.Range.{Range}
 use Rattle.latch_table.specs.Holdings.{Holding, holding_of, nothing_held, is_held_by_another}
-use Rattle.latch_table.specs.declared.mode.Mode.TheVariants.{Shared, Exclusive, Cleanup}
+use Rattle.latch_table.specs.declared.mode.Mode.TheVariants.{Shared}
 use Rattle.page_action.specs.Causes.{nothing_wrong, has_failed, are_frames_pinned}
 use Rattle.page_action.specs.Contents.{entry_on_live_leaf}
 use Rattle.page_action.specs.States.{State, Backing}
-use Rattle.descent.specs.Steps.{IsInOrder, IsQuiet}
+use Rattle.descent.specs.Steps.{IsQuiet}
 use Rattle.scan.specs.declared.steps.ScanAt.{ScanAt}
 use Rattle.scan.specs.declared.steps.ScanAt.TheVariants.{Start, At, Last}
 use Rattle.scan.specs.declared.steps.ScanOp.{ScanOp}
@@ -61,6 +61,23 @@ pub record ScanFits (st : State) (op : ScanOp) : Type 0 where
   pub stands : ScanStands st op.session op.at
   -- what lies beyond the frontier isn't before the range
   pub started : (e : Entry) → is_past op.frontier e ≡ true → from_admits op.range.from e.key ≡ true
+
+-- how many more pages it reads, at most
+abbrev pub reads_left : ScanAt → ℕ
+reads_left Start = 2
+reads_left (At block) = 1
+reads_left Last = 0
+
+-- what is left to do: a page gives 50 entries at most
+abbrev pub work_left : ScanOp → ℕ
+work_left op = 51 * reads_left op.at + length (waiting op)
+
+-- a step that reads a page leaves less to do, whatever the pages are; with nothing ready, each step that isn't the last
+abbrev pub LeavesLess : ScanOp → ScanOp → Result ScanStep Fault → Type 0
+LeavesLess before after (Ok Going) = work_left after < work_left before
+LeavesLess before after (Ok (Ready count)) = waiting before ≡ [] → work_left after < work_left before
+LeavesLess before after (Ok Done) = Unit {0}
+LeavesLess before after (Err fault) = Unit {0}
 
 -- what a leaf gave: the matches beyond the frontier as it was, of what the pages hold now; each match that the scan
 -- has read beyond now, it had read beyond before, or it is among them

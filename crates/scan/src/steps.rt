@@ -50,7 +50,7 @@ pub enum ScanStep {
 }
 
 impl ScanOp {
-    ghost use Rattle.scan.specs.Scans.{fresh_scan, waiting, ScanFits, ScanStepped, IsNext};
+    ghost use Rattle.scan.specs.Scans.{fresh_scan, waiting, ScanFits, ScanStepped, LeavesLess, IsNext};
 
     /// A scan of the range before its first step.
     pub fn new(session: Session, range: Range) -> ScanOp
@@ -98,6 +98,7 @@ impl ScanOp {
         ensures stepped { (S.backing store.new).honest ≡ true → IsInOrder (S.state store.old)
             → ScanFits (S.state store.old) self.old
             → ScanStepped (S.state store.old) (S.backing store.old) (S.state store.new) (S.backing store.new) self.old self.new result }
+        ensures less { LeavesLess self.old self.new result }
     {
         if store.is_stopped() {
             return Err(Fault::Stopped);
@@ -124,6 +125,7 @@ impl ScanOp {
         ensures stepped { (S.backing store.new).honest ≡ true → IsInOrder (S.state store.old)
             → ScanFits (S.state store.old) self.old
             → ScanStepped (S.state store.old) (S.backing store.old) (S.state store.new) (S.backing store.new) self.old self.new result }
+        ensures less { LeavesLess self.old self.new result }
     {
         let block = root(store, self.session)?;
         self.at = ScanAt::At(block);
@@ -141,6 +143,7 @@ impl ScanOp {
         ensures stepped { (S.backing store.new).honest ≡ true → IsInOrder (S.state store.old)
             → ScanFits (S.state store.old) self.old
             → ScanStepped (S.state store.old) (S.backing store.old) (S.state store.new) (S.backing store.new) self.old self.new result }
+        ensures less { LeavesLess self.old self.new result }
     {
         let page = look(store, self.session, block)?;
         if !is_only_leaf(&page) {

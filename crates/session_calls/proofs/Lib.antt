@@ -3,3 +3,4 @@ pub mod Going
 pub mod Scanning
 pub mod Refusing
 pub mod Beginning
+pub mod Lessening

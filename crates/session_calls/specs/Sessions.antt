@@ -1,5 +1,5 @@
 -- One session's call over the history of all actions: what stands between its events, and what an event does.
-use Rattle.std.specs.Prelude.{◌≡◌, ◌≢◌, ◌⊎◌, ℕ, suc, ◌<◌, ◌||◌, Bool, true, false, Option, Some, None, List, [], ◌∷◌, ◌++◌, length}
+use Rattle.std.specs.Prelude.{◌≡◌, ◌≢◌, ◌⊎◌, ℕ, suc, ◌<◌, ◌||◌, Bool, true, false, if◌then◌else◌, Option, Some, None, List, [], ◌∷◌, ◌++◌, length}
 use Rattle.index_model.specs.Actions.{Effect, Add, Remove, Shape, Action, contents_after, ThereAtSomeMoment}
 use Rattle.index_model.specs.Calls.{Ask, AskInsert, AskScan, AskBulkDelete, AskCleanup, Ending, Running, Added as EndsAdded, Finished as EndsFinished, GivenUp, Failed, Call, GivesAll, Meets}
 use Rattle.index_model.specs.Faults.{Circumstances, HasCause}
@@ -14,9 +14,9 @@ use Rattle.page_action.specs.Causes.{nothing_wrong, is_at_end}
 use Rattle.page_action.specs.Contents.{entry_on_live_leaf}
 use Rattle.page_action.specs.States.{State, Backing}
 use Rattle.descent.specs.Steps.{IsInOrder, OthersRely}
-use Rattle.insert_split.specs.Inserts.{InsertFits, where_inserting}
+use Rattle.insert_split.specs.Inserts.{InsertFits, where_inserting, steps_left}
 use Rattle.insert_split.specs.declared.insert.InsertOp.{InsertOp}
-use Rattle.scan.specs.Scans.{ScanFits, IsBehind, waiting, where_scanning}
+use Rattle.scan.specs.Scans.{ScanFits, IsBehind, waiting, where_scanning, work_left as scan_work_left}
 use Rattle.scan.specs.declared.steps.ScanOp.{ScanOp}
 use Rattle.session_calls.specs.declared.answer.Answer.{Answer}
 use Rattle.session_calls.specs.declared.answer.Answer.TheVariants.{Begun, Going, Added, Ready, Done, Finished, Gave, Ended, Forced, Flushed, Checkpointed, Refused}
@@ -126,6 +126,31 @@ Told (Flushed block) number count acts call after = ⊥
 Told (Checkpointed count') number count acts call after = ⊥
 Told (Refused fault) number count acts call after = (acts ≡ []) × Refuses fault count call after
 
+-- what is left to do for a call: steps, and entries to give
+abbrev pub work_left : Option Op → ℕ
+work_left None = 0
+work_left (Some (Insert op)) = steps_left op.at
+work_left (Some (Scan op)) = scan_work_left op
+
+-- no entry is ready
+abbrev pub IsDrained : Option Op → Type 0
+IsDrained None = Unit {0}
+IsDrained (Some (Insert op)) = Unit {0}
+IsDrained (Some (Scan op)) = waiting op ≡ []
+
+-- a step that ends no call leaves less to do, whatever the pages are: each `Going`, and each `Ready` where all that was
+-- ready had been given
+abbrev pub LeavesLess : Option Op → Option Op → Answer → Type 0
+LeavesLess before after Going = work_left after < work_left before
+LeavesLess before after (Ready count) = IsDrained before → work_left after < work_left before
+LeavesLess before after answer = Unit {0}
+
+-- an entry that was given leaves less to do; where none is given, none is ready
+abbrev pub GivesLess : Option Op → Option Op → Answer → Type 0
+GivesLess before after (Gave (Some e)) = work_left after < work_left before
+GivesLess before after (Gave None) = (after ≡ before) × IsDrained before
+GivesLess before after answer = after ≡ before
+
 -- a refusal has its cause
 abbrev pub IsCaused : Circumstances → Answer → Type 0
 IsCaused at (Refused fault) = HasCause at fault
@@ -135,6 +160,16 @@ IsCaused at answer = Unit {0}
 abbrev pub ends_call : Fault → Bool
 ends_call (Blocked b) = false
 ends_call fault = true
+
+-- what is answered where the session has no call to step
+abbrev pub no_call : Bool → Answer
+no_call is_stopped = if is_stopped then Refused Stopped else Refused NoSession
+
+-- the session has no call, nothing is changed, and the step is refused
+pub record IsIdleStep {S : Type 0} (is_stopped : Bool) (old new : S) (slot : Option Op) (answer : Answer) : Type 0 where
+  pub answer_is : answer ≡ no_call is_stopped
+  pub store_is : new ≡ old
+  pub slot_is : slot ≡ None
 
 -- the circumstances of a step
 abbrev pub where_stepped : Ask → State → Backing → Backing → ℕ → Circumstances

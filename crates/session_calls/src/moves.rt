@@ -5,7 +5,7 @@ ghost use Rattle.index_model.specs.Actions.{Action};
 ghost use Rattle.index_model.specs.Calls.{Call};
 ghost use Rattle.index_model.specs.declared.entry.Entry.{Entry};
 ghost use Rattle.page_action.specs.States.{State, Continues, after_end};
-ghost use Rattle.session_calls.specs.Sessions.{SlotFits, CallFits, SessionGoes, where_stepped, where_asked_next, ends_call};
+ghost use Rattle.session_calls.specs.Sessions.{SlotFits, CallFits, SessionGoes, LeavesLess, GivesLess, where_stepped, where_asked_next, ends_call, no_call, IsIdleStep};
 ghost use Rattle.page_action.specs.Causes.{nothing_wrong};
 
 use crate::answer::Answer;
@@ -23,6 +23,9 @@ pub fn step<S: PageStore>(store: &mut S, slot: &mut Option<Op>) -> Answer
         → SlotFits (S.state store.old) start history number call slot.old
         → SessionGoes (where_stepped call.ask (S.state store.old) (S.backing store.old) (S.backing store.new) call.session)
         (S.state store.old) (S.state store.new) start history number call slot.new result }
+    ensures less { LeavesLess slot.old slot.new result }
+    ensures idle { slot.old ≡ None
+        → IsIdleStep (S.backing store.old).stopped store.old store.new slot.new result }
 {
     let (answer, is_over) = match slot {
         None => (idle(store), false),
@@ -36,7 +39,9 @@ pub fn step<S: PageStore>(store: &mut S, slot: &mut Option<Op>) -> Answer
 }
 
 // A session with no call has no step.
-fn idle<S: PageStore>(store: &S) -> Answer {
+fn idle<S: PageStore>(store: &S) -> Answer
+    ensures { result ≡ no_call (S.backing store.now).stopped }
+{
     if store.is_stopped() {
         Answer::Refused(Fault::Stopped)
     } else {
@@ -50,6 +55,7 @@ fn step_insert<S: PageStore>(store: &mut S, op: &mut InsertOp) -> (Answer, bool)
         → CallFits (S.state store.old) start history number call (Op.Insert op.old)
         → SessionGoes (where_stepped call.ask (S.state store.old) (S.backing store.old) (S.backing store.new) call.session)
         (S.state store.old) (S.state store.new) start history number call (if result.1 then None else Some (Op.Insert op.new)) result.0 }
+    ensures less { LeavesLess (Some (Op.Insert op.old)) (if result.1 then None else Some (Op.Insert op.new)) result.0 }
 {
     match op.step(store) {
         Ok(InsertStep::Going) => (Answer::Going, false),
@@ -67,6 +73,7 @@ fn step_scan<S: PageStore>(store: &mut S, op: &mut ScanOp) -> (Answer, bool)
         → CallFits (S.state store.old) start history number call (Op.Scan op.old)
         → SessionGoes (where_stepped call.ask (S.state store.old) (S.backing store.old) (S.backing store.new) call.session)
         (S.state store.old) (S.state store.new) start history number call (if result.1 then None else Some (Op.Scan op.new)) result.0 }
+    ensures less { LeavesLess (Some (Op.Scan op.old)) (if result.1 then None else Some (Op.Scan op.new)) result.0 }
 {
     match op.step(store) {
         Ok(ScanStep::Going) => (Answer::Going, false),
@@ -107,6 +114,7 @@ pub fn next(slot: &mut Option<Op>) -> Answer
     ensures goes { (st : State) (start : Entry → Bool) (history : List Action) (number : ℕ) (call : Call)
         → SlotFits st start history number call slot.old
         → SessionGoes (where_asked_next call.ask) st st start history number call slot.new result }
+    ensures less { GivesLess slot.old slot.new result }
 {
     match slot {
         Some(Op::Scan(op)) => Answer::Gave(op.next()),

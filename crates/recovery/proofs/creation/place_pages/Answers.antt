@@ -1,4 +1,3 @@
-use Rattle.std.proofs.Common.{Ok, Err}
 use Rattle.recovery.proofs.Creating.{on_ok, pages_made}
 use Rattle.recovery.proofs.creation.place_pages.Goals as goal
 

@@ -1,14 +1,10 @@
-use Rattle.std.proofs.Common.{◌≡◌, ap, subst, sym, ◌∙◌, ℕ, Option, Some, None}
-use Rattle.index_model.specs.declared.entry.Entry.{Entry}
-use Rattle.scan.specs.Scans.{IsNext}
-use Rattle.session_calls.specs.Sessions.{SlotFits, SessionGoes}
+use Rattle.std.proofs.Common.{ap, subst, ◌∙◌, Option, Some}
+use Rattle.session_calls.specs.Sessions.{SlotFits}
 use Rattle.session_calls.specs.declared.op.Op.{Op}
 use Rattle.session_calls.proofs.Scanning.{next_goes}
 use Rattle.session_calls.proofs.moves.next.Goals as goal
 
-pub returns-in-Some-Scan : goal.returns-in-Some-Scan
-returns-in-Some-Scan c = record {
-  goes = λ st start history number call fits.
-      next_goes _ st start history number call c.in-Some-Scan.op c.next.new.self c.next.result
-      (subst (λ (slot : Option Op). SlotFits st start history number call slot) (c.in-Some-Scan.is ∙ ap (λ (op : Op). Some op) c.in-Some-Scan.field-0-is) fits) c.next.ensures;
-}
+pub returns-in-Some-Scan-clause-goes : goal.returns-in-Some-Scan-clause-goes
+returns-in-Some-Scan-clause-goes c = λ st start history number call fits.
+    next_goes _ st start history number call c.in-Some-Scan.op c.next.new.self c.next.result
+    (subst (λ (slot : Option Op). SlotFits st start history number call slot) (c.in-Some-Scan.is ∙ ap (λ (op : Op). Some op) c.in-Some-Scan.field-0-is) fits) c.next.ensures

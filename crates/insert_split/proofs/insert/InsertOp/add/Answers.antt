@@ -1,4 +1,4 @@
-use Rattle.std.proofs.Common.{◌≡◌, ◌<◌, ℕ, Some, List, [], ◌∷◌, true, suc, slice_get, refl, sym, ap, subst, ◌∙◌}
+use Rattle.std.proofs.Common.{◌≡◌, ℕ, Some, List, [], ◌∷◌, suc, slice_get, refl, ap, subst, ◌∙◌}
 use Rattle.std.specs.Prelude.{insert}
 use Rattle.index_model.specs.Faults.{HasCause}
 use Rattle.latch_table.specs.Holdings.{holding_of}

@@ -1,5 +1,5 @@
-use Rattle.std.proofs.Common.{◌≡◌, ◌<◌, ℕ, false, refl, sym, ap, subst, ◌∙◌}
-use Rattle.latch_table.specs.Holdings.{Table, holding_of, nothing_held, latched, pinned, is_held_by_another}
+use Rattle.std.proofs.Common.{◌≡◌, false, refl, sym, ap, subst, ◌∙◌}
+use Rattle.latch_table.specs.Holdings.{latched, pinned, is_held_by_another}
 use Rattle.latch_table.specs.declared.mode.Mode.TheVariants.{Exclusive}
 use Rattle.page_action.specs.States.{State, with_table}
 use Rattle.insert_split.specs.Inserts.{InsertStands, IsNextAt}

@@ -1,9 +1,8 @@
-use Rattle.std.proofs.Common.{◌≡◌, ◌<◌, ℕ, Some, List, [], slice_get, refl, sym, ap, subst, inr, ◌∙◌}
+use Rattle.std.proofs.Common.{◌≡◌, ℕ, Some, List, slice_get, refl, sym, ap, subst, inr, ◌∙◌}
 use Rattle.index_model.specs.Order.{IsAscending}
 use Rattle.index_model.specs.declared.entry.Entry.{Entry}
 use Rattle.latch_table.specs.Holdings.{pinned}
 use Rattle.page_codec.specs.Edits.{entries_of}
-use Rattle.page_codec.specs.declared.page.Items.{Items}
 use Rattle.page_codec.specs.declared.page.Page.{Page}
 use Rattle.page_action.specs.States.{State, IsLater, with_table}
 use Rattle.tree_shape.specs.Leaf.{IsCopiedFrom}
