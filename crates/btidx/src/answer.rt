@@ -1,33 +1,12 @@
-//! What an event answers, and how it is printed.
+//! How an answer is printed.
 
 ghost use Rattle.std.specs.Prelude.{Some};
 ghost use Rattle.btidx.specs.Printing.{PrintsLine, answer_text, given_text, refused_text, stats_text};
 
 use crate::show::ShownEntry;
 use index_model::{Entry, Fault, VacuumStats};
+use session_calls::Answer;
 use std::io::{self, Write};
-
-/// The answer to one event.
-#[derive(Clone, Copy)]
-pub enum Answer {
-    Begun,
-    Going,
-    /// The entry was added by the action of this number; what wasn't finished behind it, and why.
-    Added {
-        action: u64,
-        unfinished: Option<Fault>,
-    },
-    /// So many entries may be taken.
-    Ready(u32),
-    Done,
-    Finished(VacuumStats),
-    Gave(Option<Entry>),
-    Ended,
-    Forced(u64),
-    Flushed(Option<u32>),
-    Checkpointed(u64),
-    Refused(Fault),
-}
 
 /// Prints the line of an answer.
 pub fn print_answer<W: Write>(out: &mut W, answer: &Answer) -> io::Result<()>

@@ -47,7 +47,7 @@ pub fn play<R: Read, W: Write, E: Write>(
     out: &mut W,
     err: &mut E,
 ) -> io::Result<End> {
-    let mut engine = match Engine::new(setting) {
+    let mut engine = match Engine::new(alloc, setting) {
         Ok(engine) => engine,
         Err(fault) => return Ok(End::Refused(fault)),
     };

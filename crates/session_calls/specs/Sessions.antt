@@ -145,11 +145,10 @@ LeavesLess before after Going = work_left after < work_left before
 LeavesLess before after (Ready count) = IsDrained before → work_left after < work_left before
 LeavesLess before after answer = Unit {0}
 
--- an entry that was given leaves less to do; where none is given, none is ready
+-- an entry that was given leaves less to do; where none is given, none is ready, and nothing is changed
 abbrev pub GivesLess : Option Op → Option Op → Answer → Type 0
 GivesLess before after (Gave (Some e)) = work_left after < work_left before
-GivesLess before after (Gave None) = (after ≡ before) × IsDrained before
-GivesLess before after answer = after ≡ before
+GivesLess before after answer = (after ≡ before) × IsDrained before
 
 -- a refusal has its cause
 abbrev pub IsCaused : Circumstances → Answer → Type 0
