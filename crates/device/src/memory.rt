@@ -40,7 +40,7 @@ pub struct MemDevice {
 }
 
 impl MemDevice {
-    ghost use Rattle.device.specs.Memory.{trace_of, plan_of, left_by};
+    ghost use Rattle.device.specs.Memory.{trace_of, failures_of, plan_of, left_by};
     ghost use Rattle.device.specs.Plans.{no_plan, failing_at, stopping_at};
 
     /// A device of so many bytes, all zero and synced, of which no call is made to fail. Without memory for them it is
@@ -64,6 +64,7 @@ impl MemDevice {
     pub fn fail_at(&mut self, n: u64)
         ensures plan { plan_of self.new ≡ failing_at n (plan_of self.old) }
         ensures trace { trace_of self.new ≡ trace_of self.old }
+        ensures failures { failures_of self.new ≡ failures_of self.old }
     {
         self.plan.fail_in = n;
     }
@@ -73,6 +74,7 @@ impl MemDevice {
     pub fn stop_at(&mut self, n: u64)
         ensures plan { plan_of self.new ≡ stopping_at n (plan_of self.old) }
         ensures trace { trace_of self.new ≡ trace_of self.old }
+        ensures failures { failures_of self.new ≡ failures_of self.old }
     {
         self.plan.stop_in = n;
         self.plan.stopped = false;
@@ -118,6 +120,7 @@ impl MemDevice {
     }
 }
 
+/// Counts a failed call.
 fn count_failure(failures: &mut Count) -> Fault
     ensures counted { failures.new.value ≡ suc failures.old.value }
     ensures io { result ≡ Fault.Io }

@@ -1,12 +1,12 @@
 -- What reading a log finds.
-use Rattle.std.specs.Prelude.{◌≡◌, ◌⊎◌, ℕ, suc, Result, MatchResult, ◌+◌, ◌*◌, ◌<◌, ◌≤◌, false, List, [], ◌∷◌, ◌++◌, length, drop}
+use Rattle.std.specs.Prelude.{◌≡◌, ◌⊎◌, ℕ, suc, Result, MatchResult, ◌+◌, ◌*◌, ◌<◌, ◌≤◌, false, List, ◌++◌, length, drop}
 use Rattle.device.specs.Disk.{Moment}
 use Rattle.index_model.specs.declared.fault.Fault.{Fault}
 use Rattle.index_model.specs.declared.fault.Fault.TheVariants.{Io, NoMemory, LogDamaged}
 use Rattle.index_model.specs.declared.limits.Limits.{Limits}
 use Rattle.page_codec.specs.declared.page.Page.{Page}
 use Rattle.redo_log.specs.Images.{images_bytes, images_of}
-use Rattle.redo_log.specs.Groups.{AreImages, AreGroups, IsGroup, body, spelled, Spells, log_range}
+use Rattle.redo_log.specs.Groups.{AreImages, IsGroup, body, spelled, Spells, log_range}
 use Rattle.redo_log.specs.Kept.{Keeps, limits_of, actions_of, waiting_count, is_stopped}
 use Rattle.redo_log.specs.declared.log.Log.{Log}
 

@@ -42,6 +42,13 @@ impl Log {
     ghost use Rattle.redo_log.specs.Reading.{Replays, IsOpened, ReplayFails};
     ghost use Rattle.redo_log.specs.Kept.{Keeps, Restarts, RestartsOrEmpty, SameLog, IoOrStopped, limits_of, is_stopped, actions_of, waiting_count, end_of, end_with};
 
+    /// The sizes that it was opened with.
+    pub fn limits(&self) -> Limits
+        ensures { result ≡ limits_of self.now }
+    {
+        self.limits
+    }
+
     /// How many images one more action could hold now.
     pub fn room(&self) -> u32
         ensures fit { (n : ℕ) → 0 < n → n ≤ result → end_with self.now n ≤ (limits_of self.now).log_bytes }
@@ -61,6 +68,7 @@ impl Log {
         ensures keeps { (m : Moment) (acts : List (List Page)) (forced : ℕ) → Keeps self.old m acts forced
             → OnOk result (Keeps self.new m (acts ++ images.now ∷ []) forced) }
         ensures actions { OnOk result (actions_of self.new ≡ suc (actions_of self.old)) }
+        ensures room { OnOk result ((n : ℕ) → end_with self.new n ≤ end_with self.old (length images.now + n)) }
         ensures limits { limits_of self.new ≡ limits_of self.old }
 
         ensures err { OnErr result (self.new ≡ self.old) }
@@ -93,6 +101,8 @@ impl Log {
 
         ensures number { IfOk result (λ n. n ≡ actions_of self.old) }
         ensures written { OnOk result (waiting_count self.new ≡ 0) }
+        // It costs at most one image of room.
+        ensures room { OnOk result ((n : ℕ) → end_with self.new n ≤ end_with self.old (suc n)) }
         ensures same { SameLog self.old self.new }
         ensures stopped { is_stopped self.new ≡ is_err result }
 
@@ -132,6 +142,7 @@ impl Log {
             → Goes (RestartsOrEmpty (limits_of self.old) (take forced acts)) (D.trace device.old) (D.trace device.new) }
 
         ensures waiting { waiting_count self.new ≡ waiting_count self.old }
+        ensures room { OnOk result ((n : ℕ) → end_with self.new n ≡ 6 + 4096 * (waiting_count self.old + n)) }
         ensures same { SameLog self.old self.new }
         ensures stopped { is_stopped self.new ≡ is_err result }
 

@@ -2,33 +2,16 @@
 
 ghost use Rattle.std.specs.Prelude.{◌≡◌, ◌⊎◌, ℕ, ◌+◌, ◌*◌, ◌<◌, ◌≤◌, List, ◌∷◌, ◌++◌, length, take, drop, IsErrOf, IsTrue, Some, ◌↔◌, IfSome, OnOk, IfOk, IfErr};
 ghost use Rattle.page_codec.specs.declared.page.Page.{Page};
-ghost use Rattle.page_codec.specs.Spelling.{count_of, page_bytes};
+ghost use Rattle.page_codec.specs.Spelling.{page_bytes};
 ghost use Rattle.page_codec.specs.Grammar.{IsPage};
 ghost use Rattle.redo_log.specs.Images.{images_bytes};
-ghost use Rattle.redo_log.specs.Groups.{IsWithin, IsImage, AreImages, IsGroup, body, Spells};
+ghost use Rattle.redo_log.specs.Groups.{IsImage, AreImages, IsGroup, body, Spells};
 ghost use Rattle.redo_log.specs.Reading.{AddsImages, AddsGroup, IsRead};
 
+use crate::image::is_within;
 use index_model::{Fault, Limits};
-use page_codec::{Items, Page, decode};
+use page_codec::{Page, decode};
 use std::alloc::Global;
-
-/// How many items there are.
-fn count(items: &Items) -> usize
-    ensures { result ≡ count_of items.now }
-{
-    match items {
-        Items::Meta => 0,
-        Items::Entries(entries) => entries.len(),
-        Items::Downlinks(links) => links.len(),
-    }
-}
-
-/// Whether an index of these limits may have the page.
-fn is_within(limits: &Limits, page: &Page) -> bool
-    ensures { IsTrue result ↔ IsWithin limits.now page.now }
-{
-    page.block < limits.pages && count(&page.items) <= limits.items as usize
-}
 
 /// The page of these bytes, if they are those of a page.
 fn page_of(bytes: &[u8]) -> Option<Page>
