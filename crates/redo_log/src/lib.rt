@@ -1,4 +1,5 @@
-//! A redo log: whole pages, in groups behind gates, of which a crash leaves a first part that has all that was forced.
+//! A redo log: whole pages, in groups behind gates, of which a crash leaves a first part that has all
+//! that was forced.
 #![tactic(auto)]
 
 mod image;

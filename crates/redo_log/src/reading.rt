@@ -74,12 +74,13 @@ fn read_images(limits: &Limits, images: &mut Vec<Page>, bytes: &[u8]) -> Result<
     Ok(())
 }
 
-/// Adds the images of the group that stands behind a gate, and answers how many they are. Bytes that are no group, or
-/// behind whose group nothing stands, are refused with `LogDamaged`.
+/// Adds the images of the group that stands behind a gate, and answers how many they are. Bytes that
+/// are no group, or behind whose group nothing stands, are refused with `LogDamaged`.
 fn read_group(limits: &Limits, images: &mut Vec<Page>, behind: &[u8]) -> Result<usize, Fault>
-    ensures ok { IfOk result (λ n. AddsGroup limits.now behind.now n images.old.items images.new.items) }
-    ensures damaged { IsErrOf result Fault.LogDamaged → (group : List Page) (rest : List ℕ) → IsGroup limits.now group
-        → 0 < length rest → behind.now ≡ body group ++ rest → ⊥ }
+    ensures ok { IfOk result (λ n.
+        AddsGroup limits.now behind.now n images.old.items images.new.items) }
+    ensures damaged { IsErrOf result Fault.LogDamaged → (group : List Page) (rest : List ℕ)
+        → IsGroup limits.now group → 0 < length rest → behind.now ≡ body group ++ rest → ⊥ }
     ensures fault { IfErr result (λ e. (e ≡ Fault.NoMemory) ⊎ (e ≡ Fault.LogDamaged)) }
 {
     let Some((number, bodies)) = behind.split_first_chunk() else {
@@ -103,7 +104,8 @@ pub(crate) fn read_groups(
 ) -> Result<(Vec<Page>, usize), Fault>
     requires { 0 < length bytes.now }
     ensures ok { IfOk result (λ r. IsRead limits.now bytes.now r.0.items r.1) }
-    ensures damaged { IsErrOf result Fault.LogDamaged → (groups : List (List Page)) → Spells limits.now bytes.now groups → ⊥ }
+    ensures damaged { IsErrOf result Fault.LogDamaged
+        → (groups : List (List Page)) → Spells limits.now bytes.now groups → ⊥ }
     ensures fault { IfErr result (λ e. (e ≡ Fault.NoMemory) ⊎ (e ≡ Fault.LogDamaged)) }
 {
     let mut images = Vec::new(alloc);

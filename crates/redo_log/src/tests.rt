@@ -84,7 +84,8 @@ fn found(images: &[Page]) -> [u32; 8] {
     last
 }
 
-// What a run came to: the actions from `first` to `forced` are forced, those up to `appended` were appended.
+// What a run came to: the actions from `first` to before `forced` are forced, those to before
+// `appended` were appended.
 #[derive(Clone, Copy)]
 struct Run {
     first: u32,
@@ -218,8 +219,8 @@ fn nothing_to_write_makes_no_call(rt: HostRuntime) -> Result<(), Fail> {
     Ok(())
 }
 
-// Behind a closed gate the old group still stands: had `reset` written that gate once more, a crash could have left any
-// byte there, and with a 1 the restart would have taken the old group again.
+// Behind a closed gate the old group still stands: had `reset` written that gate once more, a crash
+// could have left any byte there, and with a 1 the restart would have taken the old group again.
 #[test]
 fn an_open_gate_in_front_of_old_bytes_would_be_replayed(rt: HostRuntime) -> Result<(), Fail> {
     let mut device = MemDevice::new(rt.alloc(), LEN)?;
