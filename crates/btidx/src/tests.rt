@@ -56,6 +56,91 @@ fn scripts(rt: HostRuntime) -> Result<(), Fail> {
 }
 
 #[test]
+fn empty_and_repeated(rt: HostRuntime) -> Result<(), Fail> {
+    let play = ["btidx", "play"];
+    runs(
+        &rt,
+        play.as_slice(),
+        "list 0 * *\ndump\n",
+        "done 0\n0 meta root=1 level=0\n1 leaf live left=- right=- high=- split=0 cycle=0 n=0\n",
+        "",
+        0,
+    )?;
+    runs(
+        &rt,
+        play.as_slice(),
+        "put 0 61 (0,1)\nput 0 61 (0,1)\n",
+        "added 1\nrefused 5\n",
+        "",
+        0,
+    )
+}
+
+/// Keys of 0, 64 and 65 bytes, rows that are none, and the greatest row.
+#[test]
+fn boundaries(rt: HostRuntime) -> Result<(), Fail> {
+    runs(
+        &rt,
+        ["btidx", "play"].as_slice(),
+        "put 0 - (0,1)
+put 0 ffffffffffffffffffffffffffffffffffffffffffffffffffffffffffffffffffffffffffffffffffffffffffffffffffffffffffffffffffffffffffffffff (0,1)
+put 0 ffffffffffffffffffffffffffffffffffffffffffffffffffffffffffffffffffffffffffffffffffffffffffffffffffffffffffffffffffffffffffffffffff (0,1)
+put 0 61 (0,0)
+put 0 61 (4294967295,1)
+put 0 61 (4294967294,65535)
+list 0 - 61
+",
+        "added 1
+added 2
+refused 6
+refused 7
+refused 7
+added 3
+entry - (0,1)
+done 1
+",
+        "",
+        0,
+    )
+}
+
+/// A full leaf takes no more, and keeps what it has.
+#[test]
+fn full_leaf(rt: HostRuntime) -> Result<(), Fail> {
+    runs(
+        &rt,
+        ["btidx", "play", "--items", "4"].as_slice(),
+        "put 0 64 (0,4)
+put 0 62 (0,2)
+put 0 61 (0,1)
+put 0 63 (0,3)
+put 0 65 (0,5)
+put 0 61 (0,1)
+list 0 62 64
+dump
+",
+        "added 1
+added 2
+added 3
+added 4
+refused 8
+refused 5
+entry 62 (0,2)
+entry 63 (0,3)
+done 2
+0 meta root=1 level=0
+1 leaf live left=- right=- high=- split=0 cycle=0 n=4
+  61 (0,1)
+  62 (0,2)
+  63 (0,3)
+  64 (0,4)
+",
+        "",
+        0,
+    )
+}
+
+#[test]
 fn command_lines(rt: HostRuntime) -> Result<(), Fail> {
     let few = ["btidx", "play", "--items", "3"];
     runs(

@@ -1,5 +1,5 @@
 -- A device at one moment: what a read gives, and what a crash may leave.
-use Rattle.std.specs.Prelude.{◌≡◌, ◌⊎◌, ℕ, suc, ◌+◌, Bool, false, ◌||◌, ◌&&◌, nat_lt, nat_le, List, [], ◌∷◌, ◌++◌, length, take, drop, slice_index, Result, MatchResult}
+use Rattle.std.specs.Prelude.{◌≡◌, ◌⊎◌, ℕ, suc, ◌+◌, Bool, false, ◌||◌, ◌&&◌, nat_lt, nat_le, List, [], ◌∷◌, ◌++◌, length, take, drop, slice_index, slice_range, Result, MatchResult}
 use Rattle.index_model.specs.declared.fault.Fault.{Fault}
 use Rattle.index_model.specs.declared.fault.Fault.TheVariants.{Io}
 
@@ -13,7 +13,8 @@ pub record Trace : Type 0 where
   pub now : Moment
   pub past : List Moment
 
--- what a crash at this moment may leave: any bytes where a range was written since the last sync, the others as read
+-- what a crash at this moment may leave: any bytes where a range was written since the last sync, the
+-- others as read
 pub record MayLeave (m : Moment) (image : List ℕ) : Type 0 where
   pub same_length : length image ≡ length m.seen
   pub same : (i : ℕ) → m.loose i ≡ false → slice_index image i ≡ slice_index m.seen i
@@ -28,7 +29,10 @@ is_in at n i = nat_le at i && nat_lt i (at + n)
 
 -- the moment after these bytes were written there
 abbrev pub wrote : ℕ → List ℕ → Moment → Moment
-wrote at bytes m = record { seen = put m.seen at bytes; loose = λ i. m.loose i || is_in at (length bytes) i }
+wrote at bytes m = record {
+  seen = put m.seen at bytes;
+  loose = λ i. m.loose i || is_in at (length bytes) i;
+}
 
 -- the moment after a sync
 abbrev pub synced : Moment → Moment
@@ -42,11 +46,20 @@ first bytes = record { now = record { seen = bytes; loose = λ _. false }; past 
 abbrev pub next : Moment → Trace → Trace
 next m t = record { now = m; past = t.now ∷ t.past }
 
+-- a read of so many bytes gave those that are there
+abbrev pub Reads : Trace → ℕ → List ℕ → List ℕ → Type 0
+Reads t at old new = new ≡ slice_range t.now.seen at (at + length old)
+
 -- a write that failed did nothing, or left any bytes in its range
 abbrev pub Writes : {T E : Type 0} → ℕ → List ℕ → Result T E → Trace → Trace → Type 0
 Writes at bytes result old new =
     MatchResult result (λ _. new ≡ next (wrote at bytes old.now) old)
-    (λ _. (new ≡ old) ⊎ ((b : List ℕ) × (length b ≡ length bytes) × (new ≡ next (wrote at b old.now) old)))
+    (λ _. (new ≡ old)
+    ⊎ ((b : List ℕ) × (length b ≡ length bytes) × (new ≡ next (wrote at b old.now) old)))
+
+-- the bytes were written as given, or nothing was
+abbrev pub IsKeptOrNot : ℕ → List ℕ → Trace → Trace → Type 0
+IsKeptOrNot at bytes old new = (new ≡ next (wrote at bytes old.now) old) ⊎ (new ≡ old)
 
 -- a sync that failed did nothing
 abbrev pub Syncs : {T E : Type 0} → Result T E → Trace → Trace → Type 0

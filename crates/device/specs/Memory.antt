@@ -19,7 +19,8 @@ failures_of m = m.failures.value
 abbrev pub plan_of : MemDevice → Plan
 plan_of m = m.plan
 
--- what it leaves: the bytes at the last sync, all bytes as written, or those at the last sync with each later write torn
+-- what it leaves: the bytes at the last sync, all bytes as written, or those at the last sync with
+-- each later write torn
 abbrev pub left_by : CrashImage → MemDevice → List ℕ
 left_by Drop m = synced_over m.start.items m.calls.items
 left_by Keep m = (trace_of m).now.seen

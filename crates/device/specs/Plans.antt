@@ -10,7 +10,8 @@ no_plan = record { fail_in = 0; stop_in = 0; stopped = false }
 
 -- what becomes of the next call
 abbrev pub fate_of : Plan → Fate
-fate_of plan = if plan.stopped then Dead else if (plan.fail_in == 1) || (plan.stop_in == 1) then Fails else Runs
+fate_of plan = if plan.stopped then Dead
+    else if (plan.fail_in == 1) || (plan.stop_in == 1) then Fails else Runs
 
 -- the plan for the calls behind the next one
 abbrev pub after_call : Plan → Plan

@@ -1,5 +1,5 @@
-//! A device by its bytes: what a read gives, what a crash may leave, how often it failed; and one in memory that can
-//! be made to fail and to crash.
+//! A device by its bytes: what a read gives, what a crash may leave, how often it failed; and one in
+//! memory that can be made to fail and to crash.
 #![tactic(auto)]
 
 mod count;

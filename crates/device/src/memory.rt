@@ -1,7 +1,7 @@
 //! A device in memory.
 
-ghost use Rattle.std.specs.Prelude.{◌≡◌, ◌⊎◌, ◌↔◌, ◌+◌, ◌<◌, ◌≤◌, ◌^◌, suc, Bool, true, IsTrue, IsOk, OnOk, OnErr, IfOk, IfErr, length, replicate, slice_range};
-ghost use Rattle.device.specs.Disk.{MayLeave, first, next, wrote, Counts, Writes, Syncs};
+ghost use Rattle.std.specs.Prelude.{◌≡◌, ◌⊎◌, ◌↔◌, ◌+◌, ◌<◌, ◌≤◌, ◌^◌, suc, Bool, true, IsTrue, IsOk, OnOk, OnErr, IfOk, IfErr, length, replicate};
+ghost use Rattle.device.specs.Disk.{MayLeave, first, Reads, Writes, IsKeptOrNot, Syncs, Counts};
 ghost use Rattle.device.specs.Record.{done, are_inside};
 
 use crate::count::Count;
@@ -18,13 +18,14 @@ pub enum CrashImage {
     Drop,
     /// All bytes as written.
     Keep,
-    /// The bytes at the last successful sync, then each later write in order, its first half as written and each other
-    /// byte A5.
+    /// The bytes at the last successful sync, then each later write in order, its first half as
+    /// written and each other byte A5.
     Tear,
 }
 
-/// A device in memory, which keeps the model. Calls of it can be made to fail, and it can be asked what a crash leaves.
-/// It records its writes and syncs; a call that cannot be recorded does nothing and answers `Io`.
+/// A device in memory, which keeps the model. Calls of it can be made to fail, and it can be asked
+/// what a crash leaves. It records its writes and syncs; a call that cannot be recorded does nothing
+/// and answers `Io`.
 #[derive(Drop)]
 pub struct MemDevice {
     alloc: Global,
@@ -40,11 +41,11 @@ pub struct MemDevice {
 }
 
 impl MemDevice {
-    ghost use Rattle.device.specs.Memory.{trace_of, plan_of, left_by};
+    ghost use Rattle.device.specs.Memory.{trace_of, failures_of, plan_of, left_by};
     ghost use Rattle.device.specs.Plans.{no_plan, failing_at, stopping_at};
 
-    /// A device of so many bytes, all zero and synced, of which no call is made to fail. Without memory for them it is
-    /// refused with `NoMemory`.
+    /// A device of so many bytes, all zero and synced, of which no call is made to fail. Without
+    /// memory for them it is refused with `NoMemory`.
     pub fn new(alloc: Global, len: u64) -> Result<MemDevice, Fault>
         ensures bytes { IfOk result (λ d. trace_of d ≡ first (replicate len 0)) }
         ensures plan { IfOk result (λ d. plan_of d ≡ no_plan) }
@@ -59,27 +60,30 @@ impl MemDevice {
         MemDevice::of_bytes(alloc, start)
     }
 
-    /// The nth call from now, of reads, writes and syncs, fails once. 0: none does. An earlier such plan is dropped; one
-    /// of `stop_at` stands beside it.
+    /// The nth call from now, of reads, writes and syncs, fails once; a write is kept as written all
+    /// the same. 0: none does. An earlier such plan is dropped; one of `stop_at` stands beside it.
     pub fn fail_at(&mut self, n: u64)
         ensures plan { plan_of self.new ≡ failing_at n (plan_of self.old) }
         ensures trace { trace_of self.new ≡ trace_of self.old }
+        ensures failures { failures_of self.new ≡ failures_of self.old }
     {
         self.plan.fail_in = n;
     }
 
-    /// The nth call from now, of reads, writes and syncs, fails, and so does each later one. 0: none does. An earlier
-    /// such plan is dropped, also where it has stopped the device; one of `fail_at` stands beside it.
+    /// The nth call from now, of reads, writes and syncs, fails, and so does each later one. If the
+    /// nth is a write it is kept as written; the later calls do nothing. 0: none does. An earlier such
+    /// plan is dropped, also where it has stopped the device; one of `fail_at` stands beside it.
     pub fn stop_at(&mut self, n: u64)
         ensures plan { plan_of self.new ≡ stopping_at n (plan_of self.old) }
         ensures trace { trace_of self.new ≡ trace_of self.old }
+        ensures failures { failures_of self.new ≡ failures_of self.old }
     {
         self.plan.stop_in = n;
         self.plan.stopped = false;
     }
 
-    /// What a crash now leaves, as a device of its own: its bytes are synced, and no call of it is made to fail.
-    /// Without memory for it the call is refused with `NoMemory`.
+    /// What a crash now leaves, as a device of its own: its bytes are synced, and no call of it is
+    /// made to fail. Without memory for it the call is refused with `NoMemory`.
     pub fn crash(&self, alloc: Global, image: CrashImage) -> Result<MemDevice, Fault>
         ensures bytes { IfOk result (λ d. trace_of d ≡ first (left_by image self.now)) }
         ensures left { MayLeave (trace_of self.now).now (left_by image self.now) }
@@ -118,6 +122,7 @@ impl MemDevice {
     }
 }
 
+/// Counts a failed call.
 fn count_failure(failures: &mut Count) -> Fault
     ensures counted { failures.new.value ≡ suc failures.old.value }
     ensures io { result ≡ Fault.Io }
@@ -144,7 +149,7 @@ impl Device for MemDevice {
 
     fn read_at(&mut self, at: u64, buf: &mut [u8]) -> Result<(), Fault>
         requires range { at + length buf.old ≤ length (trace_of self.old).now.seen }
-        ensures read { OnOk result (buf.new ≡ slice_range (trace_of self.old).now.seen at (at + length buf.old)) }
+        ensures read { OnOk result (Reads (trace_of self.old) at buf.old buf.new) }
         ensures trace { trace_of self.new ≡ trace_of self.old }
         ensures failures { Counts result (failures_of self.old) (failures_of self.new) }
         ensures fate { IsOk result ↔ (fate_of (plan_of self.old) ≡ Fate.Runs) }
@@ -164,10 +169,10 @@ impl Device for MemDevice {
         ensures len { length (trace_of self.new).now.seen ≡ length (trace_of self.old).now.seen }
         ensures failures { Counts result (failures_of self.old) (failures_of self.new) }
         ensures fate { IsOk result → fate_of (plan_of self.old) ≡ Fate.Runs }
-        ensures dead { fate_of (plan_of self.old) ≡ Fate.Dead → trace_of self.new ≡ trace_of self.old }
+        ensures dead { fate_of (plan_of self.old) ≡ Fate.Dead
+            → trace_of self.new ≡ trace_of self.old }
         // A write that fails is kept as written, unless it could not be recorded.
-        ensures kept { OnErr result ((trace_of self.new ≡ next (wrote at bytes.now (trace_of self.old).now) (trace_of self.old))
-            ⊎ (trace_of self.new ≡ trace_of self.old)) }
+        ensures kept { OnErr result (IsKeptOrNot at bytes.now (trace_of self.old) (trace_of self.new)) }
         ensures plan { plan_of self.new ≡ after_call (plan_of self.old) }
     {
         let fate = self.plan.next();

@@ -1,10 +1,10 @@
 -- From a publication to the actions that a log keeps.
-use Rattle.std.proofs.Common.{◌≡◌, ◌⊎◌, inl, inr, ⊎_elim, ℕ, ◌+◌, ◌*◌, ◌^◌, ◌<◌, ◌≤◌, List, [], ◌∷◌, ◌++◌, length, take, drop, Vec, false, refl, sym, ◌∙◌, ap, subst, arith, length-append}
+use Rattle.std.proofs.Common.{◌≡◌, inl, ⊎_elim, ℕ, ◌+◌, ◌*◌, ◌<◌, ◌≤◌, List, [], ◌∷◌, ◌++◌, length, take, drop, Vec, false, refl, sym, ◌∙◌, ap, subst, arith}
 use Rattle.std.proofs.lemmas.List.{with_items_is, append-nil}
 use Rattle.std.specs.declared.alloc.Global.{Global}
 use Rattle.std.specs.Vec.{with_items}
 use Rattle.std.specs.Int.{w32, to_le_bytes}
-use Rattle.device.specs.Disk.{Moment, Trace, MayLeave}
+use Rattle.device.specs.Disk.{Moment, Trace}
 use Rattle.device.specs.Moments.{Goes}
 use Rattle.device.specs.Places.{OnDisk, ChangesOnly}
 use Rattle.device.proofs.Going.{goes_weaker, goes_now}
@@ -12,12 +12,12 @@ use Rattle.device.proofs.Standing.{only_wider, same_only}
 use Rattle.index_model.specs.declared.limits.Limits.{Limits}
 use Rattle.page_codec.specs.declared.page.Page.{Page}
 use Rattle.redo_log.specs.Images.{SameImages, images_bytes, images_of}
-use Rattle.redo_log.specs.Groups.{IsGroup, AreImages, body, Spells, log_range}
-use Rattle.redo_log.specs.Publish.{IsShut, IsShutOrWhole}
-use Rattle.redo_log.specs.Kept.{Keeps, Waits, IsSettled, Holds, HoldsFirst, Restarts}
+use Rattle.redo_log.specs.Groups.{IsGroup, body}
+use Rattle.redo_log.specs.Publish.{IsShutOrWhole}
+use Rattle.redo_log.specs.Kept.{Keeps, IsSettled, Restarts}
 use Rattle.redo_log.specs.declared.log.Log.{Log}
-use Rattle.redo_log.proofs.Leaving.{shut_at, settled_leaves, publishing, published, length_body}
-use Rattle.redo_log.proofs.ImageLists.{same_refl, same_eq, same_trans, images_of-push}
+use Rattle.redo_log.proofs.Leaving.{publishing, published}
+use Rattle.redo_log.proofs.ImageLists.{same_eq, same_trans, images_of-push}
 
 -- no list of no length has elements
 pub none : {A : Type 0} (xs : List A) → length xs ≡ 0 → xs ≡ []
@@ -38,19 +38,6 @@ sealed_piece v given sealed read c waiting was long is laid counted buffered =
     ∙ ap (λ (l : List ℕ). to_le_bytes w32 c ++ take (4096 * c) (drop 4 l) ++ 0 ∷ []) was
     ∙ ap (λ (l : List ℕ). to_le_bytes w32 c ++ l ++ 0 ∷ []) buffered
     ∙ ap (λ (n : ℕ). to_le_bytes w32 n ++ images_bytes waiting ++ 0 ∷ []) (sym counted)
-
--- what a log keeps, a crash leaves
-pub keeps_restarts : (log : Log) (m : Moment) (acts : List (List Page)) (forced : ℕ) → Keeps log m acts forced → Restarts log.limits acts forced m
-keeps_restarts log m acts forced k = λ image left. record {
-  part = forced;
-  from = omega arith;
-  to = k.few;
-  holds = record {
-    groups = k.groups;
-    spells = settled_leaves log.limits 4096 log.limits.log_bytes log.at k.groups m k.settled log.room image left;
-    same = k.durable;
-  };
-}
 
 -- with no image waiting all actions are on the disk
 pub all_forced : (log : Log) (m : Moment) (acts : List (List Page)) (forced : ℕ) → Keeps log m acts forced → log.count ≡ 0 → Keeps log m acts (length acts)

@@ -1,5 +1,5 @@
 -- Images in order: their bytes, and which is a block's last.
-use Rattle.std.proofs.Common.{◌≡◌, ◌≢◌, ℕ, ◌+◌, ◌*◌, ◌<◌, ◌≤◌, List, [], ◌∷◌, ◌++◌, length, take, drop, get_or, Option, Some, None, refl, sym, ◌∙◌, ap, subst, arith, append_assoc, length-append, length-take-le}
+use Rattle.std.proofs.Common.{◌≡◌, ℕ, ◌+◌, ◌*◌, ◌<◌, ◌≤◌, List, [], ◌∷◌, ◌++◌, length, take, drop, get_or, Option, Some, None, refl, sym, ◌∙◌, ap, arith, append_assoc, length-append, length-take-le}
 use Rattle.std.proofs.lemmas.List.{take_more, append-nil, drop-take, drop-append-le}
 use Rattle.std.specs.List.{AllByRecursion}
 use Rattle.index_model.specs.declared.limits.Limits.{Limits}
@@ -7,7 +7,7 @@ use Rattle.page_codec.specs.declared.page.Page.{Page}
 use Rattle.page_codec.specs.Spelling.{page_bytes}
 use Rattle.page_codec.proofs.Laws.{length-page}
 use Rattle.redo_log.specs.Images.{if_of, later_of, last_image, SameImages, images_bytes, images_of}
-use Rattle.redo_log.specs.Groups.{IsImage, AreImages}
+use Rattle.redo_log.specs.Groups.{AreImages}
 
 pub images_bytes-append : (xs ys : List Page) → images_bytes (xs ++ ys) ≡ images_bytes xs ++ images_bytes ys
 images_bytes-append [] ys = refl

@@ -1,11 +1,10 @@
 -- What has been read so far, and that it is the only reading.
-use Rattle.std.proofs.Common.{◌≡◌, ◌≢◌, ◌⊎◌, inl, inr, ℕ, zero, suc, ◌+◌, ◌-◌, ◌*◌, ◌^◌, ◌<◌, ◌≤◌, List, [], ◌∷◌, ◌++◌, length, take, drop, get_or, Option, Some, None, Result, Err, Bool, false, Fits, w8, refl, sym, ◌∙◌, ap, subst, arith, append_assoc, length-append, length-drop, length-take-le, take-append-drop}
+use Rattle.std.proofs.Common.{◌≡◌, ◌≢◌, ℕ, zero, suc, ◌+◌, ◌-◌, ◌*◌, ◌^◌, ◌<◌, ◌≤◌, List, [], ◌∷◌, ◌++◌, length, take, drop, get_or, Result, Err, false, Fits, w8, refl, sym, ◌∙◌, ap, subst, arith, append_assoc, length-append, length-drop, length-take-le, take-append-drop}
 use Rattle.std.proofs.lemmas.List.{take_at, drop_at, append-nil, drop-drop}
 use Rattle.std.proofs.lemmas.Nat.{from_le_bytes-to_le_bytes_4, le_bytes_4}
 use Rattle.std.proofs.lemmas.Bool.Decides.{nat_tests}
 use Rattle.std.specs.Prelude.{◌==◌}
 use Rattle.std.specs.Int.{w32, to_le_bytes, from_le_bytes}
-use Rattle.std.specs.List.{AllByRecursion}
 use Rattle.index_model.specs.declared.limits.Limits.{Limits}
 use Rattle.page_codec.specs.declared.page.Page.{Page}
 use Rattle.page_codec.specs.Spelling.{page_bytes}
@@ -14,7 +13,7 @@ use Rattle.redo_log.specs.Images.{images_bytes, images_of}
 use Rattle.redo_log.specs.Groups.{IsImage, AreImages, IsGroup, AreGroups, body, spelled, Spells}
 use Rattle.redo_log.specs.Reading.{AddsImages, AddsGroup, IsRead}
 use Rattle.redo_log.proofs.ImageLists.{images_bytes-append, length-images_bytes, all-append, images_of-push}
-use Rattle.redo_log.proofs.Leaving.{length_body, spelled-push}
+use Rattle.redo_log.proofs.Leaving.{spelled-push}
 
 -- images were read up to here, and whatever images the bytes are, the rest is images
 pub record ImagesSoFar (limits : Limits) (bytes rest : List ℕ) (old now : List Page) : Type 0 where

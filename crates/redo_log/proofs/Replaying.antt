@@ -1,15 +1,15 @@
 -- From what was read to a log that keeps it.
-use Rattle.std.proofs.Common.{◌≡◌, ◌≢◌, ℕ, ◌+◌, ◌-◌, ◌*◌, ◌<◌, ◌≤◌, List, [], ◌∷◌, ◌++◌, length, take, drop, get_or, false, refl, sym, ◌∙◌, ap, subst, arith, append_assoc, length-append, length-drop, length-take-le}
+use Rattle.std.proofs.Common.{◌≡◌, ℕ, ◌+◌, ◌-◌, ◌*◌, ◌≤◌, List, [], ◌∷◌, ◌++◌, length, take, drop, get_or, false, sym, ◌∙◌, ap, subst, arith, append_assoc, length-append, length-drop, length-take-le}
 use Rattle.std.proofs.lemmas.List.{append-nil, get_or-drop, get_or-take, get_or_append_left}
 use Rattle.std.specs.Prelude.{slice_range}
 use Rattle.device.specs.Disk.{Moment}
-use Rattle.device.specs.Places.{Has, OnDisk}
+use Rattle.device.specs.Places.{Has}
 use Rattle.index_model.specs.declared.limits.Limits.{Limits}
 use Rattle.page_codec.specs.declared.page.Page.{Page}
 use Rattle.redo_log.specs.Images.{images_of}
 use Rattle.redo_log.specs.Groups.{spelled, Spells, log_range}
-use Rattle.redo_log.specs.Kept.{Keeps, IsSettled}
-use Rattle.redo_log.specs.Reading.{IsRead, IsFirm, Replays}
+use Rattle.redo_log.specs.Kept.{IsSettled}
+use Rattle.redo_log.specs.Reading.{IsRead, Replays}
 use Rattle.redo_log.specs.declared.log.Log.{Log}
 use Rattle.redo_log.proofs.ImageLists.{same_eq}
 use Rattle.redo_log.proofs.Forcing.{whole_list}

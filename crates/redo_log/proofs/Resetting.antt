@@ -1,16 +1,15 @@
 -- What the closing of a log leaves.
-use Rattle.std.proofs.Common.{◌≡◌, ◌≢◌, ◌⊎◌, inl, inr, ⊎_elim, ℕ, zero, suc, ◌+◌, ◌*◌, ◌^◌, ◌<◌, ◌≤◌, List, [], ◌∷◌, ◌++◌, length, take, drop, false, Result, Ok, Err, refl, sym, ◌∙◌, ap, subst, arith, length-append}
+use Rattle.std.proofs.Common.{◌≡◌, inl, inr, ⊎_elim, ℕ, ◌+◌, ◌*◌, ◌<◌, ◌≤◌, List, [], ◌∷◌, ◌++◌, length, take, drop, false, Result, Ok, Err, refl, sym, ◌∙◌, ap, subst, arith}
 use Rattle.std.specs.Prelude.{OnOk}
-use Rattle.device.specs.Disk.{Moment, Trace, MayLeave, Writes, Syncs, next, wrote, synced}
+use Rattle.device.specs.Disk.{Moment, Trace, Writes, Syncs, next, wrote}
 use Rattle.device.specs.Moments.{Goes}
 use Rattle.device.specs.Places.{Has, OnDisk, ChangesOnly}
 use Rattle.device.proofs.Going.{steps, goes_on, writes_goes, syncs_goes, goes_weaker}
 use Rattle.device.proofs.Standing.{only_wider, only_more, wrote_only, wrote_has, synced_only, synced_on}
-use Rattle.index_model.specs.declared.limits.Limits.{Limits}
 use Rattle.page_codec.specs.declared.page.Page.{Page}
 use Rattle.redo_log.specs.Images.{images_of}
 use Rattle.redo_log.specs.Groups.{spelled}
-use Rattle.redo_log.specs.Kept.{Keeps, IsSettled, Holds, RestartsOrEmpty}
+use Rattle.redo_log.specs.Kept.{Keeps, RestartsOrEmpty}
 use Rattle.redo_log.specs.declared.log.Log.{Log}
 use Rattle.redo_log.proofs.Forcing.{none}
 use Rattle.redo_log.proofs.Leaving.{resetting}

@@ -1,7 +1,8 @@
 -- What a log stands for, at a moment of its device and after a crash.
-use Rattle.std.specs.Prelude.{◌≡◌, ◌≢◌, ◌⊎◌, ℕ, suc, Result, MatchResult, ◌+◌, ◌*◌, ◌≤◌, Bool, false, true, List, [], ◌∷◌, ◌++◌, length, take, drop}
-use Rattle.device.specs.Disk.{Moment, MayLeave}
-use Rattle.device.specs.Places.{OnDisk}
+use Rattle.std.specs.Prelude.{◌≡◌, ◌≢◌, ◌⊎◌, ℕ, suc, Result, MatchResult, ◌+◌, ◌-◌, ◌*◌, ◌^◌, ◌≤◌, Bool, false, true, List, [], ◌∷◌, ◌++◌, length, take, drop}
+use Rattle.device.specs.Disk.{Moment, Trace, MayLeave}
+use Rattle.device.specs.Moments.{Goes}
+use Rattle.device.specs.Places.{OnDisk, ChangesOnly}
 use Rattle.index_model.specs.declared.fault.Fault.{Fault}
 use Rattle.index_model.specs.declared.fault.Fault.TheVariants.{Io, Stopped}
 use Rattle.index_model.specs.declared.limits.Limits.{Limits}
@@ -34,12 +35,21 @@ end_of log = log.at
 abbrev pub end_with : Log → ℕ → ℕ
 end_with log n = log.at + (6 + 4096 * (log.count + n))
 
+-- n images more would fit
+abbrev pub Fits : Log → ℕ → Type 0
+Fits log n = end_with log n ≤ log.limits.log_bytes
+
+-- it is stopped, or the greatest number was given
+abbrev pub TakesNoMore : Log → Type 0
+TakesNoMore log = (is_stopped log ≡ true) ⊎ (actions_of log ≡ 2 ^ 64 - 1)
+
 -- it has the same sizes and the same number of actions
 pub record SameLog (old new : Log) : Type 0 where
   pub limits : limits_of new ≡ limits_of old
   pub actions : actions_of new ≡ actions_of old
 
--- refused with Io where the device failed once in this call, with Stopped on a log that was stopped; nothing else fails
+-- refused with Io where the device failed once in this call, and with Stopped on a log that was
+-- stopped; nothing else fails
 abbrev pub IoOrStopped : {T : Type 0} → Result T Fault → Bool → ℕ → ℕ → Type 0
 IoOrStopped result was_stopped old new = MatchResult result (λ _. new ≡ old)
     (λ e. ((e ≡ Io) × (new ≡ suc old)) ⊎ ((e ≡ Stopped) × (was_stopped ≡ true) × (new ≡ old)))
@@ -58,8 +68,8 @@ pub record Waits (log : Log) (waiting : List Page) : Type 0 where
   pub images : AreImages log.limits waiting
   pub buffered : take (4096 * log.count) (drop 4 log.buffer.items) ≡ images_bytes waiting
 
--- the log keeps these actions, of which the first so many are forced: on the disk stand the last images of the forced
--- ones, and with those that wait the last images of all
+-- the log keeps these actions, of which the first so many are forced: on the disk stand the last
+-- images of the forced ones, and with those that wait the last images of all
 pub record Keeps (log : Log) (m : Moment) (acts : List (List Page)) (forced : ℕ) : Type 0 where
   pub alive : log.stopped ≡ false
   pub groups : List (List Page)
@@ -70,15 +80,16 @@ pub record Keeps (log : Log) (m : Moment) (acts : List (List Page)) (forced : �
   pub durable : SameImages (images_of groups) (images_of (take forced acts))
   pub all : SameImages (images_of groups ++ waiting) (images_of acts)
 
--- what replay gives of these bytes, applied in order, is for each block the last image that these actions have of it,
--- and nothing for a block that they don't name
+-- what replay gives of these bytes, applied in order, is for each block the last image that these
+-- actions have of it, and nothing for a block that they don't name
 pub record Holds (limits : Limits) (image : List ℕ) (acts : List (List Page)) : Type 0 where
   pub groups : List (List Page)
   pub spells : Spells limits (log_range limits image) groups
   pub same : SameImages (images_of groups) (images_of acts)
 
--- some first part of the actions with every forced one
-pub record HoldsFirst (limits : Limits) (acts : List (List Page)) (forced : ℕ) (image : List ℕ) : Type 0 where
+-- the bytes hold some first part of the actions with every forced one
+pub record HoldsFirst (limits : Limits) (acts : List (List Page)) (forced : ℕ) (image : List ℕ)
+    : Type 0 where
   pub part : ℕ
   pub from : forced ≤ part
   pub to : part ≤ length acts
@@ -86,8 +97,45 @@ pub record HoldsFirst (limits : Limits) (acts : List (List Page)) (forced : ℕ)
 
 -- a crash at this moment leaves some first part of the actions with every forced one
 abbrev pub Restarts : Limits → List (List Page) → ℕ → Moment → Type 0
-Restarts limits acts forced m = (image : List ℕ) → MayLeave m image → HoldsFirst limits acts forced image
+Restarts limits acts forced m =
+    (image : List ℕ) → MayLeave m image → HoldsFirst limits acts forced image
 
 -- a crash at this moment leaves these actions, or nothing
 abbrev pub RestartsOrEmpty : Limits → List (List Page) → Moment → Type 0
-RestartsOrEmpty limits acts m = (image : List ℕ) → MayLeave m image → Holds limits image acts ⊎ Holds limits image []
+RestartsOrEmpty limits acts m =
+    (image : List ℕ) → MayLeave m image → Holds limits image acts ⊎ Holds limits image []
+
+-- whatever actions the log kept, it keeps these images as one more, which isn't forced
+abbrev pub AddsAction : List Page → Log → Log → Type 0
+AddsAction images old new = (m : Moment) (acts : List (List Page)) (forced : ℕ)
+    → Keeps old m acts forced → Keeps new m (acts ++ images ∷ []) forced
+
+-- whatever actions the log kept, all of them are forced now
+abbrev pub ForcesAll : Log → Moment → Log → Moment → Type 0
+ForcesAll old before new after = (acts : List (List Page)) (forced : ℕ)
+    → Keeps old before acts forced → Keeps new after acts (length acts)
+
+-- whatever actions the log kept, if none of their images waited, it keeps none now
+abbrev pub ForgetsAll : Log → Moment → Log → Moment → Type 0
+ForgetsAll old before new after = (acts : List (List Page)) (forced : ℕ)
+    → Keeps old before acts forced → waiting_count old ≡ 0 → Keeps new after [] 0
+
+-- a crash at each moment in between leaves a first part of the actions that the log kept, which has
+-- every one that was forced at the beginning
+abbrev pub RestartsThroughout : Log → Trace → Trace → Type 0
+RestartsThroughout log old new = (acts : List (List Page)) (forced : ℕ)
+    → Keeps log old.now acts forced → Goes (Restarts (limits_of log) acts forced) old new
+
+-- a crash at each moment in between leaves the forced actions that the log kept, or none
+abbrev pub RestartsOrEmptyThroughout : Log → Trace → Trace → Type 0
+RestartsOrEmptyThroughout log old new = (acts : List (List Page)) (forced : ℕ)
+    → Keeps log old.now acts forced
+    → Goes (RestartsOrEmpty (limits_of log) (take forced acts)) old new
+
+-- where the log's range ends on a device
+abbrev pub range_end : Limits → ℕ
+range_end limits = 4096 + limits.log_bytes
+
+-- at each moment in between nothing but the log's range has changed
+abbrev pub ChangesItsRange : Limits → Trace → Trace → Type 0
+ChangesItsRange limits old new = Goes (ChangesOnly 4096 limits.log_bytes old.now) old new

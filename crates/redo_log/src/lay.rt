@@ -10,7 +10,8 @@ use page_codec::{Page, encode};
 /// Lays images behind one another.
 pub(crate) fn lay_images(buffer: &mut [u8], at: usize, images: &[Page])
     requires { at + 4096 * length images.now ≤ length buffer.old }
-    ensures { take (at + 4096 * length images.now) buffer.new ≡ take at buffer.old ++ images_bytes images.now }
+    ensures { take (at + 4096 * length images.now) buffer.new
+        ≡ take at buffer.old ++ images_bytes images.now }
 {
     let mut end = at;
     for image in images {

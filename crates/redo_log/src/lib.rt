@@ -1,9 +1,15 @@
-//! A redo log: whole pages, in groups behind gates, of which a crash leaves a first part that has all that was forced.
+//! A redo log: whole pages, in groups behind gates, of which a crash leaves a first part that has all
+//! that was forced.
 #![tactic(auto)]
 
+mod image;
 mod lay;
 mod log;
 mod publish;
 mod reading;
 
+pub use image::are_images;
 pub use log::{LOG_START, Log, Replayed};
+
+#[cfg(test)]
+mod tests;

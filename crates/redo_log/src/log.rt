@@ -1,12 +1,8 @@
 //! The log.
 
-ghost use Rattle.std.specs.Prelude.{◌⊎◌, ◌≡◌, ◌≤◌, ◌<◌, ◌+◌, ◌*◌, ◌-◌, ◌^◌, ℕ, suc, List, [], ◌∷◌, ◌++◌, true, IsTrue, IsErrOf, OnOk, OnErr, IfOk, IfErr, is_err, length, take};
-ghost use Rattle.device.specs.Disk.{Moment};
-ghost use Rattle.device.specs.Moments.{Goes};
-ghost use Rattle.device.specs.Places.{ChangesOnly};
+ghost use Rattle.std.specs.Prelude.{◌⊎◌, ◌≡◌, ◌≤◌, ◌<◌, ◌+◌, ◌*◌, ◌^◌, ℕ, suc, IsTrue, IsErrOf, OnOk, OnErr, IfOk, IfErr, is_err, length};
 ghost use Rattle.index_model.specs.Limits.{AreLimits};
-ghost use Rattle.page_codec.specs.declared.page.Page.{Page};
-ghost use Rattle.redo_log.specs.Groups.{AreImages, Spells, log_range};
+ghost use Rattle.redo_log.specs.Groups.{AreImages};
 
 use crate::lay::{lay_images, seal};
 use crate::publish::{publish, shut};
@@ -19,7 +15,8 @@ use std::alloc::Global;
 /// Where the log begins on a device.
 pub const LOG_START: u64 = 4096;
 
-/// A log, which lies in its range of a device. The room for the group that waits was made when it was opened.
+/// A log, which lies in its range of a device. The room for the group that waits was made when it
+/// was opened.
 #[derive(Drop)]
 pub struct Log {
     limits: Limits,
@@ -39,34 +36,45 @@ pub struct Log {
 }
 
 impl Log {
-    ghost use Rattle.redo_log.specs.Reading.{Replays, IsOpened, ReplayFails};
-    ghost use Rattle.redo_log.specs.Kept.{Keeps, Restarts, RestartsOrEmpty, SameLog, IoOrStopped, limits_of, is_stopped, actions_of, waiting_count, end_of, end_with};
+    ghost use Rattle.redo_log.specs.Kept.{limits_of, is_stopped, actions_of, waiting_count, end_of, end_with, range_end, Fits, TakesNoMore};
+    ghost use Rattle.redo_log.specs.Kept.{AddsAction, ForcesAll, ForgetsAll, RestartsThroughout, RestartsOrEmptyThroughout, SameLog, ChangesItsRange, IoOrStopped};
+    ghost use Rattle.redo_log.specs.Reading.{Replays, IsOpened, IsDamaged, ReplayFails};
+
+    /// The sizes that it was opened with.
+    pub fn limits(&self) -> Limits
+        ensures { result ≡ limits_of self.now }
+    {
+        self.limits
+    }
 
     /// How many images one more action could hold now.
     pub fn room(&self) -> u32
-        ensures fit { (n : ℕ) → 0 < n → n ≤ result → end_with self.now n ≤ (limits_of self.now).log_bytes }
-        ensures no_more { (n : ℕ) → result < n → (limits_of self.now).log_bytes < end_with self.now n }
+        ensures fit { (n : ℕ) → 0 < n → n ≤ result → Fits self.now n }
+        ensures no_more { (n : ℕ) → result < n → ¬ Fits self.now n }
     {
         let left = self.limits.log_bytes - self.at as u32;
         left.saturating_sub(6) / 4096 - self.count
     }
 
-    /// Takes the images of one action, which wait for the next `force`. It answers the action's number, counted from 1
-    /// since the log was opened. Refused, with nothing changed: on a stopped log, or with the greatest number given
-    /// (`Stopped`); where the images don't fit behind those that wait (`LogFull`), never up to `room()` of them.
+    /// Takes the images of one action, which wait for the next `force`. It answers the action's
+    /// number, counted from 1 since the log was opened.
+    ///
+    /// Refused, with nothing changed: on a stopped log, or where the greatest number was given
+    /// (`Stopped`); where the images don't fit behind those that wait (`LogFull`), which is never so
+    /// up to `room()` of them.
     pub fn append(&mut self, images: &[Page]) -> Result<u64, Fault>
         requires images { AreImages (limits_of self.old) images.now }
 
+        ensures keeps { OnOk result (AddsAction images.now self.old self.new) }
         ensures number { IfOk result (λ n. n ≡ suc (actions_of self.old)) }
-        ensures keeps { (m : Moment) (acts : List (List Page)) (forced : ℕ) → Keeps self.old m acts forced
-            → OnOk result (Keeps self.new m (acts ++ images.now ∷ []) forced) }
         ensures actions { OnOk result (actions_of self.new ≡ suc (actions_of self.old)) }
+        ensures room { OnOk result ((n : ℕ)
+            → end_with self.new n ≤ end_with self.old (length images.now + n)) }
         ensures limits { limits_of self.new ≡ limits_of self.old }
 
         ensures err { OnErr result (self.new ≡ self.old) }
-        ensures cause { IfErr result (λ e.
-            ((e ≡ Fault.Stopped) × (IsTrue (is_stopped self.old) ⊎ (actions_of self.old ≡ 2 ^ 64 - 1)))
-            ⊎ ((e ≡ Fault.LogFull) × ((limits_of self.old).log_bytes < end_with self.old (length images.now)))) }
+        ensures cause { IfErr result (λ e. ((e ≡ Fault.Stopped) × TakesNoMore self.old)
+            ⊎ ((e ≡ Fault.LogFull) × (¬ Fits self.old (length images.now)))) }
     {
         if self.stopped || self.actions == u64::MAX {
             return Err(Fault::Stopped);
@@ -80,28 +88,30 @@ impl Log {
         Ok(self.actions)
     }
 
-    /// Makes every action durable that was appended, and answers how many were since the log was opened. With nothing
-    /// to write the device isn't called. At `Io` the log is stopped; a stopped log answers `Stopped`.
+    /// Makes every action durable that was appended, and answers how many were since the log was
+    /// opened. With nothing to write the device isn't called.
+    ///
+    /// At `Io` the log is stopped; a stopped log answers `Stopped`.
     pub fn force<D: Device>(&mut self, device: &mut D) -> Result<u64, Fault>
-        requires range { LOG_START + (limits_of self.old).log_bytes ≤ length (D.trace device.old).now.seen }
+        requires range { range_end (limits_of self.old) ≤ length (D.trace device.old).now.seen }
 
-        ensures keeps { (acts : List (List Page)) (forced : ℕ) → Keeps self.old (D.trace device.old).now acts forced
-            → OnOk result (Keeps self.new (D.trace device.new).now acts (length acts)) }
-        // A crash at any moment leaves a first part of the actions that has all that were forced before.
-        ensures moments { (acts : List (List Page)) (forced : ℕ) → Keeps self.old (D.trace device.old).now acts forced
-            → Goes (Restarts (limits_of self.old) acts forced) (D.trace device.old) (D.trace device.new) }
-
+        ensures keeps { OnOk result
+            (ForcesAll self.old (D.trace device.old).now self.new (D.trace device.new).now) }
+        ensures moments { RestartsThroughout self.old (D.trace device.old) (D.trace device.new) }
         ensures number { IfOk result (λ n. n ≡ actions_of self.old) }
         ensures written { OnOk result (waiting_count self.new ≡ 0) }
+        // It costs at most one image of room.
+        ensures room { OnOk result ((n : ℕ) → end_with self.new n ≤ end_with self.old (suc n)) }
         ensures same { SameLog self.old self.new }
         ensures stopped { is_stopped self.new ≡ is_err result }
 
-        ensures outside { Goes (ChangesOnly LOG_START (limits_of self.old).log_bytes (D.trace device.old).now)
-            (D.trace device.old) (D.trace device.new) }
+        ensures outside { ChangesItsRange (limits_of self.old) (D.trace device.old) (D.trace device.new) }
         ensures len { length (D.trace device.new).now.seen ≡ length (D.trace device.old).now.seen }
         ensures honest { D.is_honest device.new ≡ D.is_honest device.old }
-        ensures idle { (IsTrue (is_stopped self.old) ⊎ (waiting_count self.old ≡ 0)) → device.new ≡ device.old }
-        ensures cause { IoOrStopped result (is_stopped self.old) (D.failures device.old) (D.failures device.new) }
+        ensures idle { IsTrue (is_stopped self.old) ⊎ (waiting_count self.old ≡ 0)
+            → device.new ≡ device.old }
+        ensures cause { IoOrStopped result (is_stopped self.old)
+            (D.failures device.old) (D.failures device.new) }
     {
         if self.stopped {
             return Err(Fault::Stopped);
@@ -119,28 +129,29 @@ impl Log {
         Ok(self.actions)
     }
 
-    /// Closes the log: its groups no longer count. Where no group is open the device isn't called, since a gate that
-    /// isn't open could be torn to an open one by its writing. At `Io` the log is stopped; a stopped log answers
-    /// `Stopped`.
+    /// Closes the log: its groups no longer count. Where no group is open the device isn't called,
+    /// since a crash could leave a gate that is written as an open one, in front of old bytes.
+    ///
+    /// At `Io` the log is stopped; a stopped log answers `Stopped`.
     pub fn reset<D: Device>(&mut self, device: &mut D) -> Result<(), Fault>
-        requires range { LOG_START + (limits_of self.old).log_bytes ≤ length (D.trace device.old).now.seen }
+        requires range { range_end (limits_of self.old) ≤ length (D.trace device.old).now.seen }
 
-        ensures keeps { (acts : List (List Page)) (forced : ℕ) → Keeps self.old (D.trace device.old).now acts forced
-            → waiting_count self.old ≡ 0 → OnOk result (Keeps self.new (D.trace device.new).now [] 0) }
-        // A crash at any moment leaves what was forced before, or nothing.
-        ensures moments { (acts : List (List Page)) (forced : ℕ) → Keeps self.old (D.trace device.old).now acts forced
-            → Goes (RestartsOrEmpty (limits_of self.old) (take forced acts)) (D.trace device.old) (D.trace device.new) }
-
+        ensures keeps { OnOk result
+            (ForgetsAll self.old (D.trace device.old).now self.new (D.trace device.new).now) }
+        ensures moments { RestartsOrEmptyThroughout self.old (D.trace device.old) (D.trace device.new) }
         ensures waiting { waiting_count self.new ≡ waiting_count self.old }
+        ensures room { OnOk result ((n : ℕ)
+            → end_with self.new n ≡ 6 + 4096 * (waiting_count self.old + n)) }
         ensures same { SameLog self.old self.new }
         ensures stopped { is_stopped self.new ≡ is_err result }
 
-        ensures outside { Goes (ChangesOnly LOG_START (limits_of self.old).log_bytes (D.trace device.old).now)
-            (D.trace device.old) (D.trace device.new) }
+        ensures outside { ChangesItsRange (limits_of self.old) (D.trace device.old) (D.trace device.new) }
         ensures len { length (D.trace device.new).now.seen ≡ length (D.trace device.old).now.seen }
         ensures honest { D.is_honest device.new ≡ D.is_honest device.old }
-        ensures idle { (IsTrue (is_stopped self.old) ⊎ (end_of self.old ≡ 0)) → device.new ≡ device.old }
-        ensures cause { IoOrStopped result (is_stopped self.old) (D.failures device.old) (D.failures device.new) }
+        ensures idle { IsTrue (is_stopped self.old) ⊎ (end_of self.old ≡ 0)
+            → device.new ≡ device.old }
+        ensures cause { IoOrStopped result (is_stopped self.old)
+            (D.failures device.old) (D.failures device.new) }
     {
         if self.stopped {
             return Err(Fault::Stopped);
@@ -155,21 +166,23 @@ impl Log {
         Ok(())
     }
 
-    /// Opens the log that lies on a device, and gives the images of its open groups, in order. It reads the log's range
-    /// once. Refused: where the device fails (`Io`), where memory is refused (`NoMemory`), and with `LogDamaged`
-    /// exactly where an open group is none.
+    /// Opens the log that lies on a device, and gives the images of its open groups, in order. It
+    /// reads the log's range once.
+    ///
+    /// Refused: where the device fails (`Io`), where memory is refused (`NoMemory`), and with
+    /// `LogDamaged` exactly where an open group is none.
     pub fn replay<D: Device>(
         alloc: Global,
         device: &mut D,
         limits: Limits,
     ) -> Result<Replayed, Fault>
         requires limits { AreLimits limits }
-        requires range { LOG_START + limits.log_bytes ≤ length (D.trace device.old).now.seen }
+        requires range { range_end limits ≤ length (D.trace device.old).now.seen }
 
         ensures ok { IfOk result (λ r. IsTrue (D.is_honest device.new)
             → Replays limits (D.trace device.old).now r.log r.images.items) }
         ensures damaged { IsErrOf result Fault.LogDamaged → IsTrue (D.is_honest device.new)
-            → (groups : List (List Page)) → Spells limits (log_range limits (D.trace device.old).now.seen) groups → ⊥ }
+            → IsDamaged limits (D.trace device.old).now }
         ensures opened { IfOk result (λ r. IsOpened limits r.log) }
 
         ensures trace { D.trace device.new ≡ D.trace device.old }

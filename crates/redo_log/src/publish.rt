@@ -9,8 +9,8 @@ ghost use Rattle.redo_log.specs.Publish.{IsShut, IsShutOrWhole};
 use device::Device;
 use index_model::Fault;
 
-/// Writes the piece behind the gate and syncs it, then opens the gate and syncs that. A crash at any moment leaves the
-/// gate closed, or the whole piece behind it.
+/// Writes the piece behind the gate and syncs it, then opens the gate and syncs that. A crash at any
+/// moment leaves the gate closed, or the whole piece behind it.
 pub(crate) fn publish<D: Device>(device: &mut D, gate: u64, body: &[u8]) -> Result<(), Fault>
     requires room { gate + (length body.now + 1) ≤ length (D.trace device.old).now.seen }
     ensures ok { OnOk result (OnDisk gate (1 ∷ body.now) (D.trace device.new).now) }
@@ -30,7 +30,8 @@ pub(crate) fn publish<D: Device>(device: &mut D, gate: u64, body: &[u8]) -> Resu
 pub(crate) fn shut<D: Device>(device: &mut D, gate: u64) -> Result<(), Fault>
     requires inside { gate + 1 ≤ length (D.trace device.old).now.seen }
     ensures ok { OnOk result (OnDisk gate (0 ∷ []) (D.trace device.new).now) }
-    ensures moments { Goes (ChangesOnly gate 1 (D.trace device.old).now) (D.trace device.old) (D.trace device.new) }
+    ensures moments { Goes (ChangesOnly gate 1 (D.trace device.old).now)
+        (D.trace device.old) (D.trace device.new) }
     ensures len { length (D.trace device.new).now.seen ≡ length (D.trace device.old).now.seen }
     ensures honest { D.is_honest device.new ≡ D.is_honest device.old }
     ensures failures { Counts result (D.failures device.old) (D.failures device.new) }

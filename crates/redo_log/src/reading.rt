@@ -2,33 +2,16 @@
 
 ghost use Rattle.std.specs.Prelude.{◌≡◌, ◌⊎◌, ℕ, ◌+◌, ◌*◌, ◌<◌, ◌≤◌, List, ◌∷◌, ◌++◌, length, take, drop, IsErrOf, IsTrue, Some, ◌↔◌, IfSome, OnOk, IfOk, IfErr};
 ghost use Rattle.page_codec.specs.declared.page.Page.{Page};
-ghost use Rattle.page_codec.specs.Spelling.{count_of, page_bytes};
+ghost use Rattle.page_codec.specs.Spelling.{page_bytes};
 ghost use Rattle.page_codec.specs.Grammar.{IsPage};
 ghost use Rattle.redo_log.specs.Images.{images_bytes};
-ghost use Rattle.redo_log.specs.Groups.{IsWithin, IsImage, AreImages, IsGroup, body, Spells};
+ghost use Rattle.redo_log.specs.Groups.{IsImage, AreImages, IsGroup, body, Spells};
 ghost use Rattle.redo_log.specs.Reading.{AddsImages, AddsGroup, IsRead};
 
+use crate::image::is_within;
 use index_model::{Fault, Limits};
-use page_codec::{Items, Page, decode};
+use page_codec::{Page, decode};
 use std::alloc::Global;
-
-/// How many items there are.
-fn count(items: &Items) -> usize
-    ensures { result ≡ count_of items.now }
-{
-    match items {
-        Items::Meta => 0,
-        Items::Entries(entries) => entries.len(),
-        Items::Downlinks(links) => links.len(),
-    }
-}
-
-/// Whether an index of these limits may have the page.
-fn is_within(limits: &Limits, page: &Page) -> bool
-    ensures { IsTrue result ↔ IsWithin limits.now page.now }
-{
-    page.block < limits.pages && count(&page.items) <= limits.items as usize
-}
 
 /// The page of these bytes, if they are those of a page.
 fn page_of(bytes: &[u8]) -> Option<Page>
@@ -91,12 +74,13 @@ fn read_images(limits: &Limits, images: &mut Vec<Page>, bytes: &[u8]) -> Result<
     Ok(())
 }
 
-/// Adds the images of the group that stands behind a gate, and answers how many they are. Bytes that are no group, or
-/// behind whose group nothing stands, are refused with `LogDamaged`.
+/// Adds the images of the group that stands behind a gate, and answers how many they are. Bytes that
+/// are no group, or behind whose group nothing stands, are refused with `LogDamaged`.
 fn read_group(limits: &Limits, images: &mut Vec<Page>, behind: &[u8]) -> Result<usize, Fault>
-    ensures ok { IfOk result (λ n. AddsGroup limits.now behind.now n images.old.items images.new.items) }
-    ensures damaged { IsErrOf result Fault.LogDamaged → (group : List Page) (rest : List ℕ) → IsGroup limits.now group
-        → 0 < length rest → behind.now ≡ body group ++ rest → ⊥ }
+    ensures ok { IfOk result (λ n.
+        AddsGroup limits.now behind.now n images.old.items images.new.items) }
+    ensures damaged { IsErrOf result Fault.LogDamaged → (group : List Page) (rest : List ℕ)
+        → IsGroup limits.now group → 0 < length rest → behind.now ≡ body group ++ rest → ⊥ }
     ensures fault { IfErr result (λ e. (e ≡ Fault.NoMemory) ⊎ (e ≡ Fault.LogDamaged)) }
 {
     let Some((number, bodies)) = behind.split_first_chunk() else {
@@ -120,7 +104,8 @@ pub(crate) fn read_groups(
 ) -> Result<(Vec<Page>, usize), Fault>
     requires { 0 < length bytes.now }
     ensures ok { IfOk result (λ r. IsRead limits.now bytes.now r.0.items r.1) }
-    ensures damaged { IsErrOf result Fault.LogDamaged → (groups : List (List Page)) → Spells limits.now bytes.now groups → ⊥ }
+    ensures damaged { IsErrOf result Fault.LogDamaged
+        → (groups : List (List Page)) → Spells limits.now bytes.now groups → ⊥ }
     ensures fault { IfErr result (λ e. (e ≡ Fault.NoMemory) ⊎ (e ≡ Fault.LogDamaged)) }
 {
     let mut images = Vec::new(alloc);

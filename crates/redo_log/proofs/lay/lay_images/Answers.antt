@@ -1,4 +1,4 @@
-use Rattle.std.proofs.Common.{◌≡◌, ◌+◌, ◌-◌, ◌*◌, ◌++◌, ℕ, List, take, length, sym, ◌∙◌, ap, arith, append_assoc}
+use Rattle.std.proofs.Common.{◌≡◌, ◌+◌, ◌-◌, ◌++◌, ℕ, List, take, length, sym, ◌∙◌, ap, arith, append_assoc}
 use Rattle.std.proofs.lemmas.Slice.{take-put_mid}
 use Rattle.redo_log.specs.Images.{images_bytes}
 use Rattle.redo_log.proofs.ImageLists.{images_bytes-more}

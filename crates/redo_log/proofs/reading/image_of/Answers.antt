@@ -1,4 +1,3 @@
-use Rattle.std.proofs.Common.{refl}
 use Rattle.redo_log.proofs.reading.image_of.Goals as goal
 
 pub returns-in_err-page-clause-only : goal.returns-in_err-page-clause-only

@@ -1,8 +1,8 @@
-use Rattle.std.proofs.Common.{◌≡◌, ◌<◌, ◌∙◌, ◌*◌, ◌^◌, ℕ, List, length, take, drop, sym, ap, subst, refl, arith, length-take-le, Err}
+use Rattle.std.proofs.Common.{◌≡◌, ◌∙◌, ◌*◌, ℕ, List, length, take, ap, subst, refl, arith, length-take-le, Err}
 use Rattle.std.specs.Int.{w32, from_le_bytes}
 use Rattle.index_model.specs.declared.fault.Fault.TheVariants.{LogDamaged}
 use Rattle.redo_log.specs.Reading.{AddsImages}
-use Rattle.redo_log.proofs.Parsing.{group_count, group_fits, group_images, group_added, same_err, take_small}
+use Rattle.redo_log.proofs.Parsing.{group_fits, group_images, group_added, same_err, take_small}
 use Rattle.redo_log.proofs.reading.read_group.Goals.{then-count-eq0-via-then-count-eq0, then-count-eq0-via-else-count-eq0+then-bodies-count}
 use Rattle.redo_log.proofs.reading.read_group.Goals as goal
 

@@ -1,6 +1,5 @@
-use Rattle.std.proofs.Common.{◌≡◌, ◌∙◌, ◌+◌, ◌*◌, List, ℕ, drop, length, refl, sym, ap, subst, Err}
+use Rattle.std.proofs.Common.{◌≡◌, ◌∙◌, List, ℕ, refl, sym, ap, subst, Err}
 use Rattle.index_model.specs.declared.fault.Fault.TheVariants.{LogDamaged}
-use Rattle.redo_log.specs.Groups.{body}
 use Rattle.redo_log.specs.Reading.{AddsGroup}
 use Rattle.redo_log.proofs.Parsing.{GroupsSoFar, group_read, no_group, groups_end, same_err}
 use Rattle.redo_log.proofs.reading.read_groups.Goals as goal

@@ -1,7 +1,5 @@
-use Rattle.std.proofs.Common.{◌≡◌, ◌<◌, ◌∙◌, [], ◌∷◌, ◌++◌, ℕ, List, length, take, drop, Some, sym, ap, subst, arith}
-use Rattle.page_codec.specs.Spelling.{page_bytes}
-use Rattle.redo_log.specs.Groups.{IsImage}
-use Rattle.redo_log.proofs.Parsing.{ImagesSoFar, not_zero, enough, image_read, no_image, images_end}
+use Rattle.std.proofs.Common.{◌∙◌, ℕ, List, drop, sym, subst}
+use Rattle.redo_log.proofs.Parsing.{ImagesSoFar, not_zero, enough, image_read, no_image}
 use Rattle.redo_log.proofs.reading.read_images.Goals as goal
 
 pub front-requires : goal.front-requires

@@ -1,4 +1,4 @@
-use Rattle.std.proofs.Common.{◌≡◌, ◌+◌, ◌*◌, ◌<◌, ℕ, List, length, refl, ◌∙◌, arith, length-take-le}
+use Rattle.std.proofs.Common.{◌+◌, ◌*◌, ◌<◌, refl, ◌∙◌, arith, length-take-le}
 use Rattle.redo_log.proofs.Forcing.{sealed_piece, forced_goes, forced_keeps, publish_only}
 use Rattle.redo_log.proofs.log.Log.force.Goals as goal
 

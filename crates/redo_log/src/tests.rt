@@ -1,0 +1,253 @@
+use super::*;
+use arrayvec::ArrayVec;
+use device::{CrashImage, Device, MemDevice};
+use index_model::{Fault, Limits};
+use page_codec::{Items, Page, PageState};
+use std::alloc::Global;
+use std::test::{Fail, *};
+
+const LIMITS: Limits = Limits {
+    items: 4,
+    pages: 8,
+    log_bytes: 65_536,
+};
+
+const LEN: u64 = 4096 + 65_536 + 4096;
+
+const IMAGES: [CrashImage; 3] = [CrashImage::Drop, CrashImage::Keep, CrashImage::Tear];
+
+fn page(block: u32, cycle: u32) -> Page {
+    Page {
+        block,
+        level: 0,
+        state: PageState::Live,
+        split: false,
+        left: None,
+        right: None,
+        high: None,
+        cycle,
+        deletion: 0,
+        items: Items::Entries(ArrayVec::new()),
+    }
+}
+
+fn replay(alloc: Global, device: &mut MemDevice) -> Result<Replayed, Fault> {
+    if device.len() != LEN {
+        return Err(Fault::DeviceTooSmall);
+    }
+    Log::replay(alloc, device, LIMITS)
+}
+
+fn append(log: &mut Log, pages: &[Page]) -> Result<u64, Fault> {
+    if !are_images(&log.limits(), pages) {
+        return Err(Fault::PageDamaged(0));
+    }
+    log.append(pages)
+}
+
+fn force(log: &mut Log, device: &mut MemDevice) -> Result<u64, Fault> {
+    if device.len() < LOG_START + u64::from(log.limits().log_bytes) {
+        return Err(Fault::DeviceTooSmall);
+    }
+    log.force(device)
+}
+
+fn reset(log: &mut Log, device: &mut MemDevice) -> Result<(), Fault> {
+    if device.len() < LOG_START + u64::from(log.limits().log_bytes) {
+        return Err(Fault::DeviceTooSmall);
+    }
+    log.reset(device)
+}
+
+// Action k changes two of three blocks to cycle k.
+fn act(log: &mut Log, k: u32) -> Result<u64, Fault> {
+    append(log, &[page(k % 3 + 1, k), page((k % 3 + 1) % 3 + 1, k)])
+}
+
+// The last cycle of each block after the actions from one to another, by a plain list.
+fn after(from: u32, to: u32) -> [u32; 8] {
+    let mut last = [0; 8];
+    for k in from..to {
+        last[(k % 3 + 1) as usize] = k;
+        last[((k + 1) % 3 + 1) as usize] = k;
+    }
+    last
+}
+
+fn found(images: &[Page]) -> [u32; 8] {
+    let mut last = [0; 8];
+    for image in images {
+        if let Some(place) = last.get_mut(image.block as usize) {
+            *place = image.cycle;
+        }
+    }
+    last
+}
+
+// What a run came to: the actions from `first` to before `forced` are forced, those to before
+// `appended` were appended.
+#[derive(Clone, Copy)]
+struct Run {
+    first: u32,
+    forced: u32,
+    appended: u32,
+    closing: bool,
+    failed: bool,
+}
+
+fn two_then_one(log: &mut Log, device: &mut MemDevice, run: &mut Run) -> Result<(), Fault> {
+    act(log, 1)?;
+    run.appended = 2;
+    act(log, 2)?;
+    run.appended = 3;
+    force(log, device)?;
+    run.forced = 3;
+    act(log, 3)?;
+    run.appended = 4;
+    force(log, device)?;
+    run.forced = 4;
+    Ok(())
+}
+
+fn closed_then_one(log: &mut Log, device: &mut MemDevice, run: &mut Run) -> Result<(), Fault> {
+    run.closing = true;
+    reset(log, device)?;
+    *run = Run {
+        first: 4,
+        forced: 4,
+        appended: 4,
+        closing: false,
+        failed: false,
+    };
+    act(log, 4)?;
+    run.appended = 5;
+    force(log, device)?;
+    run.forced = 5;
+    act(log, 5)?;
+    run.appended = 6;
+    Ok(())
+}
+
+fn drive(log: &mut Log, device: &mut MemDevice) -> Run {
+    let mut run = Run {
+        first: 1,
+        forced: 1,
+        appended: 1,
+        closing: false,
+        failed: false,
+    };
+    if two_then_one(log, device, &mut run).is_err()
+        || closed_then_one(log, device, &mut run).is_err()
+    {
+        run.failed = true;
+    }
+    run
+}
+
+fn is_allowed(run: Run, images: &[Page]) -> bool {
+    let last = found(images);
+    if run.closing {
+        return images.is_empty() || last == after(run.first, run.forced);
+    }
+    for to in run.forced..run.appended.saturating_add(1) {
+        if last == after(run.first, to) {
+            return true;
+        }
+    }
+    false
+}
+
+fn planned(alloc: Global, n: u64, stops: bool) -> Result<(Run, Log, MemDevice), Fault> {
+    let mut device = MemDevice::new(alloc, LEN)?;
+    let mut log = replay(alloc, &mut device)?.log;
+    if stops {
+        device.stop_at(n);
+    } else {
+        device.fail_at(n);
+    }
+    let run = drive(&mut log, &mut device);
+    Ok((run, log, device))
+}
+
+#[test]
+fn a_crash_leaves_a_first_part(rt: HostRuntime) -> Result<(), Fail> {
+    let mut failed = 0u64;
+    for n in 1..20 {
+        for stops in [false, true] {
+            let (run, mut log, device) = planned(rt.alloc(), n, stops)?;
+            for image in IMAGES {
+                let mut left = device.crash(rt.alloc(), image)?;
+                let replayed = replay(rt.alloc(), &mut left)?;
+                assert!(rt; is_allowed(run, &replayed.images), "call {n}");
+            }
+            if run.failed {
+                failed = failed.saturating_add(1);
+                assert_eq!(rt; act(&mut log, 6), Err(Fault::Stopped));
+            }
+        }
+    }
+    // Three forces and a reset make fourteen calls.
+    assert_eq!(rt; failed, 28);
+    Ok(())
+}
+
+#[test]
+fn a_fresh_log_holds_fifteen_images(rt: HostRuntime) -> Result<(), Fail> {
+    let mut device = MemDevice::new(rt.alloc(), LEN)?;
+    let mut log = replay(rt.alloc(), &mut device)?.log;
+    assert_eq!(rt; log.room(), 15);
+    for k in 0..15 {
+        assert_eq!(rt; append(&mut log, &[page(1, k)]), Ok(u64::from(k) + 1));
+        assert_eq!(rt; log.room(), 14 - k);
+    }
+    assert_eq!(rt; append(&mut log, &[page(1, 15)]), Err(Fault::LogFull));
+    assert_eq!(rt; force(&mut log, &mut device), Ok(15));
+    assert_eq!(rt; replay(rt.alloc(), &mut device)?.images.len(), 15);
+    assert_eq!(rt; reset(&mut log, &mut device), Ok(()));
+    assert_eq!(rt; log.room(), 15);
+    Ok(())
+}
+
+#[test]
+fn nothing_to_write_makes_no_call(rt: HostRuntime) -> Result<(), Fail> {
+    let mut device = MemDevice::new(rt.alloc(), LEN)?;
+    let mut log = replay(rt.alloc(), &mut device)?.log;
+    device.fail_at(1);
+    assert_eq!(rt; force(&mut log, &mut device), Ok(0));
+    assert_eq!(rt; reset(&mut log, &mut device), Ok(()));
+    assert!(rt; replay(rt.alloc(), &mut device).is_err());
+    Ok(())
+}
+
+// Behind a closed gate the old group still stands: had `reset` written that gate once more, a crash
+// could have left any byte there, and with a 1 the restart would have taken the old group again.
+#[test]
+fn an_open_gate_in_front_of_old_bytes_would_be_replayed(rt: HostRuntime) -> Result<(), Fail> {
+    let mut device = MemDevice::new(rt.alloc(), LEN)?;
+    let mut log = replay(rt.alloc(), &mut device)?.log;
+    assert_eq!(rt; act(&mut log, 1), Ok(1));
+    assert_eq!(rt; force(&mut log, &mut device), Ok(1));
+    assert_eq!(rt; reset(&mut log, &mut device), Ok(()));
+    assert_eq!(rt; replay(rt.alloc(), &mut device)?.images.len(), 0);
+    let mut torn = device.crash(rt.alloc(), CrashImage::Keep)?;
+    if torn.len() == LEN {
+        assert!(rt; torn.write_at(LOG_START, &[1]).is_ok());
+    }
+    assert_eq!(rt; replay(rt.alloc(), &mut torn)?.images.len(), 2);
+    Ok(())
+}
+
+#[test]
+fn an_open_group_of_no_image_is_damage(rt: HostRuntime) -> Result<(), Fail> {
+    for (gate, is_damage) in [(0, false), (1, true), (2, false)] {
+        let mut device = MemDevice::new(rt.alloc(), LEN)?;
+        if device.len() == LEN {
+            assert!(rt; device.write_at(LOG_START, &[gate, 0, 0, 0, 0]).is_ok());
+        }
+        match replay(rt.alloc(), &mut device) {
+            Ok(replayed) => assert!(rt; replayed.images.is_empty() && !is_damage),
+            Err(fault) => assert!(rt; fault == Fault::LogDamaged && is_damage),
+        }
+    }
+    Ok(())
+}
