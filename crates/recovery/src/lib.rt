@@ -4,3 +4,6 @@
 mod creation;
 
 pub use creation::create;
+
+#[cfg(test)]
+mod tests;
