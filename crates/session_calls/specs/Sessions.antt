@@ -1,5 +1,5 @@
 -- One session's call over the history of all actions: what stands between its events, and what an event does.
-use Rattle.std.specs.Prelude.{◌≡◌, ◌≢◌, ◌⊎◌, ℕ, suc, ◌<◌, ◌||◌, Bool, true, false, Option, Some, None, List, [], ◌∷◌, ◌++◌, length}
+use Rattle.std.specs.Prelude.{◌≡◌, ◌≢◌, ◌⊎◌, ℕ, suc, ◌<◌, ◌||◌, Bool, true, false, if◌then◌else◌, Option, Some, None, List, [], ◌∷◌, ◌++◌, length}
 use Rattle.index_model.specs.Actions.{Effect, Add, Remove, Shape, Action, contents_after, ThereAtSomeMoment}
 use Rattle.index_model.specs.Calls.{Ask, AskInsert, AskScan, AskBulkDelete, AskCleanup, Ending, Running, Added as EndsAdded, Finished as EndsFinished, GivenUp, Failed, Call, GivesAll, Meets}
 use Rattle.index_model.specs.Faults.{Circumstances, HasCause}
@@ -135,6 +135,16 @@ IsCaused at answer = Unit {0}
 abbrev pub ends_call : Fault → Bool
 ends_call (Blocked b) = false
 ends_call fault = true
+
+-- what is answered where the session has no call to step
+abbrev pub no_call : Bool → Answer
+no_call is_stopped = if is_stopped then Refused Stopped else Refused NoSession
+
+-- the session has no call, nothing is changed, and the step is refused
+pub record IsIdleStep {S : Type 0} (is_stopped : Bool) (old new : S) (slot : Option Op) (answer : Answer) : Type 0 where
+  pub answer_is : answer ≡ no_call is_stopped
+  pub store_is : new ≡ old
+  pub slot_is : slot ≡ None
 
 -- the circumstances of a step
 abbrev pub where_stepped : Ask → State → Backing → Backing → ℕ → Circumstances

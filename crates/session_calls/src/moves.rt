@@ -1,11 +1,11 @@
 //! Events of a running call.
 
-ghost use Rattle.std.specs.Prelude.{◌≡◌, true, Bool, List, ℕ, None, Some, if◌then◌else◌};
+ghost use Rattle.std.specs.Prelude.{◌≡◌, true, false, Bool, List, ℕ, None, Some, if◌then◌else◌};
 ghost use Rattle.index_model.specs.Actions.{Action};
 ghost use Rattle.index_model.specs.Calls.{Call};
 ghost use Rattle.index_model.specs.declared.entry.Entry.{Entry};
 ghost use Rattle.page_action.specs.States.{State, Continues, after_end};
-ghost use Rattle.session_calls.specs.Sessions.{SlotFits, CallFits, SessionGoes, where_stepped, where_asked_next, ends_call};
+ghost use Rattle.session_calls.specs.Sessions.{SlotFits, CallFits, SessionGoes, where_stepped, where_asked_next, ends_call, no_call, IsIdleStep};
 ghost use Rattle.page_action.specs.Causes.{nothing_wrong};
 
 use crate::answer::Answer;
@@ -19,6 +19,8 @@ use scan::{ScanOp, ScanStep};
 /// held is let go. A slot with no call is refused with `NoSession`, or `Stopped`.
 pub fn step<S: PageStore>(store: &mut S, slot: &mut Option<Op>) -> Answer
     ensures steps { Continues S.follows store.old store.new }
+    ensures idle { slot.old ≡ None
+        → IsIdleStep (S.backing store.old).stopped store.old store.new slot.new result }
     ensures goes { (S.backing store.new).honest ≡ true → (start : Entry → Bool) (history : List Action) (number : ℕ) (call : Call)
         → SlotFits (S.state store.old) start history number call slot.old
         → SessionGoes (where_stepped call.ask (S.state store.old) (S.backing store.old) (S.backing store.new) call.session)
@@ -36,7 +38,9 @@ pub fn step<S: PageStore>(store: &mut S, slot: &mut Option<Op>) -> Answer
 }
 
 // A session with no call has no step.
-fn idle<S: PageStore>(store: &S) -> Answer {
+fn idle<S: PageStore>(store: &S) -> Answer
+    ensures { result ≡ no_call (S.backing store.now).stopped }
+{
     if store.is_stopped() {
         Answer::Refused(Fault::Stopped)
     } else {
@@ -104,6 +108,7 @@ fn ends_call(fault: Fault) -> bool
 /// The next entry that a session's scan has ready. A call that is no scan, and a slot with no call, are refused with
 /// `NoSession`. Nothing else is changed.
 pub fn next(slot: &mut Option<Op>) -> Answer
+    ensures idle { slot.old ≡ None → (slot.new ≡ None) × (result ≡ no_call false) }
     ensures goes { (st : State) (start : Entry → Bool) (history : List Action) (number : ℕ) (call : Call)
         → SlotFits st start history number call slot.old
         → SessionGoes (where_asked_next call.ask) st st start history number call slot.new result }
@@ -118,6 +123,7 @@ pub fn next(slot: &mut Option<Op>) -> Answer
 /// `NoSession`.
 pub fn end<S: PageStore>(store: &mut S, slot: &mut Option<Op>) -> Answer
     ensures steps { Continues S.follows store.old store.new }
+    ensures idle { slot.old ≡ None → IsIdleStep false store.old store.new slot.new result }
     ensures goes { (start : Entry → Bool) (history : List Action) (number : ℕ) (call : Call)
         → SlotFits (S.state store.old) start history number call slot.old
         → SessionGoes nothing_wrong (S.state store.old) (S.state store.new) start history number call slot.new result }

@@ -8,6 +8,7 @@ use Rattle.session_calls.proofs.moves.next.Goals as goal
 
 pub returns-in-Some-Scan : goal.returns-in-Some-Scan
 returns-in-Some-Scan c = record {
+  idle = λ none. cc (none, c.in-Some-Scan.is);
   goes = λ st start history number call fits.
       next_goes _ st start history number call c.in-Some-Scan.op c.next.new.self c.next.result
       (subst (λ (slot : Option Op). SlotFits st start history number call slot) (c.in-Some-Scan.is ∙ ap (λ (op : Op). Some op) c.in-Some-Scan.field-0-is) fits) c.next.ensures;
