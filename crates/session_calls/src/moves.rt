@@ -5,8 +5,9 @@ ghost use Rattle.index_model.specs.Actions.{Action};
 ghost use Rattle.index_model.specs.Calls.{Call};
 ghost use Rattle.index_model.specs.declared.entry.Entry.{Entry};
 ghost use Rattle.page_action.specs.States.{State, Continues, after_end};
-ghost use Rattle.session_calls.specs.Sessions.{SlotFits, CallFits, SessionGoes, where_stepped, where_asked_next, ends_call, no_call, IsIdleStep};
+ghost use Rattle.session_calls.specs.Sessions.{SlotFits, CallFits, SessionGoes, where_stepped, where_asked_next, ends_call, no_call, IsIdleStep, session_of};
 ghost use Rattle.page_action.specs.Causes.{nothing_wrong};
+ghost use Rattle.session_calls.specs.declared.op.Op.{Op};
 
 use crate::answer::Answer;
 use crate::op::Op;
@@ -124,6 +125,8 @@ pub fn next(slot: &mut Option<Op>) -> Answer
 pub fn end<S: PageStore>(store: &mut S, slot: &mut Option<Op>) -> Answer
     ensures steps { Continues S.follows store.old store.new }
     ensures idle { slot.old ≡ None → IsIdleStep false store.old store.new slot.new result }
+    ensures given_up { (op : Op) → slot.old ≡ Some op
+        → S.state store.new ≡ after_end (session_of op) (S.state store.old) }
     ensures goes { (start : Entry → Bool) (history : List Action) (number : ℕ) (call : Call)
         → SlotFits (S.state store.old) start history number call slot.old
         → SessionGoes nothing_wrong (S.state store.old) (S.state store.new) start history number call slot.new result }
