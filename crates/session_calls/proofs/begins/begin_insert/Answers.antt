@@ -1,4 +1,4 @@
-use Rattle.std.proofs.Common.{◌≡◌, sym, ◌∙◌}
+use Rattle.std.proofs.Common.{sym, ◌∙◌}
 use Rattle.session_calls.proofs.Beginning.{insert_begun, idle_slot}
 use Rattle.session_calls.proofs.begins.begin_insert.Goals as goal
 

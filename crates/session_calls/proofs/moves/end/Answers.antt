@@ -1,4 +1,4 @@
-use Rattle.std.proofs.Common.{◌≡◌, ap, subst, ◌∙◌, ℕ, Option}
+use Rattle.std.proofs.Common.{ap, subst, ◌∙◌, ℕ, Option}
 use Rattle.page_action.specs.States.{State, after_end}
 use Rattle.session_calls.specs.Sessions.{SlotFits}
 use Rattle.session_calls.specs.declared.op.Op.{Op}

@@ -1,7 +1,5 @@
-use Rattle.std.proofs.Common.{◌≡◌, ap, subst, sym, ◌∙◌, ℕ, Option, Some, None}
-use Rattle.index_model.specs.declared.entry.Entry.{Entry}
-use Rattle.scan.specs.Scans.{IsNext}
-use Rattle.session_calls.specs.Sessions.{SlotFits, SessionGoes}
+use Rattle.std.proofs.Common.{ap, subst, ◌∙◌, Option, Some}
+use Rattle.session_calls.specs.Sessions.{SlotFits}
 use Rattle.session_calls.specs.declared.op.Op.{Op}
 use Rattle.session_calls.proofs.Scanning.{next_goes}
 use Rattle.session_calls.proofs.moves.next.Goals as goal

@@ -1,7 +1,7 @@
-use Rattle.std.proofs.Common.{◌≡◌, ◌<◌, ℕ, Bool, true, refl, sym, subst, ap, ◌∙◌, Option, Some, None, if◌then◌else◌}
+use Rattle.std.proofs.Common.{◌<◌, ℕ, sym, subst, ap, ◌∙◌, if◌then◌else◌}
 use Rattle.page_action.specs.States.{State, Backing, after_end}
 use Rattle.descent.specs.Steps.{IsAddition}
-use Rattle.session_calls.specs.Sessions.{SessionGoes, where_stepped, ends_call}
+use Rattle.session_calls.specs.Sessions.{ends_call}
 use Rattle.session_calls.proofs.Going.{add_goes}
 use Rattle.session_calls.proofs.Refusing.{insert_refused}
 use Rattle.session_calls.proofs.moves.step_insert.Goals as goal

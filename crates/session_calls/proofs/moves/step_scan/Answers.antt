@@ -1,6 +1,6 @@
-use Rattle.std.proofs.Common.{◌≡◌, ◌<◌, ℕ, Bool, true, refl, sym, subst, ap, ◌∙◌, Option, Some, None, if◌then◌else◌}
+use Rattle.std.proofs.Common.{ℕ, sym, ap, ◌∙◌, if◌then◌else◌}
 use Rattle.page_action.specs.States.{State, Backing, after_end}
-use Rattle.session_calls.specs.Sessions.{SessionGoes, where_stepped, ends_call}
+use Rattle.session_calls.specs.Sessions.{ends_call}
 use Rattle.session_calls.proofs.Scanning.{ready_goes, done_goes}
 use Rattle.session_calls.proofs.Refusing.{scan_refused}
 use Rattle.session_calls.proofs.moves.step_scan.Goals as goal
