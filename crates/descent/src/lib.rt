@@ -5,3 +5,6 @@
 mod reading;
 
 pub use reading::{look, root};
+
+#[cfg(test)]
+mod tests;

@@ -23,3 +23,6 @@ pub use range::Range;
 pub use row::RowAddr;
 pub use session::Session;
 pub use stats::VacuumStats;
+
+#[cfg(test)]
+mod tests;

@@ -4,3 +4,6 @@
 mod insert;
 
 pub use insert::{InsertAt, InsertOp, InsertStep};
+
+#[cfg(test)]
+mod tests;

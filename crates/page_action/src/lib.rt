@@ -9,3 +9,6 @@ mod reuse;
 pub use map_store::MapStore;
 pub use page_store::PageStore;
 pub use reuse::others_began_after;
+
+#[cfg(test)]
+mod tests;

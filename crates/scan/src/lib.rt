@@ -4,3 +4,6 @@
 mod steps;
 
 pub use steps::{ScanAt, ScanOp, ScanStep};
+
+#[cfg(test)]
+mod tests;

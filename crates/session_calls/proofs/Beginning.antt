@@ -1,26 +1,24 @@
 -- Beginnings over histories.
-use Rattle.std.proofs.Common.{◌≡◌, ◌≢◌, ◌⊎◌, ℕ, zero, suc, ◌<◌, ◌≤◌, Bool, true, false, not, ◌&&◌, Option, Some, None, List, [], ◌∷◌, ◌++◌, length, slice_get, slice_set, refl, sym, ap, subst, ◌∙◌, arith, length-set}
+use Rattle.std.proofs.Common.{◌≡◌, ℕ, ◌<◌, Bool, true, false, not, Option, Some, None, List, [], ◌∷◌, length, refl, sym, subst, ◌∙◌, arith, length-set}
 use Rattle.std.specs.Prelude.{unwrap_or, is_some}
 use Rattle.index_model.specs.Actions.{Action}
-use Rattle.index_model.specs.Calls.{Ask, AskInsert, AskScan, Running, Call, GivesOnly, IsScanAnswerSoFar, Meets}
-use Rattle.index_model.specs.Order.{is_among, is_past}
+use Rattle.index_model.specs.Calls.{AskInsert, AskScan, GivesOnly}
+use Rattle.index_model.specs.Order.{is_past}
 use Rattle.index_model.specs.Range.{matches, from_admits, below_admits, start_of}
-use Rattle.index_model.specs.declared.bound.Bound.{Bound}
 use Rattle.index_model.specs.declared.entry.Entry.{Entry}
 use Rattle.index_model.specs.declared.range.Range.{Range}
 use Rattle.index_model.proofs.Order.{from_key}
-use Rattle.latch_table.specs.Holdings.{holding_of, nothing_held}
 use Rattle.page_action.specs.States.{State, after_begin}
 use Rattle.descent.specs.Steps.{IsInOrder, OthersRely}
 use Rattle.insert_split.specs.declared.insert.InsertAt.TheVariants.{Start as InsertStart}
 use Rattle.insert_split.specs.declared.insert.InsertOp.{InsertOp}
-use Rattle.scan.specs.Scans.{fresh_scan, waiting}
+use Rattle.scan.specs.Scans.{fresh_scan}
 use Rattle.scan.specs.declared.steps.ScanOp.{ScanOp}
-use Rattle.session_calls.specs.Sessions.{SlotStands, is_busy, Matches, IsIdle, IsScanSoFar, begun_call, SlotIs, IsBegun}
+use Rattle.session_calls.specs.Sessions.{SlotStands, is_busy, Matches, IsIdle, IsBegun}
 use Rattle.session_calls.specs.declared.op.Op.{Op}
 use Rattle.session_calls.specs.declared.op.Op.TheVariants.{Insert, Scan}
 use Rattle.session_calls.proofs.Ending.{get_set_other}
-use Rattle.std.proofs.lemmas.Bool.{and_parts, cases_Bool}
+use Rattle.std.proofs.lemmas.Bool.{and_parts}
 
 begun_order : (st : State) (session : ℕ) → IsInOrder st → IsInOrder (after_begin session st)
 begun_order st session order = record {

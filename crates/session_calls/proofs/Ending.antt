@@ -1,12 +1,11 @@
 -- The end of a call lets go what its session held.
-use Rattle.std.proofs.Common.{◌≡◌, ◌≢◌, ◌⊎◌, ℕ, zero, suc, ◌+◌, ◌<◌, ◌≤◌, Bool, true, false, Option, Some, None, List, [], ◌∷◌, length, slice_get, slice_set, refl, sym, ap, subst, inl, inr, ◌∙◌, arith, length-set}
-use Rattle.index_model.specs.Order.{same_entry}
+use Rattle.std.proofs.Common.{◌≡◌, ◌≢◌, ℕ, zero, suc, ◌<◌, Option, None, List, [], ◌∷◌, length, slice_get, slice_set, refl, sym, ap, subst, ◌∙◌, arith, length-set}
 use Rattle.index_model.specs.declared.entry.Entry.{Entry}
-use Rattle.latch_table.specs.Holdings.{Holding, Table, holding_of, nothing_held, with_holding, latches_exclude}
+use Rattle.latch_table.specs.Holdings.{Holding, holding_of, nothing_held, latches_exclude}
 use Rattle.latch_table.specs.declared.mode.Mode.TheVariants.{Shared}
 use Rattle.latch_table.proofs.Tables.{length-with_holding, holding_of-with_holding, holding_of-with_holding_other}
 use Rattle.page_action.specs.States.{State, after_end}
-use Rattle.descent.specs.Steps.{HoldsAlone, AreApart, IsInOrder, MayRely, OthersRely, IsQuiet, IsAddition}
+use Rattle.descent.specs.Steps.{IsInOrder, MayRely, OthersRely, IsQuiet, IsAddition}
 use Rattle.descent.proofs.Tables.{apart_nothing}
 
 pub get_set_other : {A : Type 0} (xs : List A) (i j : ℕ) (x : A) → j ≢ i → slice_get (slice_set xs i x) j ≡ slice_get xs j

@@ -1,24 +1,21 @@
 -- Events of calls over histories: those with no action, and the one that adds.
-use Rattle.std.proofs.Common.{◌≡◌, ◌≢◌, ◌⊎◌, ℕ, zero, suc, ◌+◌, ◌<◌, ◌≤◌, Bool, true, false, ◌||◌, Option, Some, None, List, [], ◌∷◌, ◌++◌, length, slice_get, slice_set, refl, sym, ap, subst, inl, inr, ◌∙◌, arith, length-append}
+use Rattle.std.proofs.Common.{◌≡◌, ℕ, suc, ◌<◌, ◌≤◌, Bool, true, false, ◌||◌, Option, Some, None, List, [], ◌∷◌, ◌++◌, length, slice_get, refl, sym, ap, subst, ◌∙◌, arith, length-append}
 use Rattle.std.proofs.lemmas.List.{append-nil}
-use Rattle.index_model.specs.Actions.{Effect, Add, Remove, Shape, Action, contents_after, is_there_after, ThereAtSomeMoment}
-use Rattle.index_model.specs.Calls.{Ask, AskInsert, AskScan, AskBulkDelete, AskCleanup, Ending, Running, Added as EndsAdded, Finished as EndsFinished, Vacuumed, GivenUp, Failed, Call, AnswersRight, InsertMayFail, IsInsertAnswer, end_of, Meets}
-use Rattle.index_model.specs.Faults.{Circumstances, HasCause}
+use Rattle.index_model.specs.Actions.{Add, Action, is_there_after, ThereAtSomeMoment}
+use Rattle.index_model.specs.Calls.{Ask, AskInsert, AskScan, AskBulkDelete, AskCleanup, Ending, Running, Added as EndsAdded, GivenUp, Failed, Call, AnswersRight, InsertMayFail, IsInsertAnswer, end_of, Meets}
+use Rattle.index_model.specs.Faults.{Circumstances}
 use Rattle.index_model.specs.Order.{same_entry}
 use Rattle.index_model.specs.declared.entry.Entry.{Entry}
-use Rattle.index_model.specs.declared.range.Range.{Range}
 use Rattle.index_model.specs.declared.fault.Fault.{Fault}
-use Rattle.index_model.specs.declared.fault.Fault.TheVariants.{NoMemory, Io, Stopped, Blocked, Exists, KeyTooLong, BadRow, IndexFull, LogFull, NoFrame, VacuumRunning, NoSession, SessionBusy, BadSuper, BadVersion, LogDamaged, PageDamaged, BadLimits, TooTall, DeviceTooSmall}
 use Rattle.index_model.proofs.Histories.{contents_after-add, there_before, there_now}
 use Rattle.page_action.specs.Contents.{entry_on_live_leaf}
-use Rattle.page_action.specs.States.{State, Backing, after_end, after_begin}
-use Rattle.descent.specs.Steps.{IsInOrder, MayRely, OthersRely, IsQuiet, IsAddition}
-use Rattle.session_calls.specs.Sessions.{Matches, OpRuns, CallFits, SlotIs, IsIdle, ended, ended_added, Refuses, Adds, Told, IsCaused, SessionGoes, begun_call, ends_call}
+use Rattle.page_action.specs.States.{State, after_end}
+use Rattle.descent.specs.Steps.{IsQuiet, IsAddition}
+use Rattle.session_calls.specs.Sessions.{Matches, SlotIs, IsIdle, ended, ended_added, Told, IsCaused, SessionGoes}
 use Rattle.session_calls.specs.declared.answer.Answer.{Answer}
-use Rattle.session_calls.specs.declared.answer.Answer.TheVariants.{Begun, Going, Added, Ready, Done, Finished, Gave, Ended, Forced, Flushed, Checkpointed, Refused}
+use Rattle.session_calls.specs.declared.answer.Answer.TheVariants.{Added}
 use Rattle.session_calls.specs.declared.op.Op.{Op}
-use Rattle.session_calls.specs.declared.op.Op.TheVariants.{Insert, Scan}
-use Rattle.session_calls.proofs.Ending.{quiet_then_end, addition_then_end, quiet_none, ended_idle, ended_order, ended_others}
+use Rattle.session_calls.proofs.Ending.{addition_then_end, ended_idle}
 
 get_append_new : {A : Type 0} (xs : List A) (y : A) → slice_get (xs ++ y ∷ []) (length xs) ≡ Some y
 get_append_new [] y = refl

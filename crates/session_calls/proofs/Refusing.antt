@@ -1,20 +1,18 @@
 -- Refused steps over histories.
-use Rattle.std.proofs.Common.{◌≡◌, ◌≢◌, ◌⊎◌, ℕ, ◌<◌, ◌≤◌, Bool, true, false, if◌then◌else◌, Option, Some, None, List, [], length, refl, sym, ap, subst, ◌∙◌}
+use Rattle.std.proofs.Common.{◌≡◌, ◌≢◌, ℕ, ◌<◌, Bool, true, false, if◌then◌else◌, Some, None, List, length, refl, sym, ap, subst, ◌∙◌}
 use Rattle.index_model.specs.Actions.{Action}
-use Rattle.index_model.specs.Calls.{Ask, AskInsert, AskScan, GivenUp, Failed, Call, InsertMayFail, Meets}
+use Rattle.index_model.specs.Calls.{Ask, AskInsert, AskScan, GivenUp, Failed, Call, InsertMayFail}
 use Rattle.index_model.specs.Faults.{Circumstances, HasCause}
 use Rattle.index_model.specs.declared.entry.Entry.{Entry}
 use Rattle.index_model.specs.declared.fault.Fault.{Fault}
 use Rattle.index_model.specs.declared.fault.Fault.TheVariants.{NoMemory, Io, Stopped, Blocked, Exists, KeyTooLong, BadRow, IndexFull, LogFull, NoFrame, VacuumRunning, NoSession, SessionBusy, BadSuper, BadVersion, LogDamaged, PageDamaged, BadLimits, TooTall, DeviceTooSmall}
 use Rattle.page_action.specs.Contents.{entry_on_live_leaf}
 use Rattle.page_action.specs.States.{State, Backing, after_end}
-use Rattle.descent.specs.Steps.{IsQuiet}
 use Rattle.insert_split.specs.Inserts.{where_inserting}
 use Rattle.insert_split.specs.declared.insert.InsertOp.{InsertOp}
 use Rattle.scan.specs.Scans.{where_scanning}
 use Rattle.scan.specs.declared.steps.ScanOp.{ScanOp}
-use Rattle.session_calls.specs.Sessions.{Matches, IsIdle, session_of, OpRuns, CallFits, SlotIs, ended, Refuses, Told, IsCaused, SessionGoes, ends_call, where_stepped}
-use Rattle.session_calls.specs.declared.answer.Answer.{Answer}
+use Rattle.session_calls.specs.Sessions.{IsIdle, session_of, OpRuns, CallFits, ended, Refuses, SessionGoes, ends_call, where_stepped}
 use Rattle.session_calls.specs.declared.answer.Answer.TheVariants.{Refused, Ended}
 use Rattle.session_calls.specs.declared.op.Op.{Op}
 use Rattle.session_calls.specs.declared.op.Op.TheVariants.{Insert, Scan}

@@ -1,32 +1,30 @@
 -- Events of scans over histories.
-use Rattle.std.proofs.Common.{◌≡◌, ◌≢◌, ◌⊎◌, ℕ, zero, suc, ◌+◌, ◌<◌, ◌≤◌, Bool, true, false, ◌||◌, Option, Some, None, List, [], ◌∷◌, ◌++◌, length, refl, sym, ap, subst, inl, inr, ◌∙◌, arith, append_assoc}
+use Rattle.std.proofs.Common.{◌≡◌, ◌⊎◌, ℕ, ◌<◌, ◌≤◌, Bool, true, false, ◌||◌, Option, Some, None, List, [], ◌∷◌, ◌++◌, length, refl, sym, ap, subst, inl, inr, ◌∙◌, arith, append_assoc}
 use Rattle.std.proofs.lemmas.List.{append-nil}
-use Rattle.std.proofs.lemmas.Bool.{or_cases, cases_Bool}
+use Rattle.std.proofs.lemmas.Bool.{or_cases}
 use Rattle.std.specs.List.{AllByRecursion}
-use Rattle.index_model.specs.Actions.{Action, ThereAtSomeMoment}
-use Rattle.index_model.specs.Calls.{Ask, AskInsert, AskScan, Ending, Running, Finished as EndsFinished, GivenUp, Failed, Call, GivesOnly, GivesAll, IsReached, IsUpToLast, IsAnyEntry, IsScanAnswer, IsScanAnswerSoFar, AnswersRight, end_of, Meets}
-use Rattle.index_model.specs.Faults.{Circumstances, HasCause}
-use Rattle.index_model.specs.Order.{bound_of, same_entry, is_among, is_past, IsPast, IsUpTo, AscendsPast, IsAscending, last_or}
-use Rattle.index_model.specs.Range.{matches, from_admits, start_of}
+use Rattle.index_model.specs.Actions.{Action}
+use Rattle.index_model.specs.Calls.{Ask, AskScan, Ending, Running, Finished as EndsFinished, Call, IsReached, IsUpToLast, IsScanAnswer, IsScanAnswerSoFar, AnswersRight, end_of}
+use Rattle.index_model.specs.Faults.{Circumstances}
+use Rattle.index_model.specs.Order.{bound_of, same_entry, is_among, is_past, IsPast, AscendsPast, IsAscending, last_or}
+use Rattle.index_model.specs.Range.{matches}
 use Rattle.index_model.specs.declared.bound.Bound.{Bound}
 use Rattle.index_model.specs.declared.entry.Entry.{Entry}
 use Rattle.index_model.specs.declared.range.Range.{Range}
-use Rattle.index_model.proofs.Ascending.{is_past-trans, is_past-self, is_past-not, is_past-falls, same_entry-is, same_entry-self, three_ways, IsPast-trans, is_among-append, is_among-past, AscendsPast-append, AscendsPast-front, AscendsPast-back, AscendsPast-from, last_or-append}
+use Rattle.index_model.proofs.Ascending.{is_past-falls, same_entry-is, same_entry-self, three_ways, IsPast-trans, is_among-append, is_among-past, AscendsPast-append, AscendsPast-front, AscendsPast-back, AscendsPast-from, last_or-append}
 use Rattle.index_model.proofs.Histories.{there_now}
 use Rattle.page_action.specs.Contents.{entry_on_live_leaf}
 use Rattle.page_action.specs.States.{State, after_end}
 use Rattle.descent.specs.Steps.{IsQuiet}
-use Rattle.scan.specs.Scans.{waiting, IsNext, IsBehind, ScanFits, IsRead, IsMoving, IsReading, IsWaiting, IsDone}
+use Rattle.scan.specs.Scans.{waiting, IsNext, IsBehind, IsRead, IsReading, IsWaiting}
 use Rattle.scan.specs.declared.steps.ScanAt.{ScanAt}
 use Rattle.scan.specs.declared.steps.ScanAt.TheVariants.{Start, At, Last}
 use Rattle.scan.specs.declared.steps.ScanOp.{ScanOp}
-use Rattle.session_calls.specs.Sessions.{Matches, IsIdle, IsScanSoFar, ScanRuns, OpRuns, CallFits, SlotIs, ended, given_one, Told, IsCaused, SessionGoes}
-use Rattle.session_calls.specs.declared.answer.Answer.{Answer}
-use Rattle.session_calls.specs.declared.answer.Answer.TheVariants.{Begun, Going, Added, Ready, Done, Finished, Gave, Ended, Forced, Flushed, Checkpointed, Refused}
-use Rattle.session_calls.specs.declared.op.Op.{Op}
-use Rattle.session_calls.specs.declared.op.Op.TheVariants.{Insert, Scan}
+use Rattle.session_calls.specs.Sessions.{Matches, IsIdle, IsScanSoFar, CallFits, ended, given_one, SessionGoes}
+use Rattle.session_calls.specs.declared.answer.Answer.TheVariants.{Ready, Done, Gave}
+use Rattle.session_calls.specs.declared.op.Op.TheVariants.{Scan}
 use Rattle.session_calls.proofs.Ending.{quiet_then_end, quiet_none, ended_idle}
-use Rattle.session_calls.proofs.Going.{quiet_goes, began_before, right_now, there_at_present}
+use Rattle.session_calls.proofs.Going.{quiet_goes, began_before, there_at_present}
 
 or_left : (a b : Bool) → a ≡ true → (a || b) ≡ true
 or_left true b h = refl

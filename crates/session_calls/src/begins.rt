@@ -23,6 +23,8 @@ pub fn begin_insert<S: PageStore>(
     slot: &mut Option<Op>,
 ) -> Answer
     ensures steps { Continues S.follows store.old store.new }
+    ensures counted { result ≡ Answer.Begun
+        → S.state store.new ≡ after_begin session (S.state store.old) }
     ensures begins { (start : Entry → Bool) (history : List Action) (number : ℕ)
         → SlotStands (S.state store.old) start history session slot.old
         → SessionBegins (S.state store.old) (S.backing store.old) (S.state store.new) start history number session (AskInsert entry) slot.old slot.new result }
@@ -42,6 +44,8 @@ pub fn begin_scan<S: PageStore>(
     slot: &mut Option<Op>,
 ) -> Answer
     ensures steps { Continues S.follows store.old store.new }
+    ensures counted { result ≡ Answer.Begun
+        → S.state store.new ≡ after_begin session (S.state store.old) }
     ensures begins { (start : Entry → Bool) (history : List Action) (number : ℕ)
         → SlotStands (S.state store.old) start history session slot.old
         → SessionBegins (S.state store.old) (S.backing store.old) (S.state store.new) start history number session (AskScan range) slot.old slot.new result }

@@ -10,3 +10,6 @@ pub use answer::Answer;
 pub use begins::{begin_insert, begin_scan};
 pub use moves::{end, next, step};
 pub use op::Op;
+
+#[cfg(test)]
+mod tests;

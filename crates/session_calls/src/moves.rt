@@ -1,12 +1,13 @@
 //! Events of a running call.
 
-ghost use Rattle.std.specs.Prelude.{◌≡◌, true, Bool, List, ℕ, None, Some, if◌then◌else◌};
+ghost use Rattle.std.specs.Prelude.{◌≡◌, true, false, Bool, List, ℕ, None, Some, if◌then◌else◌};
 ghost use Rattle.index_model.specs.Actions.{Action};
 ghost use Rattle.index_model.specs.Calls.{Call};
 ghost use Rattle.index_model.specs.declared.entry.Entry.{Entry};
 ghost use Rattle.page_action.specs.States.{State, Continues, after_end};
-ghost use Rattle.session_calls.specs.Sessions.{SlotFits, CallFits, SessionGoes, LeavesLess, GivesLess, where_stepped, where_asked_next, ends_call, no_call, IsIdleStep};
+ghost use Rattle.session_calls.specs.Sessions.{SlotFits, CallFits, SessionGoes, LeavesLess, GivesLess, where_stepped, where_asked_next, ends_call, no_call, IsIdleStep, session_of};
 ghost use Rattle.page_action.specs.Causes.{nothing_wrong};
+ghost use Rattle.session_calls.specs.declared.op.Op.{Op};
 
 use crate::answer::Answer;
 use crate::op::Op;
@@ -19,13 +20,13 @@ use scan::{ScanOp, ScanStep};
 /// held is let go. A slot with no call is refused with `NoSession`, or `Stopped`.
 pub fn step<S: PageStore>(store: &mut S, slot: &mut Option<Op>) -> Answer
     ensures steps { Continues S.follows store.old store.new }
+    ensures idle { slot.old ≡ None
+        → IsIdleStep (S.backing store.old).stopped store.old store.new slot.new result }
     ensures goes { (S.backing store.new).honest ≡ true → (start : Entry → Bool) (history : List Action) (number : ℕ) (call : Call)
         → SlotFits (S.state store.old) start history number call slot.old
         → SessionGoes (where_stepped call.ask (S.state store.old) (S.backing store.old) (S.backing store.new) call.session)
         (S.state store.old) (S.state store.new) start history number call slot.new result }
     ensures less { LeavesLess slot.old slot.new result }
-    ensures idle { slot.old ≡ None
-        → IsIdleStep (S.backing store.old).stopped store.old store.new slot.new result }
 {
     let (answer, is_over) = match slot {
         None => (idle(store), false),
@@ -111,6 +112,7 @@ fn ends_call(fault: Fault) -> bool
 /// The next entry that a session's scan has ready. A call that is no scan, and a slot with no call, are refused with
 /// `NoSession`. Nothing else is changed.
 pub fn next(slot: &mut Option<Op>) -> Answer
+    ensures idle { slot.old ≡ None → (slot.new ≡ None) × (result ≡ no_call false) }
     ensures goes { (st : State) (start : Entry → Bool) (history : List Action) (number : ℕ) (call : Call)
         → SlotFits st start history number call slot.old
         → SessionGoes (where_asked_next call.ask) st st start history number call slot.new result }
@@ -126,6 +128,9 @@ pub fn next(slot: &mut Option<Op>) -> Answer
 /// `NoSession`.
 pub fn end<S: PageStore>(store: &mut S, slot: &mut Option<Op>) -> Answer
     ensures steps { Continues S.follows store.old store.new }
+    ensures idle { slot.old ≡ None → IsIdleStep false store.old store.new slot.new result }
+    ensures given_up { (op : Op) → slot.old ≡ Some op
+        → S.state store.new ≡ after_end (session_of op) (S.state store.old) }
     ensures goes { (start : Entry → Bool) (history : List Action) (number : ℕ) (call : Call)
         → SlotFits (S.state store.old) start history number call slot.old
         → SessionGoes nothing_wrong (S.state store.old) (S.state store.new) start history number call slot.new result }

@@ -4,3 +4,6 @@
 mod leaf;
 
 pub use leaf::{find, matches_beyond, may_hold, put};
+
+#[cfg(test)]
+mod tests;
