@@ -47,6 +47,7 @@ fn change<R: Abort>(rt: &R, store: &mut MapStore, page: &Page) -> Result<u64, Fa
 #[test]
 fn pages_and_acts(rt: HostRuntime) -> Result<(), Fail> {
     let Ok(mut store) = MapStore::new(rt.alloc(), LIMITS) else {
+        assert!(rt; false);
         return Ok(());
     };
     assert_eq!(rt; store.limits(), LIMITS);
@@ -81,6 +82,7 @@ fn reuse_waits_for_calls(rt: HostRuntime) -> Result<(), Fail> {
         Session::new(0),
         Session::new(63),
     ) else {
+        assert!(rt; false);
         return Ok(());
     };
     assert_eq!(rt; store.add(metapage()), Ok(()));
@@ -108,6 +110,7 @@ fn latches_pins_and_cycles(rt: HostRuntime) {
         Session::new(1),
         Session::new(2),
     ) else {
+        assert!(rt; false);
         return;
     };
     assert_eq!(rt; store.latch(one, 5, Mode::Exclusive), Ok(()));

@@ -1,6 +1,6 @@
 //! Entries on a leaf.
 
-ghost use Rattle.std.specs.Prelude.{◌≡◌, ◌<◌, ◌≤◌, ◌+◌, ◌||◌, ◌↔◌, IsTrue, length, true, false, IfOk, IfErr, OnOk, OnErr, IfSome, insert, drop, not};
+ghost use Rattle.std.specs.Prelude.{◌≡◌, ◌<◌, ◌≤◌, ◌+◌, ◌||◌, ◌↔◌, IsTrue, length, true, false, IfOk, IfErr, OnOk, OnErr, IfSome, insert, drop, not, slice_get};
 ghost use Rattle.index_model.specs.Order.{is_among, same_entry, is_past, bound_of, IsAscending};
 ghost use Rattle.index_model.specs.Range.{below_admits};
 ghost use Rattle.index_model.specs.declared.entry.Entry.{Entry};
@@ -42,6 +42,8 @@ fn count_below(entries: &[Entry], below: &Option<Key>) -> usize
 /// Where the entry stands among ascending entries (`Ok`), or the place that it would take (`Err`).
 pub fn find(entries: &[Entry], entry: &Entry) -> Result<usize, usize>
     ensures there { OnOk result (is_among entries.now entry.now ≡ true) }
+    ensures stands { IfOk result (λ at. IfSome (slice_get entries.now at) (λ x. same_entry x entry.now ≡ true)) }
+    ensures inside { IfOk result (λ at. at < length entries.now) }
     ensures absent { IsAscending entries.now → OnErr result (is_among entries.now entry.now ≡ false) }
     ensures place { IsAscending entries.now → IfErr result (IsPlaceOf entry.now entries.now) }
     ensures within { IfErr result (λ at. at ≤ length entries.now) }
