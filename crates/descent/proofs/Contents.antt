@@ -1,5 +1,5 @@
 -- What stands on the pages of a tree.
-use Rattle.std.proofs.Common.{◌≡◌, ◌≢◌, ℕ, zero, suc, Bool, true, false, ◌||◌, Option, Some, None, List, [], ◌∷◌, ◌++◌, length, slice_get, slice_set, refl, sym, ap, subst, ◌∙◌, arith}
+use Rattle.std.proofs.Common.{◌≡◌, Bool, true, false, ◌||◌, Some, List, [], ◌∷◌, slice_get, refl, sym, ap, ◌∙◌}
 use Rattle.index_model.specs.Order.{is_among}
 use Rattle.index_model.specs.declared.entry.Entry.{Entry}
 use Rattle.page_codec.specs.Edits.{entries_of}
@@ -8,8 +8,8 @@ use Rattle.page_codec.specs.declared.page.Items.TheVariants.{Meta, Entries, Down
 use Rattle.page_codec.specs.declared.page.Page.{Page}
 use Rattle.page_codec.specs.declared.page.PageState.{PageState}
 use Rattle.page_codec.specs.declared.page.PageState.TheVariants.{Live, HalfDead, Deleted}
-use Rattle.page_action.specs.Contents.{live_entries, is_on, entry_on_live_leaf}
-use Rattle.tree_shape.specs.Tree.{IsMetaOf, IsOnlyLeaf, IsBlinkTree}
+use Rattle.page_action.specs.Contents.{live_entries, entry_on_live_leaf}
+use Rattle.tree_shape.specs.Tree.{IsBlinkTree}
 
 none_on_meta : (s : PageState) → live_entries s Meta ≡ []
 none_on_meta Live = refl

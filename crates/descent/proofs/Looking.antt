@@ -1,14 +1,14 @@
 -- A page that is read under a latch which is let go leaves the store as it was.
-use Rattle.std.proofs.Common.{◌≡◌, ◌⊎◌, ℕ, zero, suc, ◌+◌, ◌<◌, ◌≤◌, Bool, true, false, ◌&&◌, ◌||◌, not, nat_le, Option, Some, None, Result, Ok, Err, List, [], ◌∷◌, ◌++◌, length, slice_get, slice_set, refl, sym, ap, subst, inl, inr, ◌∙◌, arith}
-use Rattle.std.specs.Prelude.{IfErr, IfOk}
+use Rattle.std.proofs.Common.{◌≡◌, ℕ, zero, suc, ◌≤◌, nat_le, Result, Ok, Err, List, [], ◌∷◌, ◌++◌, length, slice_set, refl, ap, inl, inr, ◌∙◌, arith}
+use Rattle.std.specs.Prelude.{IfErr}
 use Rattle.std.proofs.lemmas.Bool.{cases_lt}
 use Rattle.index_model.specs.Faults.{Circumstances, HasCause}
 use Rattle.index_model.specs.declared.fault.Fault.{Fault}
-use Rattle.index_model.specs.declared.fault.Fault.TheVariants.{NoMemory, Io, Stopped, Blocked, Exists, KeyTooLong, BadRow, IndexFull, LogFull, NoFrame, VacuumRunning, NoSession, SessionBusy, BadSuper, BadVersion, LogDamaged, PageDamaged, BadLimits, TooTall, DeviceTooSmall}
-use Rattle.latch_table.specs.Holdings.{Holding, Table, holding_of, nothing_held, with_holding, latched, released}
+use Rattle.index_model.specs.declared.fault.Fault.TheVariants.{Blocked}
+use Rattle.latch_table.specs.Holdings.{Holding, Table, holding_of, with_holding, latched, released}
 use Rattle.latch_table.specs.declared.mode.Mode.{Mode}
 use Rattle.latch_table.proofs.Tables.{released-latched}
-use Rattle.page_action.specs.Causes.{pinned_blocks, are_frames_pinned, where_read, count_apart}
+use Rattle.page_action.specs.Causes.{pinned_blocks, where_read, count_apart}
 use Rattle.page_action.specs.States.{State, Backing, with_table}
 use Rattle.descent.specs.Causes.{where_looked}
 

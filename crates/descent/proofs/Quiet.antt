@@ -1,8 +1,8 @@
 -- Steps with no action.
-use Rattle.std.proofs.Common.{◌≡◌, ◌≢◌, ℕ, List, length, refl, sym, ap, subst, ◌∙◌}
-use Rattle.latch_table.specs.Holdings.{Holding, Table, holding_of, nothing_held, with_holding}
+use Rattle.std.proofs.Common.{◌≡◌, ◌≢◌, ℕ, length, refl, sym, subst}
+use Rattle.latch_table.specs.Holdings.{Table, holding_of}
 use Rattle.page_action.specs.States.{State, with_table}
-use Rattle.descent.specs.Steps.{AreApart, IsInOrder, MayRely, OthersRely, IsQuiet}
+use Rattle.descent.specs.Steps.{AreApart, IsInOrder, IsQuiet}
 
 -- nothing changed
 pub quiet_same : (session : ℕ) (old new : State) → new ≡ old → IsInOrder old → IsQuiet session old new

@@ -2,7 +2,7 @@
 use Rattle.std.specs.Prelude.{ℕ, ◌&&◌, ◌==◌}
 use Rattle.index_model.specs.Faults.{Circumstances}
 use Rattle.latch_table.specs.Holdings.{is_held_by_another}
-use Rattle.latch_table.specs.declared.mode.Mode.TheVariants.{Shared, Exclusive, Cleanup}
+use Rattle.latch_table.specs.declared.mode.Mode.TheVariants.{Shared}
 use Rattle.page_action.specs.Causes.{where_read}
 use Rattle.page_action.specs.States.{State, Backing}
 

@@ -1,9 +1,9 @@
 -- What the steps of one session's call do to a store, and what other sessions may rely on meanwhile.
-use Rattle.std.specs.Prelude.{◌≡◌, ◌≢◌, ◌⊎◌, ℕ, suc, Bool, true, false, ◌||◌, List, length, slice_get}
+use Rattle.std.specs.Prelude.{◌≡◌, ◌≢◌, ℕ, suc, true, false, ◌||◌, length, slice_get}
 use Rattle.index_model.specs.Order.{same_entry}
 use Rattle.index_model.specs.declared.entry.Entry.{Entry}
 use Rattle.latch_table.specs.Holdings.{Table, holding_of, latches_exclude}
-use Rattle.latch_table.specs.declared.mode.Mode.TheVariants.{Shared, Exclusive, Cleanup}
+use Rattle.latch_table.specs.declared.mode.Mode.TheVariants.{Shared, Exclusive}
 use Rattle.page_action.specs.Contents.{entry_on_live_leaf}
 use Rattle.page_action.specs.States.{State}
 use Rattle.tree_shape.specs.Tree.{IsBlinkTree}

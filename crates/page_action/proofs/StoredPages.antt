@@ -1,10 +1,10 @@
 -- Stored pages: reading one, adding one, changing one, and acts.
-use Rattle.std.proofs.Common.{◌≡◌, ◌≢◌, ◌⊎◌, ℕ, zero, suc, ◌+◌, ◌<◌, ◌≤◌, Bool, true, false, nat_lt, cond, Option, Some, None, List, [], ◌∷◌, ◌++◌, length, drop, slice_get, slice_set, get_or, refl, sym, ap, subst, inl, inr, ◌∙◌, arith, length-append, length-set}
-use Rattle.std.proofs.lemmas.Bool.{ltb-true, ltb-false, lt-ltb, le-ltb, cases_lt, cases_eq}
+use Rattle.std.proofs.Common.{◌≡◌, ℕ, zero, suc, ◌+◌, ◌<◌, ◌≤◌, Some, List, [], ◌∷◌, ◌++◌, length, drop, slice_get, slice_set, get_or, sym, ap, subst, inl, inr, ◌∙◌, arith, length-append, length-set}
+use Rattle.std.proofs.lemmas.Bool.{lt-ltb, le-ltb, cases_lt}
 use Rattle.index_model.specs.declared.limits.Limits.{Limits}
 use Rattle.page_codec.specs.declared.page.Page.{Page}
-use Rattle.page_action.specs.Stored.{IsStorable, IsStored, AreStored, IsApartFrom, IsPlaceable, AreActable}
-use Rattle.page_action.specs.States.{with_page, with_pages, with_count, with_counts, number_to_count}
+use Rattle.page_action.specs.Stored.{IsStorable, IsStored, AreStored}
+use Rattle.page_action.specs.States.{with_page, with_count, number_to_count}
 
 pub stored-get : (limits : Limits) (from block : ℕ) (pages : List Page) (page : Page) → AreStored limits from pages → slice_get pages block ≡ Some page → IsStored limits (from + block) page
 stored-get limits from block [] page h found = absurd cc

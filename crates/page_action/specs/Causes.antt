@@ -1,8 +1,8 @@
 -- Why a store refuses: the circumstances of each of its calls.
-use Rattle.std.specs.Prelude.{ℕ, suc, ◌^◌, ◌-◌, Bool, true, false, not, ◌&&◌, ◌||◌, ◌==◌, if◌then◌else◌, nat_lt, nat_le, List, [], ◌∷◌, ◌++◌, length, map}
+use Rattle.std.specs.Prelude.{ℕ, suc, Bool, false, not, ◌&&◌, ◌||◌, ◌==◌, if◌then◌else◌, nat_lt, nat_le, List, [], ◌∷◌, ◌++◌, length, map}
 use Rattle.index_model.specs.Faults.{Circumstances}
 use Rattle.page_codec.specs.declared.page.Page.{Page}
-use Rattle.latch_table.specs.Holdings.{Table, Holding, has_pin, is_held_by_another}
+use Rattle.latch_table.specs.Holdings.{Table, has_pin, is_held_by_another}
 use Rattle.latch_table.specs.declared.mode.Mode.{Mode}
 use Rattle.page_action.specs.States.{State, Backing}
 

@@ -1,10 +1,13 @@
 -- What a plain map of pages shows.
-use Rattle.std.specs.Prelude.{ℕ, ◌-◌, ◌/◌, true, false, None, [], ◌∷◌, ◌++◌, replicate}
+use Rattle.std.specs.Prelude.{◌≡◌, ◌⊎◌, ◌≤◌, ◌-◌, ◌/◌, true, false, None, [], ◌∷◌, ◌++◌, length, replicate}
 use Rattle.std.proofs.Common.{arith}
+use Rattle.index_model.specs.declared.fault.Fault.{Fault}
+use Rattle.index_model.specs.declared.fault.Fault.TheVariants.{IndexFull, PageDamaged}
 use Rattle.index_model.specs.declared.limits.Limits.{Limits}
 use Rattle.latch_table.specs.Holdings.{nothing_held}
 use Rattle.page_codec.specs.declared.page.Page.{Page}
 use Rattle.page_action.specs.States.{State, Backing, IsLater}
+use Rattle.page_action.specs.Stored.{IsStored}
 use Rattle.page_action.specs.declared.map_store.MapStore.{MapStore}
 
 abbrev pub state_of : MapStore → State
@@ -50,6 +53,12 @@ empty limits = record {
 -- with the next unused block in use
 abbrev pub added : Page → State → State
 added page st = record st { pages = st.pages ++ page ∷ []; counted = st.counted ++ 0 ∷ [] }
+
+-- a page isn't added: no block is unused, or it isn't that block's page as it may be stored
+abbrev pub IsNotAdded : Page → State → Fault → Type 0
+IsNotAdded page st fault =
+    ((fault ≡ IndexFull) × (st.limits.pages ≤ length st.pages))
+    ⊎ ((fault ≡ PageDamaged page.block) × (IsStored st.limits (length st.pages) page → ⊥))
 
 -- what stays is no earlier
 pub same_later : (b : Backing) → IsLater b b

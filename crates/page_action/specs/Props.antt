@@ -1,22 +1,21 @@
 -- Each fact about stored pages has one proof at most, so a store may keep it.
-use Rattle.std.specs.Prelude.{◌≡◌, ℕ, suc, Bool, true, false, Option, Some, None, List, [], ◌∷◌, IsSome, IsNone}
+use Rattle.std.specs.Prelude.{◌≡◌, ℕ, suc, Option, Some, None, List, [], ◌∷◌}
 use Rattle.std.proofs.Props.{props}
-use Rattle.std.specs.List.{AllByRecursion, AllByRecursion-prop}
-use Rattle.std.specs.Coded.{×_prop, Unit-prop, le_prop, Coded-set, coded_option, coded_list}
+use Rattle.std.specs.List.{AllByRecursion-prop}
+use Rattle.std.specs.Coded.{×_prop, Unit-prop, Coded-set, coded_list}
 use mathlib.Core.Sum.{⊎_set}
-use Rattle.index_model.specs.Row.{Row}
 use Rattle.index_model.specs.Order.{IsEntry, IsPast, IsUpTo, AscendsPast, bound_of, coded_entry}
 use Rattle.index_model.specs.declared.bound.Bound.{Bound}
 use Rattle.index_model.specs.declared.entry.Entry.{Entry}
 use Rattle.index_model.specs.declared.limits.Limits.{Limits}
-use Rattle.page_codec.specs.Grammar.{IsBlock, IsWhole, IsDownlink, AreEntries, AreLinks, Ascends, FollowedBy, LinkBefore, Below, StartsLow, IsMeta, IsLiveLeaf, IsHalfDeadLeaf, IsDeletedLeaf, IsLeafIn, IsLeaf, IsInternal, IsOfKind, IsPage}
+use Rattle.page_codec.specs.Grammar.{IsWhole, IsDownlink, AreEntries, AreLinks, Ascends, FollowedBy, LinkBefore, Below, StartsLow, IsMeta, IsLeafIn, IsLeaf, IsInternal, IsOfKind, IsPage}
 use Rattle.page_codec.specs.declared.page.Downlink.{Downlink}
 use Rattle.page_codec.specs.declared.page.Items.{Items}
 use Rattle.page_codec.specs.declared.page.Items.TheVariants.{Meta, Entries, Downlinks}
 use Rattle.page_codec.specs.declared.page.Page.{Page}
 use Rattle.page_codec.specs.declared.page.PageState.{PageState}
 use Rattle.page_codec.specs.declared.page.PageState.TheVariants.{Live, HalfDead, Deleted}
-use Rattle.page_action.specs.Stored.{IsStorable, IsStored, AreStored}
+use Rattle.page_action.specs.Stored.{IsStored, AreStored}
 
 IsPast-prop : (low : Option Bound) (e : Entry) → IsProp (IsPast low e)
 IsPast-prop None e = Unit-prop

@@ -38,17 +38,19 @@ pub struct MapStore {
 }
 
 impl MapStore {
-    ghost use Rattle.std.specs.Prelude.{◌≡◌, ◌∷◌, ◌++◌, [], IfOk, OnOk, OnErr, IfErr, None, replicate};
+    ghost use Rattle.std.specs.Prelude.{◌≡◌, ◌⊎◌, ◌∷◌, ◌++◌, [], IfOk, OnOk, OnErr, IfErr, None, replicate};
     ghost use Rattle.latch_table.specs.Holdings.{nothing_held};
     ghost use Rattle.page_action.specs.States.{State};
     ghost use Rattle.page_action.specs.Reuse.{is_reusable};
-    ghost use Rattle.page_action.specs.MapStore.{state_of, empty, added};
+    ghost use Rattle.page_action.specs.MapStore.{state_of, empty, added, IsNotAdded};
 
     /// A store with no page in use. Refused with `BadLimits`, and with `NoMemory` where the room for the pages
     /// cannot be had.
     pub fn new(alloc: Global, limits: Limits) -> Result<MapStore, Fault>
         ensures made { IfOk result (λ store. state_of store ≡ empty limits) }
         ensures allowed { OnOk result (AreLimits limits) }
+        ensures fault { IfErr result (λ e. ((e ≡ Fault.BadLimits) × (AreLimits limits → ⊥))
+            ⊎ ((e ≡ Fault.NoMemory) × AreLimits limits)) }
     {
         if !limits.are_valid() {
             return Err(Fault::BadLimits);
@@ -87,6 +89,7 @@ impl MapStore {
     pub fn add(&mut self, page: Page) -> Result<(), Fault>
         ensures done { OnOk result (state_of self.new ≡ added page (state_of self.old)) }
         ensures refused { OnErr result (state_of self.new ≡ state_of self.old) }
+        ensures fault { IfErr result (IsNotAdded page (state_of self.old)) }
     {
         let block = self.pages.len();
         if block >= self.limits.pages as usize {

@@ -1,18 +1,18 @@
 -- A leaf with one entry more.
-use Rattle.std.proofs.Common.{◌≡◌, ℕ, ◌+◌, suc, ◌<◌, ◌≤◌, Bool, true, false, ◌||◌, Option, Some, None, List, [], ◌∷◌, ◌++◌, length, take, drop, refl, sym, ap, subst, ◌∙◌, arith, length-append, take-append-drop}
-use Rattle.std.specs.Prelude.{insert, IsSome, ◌↔◌}
+use Rattle.std.proofs.Common.{◌≡◌, ℕ, ◌<◌, ◌||◌, Option, None, List, ◌∷◌, ◌++◌, length, take, drop, sym, ap, subst, ◌∙◌, arith, length-append, take-append-drop}
+use Rattle.std.specs.Prelude.{insert}
 use Rattle.std.specs.List.{AllByRecursion}
-use Rattle.index_model.specs.Order.{bound_of, same_entry, is_among, is_past, IsPast, IsUpTo, AscendsPast, IsAscending, IsEntry}
+use Rattle.index_model.specs.Order.{same_entry, is_among, IsUpTo, IsAscending, IsEntry}
 use Rattle.index_model.specs.declared.bound.Bound.{Bound}
 use Rattle.index_model.specs.declared.entry.Entry.{Entry}
 use Rattle.index_model.proofs.Ascending.{is_among-put, AscendsPast-put, AllByRecursion-append, AllByRecursion-front, AllByRecursion-back}
-use Rattle.page_codec.specs.Grammar.{AreEntries, IsLiveLeaf, IsLeafIn, IsLeaf, IsOfKind, IsPage}
+use Rattle.page_codec.specs.Grammar.{AreEntries, IsLiveLeaf, IsLeafIn, IsOfKind, IsPage}
 use Rattle.page_codec.specs.Edits.{entries_of, HasEntries, with_entries}
 use Rattle.page_codec.specs.declared.page.Items.{Items}
 use Rattle.page_codec.specs.declared.page.Items.TheVariants.{Meta, Entries, Downlinks}
 use Rattle.page_codec.specs.declared.page.Page.{Page}
 use Rattle.page_codec.specs.declared.page.PageState.{PageState}
-use Rattle.page_codec.specs.declared.page.PageState.TheVariants.{Live, HalfDead, Deleted}
+use Rattle.page_codec.specs.declared.page.PageState.TheVariants.{Live}
 use Rattle.tree_shape.specs.Leaf.{IsPlaceOf, MayHold}
 
 pub among_insert : (xs : List Entry) (at : ℕ) (e y : Entry) → is_among (insert xs at e) y ≡ (same_entry e y || is_among xs y)

@@ -1,7 +1,6 @@
-use Rattle.std.proofs.Common.{◌≡◌, ℕ, sym, ap, subst, ◌∙◌}
+use Rattle.std.proofs.Common.{sym, ap, subst, ◌∙◌}
 use Rattle.index_model.specs.Faults.{HasCause, Circumstances}
-use Rattle.index_model.specs.declared.fault.Fault.{Fault}
-use Rattle.latch_table.specs.Holdings.{Table, released, latched}
+use Rattle.latch_table.specs.Holdings.{released, latched}
 use Rattle.latch_table.specs.declared.mode.Mode.TheVariants.{Shared}
 use Rattle.page_action.specs.Causes.{where_read}
 use Rattle.page_action.specs.States.{State, Backing, with_table}

@@ -1,6 +1,6 @@
-use Rattle.std.proofs.Common.{◌≡◌, ◌≤◌, ◌+◌, ℕ, List, [], ◌∷◌, drop, length, vec_len, vec_capacity, refl, sym, ap, subst, ◌∙◌, arith, inl, inr}
+use Rattle.std.proofs.Common.{◌≤◌, ◌+◌, ℕ, List, ◌∷◌, drop, length, vec_len, sym, ap, subst, ◌∙◌, arith}
 use Rattle.page_codec.specs.declared.page.Page.{Page}
-use Rattle.page_action.specs.States.{with_page, with_pages, with_count, with_counts}
+use Rattle.page_action.specs.States.{with_pages, with_counts}
 use Rattle.page_action.specs.Stored.{AreStored, AreActable}
 use Rattle.page_action.proofs.StoredPages.{drop_at_item, stored-with_page, with_page-longer, with_page-few, length-with_count}
 use Rattle.page_action.proofs.map_store.place_all.Goals as goal

@@ -1,12 +1,10 @@
-use Rattle.std.proofs.Common.{◌≡◌, ◌<◌, ℕ, ◌||◌, List, length, refl, sym, ap, subst, ◌∙◌}
+use Rattle.std.proofs.Common.{◌||◌, List, sym, ap, subst, ◌∙◌}
 use Rattle.std.specs.Prelude.{insert}
 use Rattle.index_model.specs.Order.{is_among, same_entry}
 use Rattle.index_model.specs.declared.entry.Entry.{Entry}
 use Rattle.page_codec.specs.Grammar.{IsPage}
 use Rattle.page_codec.specs.Edits.{entries_of, with_entries}
 use Rattle.page_codec.specs.declared.page.Items.{Items}
-use Rattle.page_codec.specs.declared.page.Items.TheVariants.{Meta, Entries, Downlinks}
-use Rattle.page_codec.specs.declared.page.Page.{Page}
 use Rattle.tree_shape.proofs.Puts.{among_insert, page_put}
 use Rattle.tree_shape.proofs.leaf.put.Goals as goal
 

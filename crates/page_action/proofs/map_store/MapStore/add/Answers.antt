@@ -1,4 +1,4 @@
-use Rattle.std.proofs.Common.{rules, ◌≡◌, ℕ, ◌+◌, sym, subst, ◌∙◌, length, arith, List}
+use Rattle.std.proofs.Common.{◌+◌, sym, subst, length, arith, List}
 use Rattle.page_codec.specs.declared.page.Page.{Page}
 use Rattle.page_action.specs.Stored.{AreStored}
 use Rattle.page_action.proofs.StoredPages.{stored-add, stored_at}
