@@ -1,8 +1,7 @@
 -- What each write of a new index leaves of the others.
-use Rattle.std.proofs.Common.{◌≡◌, ◌⊎◌, inl, inr, ⊎_elim, ℕ, ◌+◌, ◌-◌, ◌*◌, ◌<◌, ◌≤◌, ◌∙◌, Result, Ok, Err, List, [], ◌∷◌, ◌++◌, length, replicate, refl, sym, subst, arith}
+use Rattle.std.proofs.Common.{◌≡◌, ◌⊎◌, inl, inr, ⊎_elim, ℕ, ◌+◌, ◌-◌, ◌*◌, ◌<◌, ◌≤◌, Result, Ok, Err, List, [], ◌∷◌, length, replicate, refl, sym, subst, arith}
 use Rattle.std.proofs.lemmas.List.{length-replicate}
 use Rattle.std.specs.Prelude.{OnOk}
-use Rattle.std.specs.Int.{w32, to_le_bytes}
 use Rattle.std.proofs.lemmas.Bool.{cases_lt}
 use Rattle.device.specs.Disk.{Moment, Trace, Syncs}
 use Rattle.device.specs.Places.{Has, OnDisk, ChangesOnly}
@@ -10,7 +9,8 @@ use Rattle.device.proofs.Standing.{only_wider, only_more, has_kept, kept, synced
 use Rattle.index_model.specs.declared.limits.Limits.{Limits}
 use Rattle.page_codec.specs.Spelling.{page_bytes}
 use Rattle.page_codec.specs.declared.page.Page.{Page}
-use Rattle.recovery.specs.Fresh.{block_at, superblock_bytes, IsFirstMeta, IsFirstLeaf, AreZero, HasPages, HasBody, IsFresh}
+use Rattle.recovery.specs.Superblock.{superblock_bytes}
+use Rattle.recovery.specs.Fresh.{block_at, IsFirstMeta, IsFirstLeaf, AreZero, HasPages, HasBody, IsFresh}
 
 -- what follows from success
 pub on_ok : {T E : Type 0} (P Q : Type 0) (r : Result T E) → (P → Q) → OnOk r P → OnOk r Q
@@ -91,9 +91,3 @@ body_stays limits a b only body = record {
 pub fresh_made : {T E : Type 0} (limits : Limits) (r : Result T E) (bytes : List ℕ) (a b : Moment) → bytes ≡ superblock_bytes limits → HasBody limits a → ChangesOnly 0 4096 a b → OnOk r (OnDisk 0 bytes b) → OnOk r (IsFresh limits b)
 fresh_made limits (Ok x) bytes a b is body only on = record { superblock = subst (λ (l : List ℕ). OnDisk 0 l b) is on; body = body_stays limits a b only body }
 fresh_made limits (Err e) bytes a b is body only on = tt
-
--- the pieces of a superblock, one behind the other
-pub spelled : (limits : Limits) (whole out b1 b2 b3 b4 b5 : List ℕ) (at : ℕ) → b1 ≡ 66 ∷ 76 ∷ 73 ∷ 78 ∷ 75 ∷ 73 ∷ 68 ∷ 88 ∷ [] → b2 ≡ b1 ++ to_le_bytes w32 1 → b3 ≡ b2 ++ to_le_bytes w32 limits.items → b4 ≡ b3 ++ to_le_bytes w32 limits.pages
-    → b5 ≡ b4 ++ to_le_bytes w32 limits.log_bytes → at ≡ 24 → length out ≡ 4096 → whole ≡ b5 ++ replicate (length out - at) 0 → whole ≡ superblock_bytes limits
-unfolding superblock_bytes
-spelled limits whole out b1 b2 b3 b4 b5 at e1 e2 e3 e4 e5 is long e = e ∙ rw (e5, e4, e3, e2, e1, is, long) refl

@@ -1,6 +1,5 @@
 -- A device with an empty index on it.
-use Rattle.std.specs.Prelude.{◌≡◌, ◌⊎◌, ℕ, suc, ◌+◌, ◌*◌, ◌<◌, ◌≤◌, false, Some, None, List, [], ◌∷◌, ◌++◌, length, replicate, Result, MatchResult}
-use Rattle.std.specs.Int.{w32, to_le_bytes}
+use Rattle.std.specs.Prelude.{◌≡◌, ◌⊎◌, ℕ, suc, ◌+◌, ◌*◌, ◌<◌, ◌≤◌, false, Some, None, List, [], ◌∷◌, length, replicate, Result, MatchResult}
 use Rattle.device.specs.Disk.{Moment, Trace}
 use Rattle.device.specs.Places.{Has, OnDisk}
 use Rattle.index_model.specs.Limits.{AreLimits}
@@ -13,6 +12,7 @@ use Rattle.page_codec.specs.Spelling.{page_bytes}
 use Rattle.page_codec.specs.declared.page.Items.TheVariants.{Meta}
 use Rattle.page_codec.specs.declared.page.Page.{Page}
 use Rattle.page_codec.specs.declared.page.PageState.TheVariants.{Live}
+use Rattle.recovery.specs.Superblock.{superblock_bytes}
 
 -- where a block begins: behind the superblock and the log
 abbrev pub block_at : Limits → ℕ → ℕ
@@ -21,12 +21,6 @@ block_at limits block = 4096 + limits.log_bytes + 4096 * block
 -- how many bytes an index takes
 abbrev pub size_of : Limits → ℕ
 size_of limits = block_at limits limits.pages
-
--- the 4,096 bytes of a superblock: `BLINKIDX`, the layout 1, the three sizes, zeros
-unfoldable pub superblock_bytes : Limits → List ℕ
-superblock_bytes limits =
-    (((((66 ∷ 76 ∷ 73 ∷ 78 ∷ 75 ∷ 73 ∷ 68 ∷ 88 ∷ []) ++ to_le_bytes w32 1) ++ to_le_bytes w32 limits.items)
-    ++ to_le_bytes w32 limits.pages) ++ to_le_bytes w32 limits.log_bytes) ++ replicate 4072 0
 
 -- the metapage of an empty index: its root is the leaf at block 1
 pub record IsFirstMeta (p : Page) : Type 0 where

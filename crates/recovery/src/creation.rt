@@ -1,13 +1,13 @@
 //! An index is made.
 
-ghost use Rattle.std.specs.Prelude.{◌≡◌, ◌+◌, ◌-◌, ◌*◌, ◌≤◌, ◌<◌, ◌++◌, [], ◌∷◌, length, take, replicate, OnOk, IsTrue};
-ghost use Rattle.std.specs.Int.{w32, to_le_bytes};
+ghost use Rattle.std.specs.Prelude.{◌≡◌, ◌+◌, ◌-◌, ◌*◌, ◌≤◌, ◌<◌, [], ◌∷◌, length, OnOk};
 ghost use Rattle.device.specs.Disk.{Counts};
 ghost use Rattle.device.specs.Places.{Has, OnDisk, ChangesOnly};
 ghost use Rattle.index_model.specs.Limits.{AreLimits};
 ghost use Rattle.page_codec.specs.Spelling.{page_bytes};
-ghost use Rattle.recovery.specs.Fresh.{block_at, size_of, superblock_bytes, IsFirstMeta, IsFirstLeaf, AreZero, HasPages, HasBody, IsFresh, CreateEnds};
+ghost use Rattle.recovery.specs.Fresh.{block_at, size_of, IsFirstMeta, IsFirstLeaf, AreZero, HasPages, HasBody, IsFresh, CreateEnds};
 
+use crate::superblock::spell_superblock;
 use arrayvec::ArrayVec;
 use device::Device;
 use index_model::{Fault, Limits};
@@ -59,46 +59,6 @@ fn first_leaf() -> Page
         deletion: 0,
         items: Items::Entries(ArrayVec::new()),
     }
-}
-
-/// Writes bytes at a place, and answers the place behind them.
-fn put(out: &mut [u8], at: usize, bytes: &[u8]) -> usize
-    requires { at + length bytes.now ≤ length out.old }
-    ensures next { result ≡ at + length bytes.now }
-    ensures front { take result out.new ≡ take at out.old ++ bytes.now }
-{
-    let end = at + bytes.len();
-    out[at..end].copy_from_slice(bytes);
-    end
-}
-
-/// Writes a number at a place, lowest byte first, and answers the place behind it.
-fn put_number(out: &mut [u8], at: usize, n: u32) -> usize
-    requires { at + 4 ≤ length out.old }
-    ensures next { result ≡ at + 4 }
-    ensures front { take result out.new ≡ take at out.old ++ to_le_bytes w32 n }
-{
-    put(out, at, &n.to_le_bytes())
-}
-
-/// Fills with zeros from there on.
-fn clear_from(out: &mut [u8], at: usize)
-    requires { at ≤ length out.old }
-    ensures { out.new ≡ take at out.old ++ replicate (length out.old - at) 0 }
-{
-    out[at..].fill(0);
-}
-
-/// Writes the bytes of the superblock over all 4,096 bytes.
-fn spell_superblock(limits: &Limits, out: &mut [u8; 4096])
-    ensures { out.new ≡ superblock_bytes limits.now }
-{
-    let at = put(out, 0, b"BLINKIDX");
-    let at = put_number(out, at, 1);
-    let at = put_number(out, at, limits.items);
-    let at = put_number(out, at, limits.pages);
-    let at = put_number(out, at, limits.log_bytes);
-    clear_from(out, at);
 }
 
 /// Writes bytes at a place of the device. Nothing else changes, even at `Io`.

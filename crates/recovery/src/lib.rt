@@ -2,6 +2,7 @@
 #![tactic(auto)]
 
 mod creation;
+mod superblock;
 
 pub use creation::create;
 

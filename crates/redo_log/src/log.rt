@@ -47,6 +47,13 @@ impl Log {
         self.limits
     }
 
+    /// Whether a write or sync of it failed before.
+    pub fn is_stopped(&self) -> bool
+        ensures { result ≡ is_stopped self.now }
+    {
+        self.stopped
+    }
+
     /// How many images one more action could hold now.
     pub fn room(&self) -> u32
         ensures fit { (n : ℕ) → 0 < n → n ≤ result → Fits self.now n }
@@ -71,6 +78,7 @@ impl Log {
         ensures room { OnOk result ((n : ℕ)
             → end_with self.new n ≤ end_with self.old (length images.now + n)) }
         ensures limits { limits_of self.new ≡ limits_of self.old }
+        ensures stopped { is_stopped self.new ≡ is_stopped self.old }
 
         ensures err { OnErr result (self.new ≡ self.old) }
         ensures cause { IfErr result (λ e. ((e ≡ Fault.Stopped) × TakesNoMore self.old)

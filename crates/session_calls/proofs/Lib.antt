@@ -4,3 +4,4 @@ pub mod Scanning
 pub mod Refusing
 pub mod Beginning
 pub mod Lessening
+pub mod Undisturbed

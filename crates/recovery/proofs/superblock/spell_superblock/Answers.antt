@@ -1,6 +1,6 @@
 use Rattle.std.proofs.Common.{◌≡◌, length, arith}
-use Rattle.recovery.proofs.Creating.{spelled}
-use Rattle.recovery.proofs.creation.spell_superblock.Goals as goal
+use Rattle.recovery.proofs.Spelling.{spelled}
+use Rattle.recovery.proofs.superblock.spell_superblock.Goals as goal
 
 pub returns : goal.returns
 returns c =

@@ -1,0 +1,55 @@
+-- How pages over a device follow one another.
+use Rattle.std.proofs.Common.{◌≡◌, ℕ, ◌≤◌, List, [], ◌++◌, length, take, refl, sym, ap, subst, ◌∙◌, arith, length-append, append_assoc}
+use Rattle.std.proofs.lemmas.List.{append-nil, take-append-le}
+use Rattle.device.proofs.Going.{goes_weaker}
+use Rattle.device.proofs.Going.{goes_on}
+use Rattle.index_model.specs.declared.limits.Limits.{Limits}
+use Rattle.page_codec.specs.declared.page.Page.{Page}
+use Rattle.page_action.specs.States.{IsLater}
+use Rattle.redo_log.specs.Kept.{limits_of}
+use Rattle.redo_log.specs.declared.log.Log.{Log}
+use Rattle.page_store.specs.Histories.{after_acts}
+use Rattle.page_store.specs.Restart.{RestartsTo, RestartsToPart}
+use Rattle.page_store.specs.Logged.{Held, backing_of}
+use Rattle.page_store.specs.Following.{GoesOn, Follows, follows_same}
+use Rattle.page_store.specs.declared.history.History.{History}
+
+-- a first part of the acts is one of more acts
+pub part_of_more : (limits : Limits) (h longer : History) (more : List (List Page)) (low least : ℕ) (image : List ℕ) → longer.start ≡ h.start → longer.acts ≡ h.acts ++ more → low ≤ least
+    → RestartsToPart limits h least image → RestartsToPart limits longer low image
+part_of_more limits h longer more low least image start acts le r = record {
+  part = r.part;
+  from = omega (arith, r.from);
+  to = omega (arith, r.to, ap length acts, length-append h.acts more);
+  restarts = subst (RestartsTo limits image)
+      (sym (ap (λ (s : List Page). after_acts s (take r.part longer.acts)) start ∙ ap (λ (as' : List (List Page)). after_acts h.start as') (ap (take r.part) acts ∙ take-append-le r.part h.acts more r.to))) r.restarts;
+}
+
+goes_on_both : (a b c : Held) → IsLater (backing_of a) (backing_of b) → GoesOn a b → GoesOn b c → GoesOn a c
+goes_on_both a b c later f s = record {
+  own = s.own;
+  limits = s.limits ∙ f.limits;
+  start = s.start ∙ f.start;
+  more = f.more ++ s.more;
+  acts = s.acts ∙ (ap (λ (as' : List (List Page)). as' ++ s.more) f.acts ∙ append_assoc a.history.acts f.more s.more);
+  moments = goes_on _ a.trace b.trace c.trace
+      (goes_weaker _ _ a.trace b.trace (λ m leaves image left. part_of_more (limits_of a.log) b.history c.history s.more a.durable a.durable image s.start s.acts (omega arith) (leaves image left)) f.moments)
+      (goes_weaker _ _ b.trace c.trace (λ m leaves image left.
+      subst (λ (l : Limits). RestartsToPart l c.history a.durable image) f.limits
+      (part_of_more (limits_of b.log) c.history c.history [] a.durable b.durable image refl (sym (append-nil c.history.acts)) later.durable (leaves image left))) s.moments);
+}
+
+pub follows_both : (a b c : Held) → Follows a b → Follows b c → Follows a c
+follows_both a b c f s = record {
+  later = record {
+    failures = omega (arith, f.later.failures, s.later.failures);
+    durable = omega (arith, f.later.durable, s.later.durable);
+    stopped = λ h. s.later.stopped (f.later.stopped h);
+    honest = λ h. f.later.honest (s.later.honest h);
+  };
+  extends = λ own. let first = f.extends own in goes_on_both a b c f.later first (s.extends first.own);
+}
+
+-- where the log is the same
+pub follows_log : (held : Held) (log : Log) → log ≡ held.log → Follows held (record held { log = log })
+follows_log held log same = subst (λ (l : Log). Follows held (record held { log = l })) (sym same) (follows_same held)

@@ -1,0 +1,121 @@
+-- Pages after a force follow those before it, whether it succeeded or failed.
+use Rattle.std.proofs.Common.{◌≡◌, ℕ, ◌≤◌, Bool, true, false, List, [], length, take, drop, refl, sym, subst, ◌∙◌, arith, length-drop}
+use Rattle.std.proofs.lemmas.List.{append-nil}
+use Rattle.device.specs.Disk.{Moment, Trace}
+use Rattle.device.specs.Moments.{Goes}
+use Rattle.device.specs.Places.{OnDisk, ChangesOnly}
+use Rattle.device.proofs.Going.{goes_weaker, goes_both, goes_now}
+use Rattle.device.proofs.Standing.{same_only}
+use Rattle.index_model.specs.declared.limits.Limits.{Limits}
+use Rattle.page_codec.specs.declared.page.Page.{Page}
+use Rattle.page_action.specs.Stored.{AreStored}
+use Rattle.redo_log.specs.Images.{images_of}
+use Rattle.redo_log.specs.Kept.{Keeps, Restarts, limits_of, is_stopped}
+use Rattle.redo_log.specs.declared.log.Log.{Log}
+use Rattle.redo_log.proofs.Keeping.{keeps_restarts}
+use Rattle.page_store.specs.Histories.{pages_after, AreActs}
+use Rattle.page_store.specs.Restart.{superblock, place, LeavesPart}
+use Rattle.page_store.specs.Logged.{Held, AreHome, IsKept, IsOwn}
+use Rattle.page_store.specs.Following.{GoesOn, Follows}
+use Rattle.page_store.specs.declared.history.History.{History}
+use Rattle.page_store.proofs.Images.{none_among_fewer}
+use Rattle.page_store.proofs.Restarting.{home_kept, superblock_kept, leaves_part}
+
+-- what stands at home while fewer acts are forced does while more are
+home_of_more : (limits : Limits) (since : List (List Page)) (pages : List Page) (n m : ℕ) (at : Moment) → n ≤ m → AreHome limits (images_of (take n since)) pages at → AreHome limits (images_of (take m since)) pages at
+home_of_more limits since pages n m at le home = record {
+  used = λ block page found none. home.used block page found (none_among_fewer since n m block le none);
+  unused = λ block past small none. home.unused block past small (none_among_fewer since n m block le none);
+}
+
+-- what is kept of a log leaves a first part
+pub leaves_kept : (held : Held) (own : IsOwn held) (log : Log) (m : Moment) (marks : List Bool) (durable : ℕ) → limits_of log ≡ limits_of held.log → place (limits_of held.log) (limits_of held.log).pages ≤ length m.seen
+    → IsKept log m marks held.history durable → LeavesPart (limits_of held.log) held.history durable m
+leaves_kept held own log m marks durable limits long k =
+    subst (λ (n : ℕ). LeavesPart (limits_of held.log) held.history n m) (sym k.durable_is)
+    (leaves_part (limits_of held.log) held.history own.start_stored own.start_few own.acts_are k.base k.forced m k.base_few
+    (subst (λ (l : Limits). OnDisk 0 (superblock l) m) limits k.superblock_on)
+    (subst (λ (l : Limits). AreHome l (images_of (take k.forced (drop k.base held.history.acts))) (pages_after held.history k.base) m) limits k.home)
+    long
+    (subst (λ (l : Limits). Restarts l (drop k.base held.history.acts) k.forced m) limits (keeps_restarts log m (drop k.base held.history.acts) k.forced k.log_keeps)))
+
+module _ (old : Held) (log : Log) (trace : Trace) (honest : Bool) (failures : ℕ) (limits : limits_of log ≡ limits_of old.log) (alive : is_stopped old.log ≡ false)
+    (moments : (acts : List (List Page)) (forced : ℕ) → Keeps old.log old.trace.now acts forced → Goes (Restarts (limits_of old.log) acts forced) old.trace trace)
+    (outside : Goes (ChangesOnly 4096 (limits_of old.log).log_bytes old.trace.now) old.trace trace) (len : length trace.now.seen ≡ length old.trace.now.seen)
+    (same_honest : honest ≡ old.honest) (more_failures : old.failures ≤ failures) where
+  abbrev l : Limits
+  l = limits_of old.log
+
+  abbrev h : History
+  h = old.history
+
+  only_now : ChangesOnly 4096 l.log_bytes old.trace.now trace.now
+  only_now = goes_now (ChangesOnly 4096 l.log_bytes old.trace.now) old.trace trace outside (same_only 4096 l.log_bytes old.trace.now)
+
+  module _ (own : IsOwn old) where
+    leaves_between : Goes (LeavesPart l h old.durable) old.trace trace
+    leaves_between =
+        let k = own.kept alive in
+        subst (λ (n : ℕ). Goes (LeavesPart l h n) old.trace trace) (sym k.durable_is)
+        (goes_weaker _ _ old.trace trace (λ m both. leaves_part l h own.start_stored own.start_few own.acts_are k.base k.forced m k.base_few
+        (superblock_kept l 4096 l.log_bytes old.trace.now m (omega arith) both.1 k.superblock_on)
+        (home_kept l _ _ old.trace.now m both.1 k.home)
+        (omega (arith, own.long, both.1.same_length)) both.0)
+        (goes_both _ _ old.trace trace (moments (drop k.base h.acts) k.forced k.log_keeps) outside))
+
+    own_between : (durable room : ℕ) → LeavesPart l h durable trace.now → (is_stopped log ≡ false → IsKept log trace.now old.marks h durable) → IsOwn (record old { log = log; trace = trace; honest = honest; failures = failures; durable = durable; room = room })
+    own_between durable room leaves kept = record {
+      start_stored = subst (λ (x : Limits). AreStored x 0 h.start) (sym limits) own.start_stored;
+      start_few = subst (λ (x : Limits). length h.start ≤ x.pages) (sym limits) own.start_few;
+      long = subst (λ (x : Limits). place x x.pages ≤ length trace.now.seen) (sym limits) (omega (arith, own.long, len));
+      acts_are = subst (λ (x : Limits). AreActs x h.start h.acts) (sym limits) own.acts_are;
+      counted = own.counted;
+      pages_are = own.pages_are;
+      leaves = subst (λ (x : Limits). LeavesPart x h durable trace.now) (sym limits) leaves;
+      kept = kept;
+    }
+
+    extends_to : (durable room : ℕ) → LeavesPart l h durable trace.now → (is_stopped log ≡ false → IsKept log trace.now old.marks h durable) → GoesOn old (record old { log = log; trace = trace; honest = honest; failures = failures; durable = durable; room = room })
+    extends_to durable room leaves kept = record {
+      own = own_between durable room leaves kept;
+      limits = limits;
+      start = refl;
+      more = [];
+      acts = sym (append-nil h.acts);
+      moments = leaves_between;
+    }
+
+  -- it failed
+  pub follows_failed_force : is_stopped log ≡ true → Follows old (record old { log = log; trace = trace; honest = honest; failures = failures })
+  follows_failed_force stopped = record {
+    later = record { failures = more_failures; durable = omega arith; stopped = λ s. stopped; honest = λ s. sym same_honest ∙ s };
+    extends = λ own. extends_to own old.durable old.room
+        (goes_now _ old.trace trace (leaves_between own) own.leaves)
+        (λ still. (let both : true ≡ false = sym stopped ∙ still in absurd cc));
+  }
+
+  -- it succeeded
+  module _ (keeps : (acts : List (List Page)) (forced : ℕ) → Keeps old.log old.trace.now acts forced → Keeps log trace.now acts (length acts)) (behind : old.durable ≤ old.acts) (room : ℕ) where
+    kept_all : (own : IsOwn old) → IsKept log trace.now old.marks h old.acts
+    kept_all own =
+        let k = own.kept alive in
+        let since = drop k.base h.acts in
+        record {
+          base = k.base;
+          forced = length since;
+          base_few = k.base_few;
+          durable_is = omega (arith, own.counted, length-drop k.base h.acts, k.base_few);
+          log_keeps = keeps since k.forced k.log_keeps;
+          home = subst (λ (x : Limits). AreHome x (images_of (take (length since) since)) (pages_after h k.base) trace.now) (sym limits)
+              (home_kept l _ _ old.trace.now trace.now only_now (home_of_more l since (pages_after h k.base) k.forced (length since) old.trace.now k.log_keeps.few k.home));
+          superblock_on = subst (λ (x : Limits). OnDisk 0 (superblock x) trace.now) (sym limits) (superblock_kept l 4096 l.log_bytes old.trace.now trace.now (omega arith) only_now k.superblock_on);
+          marked = k.marked;
+        }
+
+    pub follows_force : is_stopped log ≡ false → Follows old (record old { log = log; trace = trace; honest = honest; failures = failures; durable = old.acts; room = room })
+    follows_force living = record {
+      later = record { failures = more_failures; durable = behind; stopped = λ s. (let both : true ≡ false = sym s ∙ alive in absurd cc); honest = λ s. sym same_honest ∙ s };
+      extends = λ own. extends_to own old.acts room
+          (leaves_kept old own log trace.now old.marks old.acts limits (omega (arith, own.long, len)) (kept_all own))
+          (λ still. kept_all own);
+    }

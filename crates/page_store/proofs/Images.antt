@@ -1,0 +1,153 @@
+-- Acts change the pages as their images say: of each block in use the last image, or else the page that was there.
+use Rattle.std.proofs.Common.{◌≡◌, ◌≢◌, ℕ, zero, suc, ◌+◌, ◌<◌, ◌≤◌, Option, Some, None, List, [], ◌∷◌, ◌++◌, length, take, drop, slice_get, slice_set, refl, sym, ap, subst, inl, inr, ◌∙◌, arith}
+use Rattle.std.proofs.lemmas.Bool.{lt-ltb, le-ltb, cases_lt, cases_eq, eq-eqb, ne_eqb}
+use Rattle.index_model.specs.declared.limits.Limits.{Limits}
+use Rattle.page_codec.specs.declared.page.Page.{Page}
+use Rattle.page_action.specs.Stored.{AreStored, AreActable}
+use Rattle.page_action.specs.States.{with_page, with_pages}
+use Rattle.page_action.proofs.StoredPages.{stored-with_page, with_page-longer, with_page-few}
+use Rattle.redo_log.specs.Images.{if_of, later_of, last_image, images_of}
+use Rattle.redo_log.proofs.ImageLists.{last_image-append}
+use Rattle.page_store.specs.Histories.{after_acts, AreActs}
+
+-- a list with one element set, or one more
+set_same : {A : Type 0} (xs : List A) (at : ℕ) (x : A) → at < length xs → slice_get (slice_set xs at x) at ≡ Some x
+set_same [] at x lt = absurd (omega arith)
+set_same (y ∷ ys) zero x lt = refl
+set_same (y ∷ ys) (suc at) x lt = set_same ys at x (omega arith)
+
+set_other : {A : Type 0} (xs : List A) (at b : ℕ) (x : A) → at ≢ b → slice_get (slice_set xs at x) b ≡ slice_get xs b
+set_other [] at b x ne = refl
+set_other (y ∷ ys) zero zero x ne = absurd (ne refl)
+set_other (y ∷ ys) zero (suc b) x ne = refl
+set_other (y ∷ ys) (suc at) zero x ne = refl
+set_other (y ∷ ys) (suc at) (suc b) x ne = set_other ys at b x (λ e. ne (ap suc e))
+
+more_same : {A : Type 0} (xs : List A) (x : A) → slice_get (xs ++ x ∷ []) (length xs) ≡ Some x
+more_same [] x = refl
+more_same (y ∷ ys) x = more_same ys x
+
+more_other : {A : Type 0} (xs : List A) (b : ℕ) (x : A) → length xs ≢ b → slice_get (xs ++ x ∷ []) b ≡ slice_get xs b
+more_other [] zero x ne = absurd (ne refl)
+more_other [] (suc b) x ne = refl
+more_other (y ∷ ys) zero x ne = refl
+more_other (y ∷ ys) (suc b) x ne = more_other ys b x (λ e. ne (ap suc e))
+
+later_none : (o : Option Page) → later_of o None ≡ o
+later_none o = refl
+
+later_assoc : (a b c : Option Page) → later_of (later_of a b) c ≡ later_of a (later_of b c)
+later_assoc a b None = refl
+later_assoc a b (Some c) = refl
+
+pub later_is_none : (a b : Option Page) → later_of a b ≡ None → (a ≡ None) × (b ≡ None)
+later_is_none a None e = (e, refl)
+later_is_none a (Some b) e = absurd cc
+
+-- the page is there, with the others as they were
+is_there : (pages : List Page) (page : Page) (b : ℕ) → page.block ≡ b → page.block ≤ length pages → slice_get (with_page pages page) b ≡ Some page
+is_there pages page b same place = subst (λ (k : ℕ). slice_get (with_page pages page) k ≡ Some page) same (elim (cases_lt page.block (length pages)) [
+  | inl lt ↦ rw (lt-ltb page.block (length pages) lt) (set_same pages page.block page lt)
+  | inr ge ↦
+      let end : length pages ≡ page.block = omega arith in
+      rw (le-ltb page.block (length pages) ge) (subst (λ (k : ℕ). slice_get (pages ++ page ∷ []) k ≡ Some page) end (more_same pages page))
+])
+
+is_other : (pages : List Page) (page : Page) (b : ℕ) → page.block ≢ b → page.block ≤ length pages → slice_get (with_page pages page) b ≡ slice_get pages b
+is_other pages page b ne place = elim (cases_lt page.block (length pages)) [
+  | inl lt ↦ rw (lt-ltb page.block (length pages) lt) (set_other pages page.block b page ne)
+  | inr ge ↦
+      let end : length pages ≡ page.block = omega arith in
+      rw (le-ltb page.block (length pages) ge) (more_other pages b page (λ e. ne (sym end ∙ e)))
+]
+
+pub if_same : (b : ℕ) (page : Page) → page.block ≡ b → if_of b page ≡ Some page
+if_same b page same = rw (eq-eqb page.block b same) refl
+
+pub if_other : (b : ℕ) (page : Page) → page.block ≢ b → if_of b page ≡ None
+if_other b page ne = rw (ne_eqb page.block b ne) refl
+
+get-with_page : (pages : List Page) (page : Page) (b : ℕ) → page.block ≤ length pages → slice_get (with_page pages page) b ≡ later_of (slice_get pages b) (if_of b page)
+get-with_page pages page b place = elim (cases_eq page.block b) [
+  | inl same ↦ rw (if_same b page same) (is_there pages page b same place)
+  | inr ne ↦ rw (if_other b page ne) (is_other pages page b ne place)
+]
+
+get-with_pages : (limits : Limits) (used : ℕ) (pages changed : List Page) (b : ℕ) → AreActable limits used changed → used ≤ length pages → slice_get (with_pages pages changed) b ≡ later_of (slice_get pages b) (last_image changed b)
+get-with_pages limits used pages [] b h few = refl
+get-with_pages limits used pages (page ∷ changed) b h few =
+    let place : page.block ≤ length pages = omega (arith, h.1.0) in
+    get-with_pages limits used (with_page pages page) changed b h.3 (omega (arith, with_page-longer limits pages page h.0 place))
+    ∙ (ap (λ (o : Option Page). later_of o (last_image changed b)) (get-with_page pages page b place)
+    ∙ later_assoc (slice_get pages b) (if_of b page) (last_image changed b))
+
+-- of each block the last image of the acts, or else the page that was there
+pub get-after_acts : (limits : Limits) (pages : List Page) (acts : List (List Page)) (b : ℕ) → AreActs limits pages acts → slice_get (after_acts pages acts) b ≡ later_of (slice_get pages b) (last_image (images_of acts) b)
+get-after_acts limits pages [] b h = refl
+get-after_acts limits pages (changed ∷ acts) b h =
+    get-after_acts limits (with_pages pages changed) acts b h.1
+    ∙ (ap (λ (o : Option Page). later_of o (last_image (images_of acts) b)) (get-with_pages limits (length pages) pages changed b h.0 (omega arith))
+    ∙ (later_assoc (slice_get pages b) (last_image changed b) (last_image (images_of acts) b)
+    ∙ ap (λ (o : Option Page). later_of (slice_get pages b) o) (sym (last_image-append changed (images_of acts) b))))
+
+-- and they are stored, and not too many
+stored-with_pages : (limits : Limits) (used : ℕ) (pages changed : List Page) → AreActable limits used changed → used ≤ length pages → AreStored limits 0 pages → length pages ≤ limits.pages
+    → AreStored limits 0 (with_pages pages changed) × (length (with_pages pages changed) ≤ limits.pages)
+stored-with_pages limits used pages [] h more stored few = (stored, few)
+stored-with_pages limits used pages (page ∷ changed) h more stored few =
+    let place : page.block ≤ length pages = omega (arith, h.1.0) in
+    stored-with_pages limits used (with_page pages page) changed h.3 (omega (arith, with_page-longer limits pages page h.0 place))
+    (stored-with_page limits pages page h.0 place stored) (with_page-few limits pages page h.0 place h.1.1 few)
+
+pub stored-after_acts : (limits : Limits) (pages : List Page) (acts : List (List Page)) → AreActs limits pages acts → AreStored limits 0 pages → length pages ≤ limits.pages
+    → AreStored limits 0 (after_acts pages acts) × (length (after_acts pages acts) ≤ limits.pages)
+stored-after_acts limits pages [] h stored few = (stored, few)
+stored-after_acts limits pages (changed ∷ acts) h stored few =
+    let s = stored-with_pages limits (length pages) pages changed h.0 (omega arith) stored few in
+    stored-after_acts limits (with_pages pages changed) acts h.1 s.0 s.1
+
+-- parts of acts
+pub after_acts-append : (pages : List Page) (xs ys : List (List Page)) → after_acts pages (xs ++ ys) ≡ after_acts (after_acts pages xs) ys
+after_acts-append pages [] ys = refl
+after_acts-append pages (x ∷ xs) ys = after_acts-append (with_pages pages x) xs ys
+
+pub acts-append : (limits : Limits) (pages : List Page) (xs ys : List (List Page)) → AreActs limits pages xs → AreActs limits (after_acts pages xs) ys → AreActs limits pages (xs ++ ys)
+acts-append limits pages [] ys a b = b
+acts-append limits pages (x ∷ xs) ys a b = (a.0, acts-append limits (with_pages pages x) xs ys a.1 b)
+
+pub acts-take : (limits : Limits) (pages : List Page) (acts : List (List Page)) (n : ℕ) → AreActs limits pages acts → AreActs limits pages (take n acts)
+acts-take limits pages acts zero h = tt
+acts-take limits pages [] (suc n) h = tt
+acts-take limits pages (x ∷ acts) (suc n) h = (h.0, acts-take limits (with_pages pages x) acts n h.1)
+
+pub acts-drop : (limits : Limits) (pages : List Page) (acts : List (List Page)) (n : ℕ) → AreActs limits pages acts → AreActs limits (after_acts pages (take n acts)) (drop n acts)
+acts-drop limits pages acts zero h = h
+acts-drop limits pages [] (suc n) h = tt
+acts-drop limits pages (x ∷ acts) (suc n) h = acts-drop limits (with_pages pages x) acts n h.1
+
+pub after_both : (pages : List Page) (acts : List (List Page)) (n k : ℕ) → after_acts pages (take (n + k) acts) ≡ after_acts (after_acts pages (take n acts)) (take k (drop n acts))
+after_both pages acts zero k = let e : zero + k ≡ k = omega arith in ap (λ (m : ℕ). after_acts pages (take m acts)) e
+after_both pages [] (suc n) k = refl_nil pages (suc n + k) k
+  where
+    refl_nil : (pages : List Page) (a b : ℕ) → after_acts pages (take a []) ≡ after_acts pages (take b [])
+    refl_nil pages zero zero = refl
+    refl_nil pages zero (suc b) = refl
+    refl_nil pages (suc a) zero = refl
+    refl_nil pages (suc a) (suc b) = refl
+after_both pages (x ∷ acts) (suc n) k =
+    let e : suc n + k ≡ suc (n + k) = omega arith in
+    ap (λ (m : ℕ). after_acts pages (take m (x ∷ acts))) e ∙ after_both (with_pages pages x) acts n k
+
+-- a block without an image among more has none among fewer
+pub none_among_fewer : (acts : List (List Page)) (n m b : ℕ) → n ≤ m → last_image (images_of (take m acts)) b ≡ None → last_image (images_of (take n acts)) b ≡ None
+none_among_fewer acts zero m b le e = refl
+none_among_fewer [] (suc n) m b le e = refl
+none_among_fewer (x ∷ acts) (suc n) zero b le e = absurd (omega arith)
+none_among_fewer (x ∷ acts) (suc n) (suc m) b le e =
+    let both = later_is_none (last_image x b) (last_image (images_of (take m acts)) b) (sym (last_image-append x (images_of (take m acts)) b) ∙ e) in
+    let rest = none_among_fewer acts n m b (omega arith) both.1 in
+    last_image-append x (images_of (take n acts)) b ∙ (ap (λ (o : Option Page). later_of o (last_image (images_of (take n acts)) b)) both.0 ∙ rest_of (last_image (images_of (take n acts)) b) rest)
+  where
+    rest_of : (o : Option Page) → o ≡ None → later_of None o ≡ None
+    rest_of None h = refl
+    rest_of (Some p) h = absurd cc

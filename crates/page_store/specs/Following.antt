@@ -1,0 +1,38 @@
+-- What follows pages over a device: later pages of the same device, with a crash in between.
+use Rattle.std.specs.Prelude.{◌≡◌, List, [], ◌++◌}
+use Rattle.std.proofs.Common.{refl, sym, arith}
+use Rattle.std.proofs.lemmas.List.{append-nil}
+use Rattle.device.specs.Moments.{Goes}
+use Rattle.page_codec.specs.declared.page.Page.{Page}
+use Rattle.page_action.specs.States.{IsLater}
+use Rattle.redo_log.specs.Kept.{limits_of}
+use Rattle.page_store.specs.Restart.{LeavesPart}
+use Rattle.page_store.specs.Logged.{Held, backing_of, IsOwn}
+
+-- with some acts more, and at each moment in between a crash left a first part of all acts, with all that were durable
+pub record GoesOn (old new : Held) : Type 0 where
+  pub own : IsOwn new
+  pub limits : limits_of new.log ≡ limits_of old.log
+  pub start : new.history.start ≡ old.history.start
+  pub more : List (List Page)
+  pub acts : new.history.acts ≡ old.history.acts ++ more
+  pub moments : Goes (LeavesPart (limits_of old.log) new.history old.durable) old.trace new.trace
+
+-- no count goes back; and if the first are an own device's, so are the second
+pub record Follows (old new : Held) : Type 0 where
+  pub later : IsLater (backing_of old) (backing_of new)
+  pub extends : IsOwn old → GoesOn old new
+
+-- what stays follows itself
+pub follows_same : (held : Held) → Follows held held
+follows_same held = record {
+  later = record { failures = omega arith; durable = omega arith; stopped = λ h. h; honest = λ h. h };
+  extends = λ own. record {
+    own = own;
+    limits = refl;
+    start = refl;
+    more = [];
+    acts = sym (append-nil held.history.acts);
+    moments = record { since = []; is = refl; each = tt };
+  };
+}

@@ -1,0 +1,30 @@
+-- The acts of a store, and its pages after the first so many of them.
+use Rattle.std.specs.Prelude.{ℕ, List, [], ◌∷◌, ◌++◌, length, take}
+use Rattle.index_model.specs.declared.limits.Limits.{Limits}
+use Rattle.page_codec.specs.declared.page.Page.{Page}
+use Rattle.page_action.specs.States.{with_pages}
+use Rattle.page_action.specs.Stored.{AreActable}
+use Rattle.page_store.specs.declared.history.History.{History}
+
+-- the history from these pages on
+abbrev pub from_pages : List Page → History → History
+from_pages pages h = record h { start = pages; acts = [] }
+
+-- with one act more, which changes these pages
+abbrev pub with_act : List Page → History → History
+with_act changed h = record h { acts = h.acts ++ changed ∷ [] }
+
+-- the pages with each of these acts, one after the other
+abbrev pub after_acts : List Page → List (List Page) → List Page
+after_acts pages [] = pages
+after_acts pages (changed ∷ acts) = after_acts (with_pages pages changed) acts
+
+-- the pages after the first so many acts of a history
+abbrev pub pages_after : History → ℕ → List Page
+pages_after h part = after_acts h.start (take part h.acts)
+
+-- each of these acts could be done where it was
+abbrev pub AreActs : Limits → List Page → List (List Page) → Type 0
+AreActs limits pages [] = Unit {0}
+AreActs limits pages (changed ∷ acts) =
+    AreActable limits (length pages) changed × AreActs limits (with_pages pages changed) acts

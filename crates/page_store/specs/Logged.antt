@@ -1,0 +1,103 @@
+-- What pages over a log and a device show, and which of them are an own device's.
+use Rattle.std.specs.Prelude.{◌≡◌, ℕ, ◌+◌, ◌<◌, ◌≤◌, Bool, false, Some, None, List, [], length, take, drop, replicate, slice_get, get_or, is_some}
+use Rattle.device.specs.Disk.{Moment, Trace}
+use Rattle.device.specs.Places.{OnDisk}
+use Rattle.device.specs.declared.device.Device.{Ghosts}
+use Rattle.index_model.specs.declared.limits.Limits.{Limits}
+use Rattle.page_codec.specs.Spelling.{page_bytes}
+use Rattle.page_codec.specs.declared.page.Page.{Page}
+use Rattle.page_action.specs.States.{Backing}
+use Rattle.page_action.specs.Stored.{AreStored}
+use Rattle.redo_log.specs.Images.{last_image, images_of}
+use Rattle.redo_log.specs.Kept.{Keeps, limits_of, is_stopped}
+use Rattle.redo_log.specs.declared.log.Log.{Log}
+use Rattle.page_store.specs.Histories.{after_acts, pages_after, AreActs}
+use Rattle.page_store.specs.Restart.{superblock, place, LeavesPart}
+use Rattle.page_store.specs.declared.history.History.{History}
+use Rattle.page_store.specs.declared.logged_pages.LoggedPages.{LoggedPages}
+
+-- pages over a log and a device, as plain data
+pub record Held : Type 0 where
+  pub log : Log
+  pub trace : Trace
+  pub honest : Bool
+  pub failures : ℕ
+  pub pages : List Page
+  pub marks : List Bool
+  pub acts : ℕ
+  pub durable : ℕ
+  pub room : ℕ
+  pub promised : ℕ
+  pub history : History
+
+abbrev pub held_of : {D : Type 0} (g : Ghosts D) → LoggedPages D g → Held
+held_of g logged = record {
+  log = logged.log;
+  trace = g.trace logged.device;
+  honest = g.is_honest logged.device;
+  failures = g.failures logged.device;
+  pages = logged.pages.items;
+  marks = logged.changed.items;
+  acts = logged.acts;
+  durable = logged.durable;
+  room = logged.room;
+  promised = logged.promised;
+  history = logged.history;
+}
+
+-- all is as it was but for the device
+pub record SameButDevice {D : Type 0} (g : Ghosts D) (old new : LoggedPages D g) : Type 0 where
+  pub log : new.log ≡ old.log
+  pub limits : new.limits ≡ old.limits
+  pub pages : new.pages ≡ old.pages
+  pub acts : new.acts ≡ old.acts
+  pub durable : new.durable ≡ old.durable
+
+-- the log and the device
+abbrev pub backing_of : Held → Backing
+backing_of held = record {
+  durable = held.durable;
+  room = held.room;
+  promised = held.promised;
+  stopped = is_stopped held.log;
+  honest = held.honest;
+  failures = held.failures;
+}
+
+-- each block that has no image among these stands at its place: its page, or zeros where it has none
+pub record AreHome (limits : Limits) (images pages : List Page) (m : Moment) : Type 0 where
+  pub used : (block : ℕ) (page : Page) → slice_get pages block ≡ Some page → last_image images block ≡ None
+      → OnDisk (place limits block) (page_bytes page) m
+  pub unused : (block : ℕ) → length pages ≤ block → block < limits.pages → last_image images block ≡ None
+      → OnDisk (place limits block) (replicate 4096 0) m
+
+-- the log keeps the acts behind the first so many, whose pages stand at home but for those that the log has an image of
+pub record IsKept (log : Log) (m : Moment) (marks : List Bool) (h : History) (durable : ℕ) : Type 0 where
+  pub base : ℕ
+  pub forced : ℕ
+  pub base_few : base ≤ length h.acts
+  pub durable_is : durable ≡ base + forced
+  pub log_keeps : Keeps log m (drop base h.acts) forced
+  pub home : AreHome (limits_of log) (images_of (take forced (drop base h.acts))) (pages_after h base) m
+  pub superblock_on : OnDisk 0 (superblock (limits_of log)) m
+  pub marked : (block : ℕ) → get_or marks block false ≡ is_some (last_image (images_of (drop base h.acts)) block)
+
+-- the pages are those after all acts of the history, a crash leaves a first part of them with all durable ones, and
+-- while the log has not failed it keeps them
+pub record IsOwn (held : Held) : Type 0 where
+  pub start_stored : AreStored (limits_of held.log) 0 held.history.start
+  pub start_few : length held.history.start ≤ (limits_of held.log).pages
+  pub long : place (limits_of held.log) (limits_of held.log).pages ≤ length held.trace.now.seen
+  pub acts_are : AreActs (limits_of held.log) held.history.start held.history.acts
+  pub counted : held.acts ≡ length held.history.acts
+  pub pages_are : held.pages ≡ after_acts held.history.start held.history.acts
+  pub leaves : LeavesPart (limits_of held.log) held.history held.durable held.trace.now
+  pub kept : is_stopped held.log ≡ false
+      → IsKept held.log held.trace.now held.marks held.history held.durable
+
+-- a device as it stands behind its opening: the log holds nothing, each page in use stands at its place, zeros at those
+-- of the other blocks, and no crash changes this
+pub record StandsOpened (log : Log) (m : Moment) (pages : List Page) : Type 0 where
+  pub log_keeps : Keeps log m [] 0
+  pub home : AreHome (limits_of log) [] pages m
+  pub superblock_on : OnDisk 0 (superblock (limits_of log)) m

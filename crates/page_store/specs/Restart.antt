@@ -1,0 +1,54 @@
+-- What the bytes of a device restart to.
+use Rattle.std.specs.Prelude.{◌≡◌, ◌⊎◌, ℕ, ◌+◌, ◌*◌, ◌<◌, ◌≤◌, Some, None, List, [], ◌∷◌, ◌++◌, length, replicate, slice_get}
+use Rattle.std.specs.Int.{w32, to_le_bytes}
+use Rattle.device.specs.Disk.{Moment, MayLeave}
+use Rattle.device.specs.Places.{Has}
+use Rattle.index_model.specs.declared.limits.Limits.{Limits}
+use Rattle.page_codec.specs.Spelling.{page_bytes}
+use Rattle.page_codec.specs.declared.page.Page.{Page}
+use Rattle.page_action.specs.Stored.{AreStored}
+use Rattle.redo_log.specs.Images.{last_image, images_of}
+use Rattle.redo_log.specs.Groups.{Spells, log_range}
+use Rattle.page_store.specs.Histories.{pages_after}
+use Rattle.page_store.specs.declared.history.History.{History}
+
+-- the first 4,096 bytes of a device: `BLINKIDX`, the layout, the sizes, zeros
+unfoldable pub superblock : Limits → List ℕ
+superblock limits =
+    (66 ∷ 76 ∷ 73 ∷ 78 ∷ 75 ∷ 73 ∷ 68 ∷ 88 ∷ [])
+    ++ to_le_bytes w32 1 ++ to_le_bytes w32 limits.items ++ to_le_bytes w32 limits.pages
+    ++ to_le_bytes w32 limits.log_bytes ++ replicate 4072 0
+
+-- where the page of a block lies on a device
+abbrev pub place : Limits → ℕ → ℕ
+place limits block = 4096 + limits.log_bytes + 4096 * block
+
+-- the block has no image among these, and these bytes stand at its place
+pub record StandsAtHome (limits : Limits) (images : List Page) (block : ℕ) (bytes image : List ℕ) : Type 0 where
+  pub unnamed : last_image images block ≡ None
+  pub has : Has (place limits block) bytes image
+
+-- the bytes restart to these pages: of each block in use the last image in the log is the page, or there is none, and
+-- the page stands at its place; no later block has an image, and zeros stand at its place
+pub record RestartsTo (limits : Limits) (image : List ℕ) (pages : List Page) : Type 0 where
+  pub superblock_is : Has 0 (superblock limits) image
+  pub groups : List (List Page)
+  pub spells : Spells limits (log_range limits image) groups
+  pub long : place limits limits.pages ≤ length image
+  pub few : length pages ≤ limits.pages
+  pub stored : AreStored limits 0 pages
+  pub used : (block : ℕ) (page : Page) → slice_get pages block ≡ Some page
+      → (last_image (images_of groups) block ≡ Some page) ⊎ StandsAtHome limits (images_of groups) block (page_bytes page) image
+  pub unused : (block : ℕ) → length pages ≤ block → block < limits.pages
+      → StandsAtHome limits (images_of groups) block (replicate 4096 0) image
+
+-- they restart to the pages after some first part of the acts, of at least so many
+pub record RestartsToPart (limits : Limits) (h : History) (least : ℕ) (image : List ℕ) : Type 0 where
+  pub part : ℕ
+  pub from : least ≤ part
+  pub to : part ≤ length h.acts
+  pub restarts : RestartsTo limits image (pages_after h part)
+
+-- each image that a crash at this moment may leave does
+abbrev pub LeavesPart : Limits → History → ℕ → Moment → Type 0
+LeavesPart limits h least m = (image : List ℕ) → MayLeave m image → RestartsToPart limits h least image

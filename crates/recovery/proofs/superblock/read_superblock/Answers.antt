@@ -1,0 +1,29 @@
+use Rattle.std.proofs.Common.{rules, ◌≡◌, ◌∙◌, take, sym, ap, subst, Ok}
+use Rattle.index_model.specs.Limits.{AreLimits}
+use Rattle.recovery.specs.Superblock.{magic, superblock_bytes, number_at}
+use Rattle.recovery.proofs.Spelling.{layout_spelled, sizes_read, magic_spelled}
+use Rattle.recovery.proofs.superblock.read_superblock.Goals as goal
+
+pub returns-then-ne-clause-only : goal.returns-then-ne-clause-only
+returns-then-ne-clause-only c = λ limits are is.
+    let e : take 8 c.args.bytes.now ≡ magic = ap (take 8) is ∙ magic_spelled limits in
+    search rules
+
+pub returns-then-number_at-ne1-clause-only : goal.returns-then-number_at-ne1-clause-only
+returns-then-number_at-ne1-clause-only c = λ limits are is.
+    absurd (c.if-number_at-ne1.true (c.number_at.ensures ∙ (ap (number_at 8) is ∙ layout_spelled limits)))
+
+pub returns-then-not-are_valid-clause-only : goal.returns-then-not-are_valid-clause-only
+returns-then-not-are_valid-clause-only c = λ limits are is.
+    let same = sizes_read c.args.bytes.now limits _ _ _ are is c.number_at-2.ensures c.number_at-3.ensures c.number_at-4.ensures in
+    let h = c.if-not-are_valid.ensures.1 (subst AreLimits (sym same) are) in cc
+
+pub returns-then-ne-2-clause-only : goal.returns-then-ne-2-clause-only
+returns-then-ne-2-clause-only c = λ limits are is.
+    let same = sizes_read c.args.bytes.now limits _ _ _ are is c.number_at-2.ensures c.number_at-3.ensures c.number_at-4.ensures in
+    let e : c.spell_superblock.new.out ≡ c.args.bytes.now = c.spell_superblock.ensures ∙ (ap superblock_bytes same ∙ sym is) in
+    search rules
+
+pub returns-clause-only : goal.returns-clause-only
+returns-clause-only c = λ limits are is.
+    ap Ok (sizes_read c.args.bytes.now limits _ _ _ are is c.number_at-2.ensures c.number_at-3.ensures c.number_at-4.ensures)

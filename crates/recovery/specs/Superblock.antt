@@ -1,0 +1,34 @@
+-- The superblock of an index.
+use Rattle.std.specs.Prelude.{◌≡◌, ◌≢◌, ◌⊎◌, ℕ, List, [], ◌∷◌, ◌++◌, take, drop, replicate}
+use Rattle.std.specs.Int.{w32, to_le_bytes, from_le_bytes}
+use Rattle.index_model.specs.Limits.{AreLimits}
+use Rattle.index_model.specs.declared.fault.Fault.{Fault}
+use Rattle.index_model.specs.declared.fault.Fault.TheVariants.{BadSuper, BadVersion, BadLimits}
+use Rattle.index_model.specs.declared.limits.Limits.{Limits}
+
+-- the bytes that an index begins with: `BLINKIDX`
+abbrev pub magic : List ℕ
+magic = 66 ∷ 76 ∷ 73 ∷ 78 ∷ 75 ∷ 73 ∷ 68 ∷ 88 ∷ []
+
+-- the 4,096 bytes of a superblock: `BLINKIDX`, the layout 1, the three sizes, zeros
+unfoldable pub superblock_bytes : Limits → List ℕ
+superblock_bytes limits =
+    ((((magic ++ to_le_bytes w32 1) ++ to_le_bytes w32 limits.items) ++ to_le_bytes w32 limits.pages)
+    ++ to_le_bytes w32 limits.log_bytes) ++ replicate 4072 0
+
+-- the number that stands there
+abbrev pub number_at : ℕ → List ℕ → ℕ
+number_at at bytes = from_le_bytes w32 (take 4 (drop at bytes))
+
+-- the sizes that stand there
+abbrev pub sizes_in : List ℕ → Limits
+sizes_in bytes = record { items = number_at 12 bytes; pages = number_at 16 bytes; log_bytes = number_at 20 bytes }
+
+-- the bytes are no superblock: they begin otherwise; or else the layout is another; or else the sizes are out of their
+-- ranges; or else other bytes than zeros stand behind them
+abbrev pub IsNoSuperblock : List ℕ → Fault → Type 0
+IsNoSuperblock bytes fault =
+    ((fault ≡ BadSuper) × (take 8 bytes ≢ magic))
+    ⊎ ((take 8 bytes ≡ magic) × (((fault ≡ BadVersion) × (number_at 8 bytes ≢ 1))
+    ⊎ ((number_at 8 bytes ≡ 1) × (((fault ≡ BadLimits) × (AreLimits (sizes_in bytes) → ⊥))
+    ⊎ (AreLimits (sizes_in bytes) × (fault ≡ BadSuper) × (bytes ≢ superblock_bytes (sizes_in bytes)))))))

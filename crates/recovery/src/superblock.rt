@@ -1,0 +1,93 @@
+//! The superblock of an index.
+
+ghost use Rattle.std.specs.Prelude.{◌≡◌, ◌+◌, ◌-◌, ◌≤◌, ◌++◌, length, take, replicate, Ok, IfOk, IfErr};
+ghost use Rattle.std.specs.Int.{w32, to_le_bytes};
+ghost use Rattle.index_model.specs.Limits.{AreLimits};
+ghost use Rattle.index_model.specs.declared.limits.Limits.{Limits};
+ghost use Rattle.recovery.specs.Superblock.{superblock_bytes, number_at, IsNoSuperblock};
+
+use index_model::{Fault, Limits};
+
+/// The bytes that an index begins with.
+const MAGIC: [u8; 8] = *b"BLINKIDX";
+
+/// Writes bytes at a place, and answers the place behind them.
+fn put(out: &mut [u8], at: usize, bytes: &[u8]) -> usize
+    requires { at + length bytes.now ≤ length out.old }
+    ensures next { result ≡ at + length bytes.now }
+    ensures front { take result out.new ≡ take at out.old ++ bytes.now }
+{
+    let end = at + bytes.len();
+    out[at..end].copy_from_slice(bytes);
+    end
+}
+
+/// Writes a number at a place, lowest byte first, and answers the place behind it.
+fn put_number(out: &mut [u8], at: usize, n: u32) -> usize
+    requires { at + 4 ≤ length out.old }
+    ensures next { result ≡ at + 4 }
+    ensures front { take result out.new ≡ take at out.old ++ to_le_bytes w32 n }
+{
+    put(out, at, &n.to_le_bytes())
+}
+
+/// Fills with zeros from there on.
+fn clear_from(out: &mut [u8], at: usize)
+    requires { at ≤ length out.old }
+    ensures { out.new ≡ take at out.old ++ replicate (length out.old - at) 0 }
+{
+    out[at..].fill(0);
+}
+
+/// Writes the bytes of the superblock over all 4,096 bytes.
+pub(crate) fn spell_superblock(limits: &Limits, out: &mut [u8; 4096])
+    ensures { out.new ≡ superblock_bytes limits.now }
+{
+    let at = put(out, 0, &MAGIC);
+    let at = put_number(out, at, 1);
+    let at = put_number(out, at, limits.items);
+    let at = put_number(out, at, limits.pages);
+    let at = put_number(out, at, limits.log_bytes);
+    clear_from(out, at);
+}
+
+/// The number that stands there.
+fn number_at(bytes: &[u8; 4096], at: usize) -> u32
+    requires { at + 4 ≤ 4096 }
+    ensures { result ≡ number_at at bytes.now }
+{
+    let mut number = [0; 4];
+    number.copy_from_slice(&bytes[at..at + 4]);
+    u32::from_le_bytes(number)
+}
+
+/// The sizes of the index whose superblock these bytes are. Other bytes are refused, in this order: another beginning
+/// than `BLINKIDX` (`BadSuper`), another layout than 1 (`BadVersion`), sizes out of their ranges (`BadLimits`),
+/// anything but zeros behind them (`BadSuper`).
+pub(crate) fn read_superblock(bytes: &[u8; 4096]) -> Result<Limits, Fault>
+    ensures allowed { IfOk result AreLimits }
+    ensures found { IfOk result (λ limits. bytes.now ≡ superblock_bytes limits) }
+    ensures only { (limits : Limits) → AreLimits limits → bytes.now ≡ superblock_bytes limits → result ≡ Ok limits }
+    ensures fault { IfErr result (IsNoSuperblock bytes.now) }
+{
+    if bytes[..8] != MAGIC[..] {
+        return Err(Fault::BadSuper);
+    }
+    if number_at(bytes, 8) != 1 {
+        return Err(Fault::BadVersion);
+    }
+    let limits = Limits {
+        items: number_at(bytes, 12),
+        pages: number_at(bytes, 16),
+        log_bytes: number_at(bytes, 20),
+    };
+    if !limits.are_valid() {
+        return Err(Fault::BadLimits);
+    }
+    let mut again = [0; 4096];
+    spell_superblock(&limits, &mut again);
+    if again != *bytes {
+        return Err(Fault::BadSuper);
+    }
+    Ok(limits)
+}

@@ -1,0 +1,4 @@
+pub mod Lists
+pub mod Owners
+pub mod Frames
+pub mod Events

@@ -1,0 +1,80 @@
+use Rattle.std.proofs.Common.{◌≡◌, ◌≤◌, ◌+◌, List, [], ◌∷◌, ◌++◌, length, take, arith, refl, sym, ap, subst, length-append, ◌∙◌}
+use Rattle.std.proofs.lemmas.List.{take_all, take_more, take-append-le, drop-append-le}
+use Rattle.std.proofs.Math.ListN.{drop_of_length-le}
+use Rattle.session_calls.specs.declared.answer.Answer.{Answer}
+use Rattle.schedule.specs.declared.event.Event.{Event}
+use Rattle.schedule.specs.Moments.{Moment}
+use Rattle.schedule.specs.Runs.{Ran}
+use Rattle.schedule.specs.Worlds.{moment_of, answers_behind}
+use Rattle.schedule.proofs.Events.{none_ran, ran_more}
+use Rattle.schedule.proofs.world.World.run.Goals as goal
+
+-- what was answered behind some answers, with one answer more
+behind_more : (before answers : List Answer) (answer : Answer) → length before ≤ length answers → answers_behind before (answers ++ answer ∷ []) ≡ answers_behind before answers ++ answer ∷ []
+behind_more before answers answer le = drop-append-le (length before) answers (answer ∷ []) le
+
+pub loop-event-init : goal.loop-event-init
+loop-event-init g c =
+    let before = c.reserve.new.self.items in
+    record {
+      room = (let same = c.reserve.new.self.ok.0 in let room = c.in-Ok.ensures.ok in omega arith);
+      each = omega arith;
+      kept = take_all (length before) before (omega arith);
+      steps = λ first h. h;
+      sessions = refl;
+      runs = λ honest start history calls fits.
+          let now : Moment = moment_of g.S.PageStore.state g.S.PageStore.backing c.args.self.now history calls in
+          record {
+            then_history = history;
+            then_calls = calls;
+            ran = subst (λ (answers : List Answer). Ran start [] answers now now) (sym (drop_of_length-le before (omega arith))) (none_ran start now fits);
+          };
+    }
+
+pub loop-event-preserved : goal.loop-event-preserved
+loop-event-preserved g c =
+    let before = c.reserve.new.self.items in
+    let answers = c.loop-event.answers.items in
+    let answer = c.one-answer.result in
+    let event = c.event-item.result in
+    let events = c.args.events.now in
+    let index = c.loop-event.event-index in
+    let each : length answers ≡ length before + index = c.loop-event.invariant.each in
+    let le : length before ≤ length answers = omega arith in
+    let pushed : c.push_reserved.new.self.items ≡ answers ++ answer ∷ [] = c.push_reserved.ensures.items in
+    record {
+      room = omega arith;
+      each = ap (λ (xs : List Answer). length xs) pushed ∙ (let n : length (answers ++ answer ∷ []) ≡ length answers + 1 = length-append answers (answer ∷ []) in omega arith);
+      kept = ap (λ (xs : List Answer). take (length before) xs) pushed ∙ take-append-le (length before) answers (answer ∷ []) le ∙ c.loop-event.invariant.kept;
+      steps = λ first h. c.one-answer.ensures.steps first (c.loop-event.invariant.steps first h);
+      sessions = c.one-answer.ensures.sessions ∙ c.loop-event.invariant.sessions;
+      runs = λ honest start history calls fits.
+          let mid = c.loop-event.self in
+          let new = c.one-answer.new.self in
+          let later = g.met.S.PageStore.follows_later mid.store new.store (c.one-answer.ensures.steps mid.store (g.met.S.PageStore.follows_same mid.store)) in
+          let ran = c.loop-event.invariant.runs (later.honest honest) start history calls fits in
+          let one = c.one-answer.ensures.runs honest start ran.then_history ran.then_calls ran.ran.fits in
+          let first : Moment = moment_of g.S.PageStore.state g.S.PageStore.backing c.args.self.now history calls in
+          let between : Moment = moment_of g.S.PageStore.state g.S.PageStore.backing mid ran.then_history ran.then_calls in
+          let last : Moment = moment_of g.S.PageStore.state g.S.PageStore.backing new one.then_history one.then_calls in
+          let done : Ran start (take index events ++ event ∷ []) (answers_behind before answers ++ answer ∷ []) first last =
+          ran_more start (take index events) (answers_behind before answers) event answer first between last ran.ran one.ran in
+          let all : Ran start (take (index + 1) events) (answers_behind before c.push_reserved.new.self.items) first last =
+          subst (λ (es : List Event). Ran start es (answers_behind before c.push_reserved.new.self.items) first last)
+          (ap (λ (e : Event). take index events ++ e ∷ []) c.event-item.is ∙ sym (take_more events index event c.loop-event-test.true))
+          (subst (λ (xs : List Answer). Ran start (take index events ++ event ∷ []) xs first last)
+          (sym (ap (λ (xs : List Answer). answers_behind before xs) pushed ∙ behind_more before answers answer le)) done) in
+          record { then_history = one.then_history; then_calls = one.then_calls; ran = all };
+    }
+
+pub returns-clause-runs : goal.returns-clause-runs
+returns-clause-runs g c honest start history calls fits =
+    let ran = c.loop-event.invariant.runs honest start history calls fits in
+    let first : Moment = moment_of g.S.PageStore.state g.S.PageStore.backing c.args.self.now history calls in
+    let last : Moment = moment_of g.S.PageStore.state g.S.PageStore.backing c.loop-event.self ran.then_history ran.then_calls in
+    record {
+      then_history = ran.then_history;
+      then_calls = ran.then_calls;
+      ran = subst (λ (es : List Event). Ran start es (answers_behind c.args.answers.now.items c.loop-event.answers.items) first last) (take_all c.loop-event.event-index c.args.events.now c.loop-event-test.false)
+          (subst (λ (xs : List Answer). Ran start (take c.loop-event.event-index c.args.events.now) (answers_behind xs c.loop-event.answers.items) first last) c.in-Ok.ensures.items ran.ran);
+    }

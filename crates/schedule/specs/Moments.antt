@@ -1,0 +1,61 @@
+-- One moment of a world, and when a history and a list of calls fit it.
+use Rattle.std.specs.Prelude.{◌≡◌, ℕ, ◌<◌, Bool, false, Option, Some, None, List, length, slice_get}
+use Rattle.index_model.specs.Actions.{Action}
+use Rattle.index_model.specs.Calls.{Running, Call, Meets, ActionsAreOwned}
+use Rattle.index_model.specs.declared.entry.Entry.{Entry}
+use Rattle.page_action.specs.States.{State, Backing}
+use Rattle.session_calls.specs.Sessions.{Matches, OpRuns, IsIdle, is_busy}
+use Rattle.session_calls.specs.declared.op.Op.{Op}
+
+-- one moment: the pages and calls of the store, its log and device, what each session runs, and the history of actions
+-- and the list of calls that tell of it
+pub record Moment : Type 0 where
+  pub state : State
+  pub backing : Backing
+  pub slots : List (Option Op)
+  pub history : List Action
+  pub calls : List Call
+
+-- the call of this number is a running call of the session
+pub record IsRunningCall (calls : List Call) (session number : ℕ) (call : Call) : Type 0 where
+  pub found : slice_get calls number ≡ Some call
+  pub session_is : call.session ≡ session
+  pub running : call.ending ≡ Running
+
+-- what the session runs is its one running call
+pub record SlotRuns (start : Entry → Bool) (now : Moment) (session : ℕ) (op : Op) : Type 0 where
+  pub number : ℕ
+  pub call : Call
+  pub is : IsRunningCall now.calls session number call
+  pub only : (other : ℕ) (c : Call) → IsRunningCall now.calls session other c → other ≡ number
+  pub runs : OpRuns now.state start now.history call op
+
+-- the session has no running call, and holds nothing
+pub record IsFree (now : Moment) (session : ℕ) : Type 0 where
+  pub none : (number : ℕ) (call : Call) → IsRunningCall now.calls session number call → ⊥
+  pub idle : IsIdle now.state session
+
+abbrev pub SlotMatches : (Entry → Bool) → Moment → ℕ → Option Op → Type 0
+SlotMatches start now session None = IsFree now session
+SlotMatches start now session (Some op) = SlotRuns start now session op
+
+-- the history and the calls fit the moment
+pub record Fits (start : Entry → Bool) (now : Moment) : Type 0 where
+  -- the contents of the pages are those after the history, the acts are as many as its actions, and the pages are a
+  -- B-link tree
+  pub matches : Matches now.state start now.history
+  -- the calls without an end are the running ones
+  pub running : (session : ℕ) (slot : Option Op) → slice_get now.slots session ≡ Some slot → SlotMatches start now session slot
+  pub known : (number : ℕ) (call : Call) → slice_get now.calls number ≡ Some call → call.session < length now.slots
+  -- each call meets its definition over its own interval
+  pub meets : (number : ℕ) (call : Call) → slice_get now.calls number ≡ Some call → Meets start now.history number call
+  -- each action is owned by the call that asked for it
+  pub owned : ActionsAreOwned start now.history now.calls
+
+-- the session of this number has a call
+abbrev pub slot_has_call : Option (Option Op) → Bool
+slot_has_call None = false
+slot_has_call (Some slot) = is_busy slot
+
+abbrev pub has_call : List (Option Op) → ℕ → Bool
+has_call slots session = slot_has_call (slice_get slots session)

@@ -1,0 +1,11 @@
+//! Any list of events of many sessions over one store of pages.
+#![tactic(auto)]
+
+mod event;
+mod world;
+
+pub use event::Event;
+pub use world::{NotMade, World};
+
+#[cfg(test)]
+mod tests;

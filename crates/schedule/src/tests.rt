@@ -1,0 +1,226 @@
+use super::*;
+use arrayvec::ArrayVec;
+use index_model::{Entry, Fault, Key, Limits, Range, RowAddr};
+use page_action::{MapStore, PageStore};
+use page_codec::{Items, Page, PageState};
+use session_calls::Answer;
+use std::alloc::Global;
+use std::test::*;
+
+const LIMITS: Limits = Limits {
+    items: 4,
+    pages: 8,
+    log_bytes: 65_536,
+};
+
+const ALL: Range = Range {
+    from: None,
+    below: None,
+};
+
+fn page(block: u32, right: Option<u32>, items: Items) -> Page {
+    Page {
+        block,
+        level: 0,
+        state: PageState::Live,
+        split: false,
+        left: None,
+        right,
+        high: None,
+        cycle: 0,
+        deletion: 0,
+        items,
+    }
+}
+
+// The metapage, and an empty leaf as the root.
+fn store(alloc: Global) -> Result<MapStore, Fault> {
+    let mut store = MapStore::new(alloc, LIMITS)?;
+    store.add(page(0, Some(1), Items::Meta))?;
+    store.add(page(1, None, Items::Entries(ArrayVec::new())))?;
+    Ok(store)
+}
+
+fn world(alloc: Global, sessions: u32) -> Result<World<MapStore>, Fault> {
+    match World::new(alloc, store(alloc)?, sessions) {
+        Ok(world) => Ok(world),
+        Err(not_made) => Err(not_made.fault),
+    }
+}
+
+fn entry(key: u8, offset: u16) -> Entry {
+    Entry {
+        key: Key::new(&[key]).unwrap_or(Key::EMPTY),
+        row: RowAddr::new(0, offset).unwrap_or_default(),
+    }
+}
+
+// What an answer says, with its number; for a refusal its number and then, behind 1,000 of them, its block.
+fn told(answer: &Answer) -> (&'static str, u64) {
+    match answer {
+        Answer::Begun => ("begun", 0),
+        Answer::Going => ("going", 0),
+        Answer::Added { action, .. } => ("added", *action),
+        Answer::Ready(count) => ("ready", u64::from(*count)),
+        Answer::Done => ("done", 0),
+        Answer::Gave(None) => ("none", 0),
+        Answer::Gave(Some(entry)) => ("gave", u64::from(entry.row.offset())),
+        Answer::Ended => ("ended", 0),
+        Answer::Forced(count) => ("forced", *count),
+        Answer::Refused(fault) => (
+            "refused",
+            u64::from(fault.number()) + 1_000 * u64::from(fault.block().unwrap_or(0)),
+        ),
+        _ => ("another", 0),
+    }
+}
+
+fn are_told(answers: &[Answer], expected: &[(&str, u64)]) -> bool {
+    for (answer, (word, number)) in answers.iter().zip(expected) {
+        let said = told(answer);
+        if said.0 != *word || said.1 != *number {
+            return false;
+        }
+    }
+    answers.len() == expected.len()
+}
+
+#[test]
+fn latched_leaf_blocks_others(rt: HostRuntime) {
+    let Ok(mut world) = world(rt.alloc(), 4) else {
+        assert!(rt; false);
+        return;
+    };
+    let mut answers = Vec::new(rt.alloc());
+    let events = [
+        Event::Insert(0, entry(0x61, 1)),
+        Event::Step(0),
+        Event::Step(0),
+        Event::Step(0),
+        Event::Insert(1, entry(0x62, 2)),
+        Event::Step(1),
+        Event::Step(1),
+        Event::Insert(2, entry(0x63, 3)),
+        Event::Step(2),
+        Event::Step(2),
+        Event::Scan(3, ALL),
+        Event::Step(3),
+        Event::Step(3),
+        Event::Step(1),
+        Event::Step(2),
+        Event::Step(2),
+        Event::Step(3),
+    ];
+    let ran = world.run(&events, &mut answers);
+    assert!(rt; ran.is_ok());
+    let expected = [
+        ("begun", 0),
+        ("going", 0),
+        ("going", 0),
+        ("added", 1),
+        ("begun", 0),
+        ("going", 0),
+        ("going", 0),
+        ("begun", 0),
+        ("going", 0),
+        ("refused", 1_004),
+        ("begun", 0),
+        ("going", 0),
+        ("refused", 1_004),
+        ("added", 2),
+        ("going", 0),
+        ("added", 3),
+        ("ready", 3),
+    ];
+    assert!(rt; are_told(answers.as_slice(), &expected));
+}
+
+#[test]
+fn each_event_once(rt: HostRuntime) {
+    let Ok(mut world) = world(rt.alloc(), 2) else {
+        assert!(rt; false);
+        return;
+    };
+    let mut answers = Vec::new(rt.alloc());
+    let events = [
+        Event::Step(0),
+        Event::Insert(2, entry(0x61, 1)),
+        Event::Insert(1, entry(0x61, 1)),
+        Event::Scan(1, ALL),
+        Event::Next(1),
+        Event::Step(1),
+        Event::Step(1),
+        Event::Step(1),
+        Event::Force,
+        Event::Scan(0, ALL),
+        Event::Step(0),
+        Event::Step(0),
+        Event::Next(0),
+        Event::Next(0),
+        Event::Step(0),
+        Event::Insert(0, entry(0x62, 2)),
+        Event::End(0),
+        Event::End(0),
+    ];
+    let ran = world.run(&events, &mut answers);
+    assert!(rt; ran.is_ok());
+    let expected = [
+        ("refused", 12),
+        ("refused", 12),
+        ("begun", 0),
+        ("refused", 13),
+        ("refused", 12),
+        ("going", 0),
+        ("going", 0),
+        ("added", 1),
+        ("forced", 1),
+        ("begun", 0),
+        ("going", 0),
+        ("ready", 1),
+        ("gave", 1),
+        ("none", 0),
+        ("done", 0),
+        ("begun", 0),
+        ("ended", 0),
+        ("refused", 12),
+    ];
+    assert!(rt; are_told(answers.as_slice(), &expected));
+}
+
+#[test]
+fn readers_and_abandon(rt: HostRuntime) {
+    let Ok(mut world) = world(rt.alloc(), 64) else {
+        assert!(rt; false);
+        return;
+    };
+    assert!(rt; !world.is_running(63));
+    assert!(rt; matches!(world.one(Event::Scan(63, ALL)), Answer::Begun));
+    assert!(rt; world.is_running(63));
+    assert!(rt; !world.is_running(64));
+    assert!(rt; matches!(world.abandon(63), Answer::Ended));
+    assert!(rt; !world.is_running(63));
+    assert!(rt; world.used() == 2);
+    assert!(rt; world.room() == 15);
+    let leaf = world.page(1);
+    assert!(rt; matches!(leaf, Ok(page) if page.block == 1));
+    let missing = world.page(2);
+    assert!(rt; matches!(missing, Err(Fault::PageDamaged(2))));
+    let store = world.into_store();
+    assert!(rt; store.begun() == 1);
+}
+
+#[test]
+fn one_to_64_sessions(rt: HostRuntime) {
+    for sessions in [0, 65] {
+        let Ok(store) = store(rt.alloc()) else {
+            assert!(rt; false);
+            return;
+        };
+        let Err(not_made) = World::new(rt.alloc(), store, sessions) else {
+            assert!(rt; false);
+            return;
+        };
+        assert!(rt; matches!(not_made.fault, Fault::BadLimits));
+        assert!(rt; not_made.store.used() == 2);
+    }
+}

@@ -1,0 +1,294 @@
+//! A store of pages with its sessions.
+
+ghost use Rattle.std.specs.Prelude.{◌≡◌, ◌≤◌, IfOk, IfErr, length, None, replicate};
+ghost use Rattle.session_calls.specs.Sessions.{no_call};
+
+use crate::event::Event;
+use index_model::{Entry, Fault, Range, Session};
+use page_action::PageStore;
+use page_codec::Page;
+use session_calls::{Answer, Op, begin_insert, begin_scan};
+use std::alloc::Global;
+
+/// A store of pages with 1 to 64 sessions, of which each runs one call at most. After it is made, nothing takes memory.
+///
+/// A world stores no history. Its promise is one of each run: whatever history and calls fitted it before, there is a
+/// continuation that fits it afterwards, by events with exactly these answers.
+#[derive(Drop)]
+pub struct World<S> {
+    store: S,
+    slots: Vec<Option<Op>>,
+    ghost few: { length slots.items ≤ 64 },
+}
+
+/// Why a world was not made, with the store as it was.
+#[derive(Drop)]
+pub struct NotMade<S> {
+    pub fault: Fault,
+    pub store: S,
+}
+
+impl<S: PageStore> World<S> {
+    ghost use Rattle.std.specs.Prelude.{◌≡◌, ◌⊎◌, ◌<◌, ◌≤◌, ◌++◌, ◌∷◌, [], true, false, Bool, List, ℕ, IfOk, IfErr, OnOk, OnErr, MatchResult, length, slice_get, slice_set, slice_index, None, Some, Option, replicate, ◌+◌, take, IsOk, vec_len, vec_capacity};
+    ghost use Rattle.index_model.specs.Actions.{Action};
+    ghost use Rattle.index_model.specs.Calls.{Call};
+    ghost use Rattle.index_model.specs.Faults.{HasCause};
+    ghost use Rattle.page_action.specs.Causes.{where_read};
+    ghost use Rattle.index_model.specs.declared.entry.Entry.{Entry};
+    ghost use Rattle.page_action.specs.Contents.{entry_on_live_leaf};
+    ghost use Rattle.page_action.specs.States.{Continues};
+    ghost use Rattle.session_calls.specs.Sessions.{no_call};
+    ghost use Rattle.schedule.specs.Moments.{has_call};
+    ghost use Rattle.schedule.specs.Runs.{session_to_begin};
+    ghost use Rattle.schedule.specs.Worlds.{WorldFits, WorldRuns, Carries, IsUnused, answers_behind};
+
+    /// A world over the store with so many sessions, none of which has a call. Refused with `BadLimits` unless it is
+    /// 1 to 64 sessions, and with `NoMemory`; the store is given back.
+    ///
+    /// Where the store's pages are in order and it has made no act, the world is fitted by the contents of its pages, no
+    /// actions and no calls.
+    pub fn new(alloc: Global, store: S, sessions: u32) -> Result<World<S>, NotMade<S>>
+        ensures store { IfOk result (λ world. world.store ≡ store) }
+        ensures sessions { IfOk result (λ world. length world.slots.items ≡ sessions) }
+        ensures few { OnOk result ((1 ≤ sessions) × (sessions ≤ 64)) }
+        ensures fits { IsUnused (S.state store) → IfOk result (λ world.
+            WorldFits S.state S.backing world (entry_on_live_leaf (S.state store).pages) [] []) }
+        ensures given_back { IfErr result (λ not_made. not_made.store ≡ store) }
+        ensures first { IfErr result (λ not_made. (sessions ≡ 0) ⊎ (64 < sessions) → not_made.fault ≡ Fault.BadLimits) }
+        ensures limits { IfErr result (λ not_made. not_made.fault ≡ Fault.BadLimits → (sessions ≡ 0) ⊎ (64 < sessions)) }
+        ensures memory { IfErr result (λ not_made. (not_made.fault ≡ Fault.BadLimits) ⊎ (not_made.fault ≡ Fault.NoMemory)) }
+    {
+        if sessions == 0 || sessions > 64 {
+            return Err(NotMade {
+                fault: Fault::BadLimits,
+                store,
+            });
+        }
+        match empty_slots(alloc, sessions) {
+            Ok(slots) => Ok(World { store, slots }),
+            Err(fault) => Err(NotMade { fault, store }),
+        }
+    }
+
+    /// Does one event and answers what it gave, a refusal among the answers. Where several refusals apply, the first of
+    /// `Stopped`, `NoSession`, `SessionBusy` is answered.
+    pub fn one(&mut self, event: Event) -> Answer
+        ensures steps { Continues S.follows self.old.store self.new.store }
+        ensures sessions { length self.new.slots.items ≡ length self.old.slots.items }
+        ensures runs { Carries S.state S.backing self.old self.new
+            (WorldRuns S.state S.backing self.old self.new (event ∷ []) (result ∷ [])) }
+    {
+        match event {
+            Event::Insert(session, entry) => self.insert(session, entry),
+            Event::Scan(session, range) => self.scan(session, range),
+            Event::Step(session) => self.step(session),
+            Event::Next(session) => self.next(session),
+            Event::End(session) => self.end(session),
+            Event::Force => self.force(),
+        }
+    }
+
+    /// Does these events one after the other, and puts an answer for each behind the answers that are there. Refused
+    /// with `NoMemory` where there is no room for the answers: nothing is done then.
+    pub fn run(&mut self, events: &[Event], answers: &mut Vec<Answer>) -> Result<(), Fault>
+        ensures steps { Continues S.follows self.old.store self.new.store }
+        ensures sessions { length self.new.slots.items ≡ length self.old.slots.items }
+        ensures runs { OnOk result (Carries S.state S.backing self.old self.new
+            (WorldRuns S.state S.backing self.old self.new events.now (answers_behind answers.old.items answers.new.items))) }
+        ensures each { OnOk result (length answers.new.items ≡ length answers.old.items + length events.now) }
+        ensures kept { take (length answers.old.items) answers.new.items ≡ answers.old.items }
+        ensures refused { OnErr result ((self.new ≡ self.old) × (answers.new.items ≡ answers.old.items)) }
+        ensures fault { IfErr result (λ fault. fault ≡ Fault.NoMemory) }
+        ensures room { vec_len answers.old + length events.now ≤ vec_capacity answers.old → IsOk result }
+    {
+        let Ok(()) = answers.reserve(events.len()) else {
+            return Err(Fault::NoMemory);
+        };
+        for event in events {
+            let answer = self.one(*event);
+            answers.push_reserved(answer);
+        }
+        Ok(())
+    }
+
+    /// A copy of the page of this block, as it was acted last. Refused with `Io`, `Stopped`, `NoFrame`, and with
+    /// `PageDamaged` for a block that is not in use. What fits is kept.
+    pub fn page(&mut self, block: u32) -> Result<Page, Fault>
+        ensures steps { Continues S.follows self.old.store self.new.store }
+        ensures fits { Carries S.state S.backing self.old self.new (WorldFits S.state S.backing self.new) }
+        ensures page { (S.backing self.new.store).honest ≡ true
+            → IfOk result (λ page. slice_get (S.state self.old.store).pages block ≡ Some page) }
+        ensures cause { IfErr result (HasCause (where_read (S.state self.old.store) (S.backing self.old.store) (S.backing self.new.store) block)) }
+    {
+        self.store.page(block)
+    }
+
+    /// Gives the session's call up, as an `End` of it does: nothing is logged, and what the session held is let go.
+    pub fn abandon(&mut self, session: u32) -> Answer
+        ensures steps { Continues S.follows self.old.store self.new.store }
+        ensures sessions { length self.new.slots.items ≡ length self.old.slots.items }
+        ensures runs { Carries S.state S.backing self.old self.new
+            (WorldRuns S.state S.backing self.old self.new (Event.End session ∷ []) (result ∷ [])) }
+    {
+        self.end(session)
+    }
+
+    /// The store, with whatever the sessions still hold.
+    pub fn into_store(self) -> S
+        ensures { result ≡ self.store }
+    {
+        let World { store, .. } = self;
+        store
+    }
+
+    /// How many images one more act could hold now.
+    pub fn room(&self) -> u32
+        ensures { result ≡ (S.backing self.now.store).room }
+    {
+        self.store.room()
+    }
+
+    /// The next unused block.
+    pub fn used(&self) -> u32
+        ensures { result ≡ length (S.state self.now.store).pages }
+    {
+        self.store.used()
+    }
+
+    fn insert(&mut self, session: u32, entry: Entry) -> Answer
+        ensures steps { Continues S.follows self.old.store self.new.store }
+        ensures sessions { length self.new.slots.items ≡ length self.old.slots.items }
+        ensures runs { Carries S.state S.backing self.old self.new
+            (WorldRuns S.state S.backing self.old self.new (Event.Insert session entry ∷ []) (result ∷ [])) }
+    {
+        match self.find(session) {
+            Ok(known) => begin_insert(
+                &mut self.store,
+                known,
+                entry,
+                &mut self.slots[session as usize],
+            ),
+            Err(fault) => Answer::Refused(fault),
+        }
+    }
+
+    fn scan(&mut self, session: u32, range: Range) -> Answer
+        ensures steps { Continues S.follows self.old.store self.new.store }
+        ensures sessions { length self.new.slots.items ≡ length self.old.slots.items }
+        ensures runs { Carries S.state S.backing self.old self.new
+            (WorldRuns S.state S.backing self.old self.new (Event.Scan session range ∷ []) (result ∷ [])) }
+    {
+        match self.find(session) {
+            Ok(known) => begin_scan(
+                &mut self.store,
+                known,
+                range,
+                &mut self.slots[session as usize],
+            ),
+            Err(fault) => Answer::Refused(fault),
+        }
+    }
+
+    fn step(&mut self, session: u32) -> Answer
+        ensures steps { Continues S.follows self.old.store self.new.store }
+        ensures sessions { length self.new.slots.items ≡ length self.old.slots.items }
+        ensures runs { Carries S.state S.backing self.old self.new
+            (WorldRuns S.state S.backing self.old self.new (Event.Step session ∷ []) (result ∷ [])) }
+    {
+        if !self.is_running(session) {
+            return refuse_idle(self.store.is_stopped());
+        }
+        session_calls::step(&mut self.store, &mut self.slots[session as usize])
+    }
+
+    fn next(&mut self, session: u32) -> Answer
+        ensures steps { Continues S.follows self.old.store self.new.store }
+        ensures sessions { length self.new.slots.items ≡ length self.old.slots.items }
+        ensures runs { Carries S.state S.backing self.old self.new
+            (WorldRuns S.state S.backing self.old self.new (Event.Next session ∷ []) (result ∷ [])) }
+    {
+        if !self.is_running(session) {
+            return refuse_idle(false);
+        }
+        session_calls::next(&mut self.slots[session as usize])
+    }
+
+    fn end(&mut self, session: u32) -> Answer
+        ensures steps { Continues S.follows self.old.store self.new.store }
+        ensures sessions { length self.new.slots.items ≡ length self.old.slots.items }
+        ensures runs { Carries S.state S.backing self.old self.new
+            (WorldRuns S.state S.backing self.old self.new (Event.End session ∷ []) (result ∷ [])) }
+    {
+        if !self.is_running(session) {
+            return refuse_idle(false);
+        }
+        session_calls::end(&mut self.store, &mut self.slots[session as usize])
+    }
+
+    fn force(&mut self) -> Answer
+        ensures steps { Continues S.follows self.old.store self.new.store }
+        ensures sessions { length self.new.slots.items ≡ length self.old.slots.items }
+        ensures runs { Carries S.state S.backing self.old self.new
+            (WorldRuns S.state S.backing self.old self.new (Event.Force ∷ []) (result ∷ [])) }
+    {
+        if self.store.is_stopped() {
+            return Answer::Refused(Fault::Stopped);
+        }
+        match self.store.force() {
+            Ok(count) => Answer::Forced(count),
+            Err(fault) => Answer::Refused(fault),
+        }
+    }
+
+    // The session that may begin a call: refused where the log failed before, then where there is none of this number,
+    // then where it has a call.
+    fn find(&self, session: u32) -> Result<Session, Fault>
+        ensures { result ≡ session_to_begin (S.backing self.now.store).stopped (slice_get self.now.slots.items session) session }
+    {
+        if self.store.is_stopped() {
+            return Err(Fault::Stopped);
+        }
+        let at = session as usize;
+        if at >= self.slots.len() {
+            return Err(Fault::NoSession);
+        }
+        if self.slots[at].is_some() {
+            return Err(Fault::SessionBusy);
+        }
+        Session::new(session)
+    }
+
+    /// Whether the session has a call. One that does not exist has none.
+    pub fn is_running(&self, session: u32) -> bool
+        ensures value { result ≡ has_call self.now.slots.items session }
+        ensures within { result ≡ true → session < length self.now.slots.items }
+    {
+        let at = session as usize;
+        at < self.slots.len() && self.slots[at].is_some()
+    }
+}
+
+// What is answered to an event of a session that has no call.
+fn refuse_idle(is_stopped: bool) -> Answer
+    ensures { result ≡ no_call is_stopped }
+{
+    if is_stopped {
+        Answer::Refused(Fault::Stopped)
+    } else {
+        Answer::Refused(Fault::NoSession)
+    }
+}
+
+// A slot for each session, none with a call.
+fn empty_slots(alloc: Global, sessions: u32) -> Result<Vec<Option<Op>>, Fault>
+    ensures slots { IfOk result (λ slots. slots.items ≡ replicate sessions None) }
+    ensures fault { IfErr result (λ fault. fault ≡ Fault.NoMemory) }
+{
+    let Ok(mut slots) = Vec::with_capacity(alloc, sessions as usize) else {
+        return Err(Fault::NoMemory);
+    };
+    for _at in 0..sessions {
+        slots.push_reserved(None);
+    }
+    Ok(slots)
+}
