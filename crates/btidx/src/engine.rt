@@ -1,14 +1,16 @@
 //! What the lines of a script are done with: the only file of the program that knows an index.
 
-ghost use Rattle.std.specs.Prelude.{◌≤◌, OnOk};
+ghost use Rattle.std.specs.Prelude.{◌≡◌, ◌≤◌, OnOk};
 ghost use Rattle.session_calls.specs.Sessions.{work_left, IsDrained};
+ghost use Rattle.schedule.specs.Runs.{slot_at};
 
-use device::{Device, MemDevice};
-use index_model::{Entry, Fault, Limits, Range, Session};
-use page_action::{MapStore, PageStore};
-use page_codec::{Page, decode};
-use recovery::create;
-use session_calls::{Answer, Op, begin_insert, begin_scan, end, next, step};
+use device::{CrashImage, MemDevice};
+use index_model::{Entry, Fault, Limits, Range};
+use page_codec::Page;
+use page_store::Store;
+use recovery::{create, open};
+use schedule::{Event, World};
+use session_calls::Answer;
 use std::alloc::Global;
 use std::io;
 
@@ -42,61 +44,50 @@ pub trait Sink {
     fn page(&mut self, page: &Page) -> io::Result<()>;
 }
 
-/// An index in memory, and its sessions.
+/// An index on a device in memory, and its sessions.
 #[derive(Drop)]
 pub struct Engine {
-    store: MapStore,
-    sessions: u32,
+    alloc: Global,
+    setting: Setting,
+    world: World<Store<MemDevice>>,
 }
 
 impl Engine {
-    /// An empty index, made on a device in memory and read from there. Refused with `BadLimits` for a size out of its
-    /// range, and with `NoMemory`.
+    /// An empty index, made on a device in memory and opened. Refused with `BadLimits` for a size out of its range, and
+    /// with `NoMemory`.
     pub fn new(alloc: Global, setting: &Setting) -> Result<Engine, Fault> {
         if !setting.is_valid() {
             return Err(Fault::BadLimits);
         }
-        let limits = setting.limits;
-        let mut device = MemDevice::new(alloc, block_at(&limits, limits.pages))?;
-        create(&mut device, &limits)?;
-        let mut store = MapStore::new(alloc, limits)?;
-        for block in 0..2 {
-            store.add(read_page(&mut device, &limits, block)?)?;
-        }
+        let mut device = MemDevice::new(alloc, length(&setting.limits))?;
+        create(&mut device, &setting.limits)?;
         Ok(Engine {
-            store,
-            sessions: setting.sessions,
+            alloc,
+            setting: *setting,
+            world: opened(alloc, device, setting)?,
         })
     }
 
-    /// The session of this number, if the index has so many.
-    fn session(&self, number: u32) -> Result<Session, Fault> {
-        if number >= self.sessions {
-            return Err(Fault::NoSession);
-        }
-        Session::new(number)
+    /// One event.
+    pub fn one(&mut self, event: Event) -> Answer {
+        self.world.one(event)
     }
 
-    /// An insert, run to its end.
+    /// Steps of a session's call until one doesn't answer `Going`.
+    pub fn run(&mut self, session: u32) -> Answer {
+        loop {
+            match self.world.one(Event::Step(session)) {
+                Answer::Going => {}
+                answer => return answer,
+            }
+        }
+    }
+
+    /// An insert, run until a step doesn't answer `Going`.
     pub fn put(&mut self, session: u32, entry: &Entry) -> Answer {
-        let mut call = None;
-        match self.begin_put(session, entry, &mut call) {
-            Answer::Begun => run(&mut self.store, &mut call),
+        match self.world.one(Event::Insert(session, *entry)) {
+            Answer::Begun => self.run(session),
             answer => answer,
-        }
-    }
-
-    fn begin_put(&mut self, session: u32, entry: &Entry, call: &mut Option<Op>) -> Answer {
-        match self.session(session) {
-            Ok(session) => begin_insert(&mut self.store, session, *entry, call),
-            Err(fault) => Answer::Refused(fault),
-        }
-    }
-
-    fn begin_list(&mut self, session: u32, range: &Range, call: &mut Option<Op>) -> Answer {
-        match self.session(session) {
-            Ok(session) => begin_scan(&mut self.store, session, *range, call),
-            Err(fault) => Answer::Refused(fault),
         }
     }
 
@@ -108,79 +99,88 @@ impl Engine {
         range: &Range,
         sink: &mut S,
     ) -> io::Result<Result<u64, Fault>> {
-        let mut call = None;
-        if let Answer::Refused(fault) = self.begin_list(session, range, &mut call) {
+        if let Answer::Refused(fault) = self.world.one(Event::Scan(session, *range)) {
             return Ok(Err(fault));
         }
-        let count = give_all(&mut self.store, &mut call, sink);
-        end(&mut self.store, &mut call);
+        let count = self.give_all(session, sink);
+        self.world.abandon(session);
         count
+    }
+
+    /// Runs a session's scan to its end, handing over what it gives, and answers how many entries.
+    fn give_all<S: Sink>(&mut self, session: u32, sink: &mut S) -> io::Result<Result<u64, Fault>> {
+        let mut count = 0u64;
+        loop {
+            count = count.saturating_add(self.give_ready(session, sink)?);
+            match self.world.one(Event::Step(session)) {
+                Answer::Going | Answer::Ready(_) => {}
+                Answer::Refused(fault) => return Ok(Err(fault)),
+                _ => return Ok(Ok(count)),
+            }
+        }
+    }
+
+    /// Hands over the entries that a session's scan has ready, and answers how many.
+    fn give_ready<S: Sink>(&mut self, session: u32, sink: &mut S) -> io::Result<u64>
+        ensures drained { OnOk result (IsDrained (slot_at self.new.world.slots.items session)) }
+        ensures less { work_left (slot_at self.new.world.slots.items session)
+            ≤ work_left (slot_at self.old.world.slots.items session) }
+    {
+        let mut count = 0u64;
+        while let Answer::Gave(Some(entry)) = self.world.one(Event::Next(session)) {
+            sink.entry(&entry)?;
+            count = count.saturating_add(1);
+        }
+        Ok(count)
     }
 
     /// Hands over each used page, lowest block first.
     pub fn dump<S: Sink>(&mut self, sink: &mut S) -> io::Result<Result<(), Fault>> {
-        for block in 0..self.store.used() {
-            match self.store.page(block) {
+        for block in 0..self.world.used() {
+            match self.world.page(block) {
                 Ok(page) => sink.page(&page)?,
                 Err(fault) => return Ok(Err(fault)),
             }
         }
         Ok(Ok(()))
     }
-}
 
-/// Where a block begins on a device.
-fn block_at(limits: &Limits, block: u32) -> u64 {
-    4_096 + u64::from(limits.log_bytes) + 4_096 * u64::from(block)
-}
-
-/// The page at the block of a device.
-fn read_page(device: &mut MemDevice, limits: &Limits, block: u32) -> Result<Page, Fault> {
-    let at = block_at(limits, block);
-    if at.saturating_add(4_096) > device.len() {
-        return Err(Fault::PageDamaged(block));
+    /// The nth device call from now on fails, once.
+    pub fn fail_at(&mut self, n: u64) {
+        self.world.fail_at(n);
     }
-    let mut bytes = [0; 4_096];
-    device.read_at(at, &mut bytes)?;
-    decode(&bytes).ok_or(Fault::PageDamaged(block))
-}
 
-/// Makes steps of a call until one doesn't answer `Going`.
-fn run(store: &mut MapStore, call: &mut Option<Op>) -> Answer {
-    loop {
-        match step(store, call) {
-            Answer::Going => {}
-            answer => return answer,
-        }
+    /// The nth device call from now on fails, and each later one.
+    pub fn stop_at(&mut self, n: u64) {
+        self.world.stop_at(n);
+    }
+
+    /// A crash, and the index opened again, with as many sessions. Refused as `open` is, and with `NoMemory`; the index
+    /// is as it was then.
+    pub fn crash(&mut self, image: CrashImage) -> Result<(), Fault> {
+        let device = self.world.crash(self.alloc, image)?;
+        self.world = opened(self.alloc, device, &self.setting)?;
+        Ok(())
     }
 }
 
-/// Runs a scan to its end, handing over what it gives, and answers how many entries.
-fn give_all<S: Sink>(
-    store: &mut MapStore,
-    call: &mut Option<Op>,
-    sink: &mut S,
-) -> io::Result<Result<u64, Fault>> {
-    let mut count = 0u64;
-    loop {
-        count = count.saturating_add(give_ready(call, sink)?);
-        match step(store, call) {
-            Answer::Going | Answer::Ready(_) => {}
-            Answer::Refused(fault) => return Ok(Err(fault)),
-            _ => return Ok(Ok(count)),
-        }
+/// The index on a device, with no call running.
+fn opened(
+    alloc: Global,
+    device: MemDevice,
+    setting: &Setting,
+) -> Result<World<Store<MemDevice>>, Fault> {
+    let store = match open(alloc, device, setting.frames) {
+        Ok(store) => store,
+        Err(refused) => return Err(refused.fault),
+    };
+    match World::new(alloc, store, setting.sessions) {
+        Ok(world) => Ok(world),
+        Err(not_made) => Err(not_made.fault),
     }
 }
 
-/// Hands over the entries that are ready, and answers how many.
-fn give_ready<S: Sink>(call: &mut Option<Op>, sink: &mut S) -> io::Result<u64>
-    ensures drained { OnOk result (IsDrained call.new) }
-    ensures less { work_left call.new ≤ work_left call.old }
-{
-    let mut count = 0u64;
-    while let Answer::Gave(Some(entry)) = next(call) {
-        sink.entry(&entry)?;
-        count = count.saturating_add(1);
-    }
-    Ok(count)
+/// The bytes that an index of these limits takes.
+fn length(limits: &Limits) -> u64 {
+    4_096 + u64::from(limits.log_bytes) + 4_096 * u64::from(limits.pages)
 }

@@ -1,14 +1,17 @@
 //! Scripts.
 
 ghost use Rattle.std.specs.Prelude.{◌≡◌, ◌≤◌, ◌+◌, length, drop};
+ghost use Rattle.btidx.specs.Events.{event_of};
 
 use crate::answer::{print_answer, print_entry, print_refused};
 use crate::dump::print_page;
 use crate::engine::{Engine, Setting, Sink};
-use crate::line::{Line, LineError, parse};
+use crate::line::{Crash, Line, LineError, parse};
 use crate::refusal::print_no_event;
+use device::CrashImage;
 use index_model::{Entry, Fault, Range};
 use page_codec::Page;
+use schedule::Event;
 use std::alloc::Global;
 use std::io::{self, Read, Write};
 
@@ -67,9 +70,13 @@ fn run<W: Write, E: Write>(
     while !rest.is_empty() {
         number = number.saturating_add(1);
         let end = line_end(rest);
-        if !play_line(engine, &rest[..end], out)? {
-            print_no_event(err, number)?;
-            return Ok(End::Said);
+        match play_line(engine, &rest[..end], out)? {
+            Played::Answered => {}
+            Played::NoEvent => {
+                print_no_event(err, number)?;
+                return Ok(End::Said);
+            }
+            Played::NotOpened(fault) => return Ok(End::Refused(fault)),
         }
         rest = behind(rest, end);
     }
@@ -98,28 +105,87 @@ fn behind(script: &[u8], end: usize) -> &[u8]
     }
 }
 
-/// Does what a line says and prints the answer; false where it is no event.
-fn play_line<W: Write>(engine: &mut Engine, text: &[u8], out: &mut W) -> io::Result<bool> {
+/// What a line did.
+#[derive(Clone, Copy, Debug, PartialEq, Eq)]
+enum Played {
+    /// Its answer is printed, if it has one.
+    Answered,
+    /// Nothing: it is no event.
+    NoEvent,
+    /// The index couldn't be opened again after a crash. The refusal is printed.
+    NotOpened(Fault),
+}
+
+/// Does what a line says and prints the answer.
+fn play_line<W: Write>(engine: &mut Engine, text: &[u8], out: &mut W) -> io::Result<Played> {
     match parse(text) {
         Ok(line) => play_event(engine, &line, out),
-        Err(LineError::NotAnEvent) => Ok(false),
+        Err(LineError::NotAnEvent) => Ok(Played::NoEvent),
         Err(LineError::Refused(fault)) => {
             print_refused(out, fault)?;
-            Ok(true)
+            Ok(Played::Answered)
         }
     }
 }
 
-/// The same for a line that was read. The lines that the engine doesn't know yet are no events.
-fn play_event<W: Write>(engine: &mut Engine, line: &Line<'_>, out: &mut W) -> io::Result<bool> {
+/// The same for a line that was read. The lines that the index doesn't know yet are no events.
+fn play_event<W: Write>(engine: &mut Engine, line: &Line<'_>, out: &mut W) -> io::Result<Played> {
+    if let Some(event) = event_of(line) {
+        print_answer(out, &engine.one(event))?;
+        return Ok(Played::Answered);
+    }
     match line {
         Line::Nothing => {}
+        Line::Run(session) => print_answer(out, &engine.run(*session))?,
         Line::Put(session, entry) => print_answer(out, &engine.put(*session, entry))?,
         Line::List(session, range) => play_list(engine, *session, range, out)?,
         Line::Dump => play_dump(engine, out)?,
-        _ => return Ok(false),
+        Line::Fail(n) => {
+            engine.fail_at(*n);
+            writeln!(out, "set")?;
+        }
+        Line::Stop(n) => {
+            engine.stop_at(*n);
+            writeln!(out, "set")?;
+        }
+        Line::Crash(crash) => return play_crash(engine, *crash, out),
+        _ => return Ok(Played::NoEvent),
     }
-    Ok(true)
+    Ok(Played::Answered)
+}
+
+/// The event that a line is, if it is one.
+fn event_of(line: &Line<'_>) -> Option<Event>
+    ensures { result ≡ event_of line.now }
+{
+    match line {
+        Line::Insert(session, entry) => Some(Event::Insert(*session, *entry)),
+        Line::Scan(session, range) => Some(Event::Scan(*session, *range)),
+        Line::Step(session) => Some(Event::Step(*session)),
+        Line::Next(session) => Some(Event::Next(*session)),
+        Line::End(session) => Some(Event::End(*session)),
+        Line::Force => Some(Event::Force),
+        _ => None,
+    }
+}
+
+/// A crash, and the index opened again.
+fn play_crash<W: Write>(engine: &mut Engine, crash: Crash, out: &mut W) -> io::Result<Played> {
+    let image = match crash {
+        Crash::Keep => CrashImage::Keep,
+        Crash::Drop => CrashImage::Drop,
+        Crash::Tear => CrashImage::Tear,
+    };
+    match engine.crash(image) {
+        Ok(()) => {
+            writeln!(out, "opened")?;
+            Ok(Played::Answered)
+        }
+        Err(fault) => {
+            print_refused(out, fault)?;
+            Ok(Played::NotOpened(fault))
+        }
+    }
 }
 
 fn play_list<W: Write>(

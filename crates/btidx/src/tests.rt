@@ -140,6 +140,174 @@ done 2
     )
 }
 
+/// What was forced stands after each crash, and acts are counted anew.
+#[test]
+fn acknowledged(rt: HostRuntime) -> Result<(), Fail> {
+    runs(
+        &rt,
+        ["btidx", "play"].as_slice(),
+        "put 0 61 (0,1)
+put 0 62 (0,2)
+force
+put 0 63 (0,3)
+crash drop
+list 0 * *
+put 0 63 (0,3)
+",
+        "added 1
+added 2
+forced 2
+added 3
+opened
+entry 61 (0,1)
+entry 62 (0,2)
+done 2
+added 1
+",
+        "",
+        0,
+    )
+}
+
+/// A force that is stopped at its first write, or at that of the gate, half of which is written or all.
+#[test]
+fn torn(rt: HostRuntime) -> Result<(), Fail> {
+    for (script, last) in [
+        (
+            "put 0 61 (0,1)\nforce\nput 0 62 (0,2)\nstop 1\nforce\ncrash tear\nlist 0 * *\n",
+            "entry 61 (0,1)\ndone 1\n",
+        ),
+        (
+            "put 0 61 (0,1)\nforce\nput 0 62 (0,2)\nstop 3\nforce\ncrash tear\nlist 0 * *\n",
+            "entry 61 (0,1)\ndone 1\n",
+        ),
+        (
+            "put 0 61 (0,1)\nforce\nput 0 62 (0,2)\nstop 3\nforce\ncrash keep\nlist 0 * *\n",
+            "entry 61 (0,1)\nentry 62 (0,2)\ndone 2\n",
+        ),
+    ] {
+        let mut printed = String::new(rt.alloc());
+        printed.push_str("added 1\nforced 1\nadded 2\nset\nrefused 2\nopened\n")?;
+        printed.push_str(last)?;
+        runs(
+            &rt,
+            ["btidx", "play"].as_slice(),
+            script,
+            printed.as_str(),
+            "",
+            0,
+        )?;
+    }
+    Ok(())
+}
+
+/// A force whose last sync fails has written its gate: a crash leaves it or not.
+#[test]
+fn gate_sync_fails(rt: HostRuntime) -> Result<(), Fail> {
+    runs(
+        &rt,
+        ["btidx", "play"].as_slice(),
+        "put 0 61 (0,1)
+force
+put 0 62 (0,2)
+fail 4
+force
+put 0 63 (0,3)
+crash drop
+list 0 * *
+",
+        "added 1
+forced 1
+added 2
+set
+refused 2
+refused 3
+opened
+entry 61 (0,1)
+done 1
+",
+        "",
+        0,
+    )?;
+    runs(
+        &rt,
+        ["btidx", "play"].as_slice(),
+        "put 0 61 (0,1)
+force
+put 0 62 (0,2)
+fail 4
+force
+put 0 63 (0,3)
+crash keep
+list 0 * *
+",
+        "added 1
+forced 1
+added 2
+set
+refused 2
+refused 3
+opened
+entry 61 (0,1)
+entry 62 (0,2)
+done 2
+",
+        "",
+        0,
+    )
+}
+
+/// A latched leaf blocks the steps of other sessions, whatever they are.
+#[test]
+fn sessions(rt: HostRuntime) -> Result<(), Fail> {
+    runs(
+        &rt,
+        ["btidx", "play"].as_slice(),
+        "put 0 61 (0,1)
+insert 1 62 (0,2)
+step 1
+step 1
+insert 2 63 (0,3)
+step 2
+step 2
+scan 3 * *
+step 3
+step 3
+step 1
+step 2
+step 2
+run 3
+next 3
+end 3
+end 3
+step 3
+insert 8 62 (0,2)
+",
+        "added 1
+begun
+going
+going
+begun
+going
+refused 4 1
+begun
+going
+refused 4 1
+added 2
+going
+added 3
+ready 3
+entry 61 (0,1)
+ended
+refused 12
+refused 12
+refused 12
+",
+        "",
+        0,
+    )
+}
+
 #[test]
 fn command_lines(rt: HostRuntime) -> Result<(), Fail> {
     let few = ["btidx", "play", "--items", "3"];

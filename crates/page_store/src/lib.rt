@@ -4,6 +4,7 @@
 
 mod history;
 mod logged_pages;
+mod memory;
 mod placing;
 mod room;
 mod store;

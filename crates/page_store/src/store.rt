@@ -18,7 +18,7 @@ use redo_log::Log;
 /// of the acts, with all that were durable. All pages in use are held in memory, and nothing allocates.
 #[derive(Drop)]
 pub struct Store<D: Device> {
-    held: LoggedPages<D>,
+    pub(crate) held: LoggedPages<D>,
     counted: Vec<u64>,
     begun: u64,
     running: [Option<u64>; 64],
