@@ -14,8 +14,9 @@ use latch_table::{LatchTable, Mode};
 use page_codec::{Items, Page, PageState, is_page};
 use std::alloc::Global;
 
-/// The pages of an index in memory, without a device: nothing fails, each act is durable once it is forced, and a
-/// crash is not spoken of. The room for all pages is made with it.
+/// The pages of an index in memory, without a device: nothing fails, each act is durable once it is forced. It has no
+/// bytes that a crash leaves, so it is no own store, and what is said of own stores says nothing of it. The room for
+/// all pages is made with it.
 #[derive(Drop)]
 pub struct MapStore {
     limits: Limits,
@@ -118,6 +119,26 @@ impl PageStore for MapStore {
 
     ghost follows_later = { λ s t h. h };
 
+    ghost own = { λ s. ⊥ };
+
+    ghost past = { λ s part. s.pages.items };
+
+    ghost leaves = { λ s t image. ⊥ };
+
+    ghost restarts = { λ s image pages. ⊥ };
+
+    ghost durable_few = { λ s. s.not_ahead };
+
+    ghost own_stays = { λ s t own h. own };
+
+    ghost acts_later = { λ s t own h. absurd own };
+
+    ghost past_now = { λ s own. absurd own };
+
+    ghost past_stays = { λ s t part own h le. absurd own };
+
+    ghost leaves_first = { λ s t image own h left. absurd own };
+
     fn page(&mut self, block: u32) -> Result<Page, Fault> {
         let at = block as usize;
         if at >= self.pages.len() {
@@ -181,6 +202,10 @@ impl PageStore for MapStore {
 
     fn begun(&self) -> u64 {
         self.begun
+    }
+
+    fn acts(&self) -> u64 {
+        self.acts
     }
 
     fn durable(&self) -> u64 {

@@ -1,10 +1,12 @@
 //! The trait.
 
-ghost use Rattle.std.specs.Prelude.{◌≡◌, ℕ, suc, ◌+◌, ◌≤◌, ◌<◌, not, true, false, IfOk, IfErr, IfSome, OnOk, OnErr, Some, None, length, slice_get, slice_set, if◌then◌else◌, is_none};
+ghost use Rattle.std.specs.Prelude.{◌≡◌, ℕ, List, suc, ◌+◌, ◌≤◌, ◌<◌, not, true, false, IfOk, IfErr, IfSome, OnOk, OnErr, Some, None, length, slice_get, slice_set, if◌then◌else◌, is_none};
 ghost use Rattle.index_model.specs.Faults.{HasCause};
 ghost use Rattle.index_model.specs.Limits.{AreLimits};
 ghost use Rattle.latch_table.specs.Holdings.{HasRoom, holding_of, is_held_by_another, latched, released, pinned, unpinned, with_holding, nothing_held};
+ghost use Rattle.page_codec.specs.declared.page.Page.{Page};
 ghost use Rattle.page_action.specs.Causes.{where_read, where_acted, where_latched, where_begun, where_forced};
+ghost use Rattle.page_action.specs.Crashes.{LeavesFirstPart};
 ghost use Rattle.page_action.specs.Reuse.{IsFresh, IsFull, is_deleted, is_reusable_without};
 ghost use Rattle.page_action.specs.States.{State, Backing, IsLater, Continues, after_act, after_begin, after_end, after_start_cycle, after_stop_cycle, with_table};
 ghost use Rattle.page_action.specs.Stored.{IsStored, AreActable};
@@ -27,6 +29,18 @@ pub trait PageStore {
     /// The second came from the first by calls of this trait, and each crash in between leaves what a first part of
     /// the acts has made, with all that were durable.
     ghost follows: { Self → Self → Type 0 };
+
+    /// Its bytes are all its own: nobody else wrote to its device since it was opened. One without a device is never so.
+    ghost own: { Self → Type 0 };
+
+    /// Its pages after the first so many of its acts.
+    ghost past: { Self → ℕ → List Page };
+
+    /// A crash at some moment from the first to the second may have left these bytes.
+    ghost leaves: { Self → Self → List ℕ → Type 0 };
+
+    /// These bytes restart to these pages.
+    ghost restarts: { Self → List ℕ → List Page → Type 0 };
 
     /// A copy of the page of this block, as it was acted last. Refused with `Io`, `Stopped`, `NoFrame`, and with
     /// `PageDamaged` for a block that is not in use yet, or whose page is not one of the format.
@@ -109,6 +123,10 @@ pub trait PageStore {
     fn begun(&self) -> u64
         ensures { result ≡ (state self.now).begun };
 
+    /// How many acts were done since opening.
+    fn acts(&self) -> u64
+        ensures { result ≡ (state self.now).acts };
+
     /// How many acts are durable.
     fn durable(&self) -> u64
         ensures { result ≡ (backing self.now).durable };
@@ -177,4 +195,24 @@ pub trait PageStore {
 
     /// What never goes back.
     ghost follows_later: { (s t : Self) → follows s t → IsLater (backing s) (backing t) };
+
+    /// No more acts are durable than were done.
+    ghost durable_few: { (s : Self) → (backing s).durable ≤ (state s).acts };
+
+    /// What follows an own store is one.
+    ghost own_stays: { (s t : Self) → own s → follows s t → own t };
+
+    /// Acts are not undone.
+    ghost acts_later: { (s t : Self) → own s → follows s t → (state s).acts ≤ (state t).acts };
+
+    /// After all its acts its pages are those of now.
+    ghost past_now: { (s : Self) → own s → past s (state s).acts ≡ (state s).pages };
+
+    /// What its pages were after an earlier act stays so.
+    ghost past_stays: { (s t : Self) (part : ℕ) → own s → follows s t → part ≤ (state s).acts → past t part ≡ past s part };
+
+    /// What a crash leaves of an own store restarts to its pages after some first part of its acts, with all that were
+    /// durable.
+    ghost leaves_first: { (s t : Self) (image : List ℕ) → own s → follows s t → leaves s t image
+        → LeavesFirstPart (backing s).durable (state t).acts (past t) (restarts t image) };
 }

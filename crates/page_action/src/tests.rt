@@ -66,7 +66,7 @@ fn pages_and_acts(rt: HostRuntime) -> Result<(), Fail> {
         store.page(2).map(|page| page.block),
         Err(Fault::PageDamaged(2))
     );
-    assert_eq!(rt; (store.used(), store.durable()), (2, 0));
+    assert_eq!(rt; (store.used(), store.durable(), store.acts()), (2, 0, 1));
     assert_eq!(rt; store.force(), Ok(1));
     assert_eq!(rt; store.durable(), 1);
     assert_eq!(rt; store.checkpoint(), Ok(1));

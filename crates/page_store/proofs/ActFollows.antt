@@ -21,7 +21,7 @@ use Rattle.page_store.specs.Following.{Follows}
 use Rattle.page_store.specs.declared.history.History.{History}
 use Rattle.page_store.proofs.Images.{acts-append, after_acts-append}
 use Rattle.page_store.proofs.Marking.{get-with_marks}
-use Rattle.page_store.proofs.FollowLaws.{part_of_more}
+use Rattle.page_store.specs.Crashing.{part_of_more}
 
 module _ (old : Held) (log : Log) (changed : List Page) (room promised : ℕ) (limits : limits_of log ≡ limits_of old.log) (stopped : is_stopped log ≡ is_stopped old.log)
     (keeps : (m : Moment) (acts : List (List Page)) (forced : ℕ) → Keeps old.log m acts forced → Keeps log m (acts ++ changed ∷ []) forced)

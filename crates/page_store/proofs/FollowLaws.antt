@@ -1,6 +1,6 @@
 -- How pages over a device follow one another.
-use Rattle.std.proofs.Common.{◌≡◌, ℕ, ◌≤◌, List, [], ◌++◌, length, take, refl, sym, ap, subst, ◌∙◌, arith, length-append, append_assoc}
-use Rattle.std.proofs.lemmas.List.{append-nil, take-append-le}
+use Rattle.std.proofs.Common.{◌≡◌, List, [], ◌++◌, refl, sym, ap, subst, ◌∙◌, arith, append_assoc}
+use Rattle.std.proofs.lemmas.List.{append-nil}
 use Rattle.device.proofs.Going.{goes_weaker}
 use Rattle.device.proofs.Going.{goes_on}
 use Rattle.index_model.specs.declared.limits.Limits.{Limits}
@@ -8,22 +8,10 @@ use Rattle.page_codec.specs.declared.page.Page.{Page}
 use Rattle.page_action.specs.States.{IsLater}
 use Rattle.redo_log.specs.Kept.{limits_of}
 use Rattle.redo_log.specs.declared.log.Log.{Log}
-use Rattle.page_store.specs.Histories.{after_acts}
-use Rattle.page_store.specs.Restart.{RestartsTo, RestartsToPart}
+use Rattle.page_store.specs.Restart.{RestartsToPart}
 use Rattle.page_store.specs.Logged.{Held, backing_of}
+use Rattle.page_store.specs.Crashing.{part_of_more}
 use Rattle.page_store.specs.Following.{GoesOn, Follows, follows_same}
-use Rattle.page_store.specs.declared.history.History.{History}
-
--- a first part of the acts is one of more acts
-pub part_of_more : (limits : Limits) (h longer : History) (more : List (List Page)) (low least : ℕ) (image : List ℕ) → longer.start ≡ h.start → longer.acts ≡ h.acts ++ more → low ≤ least
-    → RestartsToPart limits h least image → RestartsToPart limits longer low image
-part_of_more limits h longer more low least image start acts le r = record {
-  part = r.part;
-  from = omega (arith, r.from);
-  to = omega (arith, r.to, ap length acts, length-append h.acts more);
-  restarts = subst (RestartsTo limits image)
-      (sym (ap (λ (s : List Page). after_acts s (take r.part longer.acts)) start ∙ ap (λ (as' : List (List Page)). after_acts h.start as') (ap (take r.part) acts ∙ take-append-le r.part h.acts more r.to))) r.restarts;
-}
 
 goes_on_both : (a b c : Held) → IsLater (backing_of a) (backing_of b) → GoesOn a b → GoesOn b c → GoesOn a c
 goes_on_both a b c later f s = record {

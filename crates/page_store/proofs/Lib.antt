@@ -10,5 +10,4 @@ pub mod ForceFollows
 pub mod Places
 pub mod CloseFollows
 pub mod Opened
-pub mod Crashing
 pub mod Misfits

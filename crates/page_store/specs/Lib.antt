@@ -3,6 +3,7 @@ pub mod Histories
 pub mod Restart
 pub mod Logged
 pub mod Following
+pub mod Crashing
 pub mod Writing
 pub mod Rooms
 pub mod Stores

@@ -31,6 +31,7 @@ pub struct Store<D: Device> {
 
 impl<D: Device> Store<D> {
     ghost use Rattle.std.specs.Prelude.{ℕ, suc, ◌<◌, List, [], replicate};
+    ghost use Rattle.device.specs.Disk.{MayLeave};
     ghost use Rattle.device.specs.Moments.{MayHaveLeft};
     ghost use Rattle.redo_log.specs.Kept.{limits_of, actions_of, waiting_count, is_stopped};
     ghost use Rattle.page_action.specs.Reuse.{is_reusable};
@@ -84,6 +85,8 @@ impl<D: Device> Store<D> {
             → first.pages ≡ pages_after (history_of D.Device self.now) first.acts }
         ensures own { (first : Held) → IsOwn first → Follows first (held_by D.Device self.now)
             → IsOwnStore D.Device self.now }
+        ensures now { (image : List ℕ) → MayLeave (held_by D.Device self.now).trace.now image
+            → MayHaveLeft (held_by D.Device self.now).trace (held_by D.Device self.now).trace image }
     {}
 
     fn is_reusable(&self, block: usize) -> bool
@@ -97,8 +100,12 @@ impl<D: Device> Store<D> {
 
 impl<D: Device> PageStore for Store<D> {
     ghost use Rattle.page_store.specs.Logged.{held_of, backing_of};
+    ghost use Rattle.device.specs.Moments.{MayHaveLeft};
+    ghost use Rattle.page_store.specs.Crashing.{own_now, leaves_first, acts_later, pages_now, pages_stay};
     ghost use Rattle.page_store.specs.Following.{Follows, follows_same};
-    ghost use Rattle.page_store.specs.Stores.{state_of, held_by};
+    ghost use Rattle.page_store.specs.Histories.{pages_after};
+    ghost use Rattle.page_store.specs.Restart.{RestartsTo};
+    ghost use Rattle.page_store.specs.Stores.{state_of, held_by, history_of, IsOwnStore};
 
     ghost state = { λ s. state_of D.Device s };
 
@@ -109,6 +116,26 @@ impl<D: Device> PageStore for Store<D> {
     ghost follows_same = { λ s. follows_same _ };
 
     ghost follows_later = { λ s t h. h.later };
+
+    ghost own = { λ s. IsOwnStore D.Device s };
+
+    ghost past = { λ s part. pages_after (history_of D.Device s) part };
+
+    ghost leaves = { λ s t image. MayHaveLeft (held_by D.Device s).trace (held_by D.Device t).trace image };
+
+    ghost restarts = { λ s image pages. RestartsTo (state_of D.Device s).limits image pages };
+
+    ghost durable_few = { λ s. s.held.not_ahead };
+
+    ghost own_stays = { λ s t own h. own_now _ _ own h };
+
+    ghost acts_later = { λ s t own h. acts_later _ _ own h };
+
+    ghost past_now = { λ s own. pages_now _ own };
+
+    ghost past_stays = { λ s t part own h le. pages_stay _ _ own h part le };
+
+    ghost leaves_first = { λ s t image own h left. leaves_first _ _ own h t.held.limits image t.held.log_limits left };
 
     fn page(&mut self, block: u32) -> Result<Page, Fault> {
         let at = block as usize;
@@ -170,6 +197,10 @@ impl<D: Device> PageStore for Store<D> {
 
     fn begun(&self) -> u64 {
         self.begun
+    }
+
+    fn acts(&self) -> u64 {
+        self.held.acts
     }
 
     fn durable(&self) -> u64 {

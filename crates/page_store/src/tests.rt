@@ -108,6 +108,7 @@ fn forced_acts_are_left(rt: HostRuntime) -> Result<(), Fail> {
     assert_eq!(rt; store.force(), Ok(1));
     assert_eq!(rt; act(&mut store, leaf(2, 2)), Ok(2));
     assert_eq!(rt; (store.durable(), store.used(), store.room()), (1, 3, 13));
+    assert_eq!(rt; store.acts(), 2);
     let device = store.into_device();
     for image in IMAGES {
         let mut left = device.crash(rt.alloc(), image)?;

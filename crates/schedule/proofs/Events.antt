@@ -1,5 +1,5 @@
 -- Each event of a world that is fitted, and runs that go on by one event.
-use Rattle.std.proofs.Common.{◌≡◌, ◌≢◌, ℕ, zero, suc, ◌<◌, ◌≤◌, ◌⊎◌, Bool, true, false, Option, Some, None, unwrap_or, Ok, Err, List, [], ◌∷◌, ◌++◌, length, slice_get, slice_set, slice_index_or, refl, sym, ap, subst, arith, inl, inr, ◌∙◌}
+use Rattle.std.proofs.Common.{◌≡◌, ◌≢◌, ℕ, zero, suc, ◌<◌, ◌≤◌, ◌⊎◌, Bool, true, false, Option, Some, None, unwrap_or, Ok, Err, List, [], ◌∷◌, ◌++◌, length, slice_get, slice_set, slice_index_or, refl, sym, ap, subst, arith, inl, inr, ◌∙◌, append_assoc}
 use Rattle.std.proofs.lemmas.List.{append-nil}
 use Rattle.std.proofs.lemmas.Option.{slice_get_read}
 use Rattle.std.proofs.lemmas.Bool.{cases_eq}
@@ -13,77 +13,72 @@ use Rattle.index_model.specs.declared.fault.Fault.TheVariants.{NoSession, Stoppe
 use Rattle.page_action.specs.Causes.{nothing_wrong, where_forced}
 use Rattle.page_action.specs.MapStore.{same_later}
 use Rattle.page_action.specs.States.{State, Backing, IsLater}
+use Rattle.page_action.specs.declared.page_store.PageStore.{Ghosts}
 use Rattle.descent.specs.Steps.{OthersRely}
-use Rattle.session_calls.specs.Sessions.{OpRuns, SlotFits, SlotStands, SessionGoes, SessionBegins, IsBegun, IsNotBegun, IsCaused, LeavesLess, GivesLess, begun_call, where_stepped, where_asked_next}
+use Rattle.session_calls.specs.Sessions.{Matches, IsIdle, OpRuns, SlotFits, SlotStands, SessionGoes, SessionBegins, IsBegun, IsNotBegun, IsCaused, LeavesLess, GivesLess, begun_call, where_stepped, where_asked_next}
 use Rattle.session_calls.specs.declared.answer.Answer.{Answer}
 use Rattle.session_calls.specs.declared.answer.Answer.TheVariants.{Begun, Going, Added, Ready, Done, Finished, Gave, Ended, Forced, Flushed, Checkpointed, Refused}
 use Rattle.session_calls.specs.declared.op.Op.{Op}
 use Rattle.session_calls.proofs.Undisturbed.{undisturbed}
 use Rattle.schedule.specs.Moments.{Moment, IsRunningCall, SlotRuns, IsFree, SlotMatches, Fits, slot_has_call, has_call}
-use Rattle.schedule.specs.Runs.{GoesOn, Stays, Moves, Begins, ask_of, where_no_call, where_moved, where_begun_at, session_to_begin, slot_at, IsDurable, AreDurable, EventGoes, IsRun, Ran}
+use Rattle.schedule.specs.Runs.{GrowsByOne, GoesOn, Stays, Moves, Begins, ask_of, where_no_call, where_moved, where_begun_at, session_to_begin, slot_at, IsDurable, AreDurable, EventDoes, EventGoes, IsRun, Ran}
 use Rattle.schedule.specs.declared.event.Event.{Event}
 use Rattle.schedule.specs.declared.event.Event.TheVariants.{Insert, Scan, Step, Next, End, Force}
 use Rattle.schedule.proofs.Lists.{get_set_same, get_set_other, length_set, get_within, get_append_some, get_append_new, get_append_cases, same_some}
-use Rattle.schedule.proofs.Owners.{asked, none_added, told_durable, told_same}
+use Rattle.schedule.proofs.Owners.{asked, none_added, told_durable, told_same, told_few}
 use Rattle.schedule.proofs.Frames.{goes_fits}
+use Rattle.schedule.proofs.Keeping.{Laws, no_growth, safe, keeps_on}
 
 true_false : true ≡ false → ⊥
 true_false h = cc
 
 -- a session with a call has a slot with an operation
 pub slot_of_call : (slots : List (Option Op)) (session : ℕ) (x : Option Op) → session < length slots → x ≡ slice_index_or slots session x → has_call slots session ≡ true
-    → (op : Op) × (x ≡ Some op) × (slice_get slots session ≡ Some (Some op))
+    → (op : Op) × (slice_index_or slots session x ≡ Some op) × (slice_get slots session ≡ Some (Some op))
 slot_of_call slots session x lt read has = of x read (slice_get_read slots (length slots) session x refl lt read)
   where
-    of : (y : Option Op) → y ≡ slice_index_or slots session y → slice_get slots session ≡ Some y → (op : Op) × (y ≡ Some op) × (slice_get slots session ≡ Some (Some op))
+    of : (y : Option Op) → y ≡ slice_index_or slots session y → slice_get slots session ≡ Some y → (op : Op) × (slice_index_or slots session y ≡ Some op) × (slice_get slots session ≡ Some (Some op))
     of None r g = absurd (true_false (sym has ∙ ap slot_has_call g))
-    of (Some op) r g = (op, refl, g)
+    of (Some op) r g = (op, sym r, g)
 
 -- an event of a running call
-pub record IsMoved (start : Entry → Bool) (old : Moment) (state : State) (backing : Backing) (session : ℕ) (op : Op) (slot : Option Op) (at : Ask → ℕ → Circumstances) (answer : Answer) : Type 0 where
+pub record IsMoved {S : Type 0} (g : Ghosts S) (start : Entry → Bool) (old : Moment S) (store : S) (session : ℕ) (op : Op) (slot : Option Op) (at : Ask → ℕ → Circumstances) (answer : Answer) : Type 0 where
   pub then_history : List Action
   pub then_calls : List Call
-  pub goes : GoesOn session answer old (record { state = state; backing = backing; slots = slice_set old.slots session slot; history = then_history; calls = then_calls })
+  pub goes : GoesOn g session answer old (record { store = store; slots = slice_set old.slots session slot; history = then_history; calls = then_calls })
+  pub grows : GrowsByOne old.history then_history
   pub caused : IsCaused (at (ask_of op) session) answer
-  pub durable : IsDurable backing.durable answer
-  pub fits : Fits start (record { state = state; backing = backing; slots = slice_set old.slots session slot; history = then_history; calls = then_calls })
+  pub durable : IsDurable (g.backing store).durable answer
+  pub fits : Fits g start (record { store = store; slots = slice_set old.slots session slot; history = then_history; calls = then_calls })
 
-pub moved : (start : Entry → Bool) (old : Moment) (state : State) (backing : Backing) (session : ℕ) (op : Op) (slot : Option Op) (at : Ask → ℕ → Circumstances) (answer : Answer)
-    → Fits start old → slice_get old.slots session ≡ Some (Some op)
-    → ((number : ℕ) (call : Call) → SlotFits old.state start old.history number call (Some op) → SessionGoes (at call.ask call.session) old.state state start old.history number call slot answer)
-    → IsMoved start old state backing session op slot at answer
-moved start old state backing session op slot at answer fits found goes =
-    let runs : SlotRuns start old session op = fits.running session (Some op) found in
-    let one : SessionGoes (at runs.call.ask runs.call.session) old.state state start old.history runs.number runs.call slot answer =
+pub moved : {S : Type 0} (g : Ghosts S) (start : Entry → Bool) (old : Moment S) (store : S) (session : ℕ) (op : Op) (slot : Option Op) (at : Ask → ℕ → Circumstances) (answer : Answer)
+    → Fits g start old → slice_get old.slots session ≡ Some (Some op)
+    → ((number : ℕ) (call : Call) → SlotFits (g.state old.store) start old.history number call (Some op) → SessionGoes (at call.ask call.session) (g.state old.store) (g.state store) start old.history number call slot answer)
+    → IsMoved g start old store session op slot at answer
+moved g start old store session op slot at answer fits found goes =
+    let runs : SlotRuns g start old session op = fits.running session (Some op) found in
+    let one : SessionGoes (at runs.call.ask runs.call.session) (g.state old.store) (g.state store) start old.history runs.number runs.call slot answer =
     goes runs.number runs.call (record { world = fits.matches; running = runs.is.running; meets = fits.meets runs.number runs.call runs.is.found; runs = runs.runs }) in
-    let others : OthersRely session old.state state = subst (λ (t : ℕ). OthersRely t old.state state) runs.is.session_is one.others in
-    let same = told_same answer start old.history one.acts runs.number runs.call one.after runs.is.running (λ e ask. none_added old.state start old.history runs.call op e runs.runs ask) one.meets one.told in
+    let others : OthersRely session (g.state old.store) (g.state store) = subst (λ (t : ℕ). OthersRely t (g.state old.store) (g.state store)) runs.is.session_is one.others in
+    let same = told_same answer start old.history one.acts runs.number runs.call one.after runs.is.running (λ e ask. none_added (g.state old.store) start old.history runs.call op e runs.runs ask) one.meets one.told in
     record {
       then_history = old.history ++ one.acts;
       then_calls = slice_set old.calls runs.number one.after;
       goes = record { number = runs.number; call = runs.call; is = runs.is; acts = one.acts; after = one.after; told = one.told; history_is = refl; calls_is = refl; others = others };
+      grows = record { acts = one.acts; is = refl; few = told_few answer runs.number (length old.history) one.acts runs.call one.after one.told };
       caused = subst (λ (t : ℕ). IsCaused (at (ask_of op) t) answer) runs.is.session_is
-          (subst (λ (a : Ask). IsCaused (at a runs.call.session) answer) (asked old.state start old.history runs.call op runs.runs) one.caused);
-      durable = told_durable answer backing.durable runs.number (length old.history) one.acts runs.call one.after one.told;
-      fits = goes_fits start old state backing session one.after one.acts op slot fits found runs same others one.world one.meets one.holds;
+          (subst (λ (a : Ask). IsCaused (at a runs.call.session) answer) (asked (g.state old.store) start old.history runs.call op runs.runs) one.caused);
+      durable = told_durable answer (g.backing store).durable runs.number (length old.history) one.acts runs.call one.after one.told;
+      fits = goes_fits g start old store session one.after one.acts op slot fits found runs same others one.world one.meets one.holds;
     }
 
 has_call_at : (slots : List (Option Op)) (session : ℕ) (op : Op) → slice_get slots session ≡ Some (Some op) → has_call slots session ≡ true
 has_call_at slots session op h = ap slot_has_call h
 
--- one event is a run
-pub one_ran : (start : Entry → Bool) (event : Event) (answer : Answer) (old new : Moment) → EventGoes start event answer old new → Ran start (event ∷ []) (answer ∷ []) old new
-one_ran start event answer old new goes = record {
-  run = (new, goes, refl);
-  fits = goes.fits;
-  acknowledged = (goes.durable, tt);
-  later = goes.later;
-}
-
-module _ (start : Entry → Bool) (old : Moment) (state : State) (backing : Backing) (session : ℕ) (op : Op) (slot : Option Op) (answer : Answer)
-    (found : slice_get old.slots session ≡ Some (Some op)) (later : IsLater old.backing backing) where
-  moves : (old' new' : Moment) → old'.slots ≡ old.slots → GoesOn session answer old' new' → Moves (has_call old'.slots session) session answer old' new'
-  moves old' new' same goes = subst (λ (b : Bool). Moves b session answer old' new') (sym (ap (λ (s : List (Option Op)). has_call s session) same ∙ has_call_at old.slots session op found)) goes
+module _ {S : Type 0} (g : Ghosts S) (start : Entry → Bool) (old : Moment S) (store : S) (session : ℕ) (op : Op) (slot : Option Op) (answer : Answer)
+    (found : slice_get old.slots session ≡ Some (Some op)) (later : IsLater (g.backing old.store) (g.backing store)) where
+  moves : (old' new' : Moment S) → old'.slots ≡ old.slots → GoesOn g session answer old' new' → Moves g (has_call old'.slots session) session answer old' new'
+  moves old' new' same goes = subst (λ (b : Bool). Moves g b session answer old' new') (sym (ap (λ (s : List (Option Op)). has_call s session) same ∙ has_call_at old.slots session op found)) goes
 
   -- what the session ran, and what it runs now
   less_at : (P : Option Op → Option Op → Type 0) → P (Some op) slot → P (slot_at old.slots session) (slot_at (slice_set old.slots session slot) session)
@@ -92,23 +87,25 @@ module _ (start : Entry → Bool) (old : Moment) (state : State) (backing : Back
       let after : slot_at (slice_set old.slots session slot) session ≡ slot = ap (λ (o : Option (Option Op)). unwrap_or o None) (get_set_same old.slots session slot (get_within old.slots session (Some op) found)) in
       subst (λ (x : Option Op). P x (slot_at (slice_set old.slots session slot) session)) (sym before) (subst (λ (x : Option Op). P (Some op) x) (sym after) h)
 
-  pub step_goes : LeavesLess (Some op) slot answer → (m : IsMoved start old state backing session op slot (λ ask t. where_stepped ask old.state old.backing backing t) answer)
-      → EventGoes start (Step session) answer old (record { state = state; backing = backing; slots = slice_set old.slots session slot; history = m.then_history; calls = m.then_calls })
+  pub step_goes : LeavesLess (Some op) slot answer → (m : IsMoved g start old store session op slot (λ ask t. where_stepped ask (g.state old.store) (g.backing old.store) (g.backing store) t) answer)
+      → EventDoes g start (Step session) answer old (record { store = store; slots = slice_set old.slots session slot; history = m.then_history; calls = m.then_calls })
   step_goes less m = record {
     less = λ has. less_at (λ x y. LeavesLess x y answer) less;
-    happens = moves old (record { state = state; backing = backing; slots = slice_set old.slots session slot; history = m.then_history; calls = m.then_calls }) refl m.goes;
-    caused = subst (λ (o : Option (Option Op)). IsCaused (where_moved (where_no_call old.backing.stopped) (λ ask. where_stepped ask old.state old.backing backing session) o) answer) (sym found) m.caused;
+    happens = moves old (record { store = store; slots = slice_set old.slots session slot; history = m.then_history; calls = m.then_calls }) refl m.goes;
+    grows = m.grows;
+    caused = subst (λ (o : Option (Option Op)). IsCaused (where_moved (where_no_call (g.backing old.store).stopped) (λ ask. where_stepped ask (g.state old.store) (g.backing old.store) (g.backing store) session) o) answer) (sym found) m.caused;
     stopped = λ none. absurd (true_false (sym (has_call_at old.slots session op found) ∙ none));
     durable = m.durable;
     later = later;
     fits = m.fits;
   }
 
-  pub next_goes : GivesLess (Some op) slot answer → (m : IsMoved start old state backing session op slot (λ ask t. where_asked_next ask) answer)
-      → EventGoes start (Next session) answer old (record { state = state; backing = backing; slots = slice_set old.slots session slot; history = m.then_history; calls = m.then_calls })
+  pub next_goes : GivesLess (Some op) slot answer → (m : IsMoved g start old store session op slot (λ ask t. where_asked_next ask) answer)
+      → EventDoes g start (Next session) answer old (record { store = store; slots = slice_set old.slots session slot; history = m.then_history; calls = m.then_calls })
   next_goes less m = record {
     less = λ has. less_at (λ x y. GivesLess x y answer) less;
-    happens = moves old (record { state = state; backing = backing; slots = slice_set old.slots session slot; history = m.then_history; calls = m.then_calls }) refl m.goes;
+    happens = moves old (record { store = store; slots = slice_set old.slots session slot; history = m.then_history; calls = m.then_calls }) refl m.goes;
+    grows = m.grows;
     caused = subst (λ (o : Option (Option Op)). IsCaused (where_moved (where_no_call false) where_asked_next o) answer) (sym found) m.caused;
     stopped = tt;
     durable = m.durable;
@@ -116,11 +113,12 @@ module _ (start : Entry → Bool) (old : Moment) (state : State) (backing : Back
     fits = m.fits;
   }
 
-  pub end_goes : (m : IsMoved start old state backing session op slot (λ ask t. nothing_wrong) answer)
-      → EventGoes start (End session) answer old (record { state = state; backing = backing; slots = slice_set old.slots session slot; history = m.then_history; calls = m.then_calls })
+  pub end_goes : (m : IsMoved g start old store session op slot (λ ask t. nothing_wrong) answer)
+      → EventDoes g start (End session) answer old (record { store = store; slots = slice_set old.slots session slot; history = m.then_history; calls = m.then_calls })
   end_goes m = record {
     less = tt;
-    happens = moves old (record { state = state; backing = backing; slots = slice_set old.slots session slot; history = m.then_history; calls = m.then_calls }) refl m.goes;
+    happens = moves old (record { store = store; slots = slice_set old.slots session slot; history = m.then_history; calls = m.then_calls }) refl m.goes;
+    grows = m.grows;
     caused = subst (λ (o : Option (Option Op)). IsCaused (where_moved (where_no_call false) (λ ask. nothing_wrong) o) answer) (sym found) m.caused;
     stopped = tt;
     durable = m.durable;
@@ -129,52 +127,54 @@ module _ (start : Entry → Bool) (old : Moment) (state : State) (backing : Back
   }
 
 -- nothing that a moment shows is changed but the log and the device
-pub fits_still : (start : Entry → Bool) (old : Moment) (state : State) (backing : Backing) → state ≡ old.state → Fits start old
-    → Fits start (record { state = state; backing = backing; slots = old.slots; history = old.history; calls = old.calls })
-fits_still start old state backing same fits = subst (λ (st : State). Fits start (record { state = st; backing = backing; slots = old.slots; history = old.history; calls = old.calls })) (sym same) (record {
-  matches = fits.matches;
+pub fits_still : {S : Type 0} (g : Ghosts S) (start : Entry → Bool) (old : Moment S) (store : S) → g.state store ≡ g.state old.store → Fits g start old
+    → Fits g start (record { store = store; slots = old.slots; history = old.history; calls = old.calls })
+fits_still {S} g start old store same fits = record {
+  matches = subst (λ (st : State). Matches st start old.history) (sym same) fits.matches;
   running = λ u o h. slot_still u o (fits.running u o h);
   known = fits.known;
   meets = fits.meets;
   owned = fits.owned;
-})
+}
   where
-    slot_still : (u : ℕ) (o : Option Op) → SlotMatches start old u o → SlotMatches start (record { state = old.state; backing = backing; slots = old.slots; history = old.history; calls = old.calls }) u o
-    slot_still u None h = record { none = h.none; idle = h.idle }
-    slot_still u (Some op) h = record { number = h.number; call = h.call; is = h.is; only = h.only; runs = h.runs }
+    slot_still : (u : ℕ) (o : Option Op) → SlotMatches g start old u o → SlotMatches g start (record { store = store; slots = old.slots; history = old.history; calls = old.calls }) u o
+    slot_still u None h = record { none = h.none; idle = subst (λ (st : State). IsIdle st u) (sym same) h.idle }
+    slot_still u (Some op) h = record { number = h.number; call = h.call; is = h.is; only = h.only; runs = subst (λ (st : State). OpRuns st start old.history h.call op) (sym same) h.runs }
 
 -- a force
-pub forced : (start : Entry → Bool) (old : Moment) (state : State) (backing : Backing) (count : ℕ) → Fits start old → state ≡ old.state → IsLater old.backing backing → old.backing.stopped ≡ false
-    → count ≡ old.state.acts → backing.durable ≡ old.state.acts
-    → EventGoes start Force (Forced count) old (record { state = state; backing = backing; slots = old.slots; history = old.history; calls = old.calls })
-forced start old state backing count fits same later runs number durable =
+pub forced : {S : Type 0} (g : Ghosts S) (start : Entry → Bool) (old : Moment S) (store : S) (count : ℕ) → Fits g start old → (g.state store) ≡ (g.state old.store) → IsLater (g.backing old.store) (g.backing store) → (g.backing old.store).stopped ≡ false
+    → count ≡ (g.state old.store).acts → (g.backing store).durable ≡ (g.state old.store).acts
+    → EventDoes g start Force (Forced count) old (record { store = store; slots = old.slots; history = old.history; calls = old.calls })
+forced g start old store count fits same later runs number durable =
     let all : count ≡ length old.history = number ∙ fits.matches.count in
     record {
       happens = inl (record { told = ap Forced all; durable = durable ∙ fits.matches.count; state_is = same; slots_is = refl; history_is = refl; calls_is = refl });
+      grows = no_growth old.history;
       caused = tt;
       stopped = λ is. absurd (true_false (sym is ∙ runs));
       less = tt;
-      durable = (let n : count ≡ old.state.acts = number in let d : backing.durable ≡ old.state.acts = durable in omega arith);
+      durable = (let n : count ≡ (g.state old.store).acts = number in let d : (g.backing store).durable ≡ (g.state old.store).acts = durable in omega arith);
       later = later;
-      fits = fits_still start old state backing same fits;
+      fits = fits_still g start old store same fits;
     }
 
 -- a force that is refused
-pub not_forced : (start : Entry → Bool) (old : Moment) (state : State) (backing : Backing) (fault : Fault) → Fits start old → state ≡ old.state → IsLater old.backing backing → old.backing.stopped ≡ false
-    → HasCause (where_forced old.backing backing) fault
-    → EventGoes start Force (Refused fault) old (record { state = state; backing = backing; slots = old.slots; history = old.history; calls = old.calls })
-not_forced start old state backing fault fits same later runs cause = record {
+pub not_forced : {S : Type 0} (g : Ghosts S) (start : Entry → Bool) (old : Moment S) (store : S) (fault : Fault) → Fits g start old → (g.state store) ≡ (g.state old.store) → IsLater (g.backing old.store) (g.backing store) → (g.backing old.store).stopped ≡ false
+    → HasCause (where_forced (g.backing old.store) (g.backing store)) fault
+    → EventDoes g start Force (Refused fault) old (record { store = store; slots = old.slots; history = old.history; calls = old.calls })
+not_forced g start old store fault fits same later runs cause = record {
   happens = inr (record { fault = fault; refused = refl; state_is = same; slots_is = refl; history_is = refl; calls_is = refl });
+  grows = no_growth old.history;
   caused = cause;
   stopped = λ is. absurd (true_false (sym is ∙ runs));
   less = tt;
   durable = tt;
   later = later;
-  fits = fits_still start old state backing same fits;
+  fits = fits_still g start old store same fits;
 }
 
-module _ (start : Entry → Bool) (old : Moment) (state : State) (backing : Backing) (session : ℕ) (ask : Ask) (op : Op)
-    (fits : Fits start old) (free : slice_get old.slots session ≡ Some None) (begins : IsBegun old.state state start old.history (length old.calls) session ask (Some op)) where
+module _ {S : Type 0} (g : Ghosts S) (start : Entry → Bool) (old : Moment S) (store : S) (session : ℕ) (ask : Ask) (op : Op)
+    (fits : Fits g start old) (free : slice_get old.slots session ≡ Some None) (begins : IsBegun (g.state old.store) (g.state store) start old.history (length old.calls) session ask (Some op)) where
   now_is : old.history ++ [] ≡ old.history
   now_is = append-nil old.history
 
@@ -185,8 +185,8 @@ module _ (start : Entry → Bool) (old : Moment) (state : State) (backing : Back
     | inr b ↦ inr (b.0, sym r.session_is ∙ ap (λ (x : Call). x.session) b.1)
   ]
 
-  begun_slot : (u : ℕ) (o : Option Op) → u ≢ session → SlotMatches start old u o
-      → SlotMatches start (record { state = state; backing = backing; slots = slice_set old.slots session (Some op); history = old.history; calls = old.calls ++ begun_call session ask (length old.history) ∷ [] }) u o
+  begun_slot : (u : ℕ) (o : Option Op) → u ≢ session → SlotMatches g start old u o
+      → SlotMatches g start (record { store = store; slots = slice_set old.slots session (Some op); history = old.history; calls = old.calls ++ begun_call session ask (length old.history) ∷ [] }) u o
   begun_slot u None ne h = record {
     none = λ j c r. elim (old_or_new u j c r) [ inl a ↦ h.none j c a | inr b ↦ ne b.1 ];
     idle = (begins.others u ne).held ∙ h.idle;
@@ -196,13 +196,13 @@ module _ (start : Entry → Bool) (old : Moment) (state : State) (backing : Back
     call = h.call;
     is = record { found = get_append_some old.calls (begun_call session ask (length old.history) ∷ []) h.number h.call h.is.found; session_is = h.is.session_is; running = h.is.running };
     only = λ j c r. elim (old_or_new u j c r) [ inl a ↦ h.only j c a | inr b ↦ absurd (ne b.1) ];
-    runs = subst (λ (l : List Action). OpRuns state start l h.call other) now_is
-        (undisturbed old.state state start old.history [] h.call other (begins.others h.call.session (λ e. ne (sym h.is.session_is ∙ e))) h.runs);
+    runs = subst (λ (l : List Action). OpRuns (g.state store) start l h.call other) now_is
+        (undisturbed (g.state old.store) (g.state store) start old.history [] h.call other (begins.others h.call.session (λ e. ne (sym h.is.session_is ∙ e))) h.runs);
   }
 
-  begun_fits : Fits start (record { state = state; backing = backing; slots = slice_set old.slots session (Some op); history = old.history; calls = old.calls ++ begun_call session ask (length old.history) ∷ [] })
+  begun_fits : Fits g start (record { store = store; slots = slice_set old.slots session (Some op); history = old.history; calls = old.calls ++ begun_call session ask (length old.history) ∷ [] })
   begun_fits =
-      let was_free : IsFree old session = fits.running session None free in
+      let was_free : IsFree g old session = fits.running session None free in
       let within : session < length old.slots = get_within old.slots session None free in
       record {
         matches = begins.world;
@@ -210,8 +210,8 @@ module _ (start : Entry → Bool) (old : Moment) (state : State) (backing : Back
           | inl e ↦ (
               let k : o ≡ Some op = same_some (slice_get (slice_set old.slots session (Some op)) session) o (Some op)
               (subst (λ (i : ℕ). slice_get (slice_set old.slots session (Some op)) i ≡ Some o) e h) (get_set_same old.slots session (Some op) within) in
-              subst (λ (i : ℕ). SlotMatches start (record { state = state; backing = backing; slots = slice_set old.slots session (Some op); history = old.history; calls = old.calls ++ begun_call session ask (length old.history) ∷ [] }) i o) (sym e)
-              (subst (λ (x : Option Op). SlotMatches start (record { state = state; backing = backing; slots = slice_set old.slots session (Some op); history = old.history; calls = old.calls ++ begun_call session ask (length old.history) ∷ [] }) session x) (sym k) (record {
+              subst (λ (i : ℕ). SlotMatches g start (record { store = store; slots = slice_set old.slots session (Some op); history = old.history; calls = old.calls ++ begun_call session ask (length old.history) ∷ [] }) i o) (sym e)
+              (subst (λ (x : Option Op). SlotMatches g start (record { store = store; slots = slice_set old.slots session (Some op); history = old.history; calls = old.calls ++ begun_call session ask (length old.history) ∷ [] }) session x) (sym k) (record {
                 number = length old.calls;
                 call = begun_call session ask (length old.history);
                 is = record { found = get_append_new old.calls (begun_call session ask (length old.history)); session_is = refl; running = refl };
@@ -234,54 +234,54 @@ module _ (start : Entry → Bool) (old : Moment) (state : State) (backing : Back
       }
 
 -- an event that begins a call
-pub record IsBeginning (start : Entry → Bool) (old : Moment) (state : State) (backing : Backing) (session : ℕ) (ask : Ask) (slot : Option Op) (answer : Answer) : Type 0 where
+pub record IsBeginning {S : Type 0} (g : Ghosts S) (start : Entry → Bool) (old : Moment S) (store : S) (session : ℕ) (ask : Ask) (slot : Option Op) (answer : Answer) : Type 0 where
   pub then_calls : List Call
-  pub begins : Begins (slice_get old.slots session) session ask answer old (record { state = state; backing = backing; slots = slice_set old.slots session slot; history = old.history; calls = then_calls })
-  pub caused : IsCaused (where_begun_at old (slice_get old.slots session)) answer
-  pub durable : IsDurable backing.durable answer
-  pub fits : Fits start (record { state = state; backing = backing; slots = slice_set old.slots session slot; history = old.history; calls = then_calls })
+  pub begins : Begins g (slice_get old.slots session) session ask answer old (record { store = store; slots = slice_set old.slots session slot; history = old.history; calls = then_calls })
+  pub caused : IsCaused (where_begun_at g old (slice_get old.slots session)) answer
+  pub durable : IsDurable (g.backing store).durable answer
+  pub fits : Fits g start (record { store = store; slots = slice_set old.slots session slot; history = old.history; calls = then_calls })
 
 -- the slot of a session with no call is as its history says
-slot_stands : (start : Entry → Bool) (old : Moment) (session : ℕ) (slot : Option Op) → Fits start old → slice_get old.slots session ≡ Some slot → SlotStands old.state start old.history session slot
-slot_stands start old session None fits at = (fits.matches, (fits.running session None at).idle)
-slot_stands start old session (Some op) fits at = fits.matches
+slot_stands : {S : Type 0} (g : Ghosts S) (start : Entry → Bool) (old : Moment S) (session : ℕ) (slot : Option Op) → Fits g start old → slice_get old.slots session ≡ Some slot → SlotStands (g.state old.store) start old.history session slot
+slot_stands g start old session None fits at = (fits.matches, (fits.running session None at).idle)
+slot_stands g start old session (Some op) fits at = fits.matches
 
 set_same : (slots : List (Option Op)) (session : ℕ) (slot : Option Op) → slice_get slots session ≡ Some slot → slice_set slots session slot ≡ slots
 set_same [] session slot h = refl
 set_same (x ∷ xs) zero slot h = cc
 set_same (x ∷ xs) (suc n) slot h = ap (λ (l : List (Option Op)). x ∷ l) (set_same xs n slot h)
 
-module _ (start : Entry → Bool) (old : Moment) (state : State) (backing : Backing) (session : ℕ) (ask : Ask) (before : Option Op) (fits : Fits start old) (at : slice_get old.slots session ≡ Some before) where
-  not_begun : (slot : Option Op) (fault : Fault) → IsNotBegun old.state old.backing state before slot fault → IsBeginning start old state backing session ask slot (Refused fault)
+module _ {S : Type 0} (g : Ghosts S) (start : Entry → Bool) (old : Moment S) (store : S) (session : ℕ) (ask : Ask) (before : Option Op) (fits : Fits g start old) (at : slice_get old.slots session ≡ Some before) where
+  not_begun : (slot : Option Op) (fault : Fault) → IsNotBegun (g.state old.store) (g.backing old.store) (g.state store) before slot fault → IsBeginning g start old store session ask slot (Refused fault)
   not_begun slot fault h =
       let slots_is : slice_set old.slots session slot ≡ old.slots = ap (λ (x : Option Op). slice_set old.slots session x) h.slot_is ∙ set_same old.slots session before at in
       record {
         then_calls = old.calls;
         begins = stays_at (slice_get old.slots session) (record { fault = fault; refused = refl; state_is = h.state; slots_is = slots_is; history_is = refl; calls_is = refl });
-        caused = subst (λ (o : Option (Option Op)). IsCaused (where_begun_at old o) (Refused fault)) (sym at) h.cause;
+        caused = subst (λ (o : Option (Option Op)). IsCaused (where_begun_at g old o) (Refused fault)) (sym at) h.cause;
         durable = tt;
-        fits = subst (λ (s : List (Option Op)). Fits start (record { state = state; backing = backing; slots = s; history = old.history; calls = old.calls })) (sym slots_is) (fits_still start old state backing h.state fits);
+        fits = subst (λ (s : List (Option Op)). Fits g start (record { store = store; slots = s; history = old.history; calls = old.calls })) (sym slots_is) (fits_still g start old store h.state fits);
       }
     where
-      stays_at : (o : Option (Option Op)) → Stays (Refused fault) old (record { state = state; backing = backing; slots = slice_set old.slots session slot; history = old.history; calls = old.calls })
-          → Begins o session ask (Refused fault) old (record { state = state; backing = backing; slots = slice_set old.slots session slot; history = old.history; calls = old.calls })
+      stays_at : (o : Option (Option Op)) → Stays g (Refused fault) old (record { store = store; slots = slice_set old.slots session slot; history = old.history; calls = old.calls })
+          → Begins g o session ask (Refused fault) old (record { store = store; slots = slice_set old.slots session slot; history = old.history; calls = old.calls })
       stays_at None s = s
       stays_at (Some None) s = inr s
       stays_at (Some (Some op)) s = s
 
-module _ (start : Entry → Bool) (old : Moment) (state : State) (backing : Backing) (session : ℕ) (ask : Ask) (fits : Fits start old) (free : slice_get old.slots session ≡ Some None) where
-  is_begun : (slot : Option Op) → IsBegun old.state state start old.history (length old.calls) session ask slot → IsBeginning start old state backing session ask slot Begun
+module _ {S : Type 0} (g : Ghosts S) (start : Entry → Bool) (old : Moment S) (store : S) (session : ℕ) (ask : Ask) (fits : Fits g start old) (free : slice_get old.slots session ≡ Some None) where
+  is_begun : (slot : Option Op) → IsBegun (g.state old.store) (g.state store) start old.history (length old.calls) session ask slot → IsBeginning g start old store session ask slot Begun
   is_begun None h = absurd (h.holds.0 refl)
   is_begun (Some op) h = record {
     then_calls = old.calls ++ begun_call session ask (length old.history) ∷ [];
-    begins = subst (λ (o : Option (Option Op)). Begins o session ask Begun old (record { state = state; backing = backing; slots = slice_set old.slots session (Some op); history = old.history; calls = old.calls ++ begun_call session ask (length old.history) ∷ [] })) (sym free)
+    begins = subst (λ (o : Option (Option Op)). Begins g o session ask Begun old (record { store = store; slots = slice_set old.slots session (Some op); history = old.history; calls = old.calls ++ begun_call session ask (length old.history) ∷ [] })) (sym free)
         (inl (record { told = refl; history_is = refl; calls_is = refl; others = h.others }));
     caused = tt;
     durable = tt;
-    fits = begun_fits start old state backing session ask op fits free h;
+    fits = begun_fits g start old store session ask op fits free h;
   }
 
-  begins_by : (slot : Option Op) (answer : Answer) → SessionBegins old.state old.backing state start old.history (length old.calls) session ask None slot answer → IsBeginning start old state backing session ask slot answer
+  begins_by : (slot : Option Op) (answer : Answer) → SessionBegins (g.state old.store) (g.backing old.store) (g.state store) start old.history (length old.calls) session ask None slot answer → IsBeginning g start old store session ask slot answer
   begins_by slot Begun h = is_begun slot h
   begins_by slot Going h = absurd h
   begins_by slot (Added a u) h = absurd h
@@ -293,7 +293,7 @@ module _ (start : Entry → Bool) (old : Moment) (state : State) (backing : Back
   begins_by slot (Forced n) h = absurd h
   begins_by slot (Flushed b) h = absurd h
   begins_by slot (Checkpointed n) h = absurd h
-  begins_by slot (Refused fault) h = not_begun start old state backing session ask None fits free slot fault h
+  begins_by slot (Refused fault) h = not_begun g start old store session ask None fits free slot fault h
 
 -- the session that was found
 pub found : (is_stopped : Bool) (o : Option (Option Op)) (session known : ℕ) → Ok known ≡ session_to_begin is_stopped o session → (is_stopped ≡ false) × (o ≡ Some None) × (known ≡ session)
@@ -303,27 +303,27 @@ found false (Some None) session known h = (refl, refl, cc)
 found false (Some (Some op)) session known h = absurd cc
 
 -- a call is begun in a slot that was found, or refused
-pub begins_at : (start : Entry → Bool) (old : Moment) (state : State) (backing : Backing) (session known : ℕ) (ask : Ask) (before slot : Option Op) (answer : Answer) → Fits start old
-    → Ok known ≡ session_to_begin old.backing.stopped (slice_get old.slots session) session → slice_get old.slots session ≡ Some before
-    → ((s : Entry → Bool) (l : List Action) (n : ℕ) → SlotStands old.state s l known before → SessionBegins old.state old.backing state s l n known ask before slot answer)
-    → IsBeginning start old state backing session ask slot answer
-begins_at start old state backing session known ask before slot answer fits ok at begins =
-    let is = found old.backing.stopped (slice_get old.slots session) session known ok in
+pub begins_at : {S : Type 0} (g : Ghosts S) (start : Entry → Bool) (old : Moment S) (store : S) (session known : ℕ) (ask : Ask) (before slot : Option Op) (answer : Answer) → Fits g start old
+    → Ok known ≡ session_to_begin (g.backing old.store).stopped (slice_get old.slots session) session → slice_get old.slots session ≡ Some before
+    → ((s : Entry → Bool) (l : List Action) (n : ℕ) → SlotStands (g.state old.store) s l known before → SessionBegins (g.state old.store) (g.backing old.store) (g.state store) s l n known ask before slot answer)
+    → IsBeginning g start old store session ask slot answer
+begins_at g start old store session known ask before slot answer fits ok at begins =
+    let is = found (g.backing old.store).stopped (slice_get old.slots session) session known ok in
     let none : before ≡ None = (let a : slice_get old.slots session ≡ Some before = at in let b : slice_get old.slots session ≡ Some None = is.1 in cc) in
-    let stands : SlotStands old.state start old.history known before = subst (λ (t : ℕ). SlotStands old.state start old.history t before) (sym is.2) (slot_stands start old session before fits at) in
-    let did : SessionBegins old.state old.backing state start old.history (length old.calls) known ask before slot answer = begins start old.history (length old.calls) stands in
-    begins_by start old state backing session ask fits is.1 slot answer
-    (subst (λ (b : Option Op). SessionBegins old.state old.backing state start old.history (length old.calls) session ask b slot answer) none
-    (subst (λ (t : ℕ). SessionBegins old.state old.backing state start old.history (length old.calls) t ask before slot answer) is.2 did))
+    let stands : SlotStands (g.state old.store) start old.history known before = subst (λ (t : ℕ). SlotStands (g.state old.store) start old.history t before) (sym is.2) (slot_stands g start old session before fits at) in
+    let did : SessionBegins (g.state old.store) (g.backing old.store) (g.state store) start old.history (length old.calls) known ask before slot answer = begins start old.history (length old.calls) stands in
+    begins_by g start old store session ask fits is.1 slot answer
+    (subst (λ (b : Option Op). SessionBegins (g.state old.store) (g.backing old.store) (g.state store) start old.history (length old.calls) session ask b slot answer) none
+    (subst (λ (t : ℕ). SessionBegins (g.state old.store) (g.backing old.store) (g.state store) start old.history (length old.calls) t ask before slot answer) is.2 did))
 
 -- a beginning that finds no session
-module _ (start : Entry → Bool) (old : Moment) (session : ℕ) (ask : Ask) (fits : Fits start old) where
-  stays_at : (fault : Fault) (o : Option (Option Op)) → Begins o session ask (Refused fault) old old
+module _ {S : Type 0} (g : Ghosts S) (start : Entry → Bool) (old : Moment S) (session : ℕ) (ask : Ask) (fits : Fits g start old) where
+  stays_at : (fault : Fault) (o : Option (Option Op)) → Begins g o session ask (Refused fault) old old
   stays_at fault None = record { fault = fault; refused = refl; state_is = refl; slots_is = refl; history_is = refl; calls_is = refl }
   stays_at fault (Some None) = inr (record { fault = fault; refused = refl; state_is = refl; slots_is = refl; history_is = refl; calls_is = refl })
   stays_at fault (Some (Some op)) = record { fault = fault; refused = refl; state_is = refl; slots_is = refl; history_is = refl; calls_is = refl }
 
-  not_found_why : (is_stopped : Bool) (o : Option (Option Op)) (fault : Fault) → is_stopped ≡ old.backing.stopped → Err fault ≡ session_to_begin is_stopped o session → IsCaused (where_begun_at old o) (Refused fault)
+  not_found_why : (is_stopped : Bool) (o : Option (Option Op)) (fault : Fault) → is_stopped ≡ (g.backing old.store).stopped → Err fault ≡ session_to_begin is_stopped o session → IsCaused (where_begun_at g old o) (Refused fault)
   not_found_why true None fault same h = (let e : fault ≡ Stopped = cc in rw e (sym same))
   not_found_why true (Some slot) fault same h = (let e : fault ≡ Stopped = cc in rw (e, ← same) refl)
   not_found_why false None fault same h = (let e : fault ≡ NoSession = cc in rw e refl)
@@ -334,41 +334,43 @@ module _ (start : Entry → Bool) (old : Moment) (session : ℕ) (ask : Ask) (fi
   not_found_first true o fault h is = (let e : fault ≡ Stopped = cc in ap Refused e)
   not_found_first false o fault h is = absurd cc
 
-module _ (start : Entry → Bool) (old : Moment) (state : State) (backing : Backing) (session : ℕ) (slot : Option Op) (answer : Answer) (runs : old.backing.stopped ≡ false) (later : IsLater old.backing backing) where
-  pub insert_goes : (e : Entry) (m : IsBeginning start old state backing session (AskInsert e) slot answer)
-      → EventGoes start (Insert session e) answer old (record { state = state; backing = backing; slots = slice_set old.slots session slot; history = old.history; calls = m.then_calls })
-  insert_goes e m = record { happens = m.begins; caused = m.caused; stopped = λ is. absurd (true_false (sym is ∙ runs)); less = tt; durable = m.durable; later = later; fits = m.fits }
+module _ {S : Type 0} (g : Ghosts S) (start : Entry → Bool) (old : Moment S) (store : S) (session : ℕ) (slot : Option Op) (answer : Answer) (runs : (g.backing old.store).stopped ≡ false) (later : IsLater (g.backing old.store) (g.backing store)) where
+  pub insert_goes : (e : Entry) (m : IsBeginning g start old store session (AskInsert e) slot answer)
+      → EventDoes g start (Insert session e) answer old (record { store = store; slots = slice_set old.slots session slot; history = old.history; calls = m.then_calls })
+  insert_goes e m = record { happens = m.begins; grows = no_growth old.history; caused = m.caused; stopped = λ is. absurd (true_false (sym is ∙ runs)); less = tt; durable = m.durable; later = later; fits = m.fits }
 
-  pub scan_goes : (range : Range) (m : IsBeginning start old state backing session (AskScan range) slot answer)
-      → EventGoes start (Scan session range) answer old (record { state = state; backing = backing; slots = slice_set old.slots session slot; history = old.history; calls = m.then_calls })
-  scan_goes range m = record { happens = m.begins; caused = m.caused; stopped = λ is. absurd (true_false (sym is ∙ runs)); less = tt; durable = m.durable; later = later; fits = m.fits }
+  pub scan_goes : (range : Range) (m : IsBeginning g start old store session (AskScan range) slot answer)
+      → EventDoes g start (Scan session range) answer old (record { store = store; slots = slice_set old.slots session slot; history = old.history; calls = m.then_calls })
+  scan_goes range m = record { happens = m.begins; grows = no_growth old.history; caused = m.caused; stopped = λ is. absurd (true_false (sym is ∙ runs)); less = tt; durable = m.durable; later = later; fits = m.fits }
 
-module _ (start : Entry → Bool) (old : Moment) (session : ℕ) (fault : Fault) (fits : Fits start old) (none : Err fault ≡ session_to_begin old.backing.stopped (slice_get old.slots session) session) where
-  pub insert_refused : (e : Entry) → EventGoes start (Insert session e) (Refused fault) old old
+module _ {S : Type 0} (g : Ghosts S) (start : Entry → Bool) (old : Moment S) (session : ℕ) (fault : Fault) (fits : Fits g start old) (none : Err fault ≡ session_to_begin (g.backing old.store).stopped (slice_get old.slots session) session) where
+  pub insert_refused : (e : Entry) → EventDoes g start (Insert session e) (Refused fault) old old
   insert_refused e = record {
-    happens = stays_at start old session (AskInsert e) fits fault (slice_get old.slots session);
-    caused = not_found_why start old session (AskInsert e) fits old.backing.stopped (slice_get old.slots session) fault refl none;
+    happens = stays_at g start old session (AskInsert e) fits fault (slice_get old.slots session);
+    grows = no_growth old.history;
+    caused = not_found_why g start old session (AskInsert e) fits (g.backing old.store).stopped (slice_get old.slots session) fault refl none;
     less = tt;
-    stopped = not_found_first start old session (AskInsert e) fits old.backing.stopped (slice_get old.slots session) fault none;
+    stopped = not_found_first g start old session (AskInsert e) fits (g.backing old.store).stopped (slice_get old.slots session) fault none;
     durable = tt;
-    later = same_later old.backing;
+    later = same_later (g.backing old.store);
     fits = fits;
   }
 
-  pub scan_refused : (range : Range) → EventGoes start (Scan session range) (Refused fault) old old
+  pub scan_refused : (range : Range) → EventDoes g start (Scan session range) (Refused fault) old old
   scan_refused range = record {
-    happens = stays_at start old session (AskScan range) fits fault (slice_get old.slots session);
-    caused = not_found_why start old session (AskScan range) fits old.backing.stopped (slice_get old.slots session) fault refl none;
+    happens = stays_at g start old session (AskScan range) fits fault (slice_get old.slots session);
+    grows = no_growth old.history;
+    caused = not_found_why g start old session (AskScan range) fits (g.backing old.store).stopped (slice_get old.slots session) fault refl none;
     less = tt;
-    stopped = not_found_first start old session (AskScan range) fits old.backing.stopped (slice_get old.slots session) fault none;
+    stopped = not_found_first g start old session (AskScan range) fits (g.backing old.store).stopped (slice_get old.slots session) fault none;
     durable = tt;
-    later = same_later old.backing;
+    later = same_later (g.backing old.store);
     fits = fits;
   }
 
 -- a slot as an access reads it
-pub slot_read : (slots : List (Option Op)) (session : ℕ) (x : Option Op) → session < length slots → x ≡ slice_index_or slots session x → slice_get slots session ≡ Some x
-slot_read slots session x lt read = slice_get_read slots (length slots) session x refl lt read
+pub slot_read : (slots : List (Option Op)) (session : ℕ) (x : Option Op) → session < length slots → x ≡ slice_index_or slots session x → slice_get slots session ≡ Some (slice_index_or slots session x)
+slot_read slots session x lt read = slice_get_read slots (length slots) session x refl lt read ∙ ap (λ (y : Option Op). Some y) read
 
 -- what never goes back over two runs
 pub later_trans : (a b c : Backing) → IsLater a b → IsLater b c → IsLater a c
@@ -397,23 +399,61 @@ all_durable : (few many : ℕ) (answers : List Answer) (answer : Answer) → few
 all_durable few many [] answer le h last = (last, tt)
 all_durable few many (x ∷ xs) answer le h last = (durable_more few many x le h.0, all_durable few many xs answer le h.1 last)
 
-run_more : (start : Entry → Bool) (events : List Event) (answers : List Answer) (event : Event) (answer : Answer) (first mid last : Moment)
-    → IsRun start events answers first mid → IsRun start (event ∷ []) (answer ∷ []) mid last → IsRun start (events ++ event ∷ []) (answers ++ answer ∷ []) first last
-run_more start [] [] event answer first mid last run one = subst (λ (m : Moment). IsRun start (event ∷ []) (answer ∷ []) m last) (sym run) one
-run_more start (x ∷ xs) (y ∷ ys) event answer first mid last run one = (run.0, run.1, run_more start xs ys event answer run.0 mid last run.2 one)
-run_more start [] (y ∷ ys) event answer first mid last run one = absurd run
-run_more start (x ∷ xs) [] event answer first mid last run one = absurd run
+run_more : {S : Type 0} (g : Ghosts S) (start : Entry → Bool) (told : List Answer) (events : List Event) (answers : List Answer) (event : Event) (answer : Answer) (first mid last : Moment S)
+    → IsRun g start told events answers first mid → AreDurable (g.backing mid.store).durable (told ++ answers) → EventGoes g start event answer mid last
+    → IsRun g start told (events ++ event ∷ []) (answers ++ answer ∷ []) first last
+run_more {S} g start told [] [] event answer first mid last run durable goes =
+    subst (λ (m : Moment S). IsRun g start told (event ∷ []) (answer ∷ []) m last) (sym run)
+    (subst (λ (l : List Answer). AreDurable (g.backing mid.store).durable l) (append-nil told) durable, (last, goes, refl))
+run_more g start told (x ∷ xs) (y ∷ ys) event answer first mid last run durable goes = (
+  run.0,
+  (
+    run.1.0,
+    run.1.1,
+    run_more g start (told ++ y ∷ []) xs ys event answer run.1.0 mid last run.1.2
+        (subst (λ (l : List Answer). AreDurable (g.backing mid.store).durable l) (sym (append_assoc told (y ∷ []) ys)) durable) goes,
+  ),
+)
+run_more g start told [] (y ∷ ys) event answer first mid last run durable goes = absurd run
+run_more g start told (x ∷ xs) [] event answer first mid last run durable goes = absurd run
 
--- a run goes on by one event
-pub ran_more : (start : Entry → Bool) (events : List Event) (answers : List Answer) (event : Event) (answer : Answer) (first mid last : Moment)
-    → Ran start events answers first mid → Ran start (event ∷ []) (answer ∷ []) mid last → Ran start (events ++ event ∷ []) (answers ++ answer ∷ []) first last
-ran_more start events answers event answer first mid last ran one = record {
-  run = run_more start events answers event answer first mid last ran.run one.run;
-  fits = one.fits;
-  acknowledged = all_durable mid.backing.durable last.backing.durable answers answer one.later.durable ran.acknowledged one.acknowledged.0;
-  later = later_trans first.backing mid.backing last.backing ran.later one.later;
+-- one event, with what a crash leaves, where it follows
+pub event_goes : {S : Type 0} (g : Ghosts S) (laws : Laws g) (start : Entry → Bool) (event : Event) (answer : Answer) (old new : Moment S) → g.follows old.store new.store → Fits g start old
+    → EventDoes g start event answer old new → EventGoes g start event answer old new
+event_goes g laws start event answer old new follows fits does = record {
+  does = does;
+  crash = λ keeps. safe g laws start old new follows keeps.own does.fits.matches (keeps_on g laws start old new follows does.grows fits.matches.count does.fits.matches keeps);
 }
 
+-- one event is a run
+pub one_ran : {S : Type 0} (g : Ghosts S) (start : Entry → Bool) (event : Event) (answer : Answer) (old new : Moment S) → EventGoes g start event answer old new → Ran g start (event ∷ []) (answer ∷ []) old new
+one_ran g start event answer old new goes = record {
+  run = (tt, (new, goes, refl));
+  fits = goes.does.fits;
+  acknowledged = (goes.does.durable, tt);
+  later = goes.does.later;
+  crash = goes.crash;
+}
+
+-- a run goes on by one event
+pub ran_more : {S : Type 0} (g : Ghosts S) (laws : Laws g) (start : Entry → Bool) (events : List Event) (answers : List Answer) (event : Event) (answer : Answer) (first mid last : Moment S)
+    → g.follows first.store last.store → Ran g start events answers first mid → Ran g start (event ∷ []) (answer ∷ []) mid last → Ran g start (events ++ event ∷ []) (answers ++ answer ∷ []) first last
+ran_more {S} g laws start events answers event answer first mid last follows ran one =
+    let goes : EventGoes g start event answer mid last = subst (λ (m : Moment S). EventGoes g start event answer mid m) one.run.1.2 one.run.1.1 in
+    record {
+      run = run_more g start [] events answers event answer first mid last ran.run ran.acknowledged goes;
+      fits = one.fits;
+      acknowledged = all_durable (g.backing mid.store).durable (g.backing last.store).durable answers answer one.later.durable ran.acknowledged one.acknowledged.0;
+      later = later_trans (g.backing first.store) (g.backing mid.store) (g.backing last.store) ran.later one.later;
+      crash = λ keeps. safe g laws start first last follows keeps.own one.fits.matches (one.crash (ran.crash keeps).keeps).keeps;
+    }
+
 -- a run of no event
-pub none_ran : (start : Entry → Bool) (now : Moment) → Fits start now → Ran start [] [] now now
-none_ran start now fits = record { run = refl; fits = fits; acknowledged = tt; later = same_later now.backing }
+pub none_ran : {S : Type 0} (g : Ghosts S) (laws : Laws g) (start : Entry → Bool) (now : Moment S) → Fits g start now → Ran g start [] [] now now
+none_ran g laws start now fits = record {
+  run = refl;
+  fits = fits;
+  acknowledged = tt;
+  later = same_later (g.backing now.store);
+  crash = λ keeps. safe g laws start now now (laws.same now.store) keeps.own fits.matches keeps;
+}

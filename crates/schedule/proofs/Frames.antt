@@ -5,7 +5,7 @@ use Rattle.index_model.specs.Actions.{Effect, Add, Remove, Shape, Action, is_the
 use Rattle.index_model.specs.Calls.{Ask, AskInsert, AskScan, AskBulkDelete, AskCleanup, Ending, Running, Added, Finished, Vacuumed, GivenUp, Failed, Call, Meets, MayAct, IsOwned, end_of}
 use Rattle.index_model.specs.declared.entry.Entry.{Entry}
 use Rattle.index_model.proofs.Histories.{there_before, meets_later}
-use Rattle.page_action.specs.States.{State, Backing}
+use Rattle.page_action.specs.declared.page_store.PageStore.{Ghosts}
 use Rattle.descent.specs.Steps.{OthersRely}
 use Rattle.session_calls.specs.Sessions.{Matches, IsIdle, SlotIs}
 use Rattle.session_calls.specs.declared.op.Op.{Op}
@@ -56,11 +56,11 @@ until_of history acts (Vacuumed y) k n h = h
 until_of history acts GivenUp k n h = h
 until_of history acts (Failed f) k n h = h
 
-module _ (start : Entry → Bool) (old : Moment) (state : State) (backing : Backing) (session : ℕ) (after : Call) (acts : List Action) (op : Op) (slot : Option Op)
-    (fits : Fits start old) (at : slice_get old.slots session ≡ Some (Some op)) (runs : SlotRuns start old session op)
+module _ {S : Type 0} (g : Ghosts S) (start : Entry → Bool) (old : Moment S) (store : S) (session : ℕ) (after : Call) (acts : List Action) (op : Op) (slot : Option Op)
+    (fits : Fits g start old) (at : slice_get old.slots session ≡ Some (Some op)) (runs : SlotRuns g start old session op)
     (same : IsSameCall start old.history acts runs.number runs.call after)
-    (others : OthersRely session old.state state) (world : Matches state start (old.history ++ acts)) (meets : Meets start (old.history ++ acts) runs.number after)
-    (holds : SlotIs state start (old.history ++ acts) after slot) where
+    (others : OthersRely session (g.state old.store) (g.state store)) (world : Matches (g.state store) start (old.history ++ acts)) (meets : Meets start (old.history ++ acts) runs.number after)
+    (holds : SlotIs (g.state store) start (old.history ++ acts) after slot) where
   here : slice_get (slice_set old.calls runs.number after) runs.number ≡ Some after
   here = get_set_same old.calls runs.number after (get_within old.calls runs.number runs.call runs.is.found)
 
@@ -87,11 +87,11 @@ module _ (start : Entry → Bool) (old : Moment) (state : State) (backing : Back
     | inr n ↦ record { found = sym (elsewhere j n) ∙ r.found; session_is = r.session_is; running = r.running }
   ]
 
-  slot_mine : (o : Option Op) → SlotIs state start (old.history ++ acts) after o
-      → SlotMatches start (record { state = state; backing = backing; slots = slice_set old.slots session slot; history = old.history ++ acts; calls = slice_set old.calls runs.number after }) session o
+  slot_mine : (o : Option Op) → SlotIs (g.state store) start (old.history ++ acts) after o
+      → SlotMatches g start (record { store = store; slots = slice_set old.slots session slot; history = old.history ++ acts; calls = slice_set old.calls runs.number after }) session o
   slot_mine None h = record {
     none = λ j c r. h.0 (subst (λ (x : Call). x.ending ≡ Running) (mine j c r).1 r.running);
-    idle = subst (λ (u : ℕ). IsIdle state u) session_is h.1;
+    idle = subst (λ (u : ℕ). IsIdle (g.state store) u) session_is h.1;
   }
   slot_mine (Some next) h = record {
     number = runs.number;
@@ -101,8 +101,8 @@ module _ (start : Entry → Bool) (old : Moment) (state : State) (backing : Back
     runs = h.1;
   }
 
-  slot_theirs : (u : ℕ) (o : Option Op) → u ≢ session → SlotMatches start old u o
-      → SlotMatches start (record { state = state; backing = backing; slots = slice_set old.slots session slot; history = old.history ++ acts; calls = slice_set old.calls runs.number after }) u o
+  slot_theirs : (u : ℕ) (o : Option Op) → u ≢ session → SlotMatches g start old u o
+      → SlotMatches g start (record { store = store; slots = slice_set old.slots session slot; history = old.history ++ acts; calls = slice_set old.calls runs.number after }) u o
   slot_theirs u None ne h = record { none = λ j c r. h.none j c (theirs u j c ne r); idle = (others u ne).held ∙ h.idle }
   slot_theirs u (Some other) ne h =
       let apart : h.number ≢ runs.number = λ e. (
@@ -113,7 +113,7 @@ module _ (start : Entry → Bool) (old : Moment) (state : State) (backing : Back
         call = h.call;
         is = record { found = elsewhere h.number apart ∙ h.is.found; session_is = h.is.session_is; running = h.is.running };
         only = λ j c r. h.only j c (theirs u j c ne r);
-        runs = undisturbed old.state state start old.history acts h.call other (others h.call.session (λ e. ne (sym h.is.session_is ∙ e))) h.runs;
+        runs = undisturbed (g.state old.store) (g.state store) start old.history acts h.call other (others h.call.session (λ e. ne (sym h.is.session_is ∙ e))) h.runs;
       }
 
   -- an action of before is owned still
@@ -161,15 +161,15 @@ module _ (start : Entry → Bool) (old : Moment) (state : State) (backing : Back
         may = subst (λ (j : ℕ). MayAct (is_there_after start (old.history ++ acts) j) (suc j) a.effect after.ask after.added) q own.1;
       }
 
-  pub goes_fits : Fits start (record { state = state; backing = backing; slots = slice_set old.slots session slot; history = old.history ++ acts; calls = slice_set old.calls runs.number after })
+  pub goes_fits : Fits g start (record { store = store; slots = slice_set old.slots session slot; history = old.history ++ acts; calls = slice_set old.calls runs.number after })
   goes_fits = record {
     matches = world;
     running = λ u o h. elim (cases_eq u session) [
       | inl e ↦ (
           let k : o ≡ slot = same_some (slice_get (slice_set old.slots session slot) session) o slot (subst (λ (i : ℕ). slice_get (slice_set old.slots session slot) i ≡ Some o) e h)
           (get_set_same old.slots session slot (get_within old.slots session (Some op) at)) in
-          subst (λ (i : ℕ). SlotMatches start (record { state = state; backing = backing; slots = slice_set old.slots session slot; history = old.history ++ acts; calls = slice_set old.calls runs.number after }) i o) (sym e)
-          (subst (λ (x : Option Op). SlotMatches start (record { state = state; backing = backing; slots = slice_set old.slots session slot; history = old.history ++ acts; calls = slice_set old.calls runs.number after }) session x) (sym k) (slot_mine slot holds)))
+          subst (λ (i : ℕ). SlotMatches g start (record { store = store; slots = slice_set old.slots session slot; history = old.history ++ acts; calls = slice_set old.calls runs.number after }) i o) (sym e)
+          (subst (λ (x : Option Op). SlotMatches g start (record { store = store; slots = slice_set old.slots session slot; history = old.history ++ acts; calls = slice_set old.calls runs.number after }) session x) (sym k) (slot_mine slot holds)))
       | inr n ↦ slot_theirs u o n (fits.running u o (sym (get_set_other old.slots session u slot n) ∙ h))
     ];
     known = λ i c h. rw (length_set old.slots session slot) (elim (cases_eq i runs.number) [

@@ -1,4 +1,5 @@
 pub mod Lists
 pub mod Owners
 pub mod Frames
+pub mod Keeping
 pub mod Events

@@ -1,5 +1,5 @@
 -- What an answer tells of its call: whose it is stays, and each action is its own.
-use Rattle.std.proofs.Common.{◌≡◌, ℕ, zero, suc, ◌+◌, Bool, false, Option, Some, None, List, [], ◌∷◌, ◌++◌, length, slice_get, refl, sym, ap, subst, arith, ◌∙◌, length-append}
+use Rattle.std.proofs.Common.{◌≡◌, ℕ, zero, suc, ◌+◌, ◌≤◌, Bool, false, Option, Some, None, List, [], ◌∷◌, ◌++◌, length, slice_get, refl, sym, ap, subst, arith, ◌∙◌, length-append}
 use Rattle.index_model.specs.Actions.{Add, Action, is_there_after}
 use Rattle.index_model.specs.Calls.{Ask, AskInsert, AskScan, Ending, Running, Finished as EndsFinished, GivenUp, Failed, Call, Meets, AnswersRight, IsAdded, MayAct, end_of}
 use Rattle.index_model.specs.declared.entry.Entry.{Entry}
@@ -163,3 +163,22 @@ told_same (Forced x) start history acts number call after running none meets h =
 told_same (Flushed b) start history acts number call after running none meets h = absurd h
 told_same (Checkpointed x) start history acts number call after running none meets h = absurd h
 told_same (Refused f) start history acts number call after running none meets h = refused_call start history number call after running f acts h.0 h.1
+
+few_of_none : (acts : List Action) → acts ≡ [] → length acts ≤ 1
+few_of_none acts none = (let e : length acts ≡ 0 = ap (λ (l : List Action). length l) none in omega arith)
+
+-- an event of a call appends one action at most
+pub told_few : (answer : Answer) (number count : ℕ) (acts : List Action) (call after : Call) → Told answer number count acts call after → length acts ≤ 1
+told_few Begun n k acts c after h = absurd h
+told_few Going n k acts c after h = few_of_none acts h.0
+told_few (Added a u) n k acts c after h = (let e : length acts ≡ 1 = ap (λ (l : List Action). length l) h.one in omega arith)
+told_few (Ready r) n k acts c after h = few_of_none acts h.0
+told_few Done n k acts c after h = few_of_none acts h.0
+told_few (Finished s) n k acts c after h = absurd h
+told_few (Gave None) n k acts c after h = few_of_none acts h.0
+told_few (Gave (Some e)) n k acts c after h = few_of_none acts h.0
+told_few Ended n k acts c after h = few_of_none acts h.0
+told_few (Forced x) n k acts c after h = absurd h
+told_few (Flushed b) n k acts c after h = absurd h
+told_few (Checkpointed x) n k acts c after h = absurd h
+told_few (Refused f) n k acts c after h = few_of_none acts h.0

@@ -1,3 +1,5 @@
 pub mod Moments
+pub mod Crashes
 pub mod Runs
+pub mod Promises
 pub mod Worlds

@@ -3,15 +3,13 @@ use Rattle.std.specs.Prelude.{◌≡◌, ℕ, ◌<◌, Bool, false, Option, Some
 use Rattle.index_model.specs.Actions.{Action}
 use Rattle.index_model.specs.Calls.{Running, Call, Meets, ActionsAreOwned}
 use Rattle.index_model.specs.declared.entry.Entry.{Entry}
-use Rattle.page_action.specs.States.{State, Backing}
+use Rattle.page_action.specs.declared.page_store.PageStore.{Ghosts}
 use Rattle.session_calls.specs.Sessions.{Matches, OpRuns, IsIdle, is_busy}
 use Rattle.session_calls.specs.declared.op.Op.{Op}
 
--- one moment: the pages and calls of the store, its log and device, what each session runs, and the history of actions
--- and the list of calls that tell of it
-pub record Moment : Type 0 where
-  pub state : State
-  pub backing : Backing
+-- one moment: the store, what each of its sessions runs, and the history of actions and the list of calls that tell of it
+pub record Moment (S : Type 0) : Type 0 where
+  pub store : S
   pub slots : List (Option Op)
   pub history : List Action
   pub calls : List Call
@@ -23,29 +21,30 @@ pub record IsRunningCall (calls : List Call) (session number : ℕ) (call : Call
   pub running : call.ending ≡ Running
 
 -- what the session runs is its one running call
-pub record SlotRuns (start : Entry → Bool) (now : Moment) (session : ℕ) (op : Op) : Type 0 where
+pub record SlotRuns {S : Type 0} (g : Ghosts S) (start : Entry → Bool) (now : Moment S) (session : ℕ) (op : Op) : Type 0 where
   pub number : ℕ
   pub call : Call
   pub is : IsRunningCall now.calls session number call
   pub only : (other : ℕ) (c : Call) → IsRunningCall now.calls session other c → other ≡ number
-  pub runs : OpRuns now.state start now.history call op
+  pub runs : OpRuns (g.state now.store) start now.history call op
 
 -- the session has no running call, and holds nothing
-pub record IsFree (now : Moment) (session : ℕ) : Type 0 where
+pub record IsFree {S : Type 0} (g : Ghosts S) (now : Moment S) (session : ℕ) : Type 0 where
   pub none : (number : ℕ) (call : Call) → IsRunningCall now.calls session number call → ⊥
-  pub idle : IsIdle now.state session
+  pub idle : IsIdle (g.state now.store) session
 
-abbrev pub SlotMatches : (Entry → Bool) → Moment → ℕ → Option Op → Type 0
-SlotMatches start now session None = IsFree now session
-SlotMatches start now session (Some op) = SlotRuns start now session op
+-- the slot of a session is empty where the session is free, and else has what its running call runs
+abbrev pub SlotMatches : {S : Type 0} → Ghosts S → (Entry → Bool) → Moment S → ℕ → Option Op → Type 0
+SlotMatches g start now session None = IsFree g now session
+SlotMatches g start now session (Some op) = SlotRuns g start now session op
 
 -- the history and the calls fit the moment
-pub record Fits (start : Entry → Bool) (now : Moment) : Type 0 where
+pub record Fits {S : Type 0} (g : Ghosts S) (start : Entry → Bool) (now : Moment S) : Type 0 where
   -- the contents of the pages are those after the history, the acts are as many as its actions, and the pages are a
   -- B-link tree
-  pub matches : Matches now.state start now.history
+  pub matches : Matches (g.state now.store) start now.history
   -- the calls without an end are the running ones
-  pub running : (session : ℕ) (slot : Option Op) → slice_get now.slots session ≡ Some slot → SlotMatches start now session slot
+  pub running : (session : ℕ) (slot : Option Op) → slice_get now.slots session ≡ Some slot → SlotMatches g start now session slot
   pub known : (number : ℕ) (call : Call) → slice_get now.calls number ≡ Some call → call.session < length now.slots
   -- each call meets its definition over its own interval
   pub meets : (number : ℕ) (call : Call) → slice_get now.calls number ≡ Some call → Meets start now.history number call

@@ -8,6 +8,7 @@ use Rattle.index_model.specs.declared.fault.Fault.{Fault}
 use Rattle.index_model.specs.declared.fault.Fault.TheVariants.{Stopped, NoSession, SessionBusy}
 use Rattle.page_action.specs.Causes.{nothing_wrong, where_forced}
 use Rattle.page_action.specs.States.{IsLater}
+use Rattle.page_action.specs.declared.page_store.PageStore.{Ghosts}
 use Rattle.descent.specs.Steps.{OthersRely}
 use Rattle.session_calls.specs.Sessions.{Told, IsCaused, LeavesLess, GivesLess, begun_call, where_stepped, where_asked_next, where_beginning, is_busy}
 use Rattle.session_calls.specs.declared.answer.Answer.{Answer}
@@ -15,12 +16,13 @@ use Rattle.session_calls.specs.declared.answer.Answer.TheVariants.{Begun, Going,
 use Rattle.session_calls.specs.declared.op.Op.{Op}
 use Rattle.session_calls.specs.declared.op.Op.TheVariants.{Insert as Inserts, Scan as Scans}
 use Rattle.schedule.specs.Moments.{Moment, IsRunningCall, Fits, has_call}
+use Rattle.schedule.specs.Crashes.{KeepsHistory, IsCrashSafe}
 use Rattle.schedule.specs.declared.event.Event.{Event}
 use Rattle.schedule.specs.declared.event.Event.TheVariants.{Insert, Scan, Step, Next, End, Force}
 
 -- an event of a session's running call: it appends actions of this call alone; what is told of it; no other call is
 -- changed, and other sessions may rely
-pub record GoesOn (session : ℕ) (answer : Answer) (old new : Moment) : Type 0 where
+pub record GoesOn {S : Type 0} (g : Ghosts S) (session : ℕ) (answer : Answer) (old new : Moment S) : Type 0 where
   pub number : ℕ
   pub call : Call
   pub is : IsRunningCall old.calls session number call
@@ -29,52 +31,52 @@ pub record GoesOn (session : ℕ) (answer : Answer) (old new : Moment) : Type 0 
   pub told : Told answer number (length old.history) acts call after
   pub history_is : new.history ≡ old.history ++ acts
   pub calls_is : new.calls ≡ slice_set old.calls number after
-  pub others : OthersRely session old.state new.state
+  pub others : OthersRely session (g.state old.store) (g.state new.store)
 
 -- the event is refused, and nothing that a history tells of is changed
-pub record Stays (answer : Answer) (old new : Moment) : Type 0 where
+pub record Stays {S : Type 0} (g : Ghosts S) (answer : Answer) (old new : Moment S) : Type 0 where
   pub fault : Fault
   pub refused : answer ≡ Refused fault
-  pub state_is : new.state ≡ old.state
+  pub state_is : g.state new.store ≡ g.state old.store
   pub slots_is : new.slots ≡ old.slots
   pub history_is : new.history ≡ old.history
   pub calls_is : new.calls ≡ old.calls
 
 -- a call is begun: it gets the next number
-pub record IsBegunCall (session : ℕ) (ask : Ask) (answer : Answer) (old new : Moment) : Type 0 where
+pub record IsBegunCall {S : Type 0} (g : Ghosts S) (session : ℕ) (ask : Ask) (answer : Answer) (old new : Moment S) : Type 0 where
   pub told : answer ≡ Begun
   pub history_is : new.history ≡ old.history
   pub calls_is : new.calls ≡ old.calls ++ begun_call session ask (length old.history) ∷ []
-  pub others : OthersRely session old.state new.state
+  pub others : OthersRely session (g.state old.store) (g.state new.store)
 
 -- all actions are durable, and so many
-pub record IsForced (answer : Answer) (old new : Moment) : Type 0 where
+pub record IsForced {S : Type 0} (g : Ghosts S) (answer : Answer) (old new : Moment S) : Type 0 where
   pub told : answer ≡ Forced (length old.history)
-  pub durable : new.backing.durable ≡ length old.history
-  pub state_is : new.state ≡ old.state
+  pub durable : (g.backing new.store).durable ≡ length old.history
+  pub state_is : g.state new.store ≡ g.state old.store
   pub slots_is : new.slots ≡ old.slots
   pub history_is : new.history ≡ old.history
   pub calls_is : new.calls ≡ old.calls
 
 -- a session's running call goes on; without one the event is refused
-abbrev pub Moves : Bool → ℕ → Answer → Moment → Moment → Type 0
-Moves true session answer old new = GoesOn session answer old new
-Moves false session answer old new = Stays answer old new
+abbrev pub Moves : {S : Type 0} → Ghosts S → Bool → ℕ → Answer → Moment S → Moment S → Type 0
+Moves g true session answer old new = GoesOn g session answer old new
+Moves g false session answer old new = Stays g answer old new
 
 -- a session without a call may begin one
-abbrev pub Begins : Option (Option Op) → ℕ → Ask → Answer → Moment → Moment → Type 0
-Begins None session ask answer old new = Stays answer old new
-Begins (Some None) session ask answer old new = IsBegunCall session ask answer old new ⊎ Stays answer old new
-Begins (Some (Some op)) session ask answer old new = Stays answer old new
+abbrev pub Begins : {S : Type 0} → Ghosts S → Option (Option Op) → ℕ → Ask → Answer → Moment S → Moment S → Type 0
+Begins g None session ask answer old new = Stays g answer old new
+Begins g (Some None) session ask answer old new = IsBegunCall g session ask answer old new ⊎ Stays g answer old new
+Begins g (Some (Some op)) session ask answer old new = Stays g answer old new
 
 -- what an event does to the history and to the calls, by what it answers
-abbrev pub Happens : Event → Answer → Moment → Moment → Type 0
-Happens (Insert session e) answer old new = Begins (slice_get old.slots session) session (AskInsert e) answer old new
-Happens (Scan session range) answer old new = Begins (slice_get old.slots session) session (AskScan range) answer old new
-Happens (Step session) answer old new = Moves (has_call old.slots session) session answer old new
-Happens (Next session) answer old new = Moves (has_call old.slots session) session answer old new
-Happens (End session) answer old new = Moves (has_call old.slots session) session answer old new
-Happens Force answer old new = IsForced answer old new ⊎ Stays answer old new
+abbrev pub Happens : {S : Type 0} → Ghosts S → Event → Answer → Moment S → Moment S → Type 0
+Happens g (Insert session e) answer old new = Begins g (slice_get old.slots session) session (AskInsert e) answer old new
+Happens g (Scan session range) answer old new = Begins g (slice_get old.slots session) session (AskScan range) answer old new
+Happens g (Step session) answer old new = Moves g (has_call old.slots session) session answer old new
+Happens g (Next session) answer old new = Moves g (has_call old.slots session) session answer old new
+Happens g (End session) answer old new = Moves g (has_call old.slots session) session answer old new
+Happens g Force answer old new = IsForced g answer old new ⊎ Stays g answer old new
 
 -- what an operation was asked
 abbrev pub ask_of : Op → Ask
@@ -100,39 +102,39 @@ where_moved idle running (Some None) = idle
 where_moved idle running (Some (Some op)) = running (ask_of op)
 
 -- the circumstances of a beginning
-abbrev pub where_begun_at : Moment → Option (Option Op) → Circumstances
-where_begun_at old None = where_no_call old.backing.stopped
-where_begun_at old (Some slot) = where_beginning old.state old.backing (is_busy slot)
+abbrev pub where_begun_at : {S : Type 0} → Ghosts S → Moment S → Option (Option Op) → Circumstances
+where_begun_at g old None = where_no_call (g.backing old.store).stopped
+where_begun_at g old (Some slot) = where_beginning (g.state old.store) (g.backing old.store) (is_busy slot)
 
 -- the circumstances of an event
-abbrev pub where_happening : Event → Moment → Moment → Circumstances
-where_happening (Insert session e) old new = where_begun_at old (slice_get old.slots session)
-where_happening (Scan session range) old new = where_begun_at old (slice_get old.slots session)
-where_happening (Step session) old new =
-    where_moved (where_no_call old.backing.stopped) (λ ask. where_stepped ask old.state old.backing new.backing session) (slice_get old.slots session)
-where_happening (Next session) old new = where_moved (where_no_call false) where_asked_next (slice_get old.slots session)
-where_happening (End session) old new = where_moved (where_no_call false) (λ ask. nothing_wrong) (slice_get old.slots session)
-where_happening Force old new = where_forced old.backing new.backing
+abbrev pub where_happening : {S : Type 0} → Ghosts S → Event → Moment S → Moment S → Circumstances
+where_happening g (Insert session e) old new = where_begun_at g old (slice_get old.slots session)
+where_happening g (Scan session range) old new = where_begun_at g old (slice_get old.slots session)
+where_happening g (Step session) old new =
+    where_moved (where_no_call (g.backing old.store).stopped) (λ ask. where_stepped ask (g.state old.store) (g.backing old.store) (g.backing new.store) session) (slice_get old.slots session)
+where_happening g (Next session) old new = where_moved (where_no_call false) where_asked_next (slice_get old.slots session)
+where_happening g (End session) old new = where_moved (where_no_call false) (λ ask. nothing_wrong) (slice_get old.slots session)
+where_happening g Force old new = where_forced (g.backing old.store) (g.backing new.store)
 
 -- where the log failed before, this is refused with Stopped, whatever else is so
 abbrev pub RefusesStopped : Bool → Answer → Type 0
 RefusesStopped is_stopped answer = is_stopped ≡ true → answer ≡ Refused Stopped
 
 -- on a stopped log beginnings, forces, and steps of sessions without a call are refused with Stopped before all else
-abbrev pub StopsFirst : Event → Answer → Moment → Type 0
-StopsFirst (Insert session e) answer old = RefusesStopped old.backing.stopped answer
-StopsFirst (Scan session range) answer old = RefusesStopped old.backing.stopped answer
-StopsFirst (Step session) answer old = has_call old.slots session ≡ false → RefusesStopped old.backing.stopped answer
-StopsFirst (Next session) answer old = Unit {0}
-StopsFirst (End session) answer old = Unit {0}
-StopsFirst Force answer old = RefusesStopped old.backing.stopped answer
+abbrev pub StopsFirst : {S : Type 0} → Ghosts S → Event → Answer → Moment S → Type 0
+StopsFirst g (Insert session e) answer old = RefusesStopped (g.backing old.store).stopped answer
+StopsFirst g (Scan session range) answer old = RefusesStopped (g.backing old.store).stopped answer
+StopsFirst g (Step session) answer old = has_call old.slots session ≡ false → RefusesStopped (g.backing old.store).stopped answer
+StopsFirst g (Next session) answer old = Unit {0}
+StopsFirst g (End session) answer old = Unit {0}
+StopsFirst g Force answer old = RefusesStopped (g.backing old.store).stopped answer
 
 -- what the session runs
 abbrev pub slot_at : List (Option Op) → ℕ → Option Op
 slot_at slots session = unwrap_or (slice_get slots session) None
 
 -- a step that ends no call leaves less to do, and so does an entry that is given
-abbrev pub IsLessLeft : Event → Answer → Moment → Moment → Type 0
+abbrev pub IsLessLeft : {S : Type 0} → Event → Answer → Moment S → Moment S → Type 0
 IsLessLeft (Insert session e) answer old new = Unit {0}
 IsLessLeft (Scan session range) answer old new = Unit {0}
 IsLessLeft (Step session) answer old new =
@@ -162,28 +164,44 @@ abbrev pub AreDurable : ℕ → List Answer → Type 0
 AreDurable durable [] = Unit {0}
 AreDurable durable (answer ∷ answers) = IsDurable durable answer × AreDurable durable answers
 
--- one event of a world that is fitted: what happens, why it is refused, and what fits then
-pub record EventGoes (start : Entry → Bool) (event : Event) (answer : Answer) (old new : Moment) : Type 0 where
-  pub happens : Happens event answer old new
-  pub caused : IsCaused (where_happening event old new) answer
-  pub stopped : StopsFirst event answer old
-  pub less : IsLessLeft event answer old new
-  pub durable : IsDurable new.backing.durable answer
-  pub later : IsLater old.backing new.backing
-  pub fits : Fits start new
+-- at most one action is appended
+pub record GrowsByOne (old new : List Action) : Type 0 where
+  pub acts : List Action
+  pub is : new ≡ old ++ acts
+  pub few : length acts ≤ 1
 
--- a run: events with an answer each, from one moment to another
-abbrev pub IsRun : (Entry → Bool) → List Event → List Answer → Moment → Moment → Type 0
-IsRun start [] [] first last = first ≡ last
-IsRun start (event ∷ events) (answer ∷ answers) first last =
-    (next : Moment) × EventGoes start event answer first next × IsRun start events answers next last
-IsRun start [] (answer ∷ answers) first last = ⊥
-IsRun start (event ∷ events) [] first last = ⊥
+-- one event of a world that is fitted: what happens, why it is refused, and what fits then
+pub record EventDoes {S : Type 0} (g : Ghosts S) (start : Entry → Bool) (event : Event) (answer : Answer) (old new : Moment S) : Type 0 where
+  pub happens : Happens g event answer old new
+  pub grows : GrowsByOne old.history new.history
+  pub caused : IsCaused (where_happening g event old new) answer
+  pub stopped : StopsFirst g event answer old
+  pub less : IsLessLeft event answer old new
+  pub durable : IsDurable (g.backing new.store).durable answer
+  pub later : IsLater (g.backing old.store) (g.backing new.store)
+  pub fits : Fits g start new
+
+-- ... and what a crash at any moment of the event leaves, where the history was kept before
+pub record EventGoes {S : Type 0} (g : Ghosts S) (start : Entry → Bool) (event : Event) (answer : Answer) (old new : Moment S) : Type 0 where
+  pub does : EventDoes g start event answer old new
+  pub crash : KeepsHistory g start old → IsCrashSafe g start old new
+
+-- a run behind these answers: events with an answer each, from one moment to another. Before each event, every number
+-- of actions that was told as durable is.
+abbrev pub IsRun : {S : Type 0} → Ghosts S → (Entry → Bool) → List Answer → List Event → List Answer → Moment S → Moment S → Type 0
+IsRun g start told [] [] first last = first ≡ last
+IsRun {S} g start told (event ∷ events) (answer ∷ answers) first last =
+    AreDurable (g.backing first.store).durable told
+    × ((next : Moment S) × EventGoes g start event answer first next × IsRun g start (told ++ answer ∷ []) events answers next last)
+IsRun g start told [] (answer ∷ answers) first last = ⊥
+IsRun g start told (event ∷ events) [] first last = ⊥
 
 -- a run with all that holds at its end
-pub record Ran (start : Entry → Bool) (events : List Event) (answers : List Answer) (first last : Moment) : Type 0 where
-  pub run : IsRun start events answers first last
-  pub fits : Fits start last
+pub record Ran {S : Type 0} (g : Ghosts S) (start : Entry → Bool) (events : List Event) (answers : List Answer) (first last : Moment S) : Type 0 where
+  pub run : IsRun g start [] events answers first last
+  pub fits : Fits g start last
   -- what was acknowledged is durable
-  pub acknowledged : AreDurable last.backing.durable answers
-  pub later : IsLater first.backing last.backing
+  pub acknowledged : AreDurable (g.backing last.store).durable answers
+  pub later : IsLater (g.backing first.store) (g.backing last.store)
+  -- what a crash at any moment of the run leaves, where the history was kept before
+  pub crash : KeepsHistory g start first → IsCrashSafe g start first last

@@ -2,9 +2,11 @@
 #![tactic(auto)]
 
 mod event;
+mod happening;
 mod world;
 
 pub use event::Event;
+pub use happening::{is_running, one};
 pub use world::{NotMade, World};
 
 #[cfg(test)]

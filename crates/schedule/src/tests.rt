@@ -200,6 +200,7 @@ fn readers_and_abandon(rt: HostRuntime) {
     assert!(rt; matches!(world.abandon(63), Answer::Ended));
     assert!(rt; !world.is_running(63));
     assert!(rt; world.used() == 2);
+    assert!(rt; world.actions() == 0);
     assert!(rt; world.room() == 15);
     let leaf = world.page(1);
     assert!(rt; matches!(leaf, Ok(page) if page.block == 1));

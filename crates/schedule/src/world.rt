@@ -1,13 +1,13 @@
 //! A store of pages with its sessions.
 
 ghost use Rattle.std.specs.Prelude.{◌≡◌, ◌≤◌, IfOk, IfErr, length, None, replicate};
-ghost use Rattle.session_calls.specs.Sessions.{no_call};
 
 use crate::event::Event;
-use index_model::{Entry, Fault, Range, Session};
+use crate::happening;
+use index_model::Fault;
 use page_action::PageStore;
 use page_codec::Page;
-use session_calls::{Answer, Op, begin_insert, begin_scan};
+use session_calls::{Answer, Op};
 use std::alloc::Global;
 
 /// A store of pages with 1 to 64 sessions, of which each runs one call at most. After it is made, nothing takes memory.
@@ -29,30 +29,28 @@ pub struct NotMade<S> {
 }
 
 impl<S: PageStore> World<S> {
-    ghost use Rattle.std.specs.Prelude.{◌≡◌, ◌⊎◌, ◌<◌, ◌≤◌, ◌++◌, ◌∷◌, [], true, false, Bool, List, ℕ, IfOk, IfErr, OnOk, OnErr, MatchResult, length, slice_get, slice_set, slice_index, None, Some, Option, replicate, ◌+◌, take, IsOk, vec_len, vec_capacity};
-    ghost use Rattle.index_model.specs.Actions.{Action};
-    ghost use Rattle.index_model.specs.Calls.{Call};
+    ghost use Rattle.std.specs.Prelude.{◌≡◌, ◌⊎◌, ◌<◌, ◌≤◌, ◌∷◌, [], true, IfOk, IfErr, OnOk, OnErr, length, slice_get, Some, ◌+◌, take, IsOk, vec_len, vec_capacity};
     ghost use Rattle.index_model.specs.Faults.{HasCause};
     ghost use Rattle.page_action.specs.Causes.{where_read};
-    ghost use Rattle.index_model.specs.declared.entry.Entry.{Entry};
     ghost use Rattle.page_action.specs.Contents.{entry_on_live_leaf};
     ghost use Rattle.page_action.specs.States.{Continues};
-    ghost use Rattle.session_calls.specs.Sessions.{no_call};
     ghost use Rattle.schedule.specs.Moments.{has_call};
-    ghost use Rattle.schedule.specs.Runs.{session_to_begin};
-    ghost use Rattle.schedule.specs.Worlds.{WorldFits, WorldRuns, Carries, IsUnused, answers_behind};
+    ghost use Rattle.schedule.specs.Promises.{IsUnused, answers_behind};
+    ghost use Rattle.schedule.specs.Worlds.{WorldFits, WorldKeeps, WorldIsSafe, WorldRuns, WorldCarries};
 
     /// A world over the store with so many sessions, none of which has a call. Refused with `BadLimits` unless it is
     /// 1 to 64 sessions, and with `NoMemory`; the store is given back.
     ///
     /// Where the store's pages are in order and it has made no act, the world is fitted by the contents of its pages, no
-    /// actions and no calls.
+    /// actions and no calls. Where nobody else wrote to its device, it keeps this history over crashes.
     pub fn new(alloc: Global, store: S, sessions: u32) -> Result<World<S>, NotMade<S>>
         ensures store { IfOk result (λ world. world.store ≡ store) }
         ensures sessions { IfOk result (λ world. length world.slots.items ≡ sessions) }
         ensures few { OnOk result ((1 ≤ sessions) × (sessions ≤ 64)) }
         ensures fits { IsUnused (S.state store) → IfOk result (λ world.
-            WorldFits S.state S.backing world (entry_on_live_leaf (S.state store).pages) [] []) }
+            WorldFits S.PageStore world (entry_on_live_leaf (S.state store).pages) [] []) }
+        ensures keeps { IsUnused (S.state store) → S.own store → IfOk result (λ world.
+            WorldKeeps S.PageStore world (entry_on_live_leaf (S.state store).pages) [] []) }
         ensures given_back { IfErr result (λ not_made. not_made.store ≡ store) }
         ensures first { IfErr result (λ not_made. (sessions ≡ 0) ⊎ (64 < sessions) → not_made.fault ≡ Fault.BadLimits) }
         ensures limits { IfErr result (λ not_made. not_made.fault ≡ Fault.BadLimits → (sessions ≡ 0) ⊎ (64 < sessions)) }
@@ -75,17 +73,10 @@ impl<S: PageStore> World<S> {
     pub fn one(&mut self, event: Event) -> Answer
         ensures steps { Continues S.follows self.old.store self.new.store }
         ensures sessions { length self.new.slots.items ≡ length self.old.slots.items }
-        ensures runs { Carries S.state S.backing self.old self.new
-            (WorldRuns S.state S.backing self.old self.new (event ∷ []) (result ∷ [])) }
+        ensures runs { WorldCarries S.PageStore self.old self.new
+            (WorldRuns S.PageStore self.old self.new (event ∷ []) (result ∷ [])) }
     {
-        match event {
-            Event::Insert(session, entry) => self.insert(session, entry),
-            Event::Scan(session, range) => self.scan(session, range),
-            Event::Step(session) => self.step(session),
-            Event::Next(session) => self.next(session),
-            Event::End(session) => self.end(session),
-            Event::Force => self.force(),
-        }
+        happening::one(&mut self.store, &mut self.slots, event)
     }
 
     /// Does these events one after the other, and puts an answer for each behind the answers that are there. Refused
@@ -93,8 +84,8 @@ impl<S: PageStore> World<S> {
     pub fn run(&mut self, events: &[Event], answers: &mut Vec<Answer>) -> Result<(), Fault>
         ensures steps { Continues S.follows self.old.store self.new.store }
         ensures sessions { length self.new.slots.items ≡ length self.old.slots.items }
-        ensures runs { OnOk result (Carries S.state S.backing self.old self.new
-            (WorldRuns S.state S.backing self.old self.new events.now (answers_behind answers.old.items answers.new.items))) }
+        ensures runs { OnOk result (WorldCarries S.PageStore self.old self.new
+            (WorldRuns S.PageStore self.old self.new events.now (answers_behind answers.old.items answers.new.items))) }
         ensures each { OnOk result (length answers.new.items ≡ length answers.old.items + length events.now) }
         ensures kept { take (length answers.old.items) answers.new.items ≡ answers.old.items }
         ensures refused { OnErr result ((self.new ≡ self.old) × (answers.new.items ≡ answers.old.items)) }
@@ -115,7 +106,8 @@ impl<S: PageStore> World<S> {
     /// `PageDamaged` for a block that is not in use. What fits is kept.
     pub fn page(&mut self, block: u32) -> Result<Page, Fault>
         ensures steps { Continues S.follows self.old.store self.new.store }
-        ensures fits { Carries S.state S.backing self.old self.new (WorldFits S.state S.backing self.new) }
+        ensures fits { WorldCarries S.PageStore self.old self.new (WorldFits S.PageStore self.new) }
+        ensures crash { WorldCarries S.PageStore self.old self.new (WorldIsSafe S.PageStore self.old self.new) }
         ensures page { (S.backing self.new.store).honest ≡ true
             → IfOk result (λ page. slice_get (S.state self.old.store).pages block ≡ Some page) }
         ensures cause { IfErr result (HasCause (where_read (S.state self.old.store) (S.backing self.old.store) (S.backing self.new.store) block)) }
@@ -127,10 +119,10 @@ impl<S: PageStore> World<S> {
     pub fn abandon(&mut self, session: u32) -> Answer
         ensures steps { Continues S.follows self.old.store self.new.store }
         ensures sessions { length self.new.slots.items ≡ length self.old.slots.items }
-        ensures runs { Carries S.state S.backing self.old self.new
-            (WorldRuns S.state S.backing self.old self.new (Event.End session ∷ []) (result ∷ [])) }
+        ensures runs { WorldCarries S.PageStore self.old self.new
+            (WorldRuns S.PageStore self.old self.new (Event.End session ∷ []) (result ∷ [])) }
     {
-        self.end(session)
+        self.one(Event::End(session))
     }
 
     /// The store, with whatever the sessions still hold.
@@ -148,6 +140,13 @@ impl<S: PageStore> World<S> {
         self.store.room()
     }
 
+    /// How many acts the store has made since opening: of a world that is fitted, how many actions its history has.
+    pub fn actions(&self) -> u64
+        ensures { result ≡ (S.state self.now.store).acts }
+    {
+        self.store.acts()
+    }
+
     /// The next unused block.
     pub fn used(&self) -> u32
         ensures { result ≡ length (S.state self.now.store).pages }
@@ -155,127 +154,12 @@ impl<S: PageStore> World<S> {
         self.store.used()
     }
 
-    fn insert(&mut self, session: u32, entry: Entry) -> Answer
-        ensures steps { Continues S.follows self.old.store self.new.store }
-        ensures sessions { length self.new.slots.items ≡ length self.old.slots.items }
-        ensures runs { Carries S.state S.backing self.old self.new
-            (WorldRuns S.state S.backing self.old self.new (Event.Insert session entry ∷ []) (result ∷ [])) }
-    {
-        match self.find(session) {
-            Ok(known) => begin_insert(
-                &mut self.store,
-                known,
-                entry,
-                &mut self.slots[session as usize],
-            ),
-            Err(fault) => Answer::Refused(fault),
-        }
-    }
-
-    fn scan(&mut self, session: u32, range: Range) -> Answer
-        ensures steps { Continues S.follows self.old.store self.new.store }
-        ensures sessions { length self.new.slots.items ≡ length self.old.slots.items }
-        ensures runs { Carries S.state S.backing self.old self.new
-            (WorldRuns S.state S.backing self.old self.new (Event.Scan session range ∷ []) (result ∷ [])) }
-    {
-        match self.find(session) {
-            Ok(known) => begin_scan(
-                &mut self.store,
-                known,
-                range,
-                &mut self.slots[session as usize],
-            ),
-            Err(fault) => Answer::Refused(fault),
-        }
-    }
-
-    fn step(&mut self, session: u32) -> Answer
-        ensures steps { Continues S.follows self.old.store self.new.store }
-        ensures sessions { length self.new.slots.items ≡ length self.old.slots.items }
-        ensures runs { Carries S.state S.backing self.old self.new
-            (WorldRuns S.state S.backing self.old self.new (Event.Step session ∷ []) (result ∷ [])) }
-    {
-        if !self.is_running(session) {
-            return refuse_idle(self.store.is_stopped());
-        }
-        session_calls::step(&mut self.store, &mut self.slots[session as usize])
-    }
-
-    fn next(&mut self, session: u32) -> Answer
-        ensures steps { Continues S.follows self.old.store self.new.store }
-        ensures sessions { length self.new.slots.items ≡ length self.old.slots.items }
-        ensures runs { Carries S.state S.backing self.old self.new
-            (WorldRuns S.state S.backing self.old self.new (Event.Next session ∷ []) (result ∷ [])) }
-    {
-        if !self.is_running(session) {
-            return refuse_idle(false);
-        }
-        session_calls::next(&mut self.slots[session as usize])
-    }
-
-    fn end(&mut self, session: u32) -> Answer
-        ensures steps { Continues S.follows self.old.store self.new.store }
-        ensures sessions { length self.new.slots.items ≡ length self.old.slots.items }
-        ensures runs { Carries S.state S.backing self.old self.new
-            (WorldRuns S.state S.backing self.old self.new (Event.End session ∷ []) (result ∷ [])) }
-    {
-        if !self.is_running(session) {
-            return refuse_idle(false);
-        }
-        session_calls::end(&mut self.store, &mut self.slots[session as usize])
-    }
-
-    fn force(&mut self) -> Answer
-        ensures steps { Continues S.follows self.old.store self.new.store }
-        ensures sessions { length self.new.slots.items ≡ length self.old.slots.items }
-        ensures runs { Carries S.state S.backing self.old self.new
-            (WorldRuns S.state S.backing self.old self.new (Event.Force ∷ []) (result ∷ [])) }
-    {
-        if self.store.is_stopped() {
-            return Answer::Refused(Fault::Stopped);
-        }
-        match self.store.force() {
-            Ok(count) => Answer::Forced(count),
-            Err(fault) => Answer::Refused(fault),
-        }
-    }
-
-    // The session that may begin a call: refused where the log failed before, then where there is none of this number,
-    // then where it has a call.
-    fn find(&self, session: u32) -> Result<Session, Fault>
-        ensures { result ≡ session_to_begin (S.backing self.now.store).stopped (slice_get self.now.slots.items session) session }
-    {
-        if self.store.is_stopped() {
-            return Err(Fault::Stopped);
-        }
-        let at = session as usize;
-        if at >= self.slots.len() {
-            return Err(Fault::NoSession);
-        }
-        if self.slots[at].is_some() {
-            return Err(Fault::SessionBusy);
-        }
-        Session::new(session)
-    }
-
     /// Whether the session has a call. One that does not exist has none.
     pub fn is_running(&self, session: u32) -> bool
         ensures value { result ≡ has_call self.now.slots.items session }
         ensures within { result ≡ true → session < length self.now.slots.items }
     {
-        let at = session as usize;
-        at < self.slots.len() && self.slots[at].is_some()
-    }
-}
-
-// What is answered to an event of a session that has no call.
-fn refuse_idle(is_stopped: bool) -> Answer
-    ensures { result ≡ no_call is_stopped }
-{
-    if is_stopped {
-        Answer::Refused(Fault::Stopped)
-    } else {
-        Answer::Refused(Fault::NoSession)
+        happening::is_running(&self.slots, session)
     }
 }
 

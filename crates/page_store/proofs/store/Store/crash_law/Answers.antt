@@ -1,5 +1,5 @@
 use Rattle.page_store.specs.Stores.{held_by}
-use Rattle.page_store.proofs.Crashing.{crash_restarts, pages_were}
+use Rattle.page_store.specs.Crashing.{crash_restarts, pages_were, left_now}
 use Rattle.page_store.proofs.store.Store.crash_law.Goals as goal
 
 pub returns-clause-restarts : goal.returns-clause-restarts
@@ -10,3 +10,6 @@ returns-clause-pages g c = λ first own follows. pages_were first (held_by g.D.D
 
 pub returns-clause-own : goal.returns-clause-own
 returns-clause-own g c = λ first own follows. (follows.extends own).own
+
+pub returns-clause-now : goal.returns-clause-now
+returns-clause-now g c = λ image may. left_now (held_by g.D.Device c.args.self.now) image may

@@ -5,7 +5,9 @@ use Rattle.session_calls.specs.declared.answer.Answer.{Answer}
 use Rattle.schedule.specs.declared.event.Event.{Event}
 use Rattle.schedule.specs.Moments.{Moment}
 use Rattle.schedule.specs.Runs.{Ran}
-use Rattle.schedule.specs.Worlds.{moment_of, answers_behind}
+use Rattle.schedule.specs.Promises.{answers_behind}
+use Rattle.schedule.specs.Worlds.{moment_of}
+use Rattle.schedule.proofs.Keeping.{Laws}
 use Rattle.schedule.proofs.Events.{none_ran, ran_more}
 use Rattle.schedule.proofs.world.World.run.Goals as goal
 
@@ -15,6 +17,14 @@ behind_more before answers answer le = drop-append-le (length before) answers (a
 
 pub loop-event-init : goal.loop-event-init
 loop-event-init g c =
+    let laws : Laws g.S.PageStore = record {
+      same = g.met.S.PageStore.follows_same;
+      durable_few = g.met.S.PageStore.durable_few;
+      own_stays = g.met.S.PageStore.own_stays;
+      past_now = g.met.S.PageStore.past_now;
+      past_stays = g.met.S.PageStore.past_stays;
+      leaves_first = g.met.S.PageStore.leaves_first;
+    } in
     let before = c.reserve.new.self.items in
     record {
       room = (let same = c.reserve.new.self.ok.0 in let room = c.in-Ok.ensures.ok in omega arith);
@@ -23,16 +33,24 @@ loop-event-init g c =
       steps = λ first h. h;
       sessions = refl;
       runs = λ honest start history calls fits.
-          let now : Moment = moment_of g.S.PageStore.state g.S.PageStore.backing c.args.self.now history calls in
+          let now : Moment g.row.S.Denot = moment_of c.args.self.now history calls in
           record {
             then_history = history;
             then_calls = calls;
-            ran = subst (λ (answers : List Answer). Ran start [] answers now now) (sym (drop_of_length-le before (omega arith))) (none_ran start now fits);
+            ran = subst (λ (answers : List Answer). Ran g.S.PageStore start [] answers now now) (sym (drop_of_length-le before (omega arith))) (none_ran g.S.PageStore laws start now fits);
           };
     }
 
 pub loop-event-preserved : goal.loop-event-preserved
 loop-event-preserved g c =
+    let laws : Laws g.S.PageStore = record {
+      same = g.met.S.PageStore.follows_same;
+      durable_few = g.met.S.PageStore.durable_few;
+      own_stays = g.met.S.PageStore.own_stays;
+      past_now = g.met.S.PageStore.past_now;
+      past_stays = g.met.S.PageStore.past_stays;
+      leaves_first = g.met.S.PageStore.leaves_first;
+    } in
     let before = c.reserve.new.self.items in
     let answers = c.loop-event.answers.items in
     let answer = c.one-answer.result in
@@ -52,17 +70,18 @@ loop-event-preserved g c =
           let mid = c.loop-event.self in
           let new = c.one-answer.new.self in
           let later = g.met.S.PageStore.follows_later mid.store new.store (c.one-answer.ensures.steps mid.store (g.met.S.PageStore.follows_same mid.store)) in
+          let follows = c.one-answer.ensures.steps c.args.self.now.store (c.loop-event.invariant.steps c.args.self.now.store (g.met.S.PageStore.follows_same c.args.self.now.store)) in
           let ran = c.loop-event.invariant.runs (later.honest honest) start history calls fits in
           let one = c.one-answer.ensures.runs honest start ran.then_history ran.then_calls ran.ran.fits in
-          let first : Moment = moment_of g.S.PageStore.state g.S.PageStore.backing c.args.self.now history calls in
-          let between : Moment = moment_of g.S.PageStore.state g.S.PageStore.backing mid ran.then_history ran.then_calls in
-          let last : Moment = moment_of g.S.PageStore.state g.S.PageStore.backing new one.then_history one.then_calls in
-          let done : Ran start (take index events ++ event ∷ []) (answers_behind before answers ++ answer ∷ []) first last =
-          ran_more start (take index events) (answers_behind before answers) event answer first between last ran.ran one.ran in
-          let all : Ran start (take (index + 1) events) (answers_behind before c.push_reserved.new.self.items) first last =
-          subst (λ (es : List Event). Ran start es (answers_behind before c.push_reserved.new.self.items) first last)
+          let first : Moment g.row.S.Denot = moment_of c.args.self.now history calls in
+          let between : Moment g.row.S.Denot = moment_of mid ran.then_history ran.then_calls in
+          let last : Moment g.row.S.Denot = moment_of new one.then_history one.then_calls in
+          let done : Ran g.S.PageStore start (take index events ++ event ∷ []) (answers_behind before answers ++ answer ∷ []) first last =
+          ran_more g.S.PageStore laws start (take index events) (answers_behind before answers) event answer first between last follows ran.ran one.ran in
+          let all : Ran g.S.PageStore start (take (index + 1) events) (answers_behind before c.push_reserved.new.self.items) first last =
+          subst (λ (es : List Event). Ran g.S.PageStore start es (answers_behind before c.push_reserved.new.self.items) first last)
           (ap (λ (e : Event). take index events ++ e ∷ []) c.event-item.is ∙ sym (take_more events index event c.loop-event-test.true))
-          (subst (λ (xs : List Answer). Ran start (take index events ++ event ∷ []) xs first last)
+          (subst (λ (xs : List Answer). Ran g.S.PageStore start (take index events ++ event ∷ []) xs first last)
           (sym (ap (λ (xs : List Answer). answers_behind before xs) pushed ∙ behind_more before answers answer le)) done) in
           record { then_history = one.then_history; then_calls = one.then_calls; ran = all };
     }
@@ -70,11 +89,11 @@ loop-event-preserved g c =
 pub returns-clause-runs : goal.returns-clause-runs
 returns-clause-runs g c honest start history calls fits =
     let ran = c.loop-event.invariant.runs honest start history calls fits in
-    let first : Moment = moment_of g.S.PageStore.state g.S.PageStore.backing c.args.self.now history calls in
-    let last : Moment = moment_of g.S.PageStore.state g.S.PageStore.backing c.loop-event.self ran.then_history ran.then_calls in
+    let first : Moment g.row.S.Denot = moment_of c.args.self.now history calls in
+    let last : Moment g.row.S.Denot = moment_of c.loop-event.self ran.then_history ran.then_calls in
     record {
       then_history = ran.then_history;
       then_calls = ran.then_calls;
-      ran = subst (λ (es : List Event). Ran start es (answers_behind c.args.answers.now.items c.loop-event.answers.items) first last) (take_all c.loop-event.event-index c.args.events.now c.loop-event-test.false)
-          (subst (λ (xs : List Answer). Ran start (take c.loop-event.event-index c.args.events.now) (answers_behind xs c.loop-event.answers.items) first last) c.in-Ok.ensures.items ran.ran);
+      ran = subst (λ (es : List Event). Ran g.S.PageStore start es (answers_behind c.args.answers.now.items c.loop-event.answers.items) first last) (take_all c.loop-event.event-index c.args.events.now c.loop-event-test.false)
+          (subst (λ (xs : List Answer). Ran g.S.PageStore start (take c.loop-event.event-index c.args.events.now) (answers_behind xs c.loop-event.answers.items) first last) c.in-Ok.ensures.items ran.ran);
     }

@@ -1,0 +1,76 @@
+-- What follows for crashes: the laws of an own store.
+use Rattle.std.specs.Prelude.{◌≡◌, ℕ, ◌≤◌, List, [], ◌∷◌, ◌++◌, length, take}
+use Rattle.std.proofs.Common.{inl, refl, sym, ap, subst, ◌∙◌, arith, length-append}
+use Rattle.std.proofs.lemmas.List.{take-append-le}
+use Rattle.device.specs.Disk.{MayLeave}
+use Rattle.device.specs.Moments.{MayHaveLeft}
+use Rattle.device.proofs.Going.{goes_leaves}
+use Rattle.index_model.specs.declared.limits.Limits.{Limits}
+use Rattle.page_codec.specs.declared.page.Page.{Page}
+use Rattle.page_action.specs.Crashes.{LeavesFirstPart}
+use Rattle.redo_log.specs.Kept.{limits_of}
+use Rattle.page_store.specs.Histories.{after_acts, pages_after}
+use Rattle.page_store.specs.Restart.{RestartsTo, RestartsToPart, LeavesPart}
+use Rattle.page_store.specs.Logged.{Held, IsOwn}
+use Rattle.page_store.specs.Following.{Follows}
+use Rattle.page_store.specs.declared.history.History.{History}
+
+-- the pages after a first part of the acts stay those with more acts
+pub pages_of_more : (h longer : History) (more : List (List Page)) (part : ℕ) → longer.start ≡ h.start → longer.acts ≡ h.acts ++ more → part ≤ length h.acts → pages_after longer part ≡ pages_after h part
+pages_of_more h longer more part start acts le =
+    ap (λ (s : List Page). after_acts s (take part longer.acts)) start ∙ ap (λ (as' : List (List Page)). after_acts h.start as') (ap (take part) acts ∙ take-append-le part h.acts more le)
+
+-- a first part of the acts is one of more acts
+pub part_of_more : (limits : Limits) (h longer : History) (more : List (List Page)) (low least : ℕ) (image : List ℕ) → longer.start ≡ h.start → longer.acts ≡ h.acts ++ more → low ≤ least
+    → RestartsToPart limits h least image → RestartsToPart limits longer low image
+part_of_more limits h longer more low least image start acts le r = record {
+  part = r.part;
+  from = omega (arith, r.from);
+  to = omega (arith, r.to, ap length acts, length-append h.acts more);
+  restarts = subst (RestartsTo limits image) (sym (pages_of_more h longer more r.part start acts r.to)) r.restarts;
+}
+
+-- a crash now leaves what it may leave at this moment
+pub left_now : (held : Held) (image : List ℕ) → MayLeave held.trace.now image → MayHaveLeft held.trace held.trace image
+left_now held image may = record { since = []; is = refl; left = inl may }
+
+all : {A : Type 0} (xs : List A) → take (length xs) xs ≡ xs
+all [] = refl
+all (x ∷ xs) = ap (λ l. x ∷ l) (all xs)
+
+-- all acts done, the pages are those of now
+pub pages_now : (held : Held) → IsOwn held → pages_after held.history held.acts ≡ held.pages
+pages_now held own = ap (λ (n : ℕ). pages_after held.history n) own.counted
+    ∙ (ap (λ (as' : List (List Page)). after_acts held.history.start as') (all held.history.acts) ∙ sym own.pages_are)
+
+module _ (first now : Held) (own : IsOwn first) (follows : Follows first now) where
+  pub own_now : IsOwn now
+  own_now = (follows.extends own).own
+
+  pub crash_restarts : (limits : Limits) (image : List ℕ) → limits_of now.log ≡ limits → MayHaveLeft first.trace now.trace image → RestartsToPart limits now.history first.durable image
+  crash_restarts limits image is left =
+      let on = follows.extends own in
+      let l = limits_of first.log in
+      let here = goes_leaves (LeavesPart l now.history first.durable) first.trace now.trace image on.moments
+      (λ old_image may. part_of_more l first.history now.history on.more first.durable first.durable old_image on.start on.acts (omega arith) (own.leaves old_image may)) left in
+      subst (λ (x : Limits). RestartsToPart x now.history first.durable image) (sym on.limits ∙ is) (here.1 image here.2)
+
+  -- ... in the words of a store of pages
+  pub leaves_first : (limits : Limits) (image : List ℕ) → limits_of now.log ≡ limits → MayHaveLeft first.trace now.trace image
+      → LeavesFirstPart first.durable now.acts (pages_after now.history) (RestartsTo limits image)
+  leaves_first limits image is left =
+      let r = crash_restarts limits image is left in
+      record { part = r.part; from = r.from; to = omega (arith, r.to, own_now.counted); restarts_to = r.restarts }
+
+  pub acts_later : first.acts ≤ now.acts
+  acts_later =
+      let on = follows.extends own in
+      omega (arith, own.counted, own_now.counted, ap length on.acts, length-append first.history.acts on.more)
+
+  pub pages_stay : (part : ℕ) → part ≤ first.acts → pages_after now.history part ≡ pages_after first.history part
+  pages_stay part le =
+      let on = follows.extends own in
+      pages_of_more first.history now.history on.more part on.start on.acts (omega (arith, own.counted, le))
+
+  pub pages_were : first.pages ≡ pages_after now.history first.acts
+  pages_were = sym (pages_stay first.acts (omega arith) ∙ pages_now first own)

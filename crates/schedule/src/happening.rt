@@ -1,0 +1,164 @@
+//! One event of a store with its sessions.
+
+ghost use Rattle.std.specs.Prelude.{◌≡◌, ◌<◌, ◌≤◌, ◌∷◌, [], true, List, Option, length, slice_get};
+ghost use Rattle.page_action.specs.States.{Continues};
+ghost use Rattle.session_calls.specs.Sessions.{no_call};
+ghost use Rattle.session_calls.specs.declared.op.Op.{Op};
+ghost use Rattle.schedule.specs.Moments.{has_call};
+ghost use Rattle.schedule.specs.Runs.{session_to_begin};
+ghost use Rattle.schedule.specs.Promises.{both, Carries, Does, Runs};
+
+use crate::event::Event;
+use index_model::{Entry, Fault, Range, Session};
+use page_action::PageStore;
+use session_calls::{Answer, Op, begin_insert, begin_scan};
+
+/// Does one event on a store, whose session i runs what the slot i has, and answers what the event gave, a refusal among
+/// the answers. Where several refusals apply, the first of `Stopped`, `NoSession`, `SessionBusy` is answered. There are 64
+/// slots at most.
+pub fn one<S: PageStore>(store: &mut S, slots: &mut [Option<Op>], event: Event) -> Answer
+    requires few { length slots.old ≤ 64 }
+    ensures steps { Continues S.follows store.old store.new }
+    ensures sessions { length slots.new ≡ length slots.old }
+    ensures runs { Carries S.PageStore (both store.old slots.old) (both store.new slots.new)
+        (Runs S.PageStore (both store.old slots.old) (both store.new slots.new) (event ∷ []) (result ∷ [])) }
+{
+    pick(store, slots, event)
+}
+
+// The call of each event.
+fn pick<S: PageStore>(store: &mut S, slots: &mut [Option<Op>], event: Event) -> Answer
+    requires few { length slots.old ≤ 64 }
+    ensures steps { Continues S.follows store.old store.new }
+    ensures sessions { length slots.new ≡ length slots.old }
+    ensures does { Carries S.PageStore (both store.old slots.old) (both store.new slots.new)
+        (Does S.PageStore (both store.old slots.old) (both store.new slots.new) event result) }
+{
+    match event {
+        Event::Insert(session, entry) => insert(store, slots, session, entry),
+        Event::Scan(session, range) => scan(store, slots, session, range),
+        Event::Step(session) => step(store, slots, session),
+        Event::Next(session) => next(store, slots, session),
+        Event::End(session) => end(store, slots, session),
+        Event::Force => force(store),
+    }
+}
+
+fn insert<S: PageStore>(
+    store: &mut S,
+    slots: &mut [Option<Op>],
+    session: u32,
+    entry: Entry,
+) -> Answer
+    requires few { length slots.old ≤ 64 }
+    ensures steps { Continues S.follows store.old store.new }
+    ensures sessions { length slots.new ≡ length slots.old }
+    ensures does { Carries S.PageStore (both store.old slots.old) (both store.new slots.new)
+        (Does S.PageStore (both store.old slots.old) (both store.new slots.new) (Event.Insert session entry) result) }
+{
+    match find(store, slots, session) {
+        Ok(known) => begin_insert(store, known, entry, &mut slots[session as usize]),
+        Err(fault) => Answer::Refused(fault),
+    }
+}
+
+fn scan<S: PageStore>(store: &mut S, slots: &mut [Option<Op>], session: u32, range: Range) -> Answer
+    requires few { length slots.old ≤ 64 }
+    ensures steps { Continues S.follows store.old store.new }
+    ensures sessions { length slots.new ≡ length slots.old }
+    ensures does { Carries S.PageStore (both store.old slots.old) (both store.new slots.new)
+        (Does S.PageStore (both store.old slots.old) (both store.new slots.new) (Event.Scan session range) result) }
+{
+    match find(store, slots, session) {
+        Ok(known) => begin_scan(store, known, range, &mut slots[session as usize]),
+        Err(fault) => Answer::Refused(fault),
+    }
+}
+
+fn step<S: PageStore>(store: &mut S, slots: &mut [Option<Op>], session: u32) -> Answer
+    ensures steps { Continues S.follows store.old store.new }
+    ensures sessions { length slots.new ≡ length slots.old }
+    ensures does { Carries S.PageStore (both store.old slots.old) (both store.new slots.new)
+        (Does S.PageStore (both store.old slots.old) (both store.new slots.new) (Event.Step session) result) }
+{
+    if !is_running(slots, session) {
+        return refuse_idle(store.is_stopped());
+    }
+    session_calls::step(store, &mut slots[session as usize])
+}
+
+fn next<S: PageStore>(store: &S, slots: &mut [Option<Op>], session: u32) -> Answer
+    ensures sessions { length slots.new ≡ length slots.old }
+    ensures does { Carries S.PageStore (both store.now slots.old) (both store.now slots.new)
+        (Does S.PageStore (both store.now slots.old) (both store.now slots.new) (Event.Next session) result) }
+{
+    if !is_running(slots, session) {
+        return refuse_idle(false);
+    }
+    session_calls::next(&mut slots[session as usize])
+}
+
+fn end<S: PageStore>(store: &mut S, slots: &mut [Option<Op>], session: u32) -> Answer
+    ensures steps { Continues S.follows store.old store.new }
+    ensures sessions { length slots.new ≡ length slots.old }
+    ensures does { Carries S.PageStore (both store.old slots.old) (both store.new slots.new)
+        (Does S.PageStore (both store.old slots.old) (both store.new slots.new) (Event.End session) result) }
+{
+    if !is_running(slots, session) {
+        return refuse_idle(false);
+    }
+    session_calls::end(store, &mut slots[session as usize])
+}
+
+fn force<S: PageStore>(store: &mut S) -> Answer
+    ensures steps { Continues S.follows store.old store.new }
+    ensures does { (slots : List (Option Op)) → Carries S.PageStore (both store.old slots) (both store.new slots)
+        (Does S.PageStore (both store.old slots) (both store.new slots) Event.Force result) }
+{
+    if store.is_stopped() {
+        return Answer::Refused(Fault::Stopped);
+    }
+    match store.force() {
+        Ok(count) => Answer::Forced(count),
+        Err(fault) => Answer::Refused(fault),
+    }
+}
+
+// The session that may begin a call: refused where the log failed before, then where there is none of this number,
+// then where it has a call.
+fn find<S: PageStore>(store: &S, slots: &[Option<Op>], session: u32) -> Result<Session, Fault>
+    requires few { length slots.now ≤ 64 }
+    ensures { result ≡ session_to_begin (S.backing store.now).stopped (slice_get slots.now session) session }
+{
+    if store.is_stopped() {
+        return Err(Fault::Stopped);
+    }
+    let at = session as usize;
+    if at >= slots.len() {
+        return Err(Fault::NoSession);
+    }
+    if slots[at].is_some() {
+        return Err(Fault::SessionBusy);
+    }
+    Session::new(session)
+}
+
+/// Whether the session has a call. One that does not exist has none.
+pub fn is_running(slots: &[Option<Op>], session: u32) -> bool
+    ensures value { result ≡ has_call slots.now session }
+    ensures within { result ≡ true → session < length slots.now }
+{
+    let at = session as usize;
+    at < slots.len() && slots[at].is_some()
+}
+
+// What is answered to an event of a session that has no call.
+fn refuse_idle(is_stopped: bool) -> Answer
+    ensures { result ≡ no_call is_stopped }
+{
+    if is_stopped {
+        Answer::Refused(Fault::Stopped)
+    } else {
+        Answer::Refused(Fault::NoSession)
+    }
+}
