@@ -47,6 +47,7 @@ ended_idle st session low order = (let many : length st.table ≡ 64 = order.hol
 pub quiet_then_end : (session : ℕ) (old mid new : State) → session < 64 → IsQuiet session old mid → new ≡ after_end session mid → IsQuiet session old new
 quiet_then_end session old mid new low quiet is = subst (λ (st : State). IsQuiet session old st) (sym is) (record {
   pages = quiet.pages;
+  limits = quiet.limits;
   acts = quiet.acts;
   order = ended_order mid session low quiet.order;
   others = λ other differ. rely_trans other old mid (after_end session mid) (quiet.others other differ) (ended_others mid session other differ);
@@ -54,6 +55,7 @@ quiet_then_end session old mid new low quiet is = subst (λ (st : State). IsQuie
 
 pub addition_then_end : (session : ℕ) (old mid new : State) (e : Entry) (action : ℕ) → session < 64 → IsAddition session old mid e action → new ≡ after_end session mid → IsAddition session old new e action
 addition_then_end session old mid new e action low step is = subst (λ (st : State). IsAddition session old st e action) (sym is) (record {
+  limits = step.limits;
   acts = step.acts;
   number = step.number;
   absent = step.absent;
@@ -65,6 +67,7 @@ addition_then_end session old mid new e action low step is = subst (λ (st : Sta
 pub quiet_none : (session : ℕ) (old new : State) → new ≡ old → IsInOrder old → IsQuiet session old new
 quiet_none session old new same order = subst (λ (st : State). IsQuiet session old st) (sym same) (record {
   pages = refl;
+  limits = refl;
   acts = refl;
   order = order;
   others = λ other differ. record { held = refl; number = refl; pages = λ block alone. refl };

@@ -38,6 +38,8 @@ quiet_goes at old new start history number call after slot answer m quiet told c
   told = told;
   caused = caused;
   world = subst (λ (l : List Action). Matches new start l) (sym (append-nil history)) (matches_quiet call.session old new start history quiet m);
+  limits = quiet.limits;
+  pages = λ none. quiet.pages;
   others = quiet.others;
   meets = subst (λ (l : List Action). Meets start l number after) (sym (append-nil history)) meets;
   holds = subst (λ (l : List Action). SlotIs new start l after slot) (sym (append-nil history)) holds;
@@ -108,6 +110,8 @@ add_goes at old mid new start history number call e action unfinished low m meet
         count = step.acts ∙ ap suc m.count ∙ sym longer;
         order = step.order;
       };
+      limits = step.limits;
+      pages = λ none. absurd cc;
       others = step.others;
       meets = record {
         began = omega arith;

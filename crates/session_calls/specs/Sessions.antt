@@ -184,13 +184,16 @@ where_asked_next (AskBulkDelete dead) = record nothing_wrong { no_such_session =
 where_asked_next AskCleanup = record nothing_wrong { no_such_session = true }
 
 -- one event of a running call: it appends at most one action, of this call; what is told of it; its cause; the pages
--- match the longer history; others may rely; the call goes on meeting its definition; and what the slot holds then
+-- match the longer history; the limits stay, and where no action is logged, the pages; others may rely; the call goes on meeting its definition; and what the slot holds then
 pub record SessionGoes (at : Circumstances) (old new : State) (start : Entry → Bool) (history : List Action) (number : ℕ) (call : Call) (slot : Option Op) (answer : Answer) : Type 0 where
   pub acts : List Action
   pub after : Call
   pub told : Told answer number (length history) acts call after
   pub caused : IsCaused at answer
   pub world : Matches new start (history ++ acts)
+  pub limits : new.limits ≡ old.limits
+  -- where no action is logged, the pages stay
+  pub pages : acts ≡ [] → new.pages ≡ old.pages
   pub others : OthersRely call.session old new
   pub meets : Meets start (history ++ acts) number after
   pub holds : SlotIs new start (history ++ acts) after slot

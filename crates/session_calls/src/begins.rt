@@ -1,12 +1,15 @@
 //! Beginnings.
 
-ghost use Rattle.std.specs.Prelude.{◌≡◌, ◌<◌, true, false, Bool, List, ℕ, OnOk, OnErr, IfErr};
+ghost use Rattle.std.specs.Prelude.{◌≡◌, ◌<◌, ◌+◌, true, false, Bool, List, ℕ, OnOk, OnErr, IfErr};
 ghost use Rattle.index_model.specs.Actions.{Action};
 ghost use Rattle.index_model.specs.Calls.{AskInsert, AskScan};
 ghost use Rattle.index_model.specs.Faults.{HasCause};
 ghost use Rattle.index_model.specs.declared.entry.Entry.{Entry};
+ghost use Rattle.page_action.specs.Contents.{entry_on_live_leaf};
 ghost use Rattle.page_action.specs.States.{Continues, after_begin};
-ghost use Rattle.session_calls.specs.Sessions.{SlotStands, SessionBegins, where_beginning};
+ghost use Rattle.descent.specs.Ways.{root_level, NoneIsFlagged, HasRoomFor};
+ghost use Rattle.session_calls.specs.Due.{IsDueIn};
+ghost use Rattle.session_calls.specs.Sessions.{SlotStands, SessionBegins, where_beginning, work_left};
 
 use crate::answer::Answer;
 use crate::op::Op;
@@ -28,6 +31,11 @@ pub fn begin_insert<S: PageStore>(
     ensures begins { (start : Entry → Bool) (history : List Action) (number : ℕ)
         → SlotStands (S.state store.old) start history session slot.old
         → SessionBegins (S.state store.old) (S.backing store.old) (S.state store.new) start history number session (AskInsert entry) slot.old slot.new result }
+    ensures due { result ≡ Answer.Begun → NoneIsFlagged (S.state store.old).pages
+        → entry_on_live_leaf (S.state store.old).pages entry ≡ false
+        → HasRoomFor (S.state store.old).limits.items (S.state store.old).pages entry
+        → IsDueIn (S.state store.new) slot.new (root_level (S.state store.old).pages + 3) }
+    ensures bounded { result ≡ Answer.Begun → work_left slot.new < 281474976710656 }
 {
     if let Err(fault) = begin(store, session, slot.is_some()) {
         return Answer::Refused(fault);
@@ -49,6 +57,9 @@ pub fn begin_scan<S: PageStore>(
     ensures begins { (start : Entry → Bool) (history : List Action) (number : ℕ)
         → SlotStands (S.state store.old) start history session slot.old
         → SessionBegins (S.state store.old) (S.backing store.old) (S.state store.new) start history number session (AskScan range) slot.old slot.new result }
+    ensures due { result ≡ Answer.Begun → NoneIsFlagged (S.state store.old).pages
+        → IsDueIn (S.state store.new) slot.new (root_level (S.state store.old).pages + 2) }
+    ensures bounded { result ≡ Answer.Begun → work_left slot.new < 281474976710656 }
 {
     if let Err(fault) = begin(store, session, slot.is_some()) {
         return Answer::Refused(fault);
