@@ -11,7 +11,7 @@ use Rattle.index_model.proofs.Histories.{contents_after-add, there_before, there
 use Rattle.page_action.specs.Contents.{entry_on_live_leaf}
 use Rattle.page_action.specs.States.{State, after_end}
 use Rattle.descent.specs.Steps.{IsQuiet, IsAddition}
-use Rattle.session_calls.specs.Sessions.{Matches, SlotIs, IsIdle, ended, ended_added, Told, IsCaused, SessionGoes}
+use Rattle.session_calls.specs.Sessions.{Matches, SlotIs, ended, ended_added, Told, IsCaused, SessionGoes}
 use Rattle.session_calls.specs.declared.answer.Answer.{Answer}
 use Rattle.session_calls.specs.declared.answer.Answer.TheVariants.{Added}
 use Rattle.session_calls.specs.declared.op.Op.{Op}
@@ -118,5 +118,5 @@ add_goes at old mid new start history number call e action unfinished low m meet
         until = omega arith;
         right = subst (λ (a : Ask). AnswersRight start more number call.began action a call.given (Some action) (EndsAdded action unfinished)) (sym ask) answer;
       };
-      holds = ((λ h. cc), subst (λ (st : State). IsIdle st call.session) (sym is) (ended_idle mid call.session low added.order));
+      holds = (let idle = ended_idle call.session mid new low added.order is in ((λ h. cc), idle.0, idle.1));
     }

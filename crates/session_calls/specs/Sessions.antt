@@ -1,5 +1,5 @@
 -- One session's call over the history of all actions: what stands between its events, and what an event does.
-use Rattle.std.specs.Prelude.{◌≡◌, ◌≢◌, ℕ, suc, ◌<◌, ◌||◌, Bool, true, false, if◌then◌else◌, Option, Some, None, List, [], ◌∷◌, ◌++◌, length}
+use Rattle.std.specs.Prelude.{◌≡◌, ◌≢◌, ℕ, suc, ◌<◌, ◌||◌, Bool, true, false, if◌then◌else◌, Option, Some, None, List, [], ◌∷◌, ◌++◌, length, slice_get}
 use Rattle.index_model.specs.Actions.{Add, Action, contents_after, ThereAtSomeMoment}
 use Rattle.index_model.specs.Calls.{Ask, AskInsert, AskScan, AskBulkDelete, AskCleanup, Ending, Running, Added as EndsAdded, Finished as EndsFinished, GivenUp, Failed, Call, GivesAll, Meets}
 use Rattle.index_model.specs.Faults.{Circumstances, HasCause}
@@ -77,9 +77,13 @@ SlotFits st start history number call (Some op) = CallFits st start history numb
 abbrev pub IsIdle : State → ℕ → Type 0
 IsIdle st session = holding_of st.table session ≡ nothing_held
 
+-- a session with no call has no start number, so none of its calls keeps a page from being used again
+abbrev pub HasNoNumber : State → ℕ → Type 0
+HasNoNumber st session = slice_get st.running session ≡ Some None
+
 -- the slot of a session after an event, and its call
 abbrev pub SlotIs : State → (Entry → Bool) → List Action → Call → Option Op → Type 0
-SlotIs st start history call None = (call.ending ≢ Running) × IsIdle st call.session
+SlotIs st start history call None = (call.ending ≢ Running) × IsIdle st call.session × HasNoNumber st call.session
 SlotIs st start history call (Some op) = (call.ending ≡ Running) × OpRuns st start history call op
 
 -- the call, ended so with so many actions

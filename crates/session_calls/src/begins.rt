@@ -18,7 +18,8 @@ use insert_split::InsertOp;
 use page_action::PageStore;
 use scan::ScanOp;
 
-/// Begins an insert. Refused with `Stopped`; with `SessionBusy` where the session has a call.
+/// Begins an insert. On its own, into a leaf with room, it takes three steps more than the root's level. Refused with
+/// `Stopped`; with `SessionBusy` where the session has a call.
 pub fn begin_insert<S: PageStore>(
     store: &mut S,
     session: Session,
@@ -44,7 +45,8 @@ pub fn begin_insert<S: PageStore>(
     Answer::Begun
 }
 
-/// Begins a scan. Refused with `Stopped`; with `SessionBusy` where the session has a call.
+/// Begins a scan. On its own, its first entries are ready after two steps more than the root's level. Refused with
+/// `Stopped`; with `SessionBusy` where the session has a call.
 pub fn begin_scan<S: PageStore>(
     store: &mut S,
     session: Session,
