@@ -8,6 +8,7 @@ use Rattle.descent.specs.Steps.{AreApart, IsInOrder, IsQuiet}
 pub quiet_same : (session : ℕ) (old new : State) → new ≡ old → IsInOrder old → IsQuiet session old new
 quiet_same session old new same order = subst (λ (st : State). IsQuiet session old st) (sym same) (record {
   pages = refl;
+  limits = refl;
   acts = refl;
   order = order;
   others = λ other differ. record { held = refl; number = refl; pages = λ block alone. refl };
@@ -18,6 +19,7 @@ pub quiet_table : (session : ℕ) (old new : State) (table : Table) → new ≡ 
     → ((other : ℕ) → other ≢ session → holding_of table other ≡ holding_of old.table other) → IsQuiet session old new
 quiet_table session old new table is order apart many kept = subst (λ (st : State). IsQuiet session old st) (sym is) (record {
   pages = refl;
+  limits = refl;
   acts = refl;
   order = record { tree = order.tree; apart = apart; holdings = many; calls = order.calls };
   others = λ other differ. record { held = kept other differ; number = refl; pages = λ block alone. refl };

@@ -38,12 +38,14 @@ OthersRely session old new = (other : ℕ) → other ≢ session → MayRely oth
 -- a step with no action
 pub record IsQuiet (session : ℕ) (old new : State) : Type 0 where
   pub pages : new.pages ≡ old.pages
+  pub limits : new.limits ≡ old.limits
   pub acts : new.acts ≡ old.acts
   pub order : IsInOrder new
   pub others : OthersRely session old new
 
 -- a step whose action adds this entry, which wasn't there
 pub record IsAddition (session : ℕ) (old new : State) (e : Entry) (action : ℕ) : Type 0 where
+  pub limits : new.limits ≡ old.limits
   pub acts : new.acts ≡ suc old.acts
   pub number : action ≡ suc old.acts
   pub absent : entry_on_live_leaf old.pages e ≡ false

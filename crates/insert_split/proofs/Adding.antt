@@ -92,6 +92,7 @@ module _ (old : State) (session : ℕ) (e : Entry) (page changed : Page) (order 
 
   pub adds_entry : (new : State) (action : ℕ) → new ≡ after_act (changed ∷ []) old → action ≡ suc old.acts → IsAddition session old new e action
   adds_entry new action new_is number = subst (λ (st : State). IsAddition session old st e action) (sym new_is) (record {
+    limits = refl;
     acts = refl;
     number = number;
     absent = was e ∙ absent;

@@ -77,6 +77,12 @@ IsNextAt Start after = after ≡ At 1
 IsNextAt (At block) after = after ≡ Holds block
 IsNextAt (Holds block) after = ⊥
 
+-- it holds its leaf
+abbrev pub IsHolding : InsertAt → Type 0
+IsHolding Start = ⊥
+IsHolding (At block) = ⊥
+IsHolding (Holds block) = Unit {0}
+
 pub record IsGoing (old new : State) (before after : InsertOp) : Type 0 where
   pub quiet : IsQuiet before.session old new
   pub fits : InsertFits new after
@@ -91,5 +97,5 @@ pub record IsRefused (old : State) (old_backing : Backing) (new : State) (new_ba
 abbrev pub InsertStepped : State → Backing → State → Backing → InsertOp → InsertOp → Result InsertStep Fault → Type 0
 InsertStepped old old_backing new new_backing before after (Ok Going) = IsGoing old new before after
 InsertStepped old old_backing new new_backing before after (Ok (Added action unfinished)) =
-    IsAddition before.session old new before.entry action × (unfinished ≡ None)
+    IsAddition before.session old new before.entry action × (unfinished ≡ None) × IsHolding before.at
 InsertStepped old old_backing new new_backing before after (Err fault) = IsRefused old old_backing new new_backing before after fault

@@ -8,7 +8,7 @@ ghost use Rattle.page_codec.specs.Grammar.{IsPage};
 ghost use Rattle.tree_shape.specs.Leaf.{IsPlaceOf, MayHold};
 ghost use Rattle.page_action.specs.States.{State, Continues};
 ghost use Rattle.descent.specs.Steps.{IsInOrder};
-ghost use Rattle.insert_split.specs.Inserts.{InsertFits, InsertStepped, LeavesFewer, PlaceRefused};
+ghost use Rattle.insert_split.specs.Inserts.{InsertFits, InsertStepped, LeavesFewer, PlaceRefused, steps_left};
 
 use descent::{look, root};
 use index_model::{Entry, Fault, Session};
@@ -75,6 +75,7 @@ impl InsertOp {
             → InsertFits (S.state store.old) self.old
             → InsertStepped (S.state store.old) (S.backing store.old) (S.state store.new) (S.backing store.new) self.old self.new result }
         ensures fewer { LeavesFewer self.old.at self.new.at result }
+        ensures no_more { steps_left self.new.at ≤ steps_left self.old.at }
     {
         match self.at {
             InsertAt::Start => self.find_root(store),
@@ -94,6 +95,7 @@ impl InsertOp {
             → InsertFits (S.state store.old) self.old
             → InsertStepped (S.state store.old) (S.backing store.old) (S.state store.new) (S.backing store.new) self.old self.new result }
         ensures fewer { LeavesFewer self.old.at self.new.at result }
+        ensures no_more { steps_left self.new.at ≤ steps_left self.old.at }
     {
         let block = root(store, self.session)?;
         self.at = InsertAt::At(block);
@@ -111,6 +113,7 @@ impl InsertOp {
             → InsertFits (S.state store.old) self.old
             → InsertStepped (S.state store.old) (S.backing store.old) (S.state store.new) (S.backing store.new) self.old self.new result }
         ensures fewer { LeavesFewer self.old.at self.new.at result }
+        ensures no_more { steps_left self.new.at ≤ steps_left self.old.at }
     {
         let page = look(store, self.session, block)?;
         if !may_hold(&page, &self.entry) {
@@ -133,6 +136,7 @@ impl InsertOp {
             → InsertFits (S.state store.old) self.old
             → InsertStepped (S.state store.old) (S.backing store.old) (S.state store.new) (S.backing store.new) self.old self.new result }
         ensures fewer { LeavesFewer self.old.at self.new.at result }
+        ensures no_more { steps_left self.new.at ≤ steps_left self.old.at }
     {
         if store.is_stopped() {
             return Err(Fault::Stopped);

@@ -50,7 +50,7 @@ pub enum ScanStep {
 }
 
 impl ScanOp {
-    ghost use Rattle.scan.specs.Scans.{fresh_scan, waiting, ScanFits, ScanStepped, LeavesLess, IsNext};
+    ghost use Rattle.scan.specs.Scans.{fresh_scan, waiting, ScanFits, ScanStepped, LeavesLess, work_left, IsNext};
 
     /// A scan of the range before its first step.
     pub fn new(session: Session, range: Range) -> ScanOp
@@ -99,6 +99,7 @@ impl ScanOp {
             → ScanFits (S.state store.old) self.old
             → ScanStepped (S.state store.old) (S.backing store.old) (S.state store.new) (S.backing store.new) self.old self.new result }
         ensures less { LeavesLess self.old self.new result }
+        ensures no_more { work_left self.new ≤ work_left self.old }
     {
         if store.is_stopped() {
             return Err(Fault::Stopped);
@@ -126,6 +127,7 @@ impl ScanOp {
             → ScanFits (S.state store.old) self.old
             → ScanStepped (S.state store.old) (S.backing store.old) (S.state store.new) (S.backing store.new) self.old self.new result }
         ensures less { LeavesLess self.old self.new result }
+        ensures no_more { work_left self.new ≤ work_left self.old }
     {
         let block = root(store, self.session)?;
         self.at = ScanAt::At(block);
@@ -144,6 +146,7 @@ impl ScanOp {
             → ScanFits (S.state store.old) self.old
             → ScanStepped (S.state store.old) (S.backing store.old) (S.state store.new) (S.backing store.new) self.old self.new result }
         ensures less { LeavesLess self.old self.new result }
+        ensures no_more { work_left self.new ≤ work_left self.old }
     {
         let page = look(store, self.session, block)?;
         if !is_only_leaf(&page) {

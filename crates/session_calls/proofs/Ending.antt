@@ -1,12 +1,18 @@
 -- The end of a call lets go what its session held.
-use Rattle.std.proofs.Common.{◌≡◌, ◌≢◌, ℕ, zero, suc, ◌<◌, Option, None, List, [], ◌∷◌, length, slice_get, slice_set, refl, sym, ap, subst, ◌∙◌, arith, length-set}
+use Rattle.std.proofs.Common.{◌≡◌, ◌≢◌, ℕ, zero, suc, ◌<◌, Option, Some, None, List, [], ◌∷◌, length, slice_get, slice_set, refl, sym, ap, subst, ◌∙◌, arith, length-set}
 use Rattle.index_model.specs.declared.entry.Entry.{Entry}
-use Rattle.latch_table.specs.Holdings.{Holding, holding_of, nothing_held, latches_exclude}
+use Rattle.latch_table.specs.Holdings.{Holding, nothing_held, latches_exclude}
 use Rattle.latch_table.specs.declared.mode.Mode.TheVariants.{Shared}
 use Rattle.latch_table.proofs.Tables.{length-with_holding, holding_of-with_holding, holding_of-with_holding_other}
 use Rattle.page_action.specs.States.{State, after_end}
 use Rattle.descent.specs.Steps.{IsInOrder, MayRely, OthersRely, IsQuiet, IsAddition}
 use Rattle.descent.proofs.Tables.{apart_nothing}
+use Rattle.session_calls.specs.Sessions.{IsIdle, HasNoNumber}
+
+get_set_same : {A : Type 0} (xs : List A) (i : ℕ) (x : A) → i < length xs → slice_get (slice_set xs i x) i ≡ Some x
+get_set_same [] i x h = absurd (omega arith)
+get_set_same (y ∷ ys) zero x h = refl
+get_set_same (y ∷ ys) (suc i) x h = get_set_same ys i x (omega arith)
 
 pub get_set_other : {A : Type 0} (xs : List A) (i j : ℕ) (x : A) → j ≢ i → slice_get (slice_set xs i x) j ≡ slice_get xs j
 get_set_other [] i j x h = refl
@@ -40,13 +46,18 @@ ended_others st session other differ = record {
   pages = λ block alone. refl;
 }
 
--- a session whose call has ended holds nothing
-pub ended_idle : (st : State) (session : ℕ) → session < 64 → IsInOrder st → holding_of (after_end session st).table session ≡ nothing_held
-ended_idle st session low order = (let many : length st.table ≡ 64 = order.holdings in holding_of-with_holding st.table session nothing_held (omega arith))
+-- a session whose call has ended holds nothing and has no start number
+pub ended_idle : (session : ℕ) (mid new : State) → session < 64 → IsInOrder mid → new ≡ after_end session mid → IsIdle new session × HasNoNumber new session
+ended_idle session mid new low order is =
+    let many : length mid.table ≡ 64 = order.holdings in
+    let calls : length mid.running ≡ 64 = order.calls in
+    subst (λ (st : State). IsIdle st session × HasNoNumber st session) (sym is)
+    (holding_of-with_holding mid.table session nothing_held (omega arith), get_set_same mid.running session None (omega arith))
 
 pub quiet_then_end : (session : ℕ) (old mid new : State) → session < 64 → IsQuiet session old mid → new ≡ after_end session mid → IsQuiet session old new
 quiet_then_end session old mid new low quiet is = subst (λ (st : State). IsQuiet session old st) (sym is) (record {
   pages = quiet.pages;
+  limits = quiet.limits;
   acts = quiet.acts;
   order = ended_order mid session low quiet.order;
   others = λ other differ. rely_trans other old mid (after_end session mid) (quiet.others other differ) (ended_others mid session other differ);
@@ -54,6 +65,7 @@ quiet_then_end session old mid new low quiet is = subst (λ (st : State). IsQuie
 
 pub addition_then_end : (session : ℕ) (old mid new : State) (e : Entry) (action : ℕ) → session < 64 → IsAddition session old mid e action → new ≡ after_end session mid → IsAddition session old new e action
 addition_then_end session old mid new e action low step is = subst (λ (st : State). IsAddition session old st e action) (sym is) (record {
+  limits = step.limits;
   acts = step.acts;
   number = step.number;
   absent = step.absent;
@@ -65,6 +77,7 @@ addition_then_end session old mid new e action low step is = subst (λ (st : Sta
 pub quiet_none : (session : ℕ) (old new : State) → new ≡ old → IsInOrder old → IsQuiet session old new
 quiet_none session old new same order = subst (λ (st : State). IsQuiet session old st) (sym same) (record {
   pages = refl;
+  limits = refl;
   acts = refl;
   order = order;
   others = λ other differ. record { held = refl; number = refl; pages = λ block alone. refl };

@@ -11,7 +11,7 @@ use Rattle.index_model.proofs.Histories.{contents_after-add, there_before, there
 use Rattle.page_action.specs.Contents.{entry_on_live_leaf}
 use Rattle.page_action.specs.States.{State, after_end}
 use Rattle.descent.specs.Steps.{IsQuiet, IsAddition}
-use Rattle.session_calls.specs.Sessions.{Matches, SlotIs, IsIdle, ended, ended_added, Told, IsCaused, SessionGoes}
+use Rattle.session_calls.specs.Sessions.{Matches, SlotIs, ended, ended_added, Told, IsCaused, SessionGoes}
 use Rattle.session_calls.specs.declared.answer.Answer.{Answer}
 use Rattle.session_calls.specs.declared.answer.Answer.TheVariants.{Added}
 use Rattle.session_calls.specs.declared.op.Op.{Op}
@@ -38,6 +38,8 @@ quiet_goes at old new start history number call after slot answer m quiet told c
   told = told;
   caused = caused;
   world = subst (λ (l : List Action). Matches new start l) (sym (append-nil history)) (matches_quiet call.session old new start history quiet m);
+  limits = quiet.limits;
+  pages = λ none. quiet.pages;
   others = quiet.others;
   meets = subst (λ (l : List Action). Meets start l number after) (sym (append-nil history)) meets;
   holds = subst (λ (l : List Action). SlotIs new start l after slot) (sym (append-nil history)) holds;
@@ -108,11 +110,13 @@ add_goes at old mid new start history number call e action unfinished low m meet
         count = step.acts ∙ ap suc m.count ∙ sym longer;
         order = step.order;
       };
+      limits = step.limits;
+      pages = λ none. absurd cc;
       others = step.others;
       meets = record {
         began = omega arith;
         until = omega arith;
         right = subst (λ (a : Ask). AnswersRight start more number call.began action a call.given (Some action) (EndsAdded action unfinished)) (sym ask) answer;
       };
-      holds = ((λ h. cc), subst (λ (st : State). IsIdle st call.session) (sym is) (ended_idle mid call.session low added.order));
+      holds = (let idle = ended_idle call.session mid new low added.order is in ((λ h. cc), idle.0, idle.1));
     }

@@ -5,3 +5,4 @@ pub mod Refusing
 pub mod Beginning
 pub mod Lessening
 pub mod Undisturbed
+pub mod Counting

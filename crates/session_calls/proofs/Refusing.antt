@@ -12,7 +12,7 @@ use Rattle.insert_split.specs.Inserts.{where_inserting}
 use Rattle.insert_split.specs.declared.insert.InsertOp.{InsertOp}
 use Rattle.scan.specs.Scans.{where_scanning}
 use Rattle.scan.specs.declared.steps.ScanOp.{ScanOp}
-use Rattle.session_calls.specs.Sessions.{IsIdle, session_of, OpRuns, CallFits, ended, Refuses, SessionGoes, ends_call, where_stepped}
+use Rattle.session_calls.specs.Sessions.{session_of, OpRuns, CallFits, ended, Refuses, SessionGoes, ends_call, where_stepped}
 use Rattle.session_calls.specs.declared.answer.Answer.TheVariants.{Refused, Ended}
 use Rattle.session_calls.specs.declared.op.Op.{Op}
 use Rattle.session_calls.specs.declared.op.Op.TheVariants.{Insert, Scan}
@@ -31,7 +31,7 @@ module _ (at : Circumstances) (old new : State) (start : Entry → Bool) (histor
       quiet_goes at old new start history number call (ended call (Failed fault) (length history)) None (Refused fault) fits.world
       (quiet_then_end call.session old old new my_low (quiet_none call.session old old refl fits.world.order) mine) (refl, refuses) cause
       (meets_failed start history number call fits.meets fits.running fault may)
-      ((λ h. cc), subst (λ (st : State). IsIdle st call.session) (sym mine) (ended_idle old call.session my_low fits.world.order))
+      (let idle = ended_idle call.session old new my_low fits.world.order mine in ((λ h. cc), idle.0, idle.1))
 
   -- one that doesn't
   pub blocked : (block : ℕ) → new ≡ old → HasCause at (Blocked block) → SessionGoes at old new start history number call (Some op) (Refused (Blocked block))
@@ -114,4 +114,4 @@ end_goes at old new start history number call op fits is =
     quiet_goes at old new start history number call (ended call GivenUp (length history)) None Ended fits.world
     (quiet_then_end call.session old old new low (quiet_none call.session old old refl fits.world.order) mine) (refl, refl) tt
     (meets_given_up start history number call fits.meets fits.running)
-    ((λ h. cc), subst (λ (st : State). IsIdle st call.session) (sym mine) (ended_idle old call.session low fits.world.order))
+    (let idle = ended_idle call.session old new low fits.world.order mine in ((λ h. cc), idle.0, idle.1))

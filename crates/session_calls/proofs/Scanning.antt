@@ -20,7 +20,7 @@ use Rattle.scan.specs.Scans.{waiting, IsNext, IsBehind, IsRead, IsReading, IsWai
 use Rattle.scan.specs.declared.steps.ScanAt.{ScanAt}
 use Rattle.scan.specs.declared.steps.ScanAt.TheVariants.{Start, At, Last}
 use Rattle.scan.specs.declared.steps.ScanOp.{ScanOp}
-use Rattle.session_calls.specs.Sessions.{Matches, IsIdle, IsScanSoFar, CallFits, ended, given_one, SessionGoes}
+use Rattle.session_calls.specs.Sessions.{Matches, IsScanSoFar, CallFits, ended, given_one, SessionGoes}
 use Rattle.session_calls.specs.declared.answer.Answer.TheVariants.{Ready, Done, Gave}
 use Rattle.session_calls.specs.declared.op.Op.TheVariants.{Scan}
 use Rattle.session_calls.proofs.Ending.{quiet_then_end, quiet_none, ended_idle}
@@ -128,7 +128,7 @@ done_goes at old new start history number call before fits none last is =
       until = omega arith;
       right = subst (λ (a : Ask). AnswersRight start history number call.began (length history) a call.given call.added EndsFinished) (sym fits.runs.ask) answer;
     })
-    ((λ h. cc), subst (λ (st : State). IsIdle st call.session) (sym is) (ended_idle old call.session low fits.world.order))
+    (let idle = ended_idle call.session old new low fits.world.order is in ((λ h. cc), idle.0, idle.1))
 
 -- what isn't beyond an entry that isn't beyond a bound isn't beyond the bound
 at_or_before : (b : Bound) (x e : Entry) → is_past (bound_of e) x ≡ false → is_past b e ≡ false → is_past b x ≡ false

@@ -1,5 +1,5 @@
 -- One session's call over the history of all actions: what stands between its events, and what an event does.
-use Rattle.std.specs.Prelude.{◌≡◌, ◌≢◌, ℕ, suc, ◌<◌, ◌||◌, Bool, true, false, if◌then◌else◌, Option, Some, None, List, [], ◌∷◌, ◌++◌, length}
+use Rattle.std.specs.Prelude.{◌≡◌, ◌≢◌, ℕ, suc, ◌<◌, ◌||◌, Bool, true, false, if◌then◌else◌, Option, Some, None, List, [], ◌∷◌, ◌++◌, length, slice_get}
 use Rattle.index_model.specs.Actions.{Add, Action, contents_after, ThereAtSomeMoment}
 use Rattle.index_model.specs.Calls.{Ask, AskInsert, AskScan, AskBulkDelete, AskCleanup, Ending, Running, Added as EndsAdded, Finished as EndsFinished, GivenUp, Failed, Call, GivesAll, Meets}
 use Rattle.index_model.specs.Faults.{Circumstances, HasCause}
@@ -77,9 +77,13 @@ SlotFits st start history number call (Some op) = CallFits st start history numb
 abbrev pub IsIdle : State → ℕ → Type 0
 IsIdle st session = holding_of st.table session ≡ nothing_held
 
+-- a session with no call has no start number, so none of its calls keeps a page from being used again
+abbrev pub HasNoNumber : State → ℕ → Type 0
+HasNoNumber st session = slice_get st.running session ≡ Some None
+
 -- the slot of a session after an event, and its call
 abbrev pub SlotIs : State → (Entry → Bool) → List Action → Call → Option Op → Type 0
-SlotIs st start history call None = (call.ending ≢ Running) × IsIdle st call.session
+SlotIs st start history call None = (call.ending ≢ Running) × IsIdle st call.session × HasNoNumber st call.session
 SlotIs st start history call (Some op) = (call.ending ≡ Running) × OpRuns st start history call op
 
 -- the call, ended so with so many actions
@@ -184,13 +188,16 @@ where_asked_next (AskBulkDelete dead) = record nothing_wrong { no_such_session =
 where_asked_next AskCleanup = record nothing_wrong { no_such_session = true }
 
 -- one event of a running call: it appends at most one action, of this call; what is told of it; its cause; the pages
--- match the longer history; others may rely; the call goes on meeting its definition; and what the slot holds then
+-- match the longer history; the limits stay, and where no action is logged, the pages; others may rely; the call goes on meeting its definition; and what the slot holds then
 pub record SessionGoes (at : Circumstances) (old new : State) (start : Entry → Bool) (history : List Action) (number : ℕ) (call : Call) (slot : Option Op) (answer : Answer) : Type 0 where
   pub acts : List Action
   pub after : Call
   pub told : Told answer number (length history) acts call after
   pub caused : IsCaused at answer
   pub world : Matches new start (history ++ acts)
+  pub limits : new.limits ≡ old.limits
+  -- where no action is logged, the pages stay
+  pub pages : acts ≡ [] → new.pages ≡ old.pages
   pub others : OthersRely call.session old new
   pub meets : Meets start (history ++ acts) number after
   pub holds : SlotIs new start (history ++ acts) after slot

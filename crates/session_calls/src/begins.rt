@@ -1,12 +1,15 @@
 //! Beginnings.
 
-ghost use Rattle.std.specs.Prelude.{◌≡◌, ◌<◌, true, false, Bool, List, ℕ, OnOk, OnErr, IfErr};
+ghost use Rattle.std.specs.Prelude.{◌≡◌, ◌<◌, ◌+◌, true, false, Bool, List, ℕ, OnOk, OnErr, IfErr};
 ghost use Rattle.index_model.specs.Actions.{Action};
 ghost use Rattle.index_model.specs.Calls.{AskInsert, AskScan};
 ghost use Rattle.index_model.specs.Faults.{HasCause};
 ghost use Rattle.index_model.specs.declared.entry.Entry.{Entry};
+ghost use Rattle.page_action.specs.Contents.{entry_on_live_leaf};
 ghost use Rattle.page_action.specs.States.{Continues, after_begin};
-ghost use Rattle.session_calls.specs.Sessions.{SlotStands, SessionBegins, where_beginning};
+ghost use Rattle.descent.specs.Ways.{root_level, NoneIsFlagged, HasRoomFor};
+ghost use Rattle.session_calls.specs.Due.{IsDueIn};
+ghost use Rattle.session_calls.specs.Sessions.{SlotStands, SessionBegins, where_beginning, work_left};
 
 use crate::answer::Answer;
 use crate::op::Op;
@@ -15,7 +18,8 @@ use insert_split::InsertOp;
 use page_action::PageStore;
 use scan::ScanOp;
 
-/// Begins an insert. Refused with `Stopped`; with `SessionBusy` where the session has a call.
+/// Begins an insert. On its own, into a leaf with room, it takes three steps more than the root's level. Refused with
+/// `Stopped`; with `SessionBusy` where the session has a call.
 pub fn begin_insert<S: PageStore>(
     store: &mut S,
     session: Session,
@@ -28,6 +32,11 @@ pub fn begin_insert<S: PageStore>(
     ensures begins { (start : Entry → Bool) (history : List Action) (number : ℕ)
         → SlotStands (S.state store.old) start history session slot.old
         → SessionBegins (S.state store.old) (S.backing store.old) (S.state store.new) start history number session (AskInsert entry) slot.old slot.new result }
+    ensures due { result ≡ Answer.Begun → NoneIsFlagged (S.state store.old).pages
+        → entry_on_live_leaf (S.state store.old).pages entry ≡ false
+        → HasRoomFor (S.state store.old).limits.items (S.state store.old).pages entry
+        → IsDueIn (S.state store.new) slot.new (root_level (S.state store.old).pages + 3) }
+    ensures bounded { result ≡ Answer.Begun → work_left slot.new < 281474976710656 }
 {
     if let Err(fault) = begin(store, session, slot.is_some()) {
         return Answer::Refused(fault);
@@ -36,7 +45,8 @@ pub fn begin_insert<S: PageStore>(
     Answer::Begun
 }
 
-/// Begins a scan. Refused with `Stopped`; with `SessionBusy` where the session has a call.
+/// Begins a scan. On its own, its first entries are ready after two steps more than the root's level. Refused with
+/// `Stopped`; with `SessionBusy` where the session has a call.
 pub fn begin_scan<S: PageStore>(
     store: &mut S,
     session: Session,
@@ -49,6 +59,9 @@ pub fn begin_scan<S: PageStore>(
     ensures begins { (start : Entry → Bool) (history : List Action) (number : ℕ)
         → SlotStands (S.state store.old) start history session slot.old
         → SessionBegins (S.state store.old) (S.backing store.old) (S.state store.new) start history number session (AskScan range) slot.old slot.new result }
+    ensures due { result ≡ Answer.Begun → NoneIsFlagged (S.state store.old).pages
+        → IsDueIn (S.state store.new) slot.new (root_level (S.state store.old).pages + 2) }
+    ensures bounded { result ≡ Answer.Begun → work_left slot.new < 281474976710656 }
 {
     if let Err(fault) = begin(store, session, slot.is_some()) {
         return Answer::Refused(fault);

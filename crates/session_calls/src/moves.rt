@@ -1,11 +1,16 @@
 //! Events of a running call.
 
-ghost use Rattle.std.specs.Prelude.{◌≡◌, true, false, Bool, List, ℕ, None, Some, if◌then◌else◌};
+ghost use Rattle.std.specs.Prelude.{◌≡◌, ◌≤◌, true, false, Bool, List, ℕ, suc, None, Some, if◌then◌else◌};
 ghost use Rattle.index_model.specs.Actions.{Action};
 ghost use Rattle.index_model.specs.Calls.{Call};
 ghost use Rattle.index_model.specs.declared.entry.Entry.{Entry};
 ghost use Rattle.page_action.specs.States.{State, Continues, after_end};
-ghost use Rattle.session_calls.specs.Sessions.{SlotFits, CallFits, SessionGoes, LeavesLess, GivesLess, where_stepped, where_asked_next, ends_call, no_call, IsIdleStep, session_of};
+ghost use Rattle.page_codec.specs.declared.page.Page.{Page};
+ghost use Rattle.descent.specs.Steps.{IsInOrder};
+ghost use Rattle.insert_split.specs.Inserts.{InsertFits};
+ghost use Rattle.scan.specs.Scans.{ScanFits};
+ghost use Rattle.session_calls.specs.Due.{IsDue, IsDueIn, CountsDown};
+ghost use Rattle.session_calls.specs.Sessions.{SlotFits, CallFits, SessionGoes, work_left, LeavesLess, GivesLess, where_stepped, where_asked_next, ends_call, no_call, IsIdleStep, session_of};
 ghost use Rattle.page_action.specs.Causes.{nothing_wrong};
 ghost use Rattle.session_calls.specs.declared.op.Op.{Op};
 
@@ -27,6 +32,11 @@ pub fn step<S: PageStore>(store: &mut S, slot: &mut Option<Op>) -> Answer
         → SessionGoes (where_stepped call.ask (S.state store.old) (S.backing store.old) (S.backing store.new) call.session)
         (S.state store.old) (S.state store.new) start history number call slot.new result }
     ensures less { LeavesLess slot.old slot.new result }
+    ensures no_more { work_left slot.new ≤ work_left slot.old }
+    ensures due { (S.backing store.new).honest ≡ true → (start : Entry → Bool) (history : List Action) (number : ℕ) (call : Call)
+        → SlotFits (S.state store.old) start history number call slot.old
+        → (left : ℕ) → IsDueIn (S.state store.old) slot.old (suc left)
+        → CountsDown (S.state store.old) (S.state store.new) slot.old slot.new left result }
 {
     let (answer, is_over) = match slot {
         None => (idle(store), false),
@@ -57,6 +67,10 @@ fn step_insert<S: PageStore>(store: &mut S, op: &mut InsertOp) -> (Answer, bool)
         → SessionGoes (where_stepped call.ask (S.state store.old) (S.backing store.old) (S.backing store.new) call.session)
         (S.state store.old) (S.state store.new) start history number call (if result.1 then None else Some (Op.Insert op.new)) result.0 }
     ensures less { LeavesLess (Some (Op.Insert op.old)) (if result.1 then None else Some (Op.Insert op.new)) result.0 }
+    ensures no_more { work_left (if result.1 then None else Some (Op.Insert op.new)) ≤ work_left (Some (Op.Insert op.old)) }
+    ensures due { (S.backing store.new).honest ≡ true → IsInOrder (S.state store.old) → InsertFits (S.state store.old) op.old
+        → (left : ℕ) → IsDueIn (S.state store.old) (Some (Op.Insert op.old)) (suc left)
+        → CountsDown (S.state store.old) (S.state store.new) (Some (Op.Insert op.old)) (if result.1 then None else Some (Op.Insert op.new)) left result.0 }
 {
     match op.step(store) {
         Ok(InsertStep::Going) => (Answer::Going, false),
@@ -75,6 +89,10 @@ fn step_scan<S: PageStore>(store: &mut S, op: &mut ScanOp) -> (Answer, bool)
         → SessionGoes (where_stepped call.ask (S.state store.old) (S.backing store.old) (S.backing store.new) call.session)
         (S.state store.old) (S.state store.new) start history number call (if result.1 then None else Some (Op.Scan op.new)) result.0 }
     ensures less { LeavesLess (Some (Op.Scan op.old)) (if result.1 then None else Some (Op.Scan op.new)) result.0 }
+    ensures no_more { work_left (if result.1 then None else Some (Op.Scan op.new)) ≤ work_left (Some (Op.Scan op.old)) }
+    ensures due { (S.backing store.new).honest ≡ true → IsInOrder (S.state store.old) → ScanFits (S.state store.old) op.old
+        → (left : ℕ) → IsDueIn (S.state store.old) (Some (Op.Scan op.old)) (suc left)
+        → CountsDown (S.state store.old) (S.state store.new) (Some (Op.Scan op.old)) (if result.1 then None else Some (Op.Scan op.new)) left result.0 }
 {
     match op.step(store) {
         Ok(ScanStep::Going) => (Answer::Going, false),
@@ -117,6 +135,7 @@ pub fn next(slot: &mut Option<Op>) -> Answer
         → SlotFits st start history number call slot.old
         → SessionGoes (where_asked_next call.ask) st st start history number call slot.new result }
     ensures less { GivesLess slot.old slot.new result }
+    ensures due { (items : ℕ) (pages : List Page) (steps : ℕ) → IsDue items pages slot.old steps → IsDue items pages slot.new steps }
 {
     match slot {
         Some(Op::Scan(op)) => Answer::Gave(op.next()),

@@ -1,4 +1,4 @@
-use Rattle.std.proofs.Common.{◌≡◌, ℕ, Some, List, [], ◌∷◌, suc, slice_get, refl, ap, subst, ◌∙◌}
+use Rattle.std.proofs.Common.{◌≡◌, ℕ, Some, List, [], ◌∷◌, suc, slice_get, refl, sym, ap, subst, ◌∙◌}
 use Rattle.std.specs.Prelude.{insert}
 use Rattle.index_model.specs.Faults.{HasCause}
 use Rattle.latch_table.specs.Holdings.{holding_of}
@@ -6,7 +6,7 @@ use Rattle.page_codec.specs.Edits.{entries_of}
 use Rattle.page_codec.specs.declared.page.Page.{Page}
 use Rattle.page_action.specs.Causes.{where_acted}
 use Rattle.page_action.specs.States.{State, Backing, IsLater, after_act}
-use Rattle.insert_split.specs.Inserts.{InsertStands, leaf_held}
+use Rattle.insert_split.specs.Inserts.{InsertStands, IsHolding, leaf_held}
 use Rattle.insert_split.specs.declared.insert.InsertAt.{InsertAt}
 use Rattle.insert_split.proofs.Adding.{adds_entry, acted_cause}
 use Rattle.insert_split.proofs.insert.InsertOp.add.Goals as goal
@@ -28,6 +28,7 @@ returns-in-Ok-clause-stepped g c honest order fits =
       adds_entry old session e page changed order held found at_one (insert (entries_of page.items) c.in_ok-at.at e) c.put.ensures.put (c.in_ok-at.ensures.absent stored.storable.admitted) c.put.ensures.among
           (g.S.PageStore.state c.act.new.self) c.in-Ok.action is (c.in-Ok.ensures.number ∙ ap (λ (st : State). suc st.acts) c.page.ensures.state),
       refl,
+      subst IsHolding (sym c.requires) tt,
     )
 
 pub returns-in-Err-clause-stepped : goal.returns-in-Err-clause-stepped
