@@ -11,6 +11,7 @@ mod writing;
 
 pub use room::StoreRoom;
 pub use store::Store;
+pub use writing::write_page;
 
 #[cfg(test)]
 mod tests;
