@@ -11,7 +11,6 @@ mod writing;
 
 pub use room::StoreRoom;
 pub use store::Store;
-pub use writing::write_page;
 
 #[cfg(test)]
 mod tests;

@@ -14,9 +14,8 @@ use device::Device;
 use index_model::{Fault, Limits};
 use page_codec::{Page, encode};
 
-/// Writes the 4,096 bytes of the page from `at` on. Refused with `Io`: then nothing was written, or any bytes stand
-/// there.
-pub fn write_page<D: Device>(device: &mut D, at: u64, page: &Page) -> Result<(), Fault>
+/// Writes the bytes of the page.
+fn write_page<D: Device>(device: &mut D, at: u64, page: &Page) -> Result<(), Fault>
     requires inside { at + 4096 ≤ length (D.trace device.old).now.seen }
     ensures trace { Writes at (page_bytes page.now) result (D.trace device.old) (D.trace device.new) }
     ensures whole { length (page_bytes page.now) ≡ 4096 }

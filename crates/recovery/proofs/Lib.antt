@@ -1,2 +1,4 @@
 pub mod Spelling
 pub mod Creating
+pub mod Blocks
+pub mod Named

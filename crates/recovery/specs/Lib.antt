@@ -1,2 +1,4 @@
 pub mod Superblock
 pub mod Fresh
+pub mod Reading
+pub mod Homing

@@ -2,6 +2,7 @@
 
 ghost use Rattle.std.specs.Prelude.{◌≡◌, ◌+◌, ◌-◌, ◌*◌, ◌≤◌, ◌<◌, [], ◌∷◌, length, OnOk};
 ghost use Rattle.device.specs.Disk.{Counts};
+ghost use Rattle.device.specs.Moments.{Goes};
 ghost use Rattle.device.specs.Places.{Has, OnDisk, ChangesOnly};
 ghost use Rattle.index_model.specs.Limits.{AreLimits};
 ghost use Rattle.page_codec.specs.Spelling.{page_bytes};
@@ -18,7 +19,7 @@ use page_codec::{Items, Page, PageState, encode};
 const LOG_START: u64 = 4096;
 
 /// Where the block begins.
-fn block_at(limits: &Limits, block: u32) -> u64
+pub(crate) fn block_at(limits: &Limits, block: u32) -> u64
     requires allowed { AreLimits limits.now }
     requires within { block ≤ limits.now.pages }
     ensures { result ≡ place limits.now block }
@@ -67,6 +68,8 @@ fn place<D: Device>(device: &mut D, at: u64, bytes: &[u8]) -> Result<(), Fault>
     requires inside { at + length bytes.now ≤ length (D.trace device.old).now.seen }
     ensures there { OnOk result (Has at bytes.now (D.trace device.new).now.seen) }
     ensures only { ChangesOnly at (length bytes.now) (D.trace device.old).now (D.trace device.new).now }
+    ensures moments { Goes (ChangesOnly at (length bytes.now) (D.trace device.old).now)
+        (D.trace device.old) (D.trace device.new) }
     ensures honest { D.is_honest device.new ≡ D.is_honest device.old }
     ensures failures { Counts result (D.failures device.old) (D.failures device.new) }
 {
@@ -90,13 +93,19 @@ fn place_zeros<D: Device>(device: &mut D, limits: &Limits) -> Result<(), Fault>
 }
 
 /// Writes the page at its block.
-fn place_page<D: Device>(device: &mut D, limits: &Limits, page: &Page) -> Result<(), Fault>
+pub(crate) fn place_page<D: Device>(
+    device: &mut D,
+    limits: &Limits,
+    page: &Page,
+) -> Result<(), Fault>
     requires allowed { AreLimits limits.now }
     requires below { page.now.block < limits.now.pages }
     requires inside { size_of limits.now ≤ length (D.trace device.old).now.seen }
     ensures there { OnOk result (Has (place limits.now page.now.block) (page_bytes page.now) (D.trace device.new).now.seen) }
     ensures long { length (page_bytes page.now) ≡ 4096 }
     ensures only { ChangesOnly (place limits.now page.now.block) 4096 (D.trace device.old).now (D.trace device.new).now }
+    ensures moments { Goes (ChangesOnly (place limits.now page.now.block) 4096 (D.trace device.old).now)
+        (D.trace device.old) (D.trace device.new) }
     ensures honest { D.is_honest device.new ≡ D.is_honest device.old }
     ensures failures { Counts result (D.failures device.old) (D.failures device.new) }
 {

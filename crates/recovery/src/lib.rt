@@ -2,6 +2,8 @@
 #![tactic(auto)]
 
 mod creation;
+mod homing;
+mod reading;
 mod superblock;
 
 pub use creation::create;
