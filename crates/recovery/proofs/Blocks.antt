@@ -1,17 +1,25 @@
 -- Pages are read, one block after the other.
-use Rattle.std.proofs.Common.{◌≡◌, ◌≢◌, inl, inr, ℕ, zero, suc, ◌+◌, ◌<◌, max, Bool, IsTrue, Some, List, [], ◌∷◌, ◌++◌, length, replicate, slice_get, slice_index, Result, Ok, Err, refl, sym, ◌∙◌, ap, subst, arith, length-append}
+use Rattle.std.proofs.Common.{◌≡◌, ◌≢◌, inl, inr, ℕ, zero, suc, ◌+◌, ◌-◌, ◌<◌, ◌≤◌, max, Bool, IsTrue, Option, Some, None, List, [], ◌∷◌, ◌++◌, length, take, drop, replicate, slice_get, slice_index, Result, Ok, Err, refl, sym, ◌∙◌, ap, subst, arith, length-append}
 use Rattle.std.proofs.lemmas.Bool.{cases_eq}
+use Rattle.std.proofs.lemmas.List.{take_at, length-replicate}
+use Rattle.std.proofs.lemmas.Option.{slice_get_within}
 use Rattle.std.specs.Prelude.{IfErr, IsErrAnd}
+use Rattle.device.specs.Disk.{Moment}
+use Rattle.device.specs.Places.{Has}
+use Rattle.device.proofs.Standing.{has_drop}
 use Rattle.index_model.specs.declared.fault.Fault.{Fault}
 use Rattle.index_model.specs.declared.limits.Limits.{Limits}
 use Rattle.page_action.specs.Stored.{IsStored, AreStored}
-use Rattle.page_action.proofs.StoredPages.{stored-add}
+use Rattle.page_action.proofs.StoredPages.{stored-add, stored_page}
 use Rattle.page_codec.specs.Spelling.{page_bytes, used_bytes, head_bytes}
-use Rattle.page_codec.proofs.Laws.{one_page}
+use Rattle.page_codec.proofs.Laws.{one_page, length-page}
 use Rattle.page_codec.specs.declared.page.Page.{Page}
 use Rattle.page_store.specs.Rooms.{limits_of_room, pages_of_room, counts_of_room}
+use Rattle.page_store.specs.Restart.{place}
+use Rattle.page_store.specs.Logged.{AreHome}
+use Rattle.page_store.proofs.Restarting.{past_of_none}
 use Rattle.page_store.proofs.Images.{more_same, more_other}
-use Rattle.recovery.specs.Reading.{block_bytes, AreBytesOf, StandFirst, IsEnd, IsDamagedAt, greatest_cycle, IsRead}
+use Rattle.recovery.specs.Reading.{block_bytes, AreBytesOf, StandFirst, IsEnd, IsDamagedAt, AreInUse, greatest_cycle, IsRead}
 use Rattle.recovery.specs.declared.reading.Found.{Found}
 
 cycle-more : (pages : List Page) (page : Page) → greatest_cycle (pages ++ page ∷ []) ≡ max (greatest_cycle pages) page.cycle
@@ -80,3 +88,71 @@ none_in_use limits file some (inr zeros) = record {
   no_page = λ page stored same. page_is_not_zeros page (sym same ∙ zeros);
   in_use = λ same. refl;
 }
+
+-- bytes that stand at the place of a block
+pub block_has : (limits : Limits) (block : ℕ) (bytes file : List ℕ) → Has (place limits block) bytes file → length bytes ≡ 4096 → block_bytes limits block file ≡ bytes
+block_has limits block bytes file has long =
+    let at = place limits block in
+    let size : at + 4096 - at ≡ 4096 = omega arith in
+    ap (λ (n : ℕ). take n (drop at file)) size ∙ (ap (take 4096) (has_drop at bytes file has) ∙ take_at bytes (drop (at + length bytes) file) 4096 long)
+
+-- pages that stand at home are those of all blocks in use
+pub home_in_use : (limits : Limits) (pages : List Page) (m : Moment) → AreStored limits 0 pages → length pages ≤ limits.pages → AreHome limits [] pages m → AreInUse limits pages m.seen
+home_in_use limits pages m stored few home = record {
+  stored = stored;
+  few = few;
+  stand = λ block page found. block_has limits block (page_bytes page) m.seen (home.used block page found refl).has (length-page page (stored_page limits block pages page stored found).storable.admitted);
+  end = elim (cases_eq (length pages) limits.pages) [
+    | inl full ↦ inl full
+    | inr less ↦ inr (block_has limits (length pages) (replicate 4096 0) m.seen (home.unused (length pages) (omega arith) (omega (arith, few)) refl).has (length-replicate {A = ℕ} 4096 0))
+  ];
+}
+
+same_gets : (ps qs : List Page) → ((i : ℕ) → slice_get ps i ≡ slice_get qs i) → ps ≡ qs
+same_gets [] [] h = refl
+same_gets [] (q ∷ qs) h = (let e : None ≡ Some q = h 0 in absurd cc)
+same_gets (p ∷ ps) [] h = (let e : Some p ≡ None = h 0 in absurd cc)
+same_gets (p ∷ ps) (q ∷ qs) h =
+    let e : Some p ≡ Some q = h 0 in
+    let first : p ≡ q = cc in
+    ap (λ (x : Page). x ∷ ps) first ∙ ap (λ (l : List Page). q ∷ l) (same_gets ps qs (λ i. h (suc i)))
+
+-- where zeros stand there is no page
+no_page_there : (limits : Limits) (pages : List Page) (file : List ℕ) (block : ℕ) → StandFirst limits pages file → block < length pages → block_bytes limits block file ≢ replicate 4096 0
+no_page_there limits pages file block stand lt zeros = there (slice_get pages block) refl
+  where
+    there : (o : Option Page) → slice_get pages block ≡ o → ⊥
+    there None none = (let past = past_of_none pages block none in absurd (omega (arith, past, lt)))
+    there (Some page) found = page_is_not_zeros page (sym (stand block page found) ∙ zeros)
+
+not_more : (limits : Limits) (ps qs : List Page) (file : List ℕ) → AreInUse limits ps file → AreInUse limits qs file → length ps < length qs → ⊥
+not_more limits ps qs file a b less = elim a.end [
+  | inl full ↦ absurd (omega (arith, full, less, b.few))
+  | inr zeros ↦ no_page_there limits qs file (length ps) b.stand less zeros
+]
+
+-- a device has the pages of its blocks in use once
+pub one_reading : (limits : Limits) (ps qs : List Page) (file : List ℕ) → AreInUse limits ps file → AreInUse limits qs file → ps ≡ qs
+one_reading limits ps qs file a b = same_gets ps qs (λ i. at i (slice_get ps i) (slice_get qs i) refl refl)
+  where
+    at : (i : ℕ) (o p : Option Page) → slice_get ps i ≡ o → slice_get qs i ≡ p → o ≡ p
+    at i None None e f = refl
+    at i None (Some q) e f = absurd (not_more limits ps qs file a b (omega (arith, past_of_none ps i e, slice_get_within qs i q f)))
+    at i (Some p) None e f = absurd (not_more limits qs ps file b a (omega (arith, past_of_none qs i f, slice_get_within ps i p e)))
+    at i (Some p) (Some q) e f = ap Some (one_page p q (stored_page limits i ps p a.stored e).storable.admitted (stored_page limits i qs q b.stored f).storable.admitted (sym (a.stand i p e) ∙ b.stand i q f))
+
+-- where pages are in use, one or more, no block is damaged
+pub not_damaged : (limits : Limits) (pages : List Page) (file : List ℕ) (block : ℕ) → AreInUse limits pages file → 0 < length pages → IsDamagedAt limits block file → ⊥
+not_damaged limits pages file block a some d = there (slice_get pages block) refl
+  where
+    there : (o : Option Page) → slice_get pages block ≡ o → ⊥
+    there (Some page) found = d.no_page page (stored_page limits block pages page a.stored found) (a.stand block page found)
+    there None none =
+        let past = past_of_none pages block none in
+        elim a.end [
+          | inl full ↦ absurd (omega (arith, full, past, d.within))
+          | inr zeros ↦ elim (cases_eq (length pages) block) [
+            | inl same ↦ (let first = d.in_use (ap (λ (b : ℕ). block_bytes limits b file) (sym same) ∙ zeros) in absurd (omega (arith, same, first, some)))
+            | inr other ↦ no_page_there limits d.before file (length pages) d.stand (omega (arith, past, other, d.count)) zeros
+          ]
+        ]

@@ -2,3 +2,5 @@ pub mod Spelling
 pub mod Creating
 pub mod Blocks
 pub mod Named
+pub mod Restoring
+pub mod Answering

@@ -2,3 +2,4 @@ pub mod Superblock
 pub mod Fresh
 pub mod Reading
 pub mod Homing
+pub mod Opening

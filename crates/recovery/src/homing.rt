@@ -43,6 +43,7 @@ pub(crate) fn bring_home<D: Device>(
     ensures moments { Goes (ChangesNamed limits images.now (D.trace device.old).now)
         (D.trace device.old) (D.trace device.new) }
     ensures home { OnOk result (AreHomed limits images.now (D.trace device.new).now) }
+    ensures len { length (D.trace device.new).now.seen ≡ length (D.trace device.old).now.seen }
     ensures honest { D.is_honest device.new ≡ D.is_honest device.old }
     ensures failures { Counts result (D.failures device.old) (D.failures device.new) }
 {

@@ -3,10 +3,12 @@
 
 mod creation;
 mod homing;
+mod opening;
 mod reading;
 mod superblock;
 
 pub use creation::create;
+pub use opening::{Refused, open};
 
 #[cfg(test)]
 mod tests;
