@@ -23,11 +23,11 @@ set_other (y ∷ ys) zero (suc b) x ne = refl
 set_other (y ∷ ys) (suc at) zero x ne = refl
 set_other (y ∷ ys) (suc at) (suc b) x ne = set_other ys at b x (λ e. ne (ap suc e))
 
-more_same : {A : Type 0} (xs : List A) (x : A) → slice_get (xs ++ x ∷ []) (length xs) ≡ Some x
+pub more_same : {A : Type 0} (xs : List A) (x : A) → slice_get (xs ++ x ∷ []) (length xs) ≡ Some x
 more_same [] x = refl
 more_same (y ∷ ys) x = more_same ys x
 
-more_other : {A : Type 0} (xs : List A) (b : ℕ) (x : A) → length xs ≢ b → slice_get (xs ++ x ∷ []) b ≡ slice_get xs b
+pub more_other : {A : Type 0} (xs : List A) (b : ℕ) (x : A) → length xs ≢ b → slice_get (xs ++ x ∷ []) b ≡ slice_get xs b
 more_other [] zero x ne = absurd (ne refl)
 more_other [] (suc b) x ne = refl
 more_other (y ∷ ys) zero x ne = refl

@@ -22,7 +22,7 @@ places_apart limits b k ne = elim (cases_lt b k) [
   | inr above ↦ inr (omega arith)
 ]
 
-apart_long : (limits : Limits) (b k n : ℕ) → n ≡ 4096 → b ≢ k → (place limits b + n ≤ place limits k) ⊎ (place limits k + 4096 ≤ place limits b)
+pub apart_long : (limits : Limits) (b k n : ℕ) → n ≡ 4096 → b ≢ k → (place limits b + n ≤ place limits k) ⊎ (place limits k + 4096 ≤ place limits b)
 apart_long limits b k n is ne = subst (λ (x : ℕ). (place limits b + x ≤ place limits k) ⊎ (place limits k + 4096 ≤ place limits b)) (sym is) (places_apart limits b k ne)
 
 pub same_marked : (limits : Limits) (marks : List Bool) (m : Moment) → ChangesMarked limits marks m m

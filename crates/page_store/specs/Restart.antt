@@ -52,3 +52,7 @@ pub record RestartsToPart (limits : Limits) (h : History) (least : ℕ) (image :
 -- each image that a crash at this moment may leave does
 abbrev pub LeavesPart : Limits → History → ℕ → Moment → Type 0
 LeavesPart limits h least m = (image : List ℕ) → MayLeave m image → RestartsToPart limits h least image
+
+-- each image that a crash at this moment may leave restarts to these pages
+abbrev pub LeavesPages : Limits → List Page → Moment → Type 0
+LeavesPages limits pages m = (image : List ℕ) → MayLeave m image → RestartsTo limits image pages

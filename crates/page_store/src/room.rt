@@ -32,13 +32,14 @@ pub struct StoreRoom {
 impl StoreRoom {
     ghost use Rattle.std.specs.Prelude.{◌⊎◌, ◌∷◌, ◌++◌, [], IfOk, OnOk, OnErr, IfErr};
     ghost use Rattle.page_action.specs.Stored.{IsStored};
-    ghost use Rattle.page_store.specs.Rooms.{limits_of_room, pages_of_room};
+    ghost use Rattle.page_store.specs.Rooms.{limits_of_room, pages_of_room, counts_of_room};
 
     /// The room for all pages of an index of these limits, with none in use. Refused with `BadLimits`, and with
     /// `NoMemory` where the room cannot be had.
     pub fn new(alloc: Global, limits: Limits) -> Result<StoreRoom, Fault>
         ensures limits { IfOk result (λ room. limits_of_room room ≡ limits) }
         ensures empty { IfOk result (λ room. pages_of_room room ≡ []) }
+        ensures counts { IfOk result (λ room. counts_of_room room ≡ []) }
         ensures allowed { OnOk result (AreLimits limits) }
         ensures cause { IfErr result (λ e. (e ≡ Fault.NoMemory) ⊎ ((e ≡ Fault.BadLimits) × (AreLimits limits → ⊥))) }
     {
@@ -68,6 +69,9 @@ impl StoreRoom {
     pub fn add(&mut self, page: Page) -> Result<(), Fault>
         ensures limits { limits_of_room self.new ≡ limits_of_room self.old }
         ensures done { OnOk result (pages_of_room self.new ≡ pages_of_room self.old ++ page ∷ []) }
+        ensures stored { OnOk result (IsStored (limits_of_room self.old) (length (pages_of_room self.old)) page) }
+        // No deletion number counts of a page that was read.
+        ensures counts { OnOk result (counts_of_room self.new ≡ counts_of_room self.old ++ 0 ∷ []) }
         ensures refused { OnErr result (pages_of_room self.new ≡ pages_of_room self.old) }
         ensures cause { IfErr result (λ e.
             ((e ≡ Fault.IndexFull) × ((limits_of_room self.old).pages ≤ length (pages_of_room self.old)))

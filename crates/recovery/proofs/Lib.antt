@@ -1,2 +1,6 @@
 pub mod Spelling
 pub mod Creating
+pub mod Blocks
+pub mod Named
+pub mod Restoring
+pub mod Answering

@@ -1,5 +1,5 @@
 -- A device with an empty index on it.
-use Rattle.std.specs.Prelude.{◌≡◌, ◌⊎◌, ℕ, suc, ◌+◌, ◌*◌, ◌<◌, ◌≤◌, false, Some, None, List, [], ◌∷◌, length, replicate, Result, MatchResult}
+use Rattle.std.specs.Prelude.{◌≡◌, ◌⊎◌, ℕ, suc, ◌<◌, ◌≤◌, false, Some, None, List, [], ◌∷◌, length, replicate, Result, MatchResult}
 use Rattle.device.specs.Disk.{Moment, Trace}
 use Rattle.device.specs.Places.{Has, OnDisk}
 use Rattle.index_model.specs.Limits.{AreLimits}
@@ -12,15 +12,11 @@ use Rattle.page_codec.specs.Spelling.{page_bytes}
 use Rattle.page_codec.specs.declared.page.Items.TheVariants.{Meta}
 use Rattle.page_codec.specs.declared.page.Page.{Page}
 use Rattle.page_codec.specs.declared.page.PageState.TheVariants.{Live}
-use Rattle.recovery.specs.Superblock.{superblock_bytes}
-
--- where a block begins: behind the superblock and the log
-abbrev pub block_at : Limits → ℕ → ℕ
-block_at limits block = 4096 + limits.log_bytes + 4096 * block
+use Rattle.page_store.specs.Restart.{superblock, place}
 
 -- how many bytes an index takes
 abbrev pub size_of : Limits → ℕ
-size_of limits = block_at limits limits.pages
+size_of limits = place limits limits.pages
 
 -- the metapage of an empty index: its root is the leaf at block 1
 pub record IsFirstMeta (p : Page) : Type 0 where
@@ -45,7 +41,7 @@ pub record IsFirstLeaf (p : Page) : Type 0 where
 
 -- the bytes of each block from there to there are zeros
 abbrev pub AreZero : Limits → ℕ → ℕ → List ℕ → Type 0
-AreZero limits from to file = (block : ℕ) → from ≤ block → block < to → Has (block_at limits block) (replicate 4096 0) file
+AreZero limits from to file = (block : ℕ) → from ≤ block → block < to → Has (place limits block) (replicate 4096 0) file
 
 -- the pages of an empty index, and zeros in all other blocks
 pub record HasPages (limits : Limits) (file : List ℕ) : Type 0 where
@@ -53,8 +49,8 @@ pub record HasPages (limits : Limits) (file : List ℕ) : Type 0 where
   pub is_meta : IsFirstMeta meta
   pub leaf : Page
   pub is_leaf : IsFirstLeaf leaf
-  pub has_meta : Has (block_at limits 0) (page_bytes meta) file
-  pub has_leaf : Has (block_at limits 1) (page_bytes leaf) file
+  pub has_meta : Has (place limits 0) (page_bytes meta) file
+  pub has_leaf : Has (place limits 1) (page_bytes leaf) file
   pub unused : AreZero limits 2 limits.pages file
 
 -- these pages and a closed log, and no crash changes them
@@ -65,7 +61,7 @@ pub record HasBody (limits : Limits) (m : Moment) : Type 0 where
 
 -- an empty index, which no crash changes
 pub record IsFresh (limits : Limits) (m : Moment) : Type 0 where
-  pub superblock : OnDisk 0 (superblock_bytes limits) m
+  pub superblock : OnDisk 0 (superblock limits) m
   pub body : HasBody limits m
 
 -- done on limits in their ranges and a device that is long enough, no call of which failed; or refused: bad limits, or

@@ -1,2 +1,5 @@
 pub mod Superblock
 pub mod Fresh
+pub mod Reading
+pub mod Homing
+pub mod Opening

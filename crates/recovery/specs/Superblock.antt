@@ -1,20 +1,15 @@
 -- The superblock of an index.
-use Rattle.std.specs.Prelude.{◌≡◌, ◌≢◌, ◌⊎◌, ℕ, List, [], ◌∷◌, ◌++◌, take, drop, replicate}
-use Rattle.std.specs.Int.{w32, to_le_bytes, from_le_bytes}
+use Rattle.std.specs.Prelude.{◌≡◌, ◌≢◌, ◌⊎◌, ℕ, List, [], ◌∷◌, take, drop}
+use Rattle.std.specs.Int.{w32, from_le_bytes}
 use Rattle.index_model.specs.Limits.{AreLimits}
 use Rattle.index_model.specs.declared.fault.Fault.{Fault}
 use Rattle.index_model.specs.declared.fault.Fault.TheVariants.{BadSuper, BadVersion, BadLimits}
 use Rattle.index_model.specs.declared.limits.Limits.{Limits}
+use Rattle.page_store.specs.Restart.{superblock}
 
 -- the bytes that an index begins with: `BLINKIDX`
 abbrev pub magic : List ℕ
 magic = 66 ∷ 76 ∷ 73 ∷ 78 ∷ 75 ∷ 73 ∷ 68 ∷ 88 ∷ []
-
--- the 4,096 bytes of a superblock: `BLINKIDX`, the layout 1, the three sizes, zeros
-unfoldable pub superblock_bytes : Limits → List ℕ
-superblock_bytes limits =
-    ((((magic ++ to_le_bytes w32 1) ++ to_le_bytes w32 limits.items) ++ to_le_bytes w32 limits.pages)
-    ++ to_le_bytes w32 limits.log_bytes) ++ replicate 4072 0
 
 -- the number that stands there
 abbrev pub number_at : ℕ → List ℕ → ℕ
@@ -31,4 +26,4 @@ IsNoSuperblock bytes fault =
     ((fault ≡ BadSuper) × (take 8 bytes ≢ magic))
     ⊎ ((take 8 bytes ≡ magic) × (((fault ≡ BadVersion) × (number_at 8 bytes ≢ 1))
     ⊎ ((number_at 8 bytes ≡ 1) × (((fault ≡ BadLimits) × (AreLimits (sizes_in bytes) → ⊥))
-    ⊎ (AreLimits (sizes_in bytes) × (fault ≡ BadSuper) × (bytes ≢ superblock_bytes (sizes_in bytes)))))))
+    ⊎ (AreLimits (sizes_in bytes) × (fault ≡ BadSuper) × (bytes ≢ superblock (sizes_in bytes)))))))

@@ -2,10 +2,12 @@
 
 ghost use Rattle.std.specs.Prelude.{◌≡◌, ◌+◌, ◌-◌, ◌*◌, ◌≤◌, ◌<◌, [], ◌∷◌, length, OnOk};
 ghost use Rattle.device.specs.Disk.{Counts};
+ghost use Rattle.device.specs.Moments.{Goes};
 ghost use Rattle.device.specs.Places.{Has, OnDisk, ChangesOnly};
 ghost use Rattle.index_model.specs.Limits.{AreLimits};
 ghost use Rattle.page_codec.specs.Spelling.{page_bytes};
-ghost use Rattle.recovery.specs.Fresh.{block_at, size_of, IsFirstMeta, IsFirstLeaf, AreZero, HasPages, HasBody, IsFresh, CreateEnds};
+ghost use Rattle.page_store.specs.Restart.{place};
+ghost use Rattle.recovery.specs.Fresh.{size_of, IsFirstMeta, IsFirstLeaf, AreZero, HasPages, HasBody, IsFresh, CreateEnds};
 
 use crate::superblock::spell_superblock;
 use arrayvec::ArrayVec;
@@ -17,10 +19,10 @@ use page_codec::{Items, Page, PageState, encode};
 const LOG_START: u64 = 4096;
 
 /// Where the block begins.
-fn block_at(limits: &Limits, block: u32) -> u64
+pub(crate) fn block_at(limits: &Limits, block: u32) -> u64
     requires allowed { AreLimits limits.now }
     requires within { block ≤ limits.now.pages }
-    ensures { result ≡ block_at limits.now block }
+    ensures { result ≡ place limits.now block }
 {
     LOG_START + limits.log_bytes as u64 + 4096 * block as u64
 }
@@ -66,6 +68,8 @@ fn place<D: Device>(device: &mut D, at: u64, bytes: &[u8]) -> Result<(), Fault>
     requires inside { at + length bytes.now ≤ length (D.trace device.old).now.seen }
     ensures there { OnOk result (Has at bytes.now (D.trace device.new).now.seen) }
     ensures only { ChangesOnly at (length bytes.now) (D.trace device.old).now (D.trace device.new).now }
+    ensures moments { Goes (ChangesOnly at (length bytes.now) (D.trace device.old).now)
+        (D.trace device.old) (D.trace device.new) }
     ensures honest { D.is_honest device.new ≡ D.is_honest device.old }
     ensures failures { Counts result (D.failures device.old) (D.failures device.new) }
 {
@@ -77,7 +81,7 @@ fn place_zeros<D: Device>(device: &mut D, limits: &Limits) -> Result<(), Fault>
     requires allowed { AreLimits limits.now }
     requires inside { size_of limits.now ≤ length (D.trace device.old).now.seen }
     ensures there { OnOk result (AreZero limits.now 2 limits.now.pages (D.trace device.new).now.seen) }
-    ensures only { ChangesOnly (block_at limits.now 2) (4096 * (limits.now.pages - 2)) (D.trace device.old).now (D.trace device.new).now }
+    ensures only { ChangesOnly (place limits.now 2) (4096 * (limits.now.pages - 2)) (D.trace device.old).now (D.trace device.new).now }
     ensures honest { D.is_honest device.new ≡ D.is_honest device.old }
     ensures failures { Counts result (D.failures device.old) (D.failures device.new) }
 {
@@ -89,13 +93,19 @@ fn place_zeros<D: Device>(device: &mut D, limits: &Limits) -> Result<(), Fault>
 }
 
 /// Writes the page at its block.
-fn place_page<D: Device>(device: &mut D, limits: &Limits, page: &Page) -> Result<(), Fault>
+pub(crate) fn place_page<D: Device>(
+    device: &mut D,
+    limits: &Limits,
+    page: &Page,
+) -> Result<(), Fault>
     requires allowed { AreLimits limits.now }
     requires below { page.now.block < limits.now.pages }
     requires inside { size_of limits.now ≤ length (D.trace device.old).now.seen }
-    ensures there { OnOk result (Has (block_at limits.now page.now.block) (page_bytes page.now) (D.trace device.new).now.seen) }
+    ensures there { OnOk result (Has (place limits.now page.now.block) (page_bytes page.now) (D.trace device.new).now.seen) }
     ensures long { length (page_bytes page.now) ≡ 4096 }
-    ensures only { ChangesOnly (block_at limits.now page.now.block) 4096 (D.trace device.old).now (D.trace device.new).now }
+    ensures only { ChangesOnly (place limits.now page.now.block) 4096 (D.trace device.old).now (D.trace device.new).now }
+    ensures moments { Goes (ChangesOnly (place limits.now page.now.block) 4096 (D.trace device.old).now)
+        (D.trace device.old) (D.trace device.new) }
     ensures honest { D.is_honest device.new ≡ D.is_honest device.old }
     ensures failures { Counts result (D.failures device.old) (D.failures device.new) }
 {
@@ -109,7 +119,7 @@ fn place_pages<D: Device>(device: &mut D, limits: &Limits) -> Result<(), Fault>
     requires allowed { AreLimits limits.now }
     requires inside { size_of limits.now ≤ length (D.trace device.old).now.seen }
     ensures there { OnOk result (HasPages limits.now (D.trace device.new).now.seen) }
-    ensures only { ChangesOnly (block_at limits.now 0) (4096 * limits.now.pages) (D.trace device.old).now (D.trace device.new).now }
+    ensures only { ChangesOnly (place limits.now 0) (4096 * limits.now.pages) (D.trace device.old).now (D.trace device.new).now }
     ensures honest { D.is_honest device.new ≡ D.is_honest device.old }
     ensures failures { Counts result (D.failures device.old) (D.failures device.new) }
 {

@@ -2,9 +2,13 @@
 #![tactic(auto)]
 
 mod creation;
+mod homing;
+mod opening;
+mod reading;
 mod superblock;
 
 pub use creation::create;
+pub use opening::{Refused, open};
 
 #[cfg(test)]
 mod tests;

@@ -4,7 +4,8 @@ ghost use Rattle.std.specs.Prelude.{◌≡◌, ◌+◌, ◌-◌, ◌≤◌, ◌+
 ghost use Rattle.std.specs.Int.{w32, to_le_bytes};
 ghost use Rattle.index_model.specs.Limits.{AreLimits};
 ghost use Rattle.index_model.specs.declared.limits.Limits.{Limits};
-ghost use Rattle.recovery.specs.Superblock.{superblock_bytes, number_at, IsNoSuperblock};
+ghost use Rattle.recovery.specs.Superblock.{number_at, IsNoSuperblock};
+ghost use Rattle.page_store.specs.Restart.{superblock};
 
 use index_model::{Fault, Limits};
 
@@ -41,7 +42,7 @@ fn clear_from(out: &mut [u8], at: usize)
 
 /// Writes the bytes of the superblock over all 4,096 bytes.
 pub(crate) fn spell_superblock(limits: &Limits, out: &mut [u8; 4096])
-    ensures { out.new ≡ superblock_bytes limits.now }
+    ensures { out.new ≡ superblock limits.now }
 {
     let at = put(out, 0, &MAGIC);
     let at = put_number(out, at, 1);
@@ -66,8 +67,8 @@ fn number_at(bytes: &[u8; 4096], at: usize) -> u32
 /// anything but zeros behind them (`BadSuper`).
 pub(crate) fn read_superblock(bytes: &[u8; 4096]) -> Result<Limits, Fault>
     ensures allowed { IfOk result AreLimits }
-    ensures found { IfOk result (λ limits. bytes.now ≡ superblock_bytes limits) }
-    ensures only { (limits : Limits) → AreLimits limits → bytes.now ≡ superblock_bytes limits → result ≡ Ok limits }
+    ensures found { IfOk result (λ limits. bytes.now ≡ superblock limits) }
+    ensures only { (limits : Limits) → AreLimits limits → bytes.now ≡ superblock limits → result ≡ Ok limits }
     ensures fault { IfErr result (IsNoSuperblock bytes.now) }
 {
     if bytes[..8] != MAGIC[..] {

@@ -7,11 +7,11 @@ use Rattle.device.specs.Places.{Has}
 use Rattle.index_model.specs.declared.limits.Limits.{Limits}
 use Rattle.page_codec.specs.declared.page.Page.{Page}
 use Rattle.redo_log.specs.Images.{images_of}
-use Rattle.redo_log.specs.Groups.{spelled, Spells, log_range}
+use Rattle.redo_log.specs.Groups.{IsImage, AreImages, AreGroups, spelled, Spells, log_range}
 use Rattle.redo_log.specs.Kept.{IsSettled}
 use Rattle.redo_log.specs.Reading.{IsRead, Replays}
 use Rattle.redo_log.specs.declared.log.Log.{Log}
-use Rattle.redo_log.proofs.ImageLists.{same_eq}
+use Rattle.redo_log.proofs.ImageLists.{same_eq, all-append}
 use Rattle.redo_log.proofs.Forcing.{whole_list}
 
 -- what was read is the log's range
@@ -69,3 +69,8 @@ replayed limits m log bytes images at are fits r limits_are at_is idle alive =
         all = same_eq _ _ (append-nil (images_of r.groups));
       };
     }
+
+-- the images of groups are images
+pub images_good : (limits : Limits) (groups : List (List Page)) → AreGroups limits groups → AreImages limits (images_of groups)
+images_good limits [] good = tt
+images_good limits (group ∷ groups) good = all-append (IsImage limits) group (images_of groups) good.0.images (images_good limits groups good.1)

@@ -192,6 +192,8 @@ impl Log {
         ensures damaged { IsErrOf result Fault.LogDamaged → IsTrue (D.is_honest device.new)
             → IsDamaged limits (D.trace device.old).now }
         ensures opened { IfOk result (λ r. IsOpened limits r.log) }
+        // Whatever the device answered, these are images.
+        ensures images { IfOk result (λ r. AreImages limits r.images.items) }
 
         ensures trace { D.trace device.new ≡ D.trace device.old }
         ensures honest { IsTrue (D.is_honest device.new) → IsTrue (D.is_honest device.old) }

@@ -1,15 +1,15 @@
 use Rattle.std.proofs.Common.{ℕ, ◌∙◌, replicate, subst, arith}
 use Rattle.device.specs.Places.{Has, ChangesOnly}
-use Rattle.recovery.specs.Fresh.{block_at}
+use Rattle.page_store.specs.Restart.{place}
 use Rattle.recovery.proofs.Creating.{zeros_more, only_blocks}
 use Rattle.recovery.proofs.creation.place_zeros.Goals as goal
 
 pub loop-block-preserved : goal.loop-block-preserved
 loop-block-preserved g c =
     let limits = c.args.limits.now in
-    let there : Has (block_at limits c.loop-block.block) (replicate 4096 0) (g.D.Device.trace c.place.new.device).now.seen
+    let there : Has (place limits c.loop-block.block) (replicate 4096 0) (g.D.Device.trace c.place.new.device).now.seen
     = subst (λ (n : ℕ). Has n (replicate 4096 0) (g.D.Device.trace c.place.new.device).now.seen) c.block_at.ensures c.in_ok-place.ensures.there in
-    let only : ChangesOnly (block_at limits c.loop-block.block) 4096 (g.D.Device.trace c.loop-block.device).now (g.D.Device.trace c.place.new.device).now
+    let only : ChangesOnly (place limits c.loop-block.block) 4096 (g.D.Device.trace c.loop-block.device).now (g.D.Device.trace c.place.new.device).now
     = subst (λ (n : ℕ). ChangesOnly n 4096 (g.D.Device.trace c.loop-block.device).now (g.D.Device.trace c.place.new.device).now) c.block_at.ensures c.place.ensures.only in
     record {
       there = zeros_more limits c.loop-block.block _ _ c.loop-block.invariant.there there only;

@@ -1,6 +1,7 @@
 use Rattle.std.proofs.Common.{rules, ◌≡◌, ◌∙◌, take, sym, ap, subst, Ok}
 use Rattle.index_model.specs.Limits.{AreLimits}
-use Rattle.recovery.specs.Superblock.{magic, superblock_bytes, number_at}
+use Rattle.recovery.specs.Superblock.{magic, number_at}
+use Rattle.page_store.specs.Restart.{superblock}
 use Rattle.recovery.proofs.Spelling.{layout_spelled, sizes_read, magic_spelled}
 use Rattle.recovery.proofs.superblock.read_superblock.Goals as goal
 
@@ -21,7 +22,7 @@ returns-then-not-are_valid-clause-only c = λ limits are is.
 pub returns-then-ne-2-clause-only : goal.returns-then-ne-2-clause-only
 returns-then-ne-2-clause-only c = λ limits are is.
     let same = sizes_read c.args.bytes.now limits _ _ _ are is c.number_at-2.ensures c.number_at-3.ensures c.number_at-4.ensures in
-    let e : c.spell_superblock.new.out ≡ c.args.bytes.now = c.spell_superblock.ensures ∙ (ap superblock_bytes same ∙ sym is) in
+    let e : c.spell_superblock.new.out ≡ c.args.bytes.now = c.spell_superblock.ensures ∙ (ap superblock same ∙ sym is) in
     search rules
 
 pub returns-clause-only : goal.returns-clause-only

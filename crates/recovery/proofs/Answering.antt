@@ -1,0 +1,99 @@
+-- An index is restored: its log first, then its pages.
+use Rattle.std.proofs.Common.{◌≡◌, ◌⊎◌, ⊎_elim, inl, inr, ℕ, suc, ◌+◌, ◌<◌, Bool, IsTrue, Result, Ok, Err, List, [], length, take, drop, refl, sym, ◌∙◌, ap, subst}
+use Rattle.std.specs.Prelude.{MatchResult, IfOk, IfErr, IsErrAnd}
+use Rattle.std.proofs.lemmas.List.{take_at}
+use Rattle.device.proofs.Standing.{has_drop}
+use Rattle.device.specs.Disk.{Moment, Trace, next, synced}
+use Rattle.index_model.specs.declared.fault.Fault.{Fault}
+use Rattle.index_model.specs.declared.fault.Fault.TheVariants.{NoMemory, Io, LogDamaged, PageDamaged}
+use Rattle.index_model.specs.declared.limits.Limits.{Limits}
+use Rattle.page_codec.specs.declared.page.Page.{Page}
+use Rattle.page_store.specs.Logged.{AreHome, StandsOpened}
+use Rattle.page_store.specs.Restart.{superblock, RestartsTo}
+use Rattle.page_store.proofs.Restarting.{length-superblock}
+use Rattle.page_store.specs.Rooms.{limits_of_room, pages_of_room}
+use Rattle.redo_log.specs.Reading.{IsOpened, IsDamaged}
+use Rattle.redo_log.specs.declared.log.Log.{Log}
+use Rattle.recovery.specs.Opening.{AreFrames, HasIndex, IsFront, IsRestored, IsRefusal, IsSynced, IsRestoreRefusal, IsNoMemoryOrIo, AreSamePages}
+use Rattle.recovery.specs.Reading.{AreInUse, IsDamagedAt, IsAllRead}
+use Rattle.recovery.specs.declared.opening.Parts.{Parts}
+use Rattle.recovery.specs.declared.reading.Found.{Found}
+use Rattle.recovery.specs.Superblock.{sizes_in}
+use Rattle.recovery.proofs.Spelling.{sizes_spelled}
+use Rattle.recovery.proofs.Blocks.{home_in_use, one_reading, not_damaged}
+
+-- what holds of a fault holds of a result that is refused with it
+pub refused : {T : Type 0} (r : Result T Fault) (e : Fault) (A : T → Type 0) (P : Fault → Type 0) → IsErrAnd r (λ x. x ≡ e) → P e → MatchResult r A P
+refused (Ok x) e A P is p = absurd is
+refused (Err y) e A P is p = subst P (sym is) p
+
+-- after a sync
+module _ (limits : Limits) (t u : Trace) (is : u ≡ next (synced t.now) t) where
+  pub firm_then : IsSynced u.now
+  firm_then = subst (λ (v : Trace). IsSynced v.now) (sym is) (λ i. refl)
+
+  pub restarts_then : (pages : List Page) → RestartsTo limits t.now.seen pages → RestartsTo limits u.now.seen pages
+  restarts_then pages restarts = subst (λ (v : Trace). RestartsTo limits v.now.seen pages) (sym is) restarts
+
+  -- why the log is not restored then
+  pub log_refuses : (honest : Bool) (v : Trace) (e : Fault) (fails middle failed : ℕ) → middle ≡ failed → ((e ≡ Io) × (fails ≡ suc middle)) ⊎ (((e ≡ NoMemory) ⊎ (e ≡ LogDamaged)) × (fails ≡ middle))
+      → (e ≡ LogDamaged → (v ≡ u) × (IsTrue honest → IsDamaged limits u.now)) → ((e ≡ Io) × (fails ≡ suc failed)) ⊎ (IsRestoreRefusal limits honest t v e × (fails ≡ failed))
+  log_refuses honest v e fails middle failed same (inl io) damaged = inl (io.0, io.1 ∙ ap suc same)
+  log_refuses honest v e fails middle failed same (inr other) damaged = inr (
+    ⊎_elim
+        (λ memory. inl memory)
+        (λ log. inr (inl (log, (damaged log).0 ∙ is, λ h. subst (λ (w : Trace). IsDamaged limits w.now) is ((damaged log).1 h))))
+        other.0,
+    other.1 ∙ same,
+  )
+
+-- the pages of an opened log are those in use
+pub opened_in_use : (limits : Limits) (pages : List Page) (log : Log) (m : Moment) (file : List ℕ) → IsOpened limits log → RestartsTo limits file pages → StandsOpened log m pages → AreInUse limits pages m.seen
+opened_in_use limits pages log m file opened restarts stands =
+    home_in_use limits pages m restarts.stored restarts.few (subst (λ (l : Limits). AreHome l [] pages m) opened.limits_are stands.home)
+
+pub all_in_use : (limits : Limits) (honest : Bool) (file : List ℕ) (found : Found) → IsTrue honest → IsAllRead limits honest file found → AreInUse limits (pages_of_room found.room) file
+all_in_use limits honest file found is all = record { stored = all.read.stored; few = all.few; stand = all.read.stand is; end = all.end is }
+
+-- why the pages of an index are not read
+pub pages_refuse : (limits : Limits) (pages : List Page) (file : List ℕ) (e : Fault) (fails failed : ℕ) → AreInUse limits pages file → 0 < length pages
+    → ((e ≡ Io) × (fails ≡ suc failed)) ⊎ (((e ≡ NoMemory) × (fails ≡ failed)) ⊎ ((block : ℕ) × (e ≡ PageDamaged block) × (fails ≡ failed) × IsDamagedAt limits block file)) → IsNoMemoryOrIo e
+pages_refuse limits pages file e fails failed in_use some (inl io) = inr io.0
+pages_refuse limits pages file e fails failed in_use some (inr (inl memory)) = inl memory.0
+pages_refuse limits pages file e fails failed in_use some (inr (inr damaged)) = absurd (not_damaged limits pages file damaged.0 in_use some damaged.3)
+
+-- the pages that are read are those of the index
+pub same_pages : (limits : Limits) (honest : Bool) (pages : List Page) (m n : Moment) (file : List ℕ) (parts : Parts) → IsTrue honest → n ≡ m → IsOpened limits parts.log → RestartsTo limits file pages → StandsOpened parts.log m pages
+    → IsAllRead limits honest m.seen parts.found → AreSamePages pages n parts
+same_pages limits honest pages m n file parts is same opened restarts stands all = record {
+  pages_are = one_reading limits (pages_of_room parts.found.room) pages m.seen (all_in_use limits honest m.seen parts.found is all) (opened_in_use limits pages parts.log m file opened restarts stands);
+  stands = subst (λ (x : Moment). StandsOpened parts.log x pages) (sym same) stands;
+}
+
+-- an index has one front
+pub front_of : (limits : Limits) (pages : List Page) (file : List ℕ) → HasIndex limits pages file → IsFront limits file
+front_of limits pages file index = record {
+  allowed = index.allowed;
+  superblock_is = ap (take 4096) (has_drop 0 (superblock limits) file index.restarts.superblock_is) ∙ take_at (superblock limits) (drop (0 + length (superblock limits)) file) 4096 (length-superblock limits);
+  long = index.restarts.long;
+}
+
+pub one_front : (limits others : Limits) (file : List ℕ) → IsFront limits file → IsFront others file → limits ≡ others
+one_front limits others file a b = sym (sizes_spelled limits a.allowed) ∙ (ap sizes_in (sym a.superblock_is ∙ b.superblock_is) ∙ sizes_spelled others b.allowed)
+
+-- a restored index is the one that was found
+pub found_same : (r : Result Parts Fault) (found limits : Limits) (pages : List Page) (honest : Bool) (file : List ℕ) (m : Moment) → found ≡ limits → IfOk r (IsRestored found honest file) → MatchResult r (AreSamePages pages m) IsNoMemoryOrIo
+    → MatchResult r (λ parts. (limits_of_room parts.found.room ≡ limits) × AreSamePages pages m parts) IsNoMemoryOrIo
+found_same (Ok parts) found limits pages honest file m is restored same = (restored.read.read.limits_are ∙ is, same)
+found_same (Err e) found limits pages honest file m is restored same = same
+
+-- what follows for a refusal
+pub err_map : {T : Type 0} (r : Result T Fault) (P Q : Fault → Type 0) → ((e : Fault) → P e → Q e) → IfErr r P → IfErr r Q
+err_map (Ok x) P Q f p = tt
+err_map (Err e) P Q f p = f e p
+
+pub restore_refuses : (limits : Limits) (honest before : Bool) (frames : ℕ) (t u v : Trace) (e : Fault) (fails middle failed : ℕ) → AreFrames frames → (IsTrue honest → IsTrue before) → (IsTrue before → IsFront limits t.now.seen) → u ≡ t → middle ≡ failed
+    → ((e ≡ Io) × (fails ≡ suc middle)) ⊎ (IsRestoreRefusal limits honest u v e × (fails ≡ middle)) → ((e ≡ Io) × (fails ≡ suc failed)) ⊎ (IsRefusal honest frames t v e × (fails ≡ failed))
+restore_refuses limits honest before frames t u v e fails middle failed may earlier front same count (inl io) = inl (io.0, io.1 ∙ ap suc count)
+restore_refuses limits honest before frames t u v e fails middle failed may earlier front same count (inr other) =
+    inr (inr (limits, may, (λ h. front (earlier h)), subst (λ (w : Trace). IsRestoreRefusal limits honest w v e) same other.0), other.1 ∙ count)

@@ -1,0 +1,158 @@
+-- Pages are read, one block after the other.
+use Rattle.std.proofs.Common.{◌≡◌, ◌≢◌, inl, inr, ℕ, zero, suc, ◌+◌, ◌-◌, ◌<◌, ◌≤◌, max, Bool, IsTrue, Option, Some, None, List, [], ◌∷◌, ◌++◌, length, take, drop, replicate, slice_get, slice_index, Result, Ok, Err, refl, sym, ◌∙◌, ap, subst, arith, length-append}
+use Rattle.std.proofs.lemmas.Bool.{cases_eq}
+use Rattle.std.proofs.lemmas.List.{take_at, length-replicate}
+use Rattle.std.proofs.lemmas.Option.{slice_get_within}
+use Rattle.std.specs.Prelude.{IfErr, IsErrAnd}
+use Rattle.device.specs.Disk.{Moment}
+use Rattle.device.specs.Places.{Has}
+use Rattle.device.proofs.Standing.{has_drop}
+use Rattle.index_model.specs.declared.fault.Fault.{Fault}
+use Rattle.index_model.specs.declared.limits.Limits.{Limits}
+use Rattle.page_action.specs.Stored.{IsStored, AreStored}
+use Rattle.page_action.proofs.StoredPages.{stored-add, stored_page}
+use Rattle.page_codec.specs.Spelling.{page_bytes, used_bytes, head_bytes}
+use Rattle.page_codec.proofs.Laws.{one_page, length-page}
+use Rattle.page_codec.specs.declared.page.Page.{Page}
+use Rattle.page_store.specs.Rooms.{limits_of_room, pages_of_room, counts_of_room}
+use Rattle.page_store.specs.Restart.{place}
+use Rattle.page_store.specs.Logged.{AreHome}
+use Rattle.page_store.proofs.Restarting.{past_of_none}
+use Rattle.page_store.proofs.Images.{more_same, more_other}
+use Rattle.recovery.specs.Reading.{block_bytes, AreBytesOf, StandFirst, IsEnd, IsDamagedAt, AreInUse, greatest_cycle, IsRead}
+use Rattle.recovery.specs.declared.reading.Found.{Found}
+
+cycle-more : (pages : List Page) (page : Page) → greatest_cycle (pages ++ page ∷ []) ≡ max (greatest_cycle pages) page.cycle
+cycle-more [] page = omega arith
+cycle-more (p ∷ pages) page = omega (arith, cycle-more pages page)
+
+zeros-more : (n : ℕ) → replicate {A = ℕ} n 0 ++ 0 ∷ [] ≡ replicate {A = ℕ} (suc n) 0
+zeros-more zero = refl
+zeros-more (suc n) = ap (λ (l : List ℕ). 0 ∷ l) (zeros-more n)
+
+stand-more : (limits : Limits) (pages : List Page) (page : Page) (file : List ℕ) → StandFirst limits pages file → block_bytes limits (length pages) file ≡ page_bytes page → StandFirst limits (pages ++ page ∷ []) file
+stand-more limits pages page file stand here block p found = elim (cases_eq (length pages) block) [
+  | inl same ↦
+      let got = sym (more_same pages page) ∙ (ap (λ (b : ℕ). slice_get (pages ++ page ∷ []) b) same ∙ found) in
+      let is : page ≡ p = cc in
+      ap (λ (b : ℕ). block_bytes limits b file) (sym same) ∙ (here ∙ ap page_bytes is)
+  | inr other ↦ stand block p (sym (more_other pages block page other) ∙ found)
+]
+
+-- one page more is read
+pub read_more : (limits : Limits) (before after : Bool) (file : List ℕ) (old new : Found) (page : Page) → (IsTrue after → IsTrue before) → IsRead limits before file old → limits_of_room new.room ≡ limits_of_room old.room
+    → pages_of_room new.room ≡ pages_of_room old.room ++ page ∷ [] → counts_of_room new.room ≡ counts_of_room old.room ++ 0 ∷ [] → IsStored limits (length (pages_of_room old.room)) page → new.counter ≡ max old.counter page.cycle
+    → (IsTrue after → block_bytes limits (length (pages_of_room old.room)) file ≡ page_bytes page) → IsRead limits after file new
+read_more limits before after file old new page earlier read same pages counts stored counter here =
+    let count : length (pages_of_room new.room) ≡ suc (length (pages_of_room old.room)) = omega (arith, ap length pages, length-append (pages_of_room old.room) (page ∷ [])) in
+    record {
+      limits_are = same ∙ read.limits_are;
+      stored = subst (AreStored limits 0) (sym pages) (stored-add limits 0 (pages_of_room old.room) page read.stored (let e : 0 + length (pages_of_room old.room) ≡ length (pages_of_room old.room) = omega arith in subst (λ (b : ℕ). IsStored limits b page) (sym e) stored));
+      counts = counts ∙ (ap (λ (l : List ℕ). l ++ 0 ∷ []) read.counts ∙ (zeros-more (length (pages_of_room old.room)) ∙ ap (λ (n : ℕ). replicate {A = ℕ} n 0) (sym count)));
+      counter = counter ∙ (ap (λ (n : ℕ). max n page.cycle) read.counter ∙ (sym (cycle-more (pages_of_room old.room) page) ∙ ap greatest_cycle (sym pages)));
+      stand = λ honest. subst (λ (ps : List Page). StandFirst limits ps file) (sym pages) (stand-more limits (pages_of_room old.room) page file (read.stand (earlier honest)) (here honest));
+    }
+
+-- the bytes of a page are not zeros
+pub page_is_not_zeros : (page : Page) → page_bytes page ≢ replicate 4096 0
+unfolding page_bytes used_bytes head_bytes
+page_is_not_zeros page is = (let first : 66 ≡ 0 = ap (λ (l : List ℕ). slice_index l 0) is in absurd (omega (arith, first)))
+
+-- the block whose page was not taken is damaged
+pub damaged_here : (limits : Limits) (honest : Bool) (file : List ℕ) (found : Found) (page : Page) → IsRead limits honest file found → IsTrue honest → length (pages_of_room found.room) < limits.pages
+    → AreBytesOf (Some page) (block_bytes limits (length (pages_of_room found.room)) file) → (IsStored limits (length (pages_of_room found.room)) page → ⊥) → IsDamagedAt limits (length (pages_of_room found.room)) file
+damaged_here limits honest file found page read is within here wrong = record {
+  before = pages_of_room found.room;
+  stored = read.stored;
+  stand = read.stand is;
+  count = refl;
+  within = within;
+  no_page = λ other stored same. wrong (subst (IsStored limits (length (pages_of_room found.room))) (one_page other page stored.storable.admitted here.0 (sym same ∙ here.1)) stored);
+  in_use = λ zeros. absurd (page_is_not_zeros page (sym here.1 ∙ zeros));
+}
+
+-- what holds of a fault holds of a result that is refused with it
+pub given : {T : Type 0} (r : Result T Fault) (e : Fault) (P : Fault → Type 0) → IsErrAnd r (λ x. x ≡ e) → P e → IfErr r P
+given (Ok x) e P is p = tt
+given (Err y) e P is p = subst P (sym is) p
+
+-- block 0 is damaged where it is unused
+pub none_in_use : (limits : Limits) (file : List ℕ) → 0 < limits.pages → IsEnd limits 0 file → IsDamagedAt limits 0 file
+none_in_use limits file some (inl full) = absurd (omega (arith, full))
+none_in_use limits file some (inr zeros) = record {
+  before = [];
+  stored = tt;
+  stand = λ block page found. absurd cc;
+  count = refl;
+  within = some;
+  no_page = λ page stored same. page_is_not_zeros page (sym same ∙ zeros);
+  in_use = λ same. refl;
+}
+
+-- bytes that stand at the place of a block
+pub block_has : (limits : Limits) (block : ℕ) (bytes file : List ℕ) → Has (place limits block) bytes file → length bytes ≡ 4096 → block_bytes limits block file ≡ bytes
+block_has limits block bytes file has long =
+    let at = place limits block in
+    let size : at + 4096 - at ≡ 4096 = omega arith in
+    ap (λ (n : ℕ). take n (drop at file)) size ∙ (ap (take 4096) (has_drop at bytes file has) ∙ take_at bytes (drop (at + length bytes) file) 4096 long)
+
+-- pages that stand at home are those of all blocks in use
+pub home_in_use : (limits : Limits) (pages : List Page) (m : Moment) → AreStored limits 0 pages → length pages ≤ limits.pages → AreHome limits [] pages m → AreInUse limits pages m.seen
+home_in_use limits pages m stored few home = record {
+  stored = stored;
+  few = few;
+  stand = λ block page found. block_has limits block (page_bytes page) m.seen (home.used block page found refl).has (length-page page (stored_page limits block pages page stored found).storable.admitted);
+  end = elim (cases_eq (length pages) limits.pages) [
+    | inl full ↦ inl full
+    | inr less ↦ inr (block_has limits (length pages) (replicate 4096 0) m.seen (home.unused (length pages) (omega arith) (omega (arith, few)) refl).has (length-replicate {A = ℕ} 4096 0))
+  ];
+}
+
+same_gets : (ps qs : List Page) → ((i : ℕ) → slice_get ps i ≡ slice_get qs i) → ps ≡ qs
+same_gets [] [] h = refl
+same_gets [] (q ∷ qs) h = (let e : None ≡ Some q = h 0 in absurd cc)
+same_gets (p ∷ ps) [] h = (let e : Some p ≡ None = h 0 in absurd cc)
+same_gets (p ∷ ps) (q ∷ qs) h =
+    let e : Some p ≡ Some q = h 0 in
+    let first : p ≡ q = cc in
+    ap (λ (x : Page). x ∷ ps) first ∙ ap (λ (l : List Page). q ∷ l) (same_gets ps qs (λ i. h (suc i)))
+
+-- where zeros stand there is no page
+no_page_there : (limits : Limits) (pages : List Page) (file : List ℕ) (block : ℕ) → StandFirst limits pages file → block < length pages → block_bytes limits block file ≢ replicate 4096 0
+no_page_there limits pages file block stand lt zeros = there (slice_get pages block) refl
+  where
+    there : (o : Option Page) → slice_get pages block ≡ o → ⊥
+    there None none = (let past = past_of_none pages block none in absurd (omega (arith, past, lt)))
+    there (Some page) found = page_is_not_zeros page (sym (stand block page found) ∙ zeros)
+
+not_more : (limits : Limits) (ps qs : List Page) (file : List ℕ) → AreInUse limits ps file → AreInUse limits qs file → length ps < length qs → ⊥
+not_more limits ps qs file a b less = elim a.end [
+  | inl full ↦ absurd (omega (arith, full, less, b.few))
+  | inr zeros ↦ no_page_there limits qs file (length ps) b.stand less zeros
+]
+
+-- a device has the pages of its blocks in use once
+pub one_reading : (limits : Limits) (ps qs : List Page) (file : List ℕ) → AreInUse limits ps file → AreInUse limits qs file → ps ≡ qs
+one_reading limits ps qs file a b = same_gets ps qs (λ i. at i (slice_get ps i) (slice_get qs i) refl refl)
+  where
+    at : (i : ℕ) (o p : Option Page) → slice_get ps i ≡ o → slice_get qs i ≡ p → o ≡ p
+    at i None None e f = refl
+    at i None (Some q) e f = absurd (not_more limits ps qs file a b (omega (arith, past_of_none ps i e, slice_get_within qs i q f)))
+    at i (Some p) None e f = absurd (not_more limits qs ps file b a (omega (arith, past_of_none qs i f, slice_get_within ps i p e)))
+    at i (Some p) (Some q) e f = ap Some (one_page p q (stored_page limits i ps p a.stored e).storable.admitted (stored_page limits i qs q b.stored f).storable.admitted (sym (a.stand i p e) ∙ b.stand i q f))
+
+-- where pages are in use, one or more, no block is damaged
+pub not_damaged : (limits : Limits) (pages : List Page) (file : List ℕ) (block : ℕ) → AreInUse limits pages file → 0 < length pages → IsDamagedAt limits block file → ⊥
+not_damaged limits pages file block a some d = there (slice_get pages block) refl
+  where
+    there : (o : Option Page) → slice_get pages block ≡ o → ⊥
+    there (Some page) found = d.no_page page (stored_page limits block pages page a.stored found) (a.stand block page found)
+    there None none =
+        let past = past_of_none pages block none in
+        elim a.end [
+          | inl full ↦ absurd (omega (arith, full, past, d.within))
+          | inr zeros ↦ elim (cases_eq (length pages) block) [
+            | inl same ↦ (let first = d.in_use (ap (λ (b : ℕ). block_bytes limits b file) (sym same) ∙ zeros) in absurd (omega (arith, same, first, some)))
+            | inr other ↦ no_page_there limits d.before file (length pages) d.stand (omega (arith, past, other, d.count)) zeros
+          ]
+        ]

@@ -1,0 +1,189 @@
+-- An index stays the same while its log is brought home and closed.
+use Rattle.std.proofs.Common.{◌≡◌, ◌⊎◌, ⊎_elim, inl, inr, ℕ, suc, ◌+◌, ◌*◌, ◌<◌, ◌≤◌, Some, None, Result, List, [], length, take, replicate, slice_get, refl, sym, ◌∙◌, ap, subst, arith}
+use Rattle.std.proofs.lemmas.List.{take_all, length-replicate}
+use Rattle.std.proofs.lemmas.Grind.{same_number_lists}
+use Rattle.device.specs.Disk.{Moment, Trace, MayLeave, Syncs, synced}
+use Rattle.device.specs.Moments.{Goes}
+use Rattle.device.specs.Places.{Has, OnDisk, ChangesOnly}
+use Rattle.device.proofs.Going.{goes_weaker, goes_both, goes_now, syncs_goes}
+use Rattle.device.proofs.Standing.{on_image, kept, same_only}
+use Rattle.index_model.specs.declared.fault.Fault.{Fault}
+use Rattle.index_model.specs.declared.fault.Fault.TheVariants.{NoMemory, Io, LogDamaged}
+use Rattle.index_model.specs.declared.limits.Limits.{Limits}
+use Rattle.page_action.specs.Stored.{AreStored}
+use Rattle.page_action.proofs.StoredPages.{stored_page}
+use Rattle.page_codec.specs.Spelling.{page_bytes}
+use Rattle.page_codec.specs.declared.page.Page.{Page}
+use Rattle.page_codec.proofs.Laws.{length-page}
+use Rattle.page_store.specs.Logged.{AreHome, StandsOpened}
+use Rattle.page_store.specs.Restart.{superblock, place, RestartsTo, LeavesPages}
+use Rattle.page_store.proofs.Restarting.{superblock_kept}
+use Rattle.redo_log.specs.Groups.{Spells, log_range}
+use Rattle.redo_log.specs.Images.{last_image, images_of, SameImages}
+use Rattle.redo_log.specs.Kept.{Keeps, Restarts, RestartsOrEmpty, RestartsOrEmptyThroughout, ChangesItsRange, ForgetsAll, limits_of}
+use Rattle.redo_log.specs.Reading.{Replays, IsOpened, IsDamaged}
+use Rattle.redo_log.specs.declared.log.Log.{Log}
+use Rattle.redo_log.proofs.Keeping.{keeps_restarts, keeps_elsewhere}
+use Rattle.recovery.specs.Homing.{ChangesNamed, AreHomed}
+use Rattle.recovery.specs.Opening.{IsSynced, IsNoMemoryOrIo}
+use Rattle.recovery.proofs.Named.{same_named}
+
+-- of each block the page is the last of these images, or stands at home; and no crash changes that
+pub record Stands (limits : Limits) (images pages : List Page) (m : Moment) : Type 0 where
+  pub superblock_on : OnDisk 0 (superblock limits) m
+  pub long : place limits limits.pages ≤ length m.seen
+  pub few : length pages ≤ limits.pages
+  pub stored : AreStored limits 0 pages
+  pub used : (block : ℕ) (page : Page) → slice_get pages block ≡ Some page → (last_image images block ≡ Some page) ⊎ ((last_image images block ≡ None) × OnDisk (place limits block) (page_bytes page) m)
+  pub unused : (block : ℕ) → length pages ≤ block → block < limits.pages → (last_image images block ≡ None) × OnDisk (place limits block) (replicate 4096 0) m
+
+firm_on : (at : ℕ) (bytes : List ℕ) (m : Moment) → IsSynced m → Has at bytes m.seen → OnDisk at bytes m
+firm_on at bytes m firm has = record { has = has; firm = λ i lt. firm (at + i) }
+
+-- what a synced device restarts to stands there
+pub stands_at : (limits : Limits) (pages : List Page) (m : Moment) → IsSynced m → (r : RestartsTo limits m.seen pages) → Stands limits (images_of r.groups) pages m
+stands_at limits pages m firm r = record {
+  superblock_on = firm_on 0 (superblock limits) m firm r.superblock_is;
+  long = r.long;
+  few = r.few;
+  stored = r.stored;
+  used = λ block page found. ⊎_elim (λ image. inl image) (λ home. inr (home.unnamed, firm_on (place limits block) (page_bytes page) m firm home.has)) (r.used block page found);
+  unused = λ block past small. (let home = r.unused block past small in (home.unnamed, firm_on (place limits block) (replicate 4096 0) m firm home.has));
+}
+
+-- a crash leaves it, where the log's range that it leaves has these images
+pub stands_leaves : (limits : Limits) (images pages : List Page) (m : Moment) → Stands limits images pages m → (image : List ℕ) → MayLeave m image → (groups : List (List Page)) → Spells limits (log_range limits image) groups
+    → ((block : ℕ) → last_image (images_of groups) block ≡ last_image images block) → RestartsTo limits image pages
+stands_leaves limits images pages m s image left groups spells same = record {
+  superblock_is = on_image 0 (superblock limits) m image s.superblock_on left;
+  groups = groups;
+  spells = spells;
+  long = omega (arith, s.long, left.same_length);
+  few = s.few;
+  stored = s.stored;
+  used = λ block page found. ⊎_elim (λ late. inl (same block ∙ late))
+      (λ home. inr (record { unnamed = same block ∙ home.0; has = on_image (place limits block) (page_bytes page) m image home.1 left })) (s.used block page found);
+  unused = λ block past small. (let home = s.unused block past small in record { unnamed = same block ∙ home.0; has = on_image (place limits block) (replicate 4096 0) m image home.1 left });
+}
+
+-- it stays while places of blocks with an image are written
+pub stands_named : (limits : Limits) (images pages : List Page) (a b : Moment) → ChangesNamed limits images a b → Stands limits images pages a → Stands limits images pages b
+stands_named limits images pages a b change s = record {
+  superblock_on = superblock_kept limits (place limits 0) (4096 * limits.pages) a b (omega arith) change.only s.superblock_on;
+  long = omega (arith, s.long, change.only.same_length);
+  few = s.few;
+  stored = s.stored;
+  used = λ block page found. ⊎_elim (λ late. inl late)
+      (λ home. inr (home.0, change.others block (page_bytes page) (length-page page (stored_page limits block pages page s.stored found).storable.admitted) home.0 home.1)) (s.used block page found);
+  unused = λ block past small. (let home = s.unused block past small in (home.0, change.others block (replicate 4096 0) (length-replicate {A = ℕ} 4096 0) home.0 home.1));
+}
+
+-- and while the log's range changes
+pub stands_logged : (limits : Limits) (images pages : List Page) (a b : Moment) → ChangesOnly 4096 limits.log_bytes a b → Stands limits images pages a → Stands limits images pages b
+stands_logged limits images pages a b only s = record {
+  superblock_on = superblock_kept limits 4096 limits.log_bytes a b (omega arith) only s.superblock_on;
+  long = omega (arith, s.long, only.same_length);
+  few = s.few;
+  stored = s.stored;
+  used = λ block page found. ⊎_elim (λ late. inl late) (λ home. inr (home.0, kept 4096 limits.log_bytes (place limits block) (page_bytes page) a b only (inr (omega arith)) home.1)) (s.used block page found);
+  unused = λ block past small. (let home = s.unused block past small in (home.0, kept 4096 limits.log_bytes (place limits block) (replicate 4096 0) a b only (inr (omega arith)) home.1));
+}
+
+-- once the images are written all pages stand at home
+pub stands_home : (limits : Limits) (images pages : List Page) (m : Moment) → AreHomed limits images m → Stands limits images pages m → Stands limits [] pages m
+stands_home limits images pages m homed s = record {
+  superblock_on = s.superblock_on;
+  long = s.long;
+  few = s.few;
+  stored = s.stored;
+  used = λ block page found. ⊎_elim (λ late. inr (refl, homed block page late)) (λ home. inr (refl, home.1)) (s.used block page found);
+  unused = λ block past small. (refl, (s.unused block past small).1);
+}
+
+pub home_of : (limits : Limits) (pages : List Page) (m : Moment) → Stands limits [] pages m → AreHome limits [] pages m
+home_of limits pages m s = record {
+  used = λ block page found none. ⊎_elim (λ (late : None ≡ Some page). absurd cc) (λ home. home.1) (s.used block page found);
+  unused = λ block past small none. (s.unused block past small).1;
+}
+
+-- a crash leaves a synced device as it is
+pub left_synced : (m : Moment) (image : List ℕ) → IsSynced m → MayLeave m image → image ≡ m.seen
+left_synced m image firm left = same_number_lists image m.seen left.same_length (λ i lt. left.same i (firm i))
+
+pub sync_leaves : {T E : Type 0} (limits : Limits) (pages : List Page) (r : Result T E) (t u : Trace) → RestartsTo limits t.now.seen pages → Syncs r t u → Goes (LeavesPages limits pages) t u
+sync_leaves limits pages r t u restarts s =
+    syncs_goes (LeavesPages limits pages) r t u s (λ image left. subst (λ (file : List ℕ). RestartsTo limits file pages) (sym (left_synced (synced t.now) image (λ i. refl) left)) restarts)
+
+-- the same from an equal start, of equal images
+pub named_from : (limits : Limits) (images images' : List Page) (t t' u : Trace) → t' ≡ t → images' ≡ images → Goes (ChangesNamed limits images' t'.now) t' u → Goes (ChangesNamed limits images t.now) t u
+named_from limits images images' t t' u e f moments =
+    subst (λ (l : List Page). Goes (ChangesNamed limits l t.now) t u) f (subst (λ (x : Trace). Goes (ChangesNamed limits images' x.now) x u) e moments)
+
+-- a log that was just replayed over an index
+module _ (limits : Limits) (images pages : List Page) (log : Log) (t : Trace) (firm : IsSynced t.now) (restarts : RestartsTo limits t.now.seen pages) (opened : IsOpened limits log) (replays : Replays limits t.now log images) where
+  abbrev gs : List (List Page)
+  gs = replays.groups
+
+  pub started : Stands limits images pages t.now
+  started =
+      let one : restarts.groups ≡ gs = replays.only restarts.groups restarts.spells in
+      subst (λ (l : List Page). Stands limits l pages t.now) (ap images_of one ∙ sym replays.images_are) (stands_at limits pages t.now firm restarts)
+
+  keeps : Keeps log t.now gs (length gs)
+  keeps = replays.keeps (record { firm = λ i lt. firm (4096 + i) })
+
+  same_images : (part : ℕ) (groups : List (List Page)) → length gs ≤ part → SameImages (images_of groups) (images_of (take part gs)) → (block : ℕ) → last_image (images_of groups) block ≡ last_image images block
+  same_images part groups all same block =
+      same.each block ∙ ap (λ (l : List Page). last_image l block) (ap images_of (take_all part gs all) ∙ sym replays.images_are)
+
+  keeps_written : (m : Moment) → ChangesNamed limits images t.now m → Keeps log m gs (length gs)
+  keeps_written m change =
+      keeps_elsewhere log (place limits 0) (4096 * limits.pages) t.now m gs (length gs) change.only (inl (omega (arith, ap (λ (l : Limits). l.log_bytes) opened.limits_are))) keeps
+
+  -- while its images are written
+  pub written_leaves : (m : Moment) → ChangesNamed limits images t.now m → LeavesPages limits pages m
+  written_leaves m change image left =
+      let h = subst (λ (l : Limits). Restarts l gs (length gs) m) opened.limits_are (keeps_restarts log m gs (length gs) (keeps_written m change)) image left in
+      stands_leaves limits images pages m (stands_named limits images pages t.now m change started) image left h.holds.groups h.holds.spells (same_images h.part h.holds.groups h.from h.holds.same)
+
+  -- once they are written and synced, and while the log is closed
+  module _ (u v : Trace) (moments : Goes (ChangesNamed limits images t.now) t u) (homed : AreHomed limits images u.now) where
+    now_named : ChangesNamed limits images t.now u.now
+    now_named = goes_now _ t u moments (same_named limits images t.now)
+
+    both : Stands limits images pages u.now
+    both = stands_named limits images pages t.now u.now now_named started
+
+    pub at_home : Stands limits [] pages u.now
+    at_home = stands_home limits images pages u.now homed both
+
+    closing_leaves : (m : Moment) → RestartsOrEmpty limits (take (length gs) gs) m → ChangesOnly 4096 limits.log_bytes u.now m → LeavesPages limits pages m
+    closing_leaves m either only image left = ⊎_elim
+        (λ holds. stands_leaves limits images pages m (stands_logged limits images pages u.now m only both) image left holds.groups holds.spells (same_images (length gs) holds.groups (omega arith) holds.same))
+        (λ holds. stands_leaves limits [] pages m (stands_logged limits [] pages u.now m only at_home) image left holds.groups holds.spells (λ block. holds.same.each block))
+        (either image left)
+
+    module _ (closing : RestartsOrEmptyThroughout log u v) (outside : ChangesItsRange (limits_of log) u v) where
+      outside_here : Goes (ChangesOnly 4096 limits.log_bytes u.now) u v
+      outside_here = subst (λ (l : Limits). ChangesItsRange l u v) opened.limits_are outside
+
+      pub closed_goes : Goes (LeavesPages limits pages) u v
+      closed_goes =
+          let holds = subst (λ (l : Limits). Goes (RestartsOrEmpty l (take (length gs) gs)) u v) opened.limits_are (closing gs (length gs) (keeps_written u.now now_named)) in
+          goes_weaker _ _ u v (λ m two. closing_leaves m two.0 two.1) (goes_both _ _ u v holds outside_here)
+
+      pub closed_stands : (after : Log) → limits_of after ≡ limits_of log → ForgetsAll log u.now after v.now → StandsOpened after v.now pages
+      closed_stands after same forgets =
+          let l = same ∙ opened.limits_are in
+          let s = stands_logged limits [] pages u.now v.now (goes_now _ u v outside_here (same_only 4096 limits.log_bytes u.now)) at_home in
+          record {
+            log_keeps = forgets gs (length gs) (keeps_written u.now now_named) opened.waiting;
+            home = subst (λ (x : Limits). AreHome x [] pages v.now) (sym l) (home_of limits pages v.now s);
+            superblock_on = subst (λ (x : Limits). OnDisk 0 (superblock x) v.now) (sym l) s.superblock_on;
+          }
+
+-- what an index is not refused with
+pub replay_refuses : (limits : Limits) (m : Moment) (pages : List Page) (e : Fault) (fails failed : ℕ) → ((e ≡ Io) × (fails ≡ suc failed)) ⊎ (((e ≡ NoMemory) ⊎ (e ≡ LogDamaged)) × (fails ≡ failed)) → (e ≡ LogDamaged → IsDamaged limits m)
+    → RestartsTo limits m.seen pages → IsNoMemoryOrIo e
+replay_refuses limits m pages e fails failed (inl io) damaged restarts = inr io.0
+replay_refuses limits m pages e fails failed (inr other) damaged restarts = ⊎_elim (λ memory. inl memory) (λ is. absurd (damaged is restarts.groups restarts.spells)) other.0

@@ -1,0 +1,35 @@
+use Rattle.std.proofs.Common.{◌≡◌, ◌∙◌, List, take, subst}
+use Rattle.std.proofs.lemmas.List.{take_all}
+use Rattle.device.proofs.Going.{goes_on, goes_now}
+use Rattle.page_codec.specs.declared.page.Page.{Page}
+use Rattle.recovery.specs.Homing.{HasImages}
+use Rattle.recovery.proofs.Named.{named_goes, image_at, more_images}
+use Rattle.recovery.proofs.homing.write_images.Goals as goal
+
+pub place_page-requires-clause-below : goal.place_page-requires-clause-below
+place_page-requires-clause-below g c = (image_at c.args.limits c.args.images.now c.loop-image.image-index c.image-item.result c.requires.images c.loop-image-test.true c.image-item.is).within.block
+
+pub returns-in_err-place_page-clause-moments : goal.returns-in_err-place_page-clause-moments
+returns-in_err-place_page-clause-moments g c =
+    let i = c.loop-image.invariant in
+    goes_on _ _ _ _ i.moments (named_goes c.args.limits c.args.images.now c.loop-image.image-index c.image-item.result _ _ _ c.requires.images c.loop-image-test.true c.image-item.is i.now c.place_page.ensures.moments)
+
+pub loop-image-preserved : goal.loop-image-preserved
+loop-image-preserved g c =
+    let i = c.loop-image.invariant in
+    let trace = g.D.Device.trace in
+    let before = trace c.loop-image.device in
+    let after = trace c.place_page.new.device in
+    let on = named_goes c.args.limits c.args.images.now c.loop-image.image-index c.image-item.result (trace c.args.device.now).now before after c.requires.images c.loop-image-test.true c.image-item.is i.now c.place_page.ensures.moments in
+    record {
+      moments = goes_on _ _ before after i.moments on;
+      now = goes_now _ before after on i.now;
+      written = more_images c.args.limits c.args.images.now c.loop-image.image-index c.image-item.result before.now after.now c.loop-image-test.true c.image-item.is c.place_page.ensures.only c.in_ok-place_page.ensures.there c.requires.images i.written;
+      honest = c.place_page.ensures.honest ∙ i.honest;
+      failures = c.in_ok-place_page.ensures.failures ∙ i.failures;
+    }
+
+pub returns-clause-written : goal.returns-clause-written
+returns-clause-written g c =
+    let all : take c.loop-image.image-index c.args.images.now ≡ c.args.images.now = take_all c.loop-image.image-index c.args.images.now c.loop-image-test.false in
+    subst (λ (l : List Page). HasImages c.args.limits l (g.D.Device.trace c.loop-image.device).now.seen) all c.loop-image.invariant.written

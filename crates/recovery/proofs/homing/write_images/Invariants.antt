@@ -1,0 +1,15 @@
+use Rattle.std.proofs.Common.{◌≡◌, take}
+use Rattle.device.specs.Moments.{Goes}
+use Rattle.recovery.specs.Homing.{ChangesNamed, HasImages}
+use Rattle.recovery.proofs.homing.write_images.Given as goal
+
+abbrev pub invariant-loop-image : goal.invariant-loop-image
+invariant-loop-image g l =
+    let trace = g.D.Device.trace in
+    record {
+      moments : Goes (ChangesNamed l.limits l.images (trace l.fn.device).now) (trace l.fn.device) (trace l.device);
+      now : ChangesNamed l.limits l.images (trace l.fn.device).now (trace l.device).now;
+      written : HasImages l.limits (take l.image-index l.images) (trace l.device).now.seen;
+      honest : g.D.Device.is_honest l.device ≡ g.D.Device.is_honest l.fn.device;
+      failures : g.D.Device.failures l.device ≡ g.D.Device.failures l.fn.device;
+    }

@@ -1,0 +1,119 @@
+-- What opening an index answers, and what it leaves.
+use Rattle.std.specs.Prelude.{◌≡◌, ◌⊎◌, ℕ, ◌<◌, ◌≤◌, Bool, false, IsTrue, List, length, take, replicate, Result, Ok, Err}
+use Rattle.device.specs.Disk.{Moment, Trace, next, synced}
+use Rattle.device.specs.declared.device.Device.{Ghosts}
+use Rattle.index_model.specs.Limits.{AreLimits}
+use Rattle.index_model.specs.declared.fault.Fault.{Fault}
+use Rattle.index_model.specs.declared.fault.Fault.TheVariants.{NoMemory, Io, BadSuper, BadVersion, BadLimits, LogDamaged, PageDamaged}
+use Rattle.index_model.specs.declared.limits.Limits.{Limits}
+use Rattle.page_action.specs.States.{State}
+use Rattle.page_action.specs.Stored.{AreStored}
+use Rattle.page_codec.specs.declared.page.Page.{Page}
+use Rattle.page_store.specs.Logged.{StandsOpened}
+use Rattle.page_store.specs.Restart.{superblock, place, RestartsTo}
+use Rattle.page_store.specs.Rooms.{pages_of_room}
+use Rattle.page_store.specs.Stores.{state_of, device_of, opened_state, IsOwnStore}
+use Rattle.page_store.specs.declared.store.Store.{Store}
+use Rattle.redo_log.specs.Reading.{IsOpened, IsDamaged}
+use Rattle.recovery.specs.Reading.{AreInUse, IsDamagedAt, IsAllRead, greatest_cycle}
+use Rattle.recovery.specs.Superblock.{IsNoSuperblock}
+use Rattle.recovery.specs.declared.opening.Parts.{Parts}
+use Rattle.recovery.specs.declared.opening.Refused.{Refused}
+
+-- so many pages may be asked to be in memory: 16 to 1,024
+abbrev pub AreFrames : ℕ → Type 0
+AreFrames frames = (16 ≤ frames) × (frames ≤ 1024)
+
+-- the device begins with the superblock of these limits, which are in their ranges, and has room for their index
+pub record IsFront (limits : Limits) (file : List ℕ) : Type 0 where
+  pub allowed : AreLimits limits
+  pub superblock_is : take 4096 file ≡ superblock limits
+  pub long : place limits limits.pages ≤ length file
+
+-- no superblock stands there, or the device is shorter than it says
+abbrev pub IsNoFront : List ℕ → Fault → Type 0
+IsNoFront file fault = IsNoSuperblock (take 4096 file) fault
+    ⊎ ((fault ≡ BadSuper) × (limits : Limits) × AreLimits limits × (take 4096 file ≡ superblock limits) × (length file < place limits limits.pages))
+
+-- the faults of a superblock
+abbrev pub IsFrontFault : Fault → Type 0
+IsFrontFault fault = (fault ≡ BadSuper) ⊎ (fault ≡ BadVersion) ⊎ (fault ≡ BadLimits)
+
+-- refused before anything is done: frames out of their range; or else a device of less than 4,096 bytes; or else what
+-- stands in front
+abbrev pub IsFrontRefusal : Bool → ℕ → List ℕ → Fault → Type 0
+IsFrontRefusal honest frames file fault =
+    ((fault ≡ BadLimits) × (AreFrames frames → ⊥))
+    ⊎ (AreFrames frames × (((fault ≡ BadSuper) × (length file < 4096))
+    ⊎ ((4096 ≤ length file) × IsFrontFault fault × (IsTrue honest → IsNoFront file fault))))
+
+-- refused behind that: a growth was refused; or an open group of the log is none, and nothing was written; or a block is
+-- damaged
+abbrev pub IsRestoreRefusal : Limits → Bool → Trace → Trace → Fault → Type 0
+IsRestoreRefusal limits honest old new fault =
+    (fault ≡ NoMemory)
+    ⊎ ((fault ≡ LogDamaged) × (new ≡ next (synced old.now) old) × (IsTrue honest → IsDamaged limits old.now))
+    ⊎ ((block : ℕ) × (fault ≡ PageDamaged block) × (IsTrue honest → IsDamagedAt limits block new.now.seen))
+
+-- refused for one of these
+abbrev pub IsRefusal : Bool → ℕ → Trace → Trace → Fault → Type 0
+IsRefusal honest frames old new fault =
+    (IsFrontRefusal honest frames old.now.seen fault × (new ≡ old))
+    ⊎ ((limits : Limits) × AreFrames frames × (IsTrue honest → IsFront limits old.now.seen) × IsRestoreRefusal limits honest old new fault)
+
+-- no crash changes a byte
+abbrev pub IsSynced : Moment → Type 0
+IsSynced m = (i : ℕ) → m.loose i ≡ false
+
+-- the bytes are an index of these limits, in their ranges, with these pages, one or more
+pub record HasIndex (limits : Limits) (pages : List Page) (file : List ℕ) : Type 0 where
+  pub allowed : AreLimits limits
+  pub some : 0 < length pages
+  pub restarts : RestartsTo limits file pages
+
+-- an opened log, and what was read
+pub record IsRestored (limits : Limits) (honest : Bool) (file : List ℕ) (parts : Parts) : Type 0 where
+  pub opened : IsOpened limits parts.log
+  pub read : IsAllRead limits honest file parts.found
+
+-- the index that was found: restored, on a device that is long enough; and its superblock stands there
+pub record IsFound (honest : Bool) (old new : List ℕ) (parts : Parts) : Type 0 where
+  pub limits : Limits
+  pub allowed : AreLimits limits
+  pub long : place limits limits.pages ≤ length new
+  pub restored : IsRestored limits honest new parts
+  pub front : IsTrue honest → IsFront limits old
+
+-- the pages that were read are these, which stand at home
+pub record AreSamePages (pages : List Page) (m : Moment) (parts : Parts) : Type 0 where
+  pub pages_are : pages_of_room parts.found.room ≡ pages
+  pub stands : StandsOpened parts.log m pages
+
+-- nothing is refused but a growth, or the device failed
+abbrev pub IsNoMemoryOrIo : Fault → Type 0
+IsNoMemoryOrIo fault = (fault ≡ NoMemory) ⊎ (fault ≡ Io)
+
+-- the state as it is opened with its pages: as many as the limits allow, one or more, each one that may be stored; no
+-- deletion number counts, and the last cycle number is the greatest of the pages
+pub record IsFreshlyOpened (st : State) : Type 0 where
+  pub allowed : AreLimits st.limits
+  pub some : 0 < length st.pages
+  pub few : length st.pages ≤ st.limits.pages
+  pub stored : AreStored st.limits 0 st.pages
+  pub is : st ≡ opened_state st.limits st.pages (replicate (length st.pages) 0) (greatest_cycle st.pages)
+
+-- the index of a store stands on its device: its superblock stood there before, its pages stand there now
+pub record StandsOnDevice (st : State) (old new : List ℕ) : Type 0 where
+  pub front : IsFront st.limits old
+  pub in_use : AreInUse st.limits st.pages new
+
+-- the store has these pages, and is an own device's
+pub record IsSameIndex {D : Type 0} (g : Ghosts D) (limits : Limits) (pages : List Page) (store : Store D g) : Type 0 where
+  pub limits_are : (state_of g store).limits ≡ limits
+  pub pages_are : (state_of g store).pages ≡ pages
+  pub own : IsOwnStore g store
+
+-- the device as an open left it, in the store or given back
+abbrev pub device_left : {D : Type 0} (g : Ghosts D) → Result (Store D g) (Refused D) → D
+device_left g (Ok store) = device_of g store
+device_left g (Err refused) = refused.device

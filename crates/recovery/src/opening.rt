@@ -1,0 +1,190 @@
+//! An index is opened, after any crash.
+
+ghost use Rattle.std.specs.Prelude.{◌≡◌, ◌⊎◌, ◌≤◌, ◌<◌, ℕ, suc, IsTrue, IsErrOf, List, false, length, IfOk, IfErr, OnOk, MatchResult};
+ghost use Rattle.device.specs.Moments.{Goes};
+ghost use Rattle.index_model.specs.Limits.{AreLimits};
+ghost use Rattle.page_codec.specs.declared.page.Page.{Page};
+ghost use Rattle.page_store.specs.Logged.{StandsOpened, backing_of};
+ghost use Rattle.page_store.specs.Rooms.{limits_of_room};
+ghost use Rattle.page_store.specs.Stores.{state_of, held_by};
+ghost use Rattle.index_model.specs.declared.limits.Limits.{Limits};
+ghost use Rattle.page_store.specs.Restart.{place, RestartsTo, LeavesPages};
+ghost use Rattle.redo_log.specs.Reading.{IsOpened, IsDamaged, ReplayFails};
+ghost use Rattle.recovery.specs.Opening.{AreFrames, IsFront, IsFrontRefusal, IsRestoreRefusal, IsSynced, IsRestored, IsFound, HasIndex, IsRefusal, AreSamePages, IsNoMemoryOrIo, IsFreshlyOpened, StandsOnDevice, IsSameIndex, device_left};
+
+use crate::creation::block_at;
+use crate::homing::bring_home;
+use crate::reading::{Found, read_pages};
+use crate::superblock::read_superblock;
+use device::Device;
+use index_model::{Fault, Limits};
+use page_store::Store;
+use redo_log::Log;
+use std::alloc::Global;
+
+/// Why an index was not opened, and the device as the open left it.
+#[derive(Drop)]
+pub struct Refused<D> {
+    pub fault: Fault,
+    pub device: D,
+}
+
+/// An index as it was found: its log, closed, and its pages.
+#[derive(Drop)]
+pub(crate) struct Parts {
+    pub(crate) log: Log,
+    pub(crate) found: Found,
+}
+
+/// The sizes of the index on the device. Refused, in this order: a number of frames out of 16 to 1,024 (`BadLimits`);
+/// fewer than 4,096 bytes (`BadSuper`); a failed read (`Io`); what the superblock is refused with; a device shorter than
+/// it says (`BadSuper`).
+fn find_limits<D: Device>(device: &mut D, frames: u32) -> Result<Limits, Fault>
+    ensures front { IfOk result (λ limits. IsTrue (D.is_honest device.new) → IsFront limits (D.trace device.old).now.seen) }
+    ensures allowed { IfOk result AreLimits }
+    ensures long { IfOk result (λ limits. place limits limits.pages ≤ length (D.trace device.old).now.seen) }
+    ensures frames { OnOk result (AreFrames frames) }
+    ensures only { AreFrames frames → IsTrue (D.is_honest device.new) → (limits : Limits)
+        → IsFront limits (D.trace device.old).now.seen → MatchResult result (λ found. found ≡ limits) (λ e. e ≡ Fault.Io) }
+    ensures trace { D.trace device.new ≡ D.trace device.old }
+    ensures honest { IsTrue (D.is_honest device.new) → IsTrue (D.is_honest device.old) }
+    ensures cause { IfErr result (λ e. ((e ≡ Fault.Io) × (D.failures device.new ≡ suc (D.failures device.old)))
+        ⊎ (IsFrontRefusal (D.is_honest device.new) frames (D.trace device.old).now.seen e × (D.failures device.new ≡ D.failures device.old))) }
+    ensures done { OnOk result (D.failures device.new ≡ D.failures device.old) }
+{
+    if frames < 16 || frames > 1024 {
+        return Err(Fault::BadLimits);
+    }
+    if device.len() < 4096 {
+        return Err(Fault::BadSuper);
+    }
+    let mut bytes = [0; 4096];
+    device.read_at(0, &mut bytes)?;
+    let limits = read_superblock(&bytes)?;
+    if device.len() < block_at(&limits, limits.pages) {
+        return Err(Fault::BadSuper);
+    }
+    Ok(limits)
+}
+
+/// Brings what the log holds to the places of its blocks, and closes the log. Refused with `NoMemory`, `Io` and
+/// `LogDamaged`.
+fn restore_log<D: Device>(alloc: Global, device: &mut D, limits: Limits) -> Result<Log, Fault>
+    requires allowed { AreLimits limits }
+    requires inside { place limits limits.pages ≤ length (D.trace device.old).now.seen }
+    ensures opened { IfOk result (IsOpened limits) }
+    ensures same { IsTrue (D.is_honest device.new) → IsSynced (D.trace device.old).now
+        → (pages : List Page) → RestartsTo limits (D.trace device.old).now.seen pages
+        → MatchResult result (λ log. StandsOpened log (D.trace device.new).now pages) IsNoMemoryOrIo }
+    ensures moments { IsTrue (D.is_honest device.new) → IsSynced (D.trace device.old).now
+        → (pages : List Page) → RestartsTo limits (D.trace device.old).now.seen pages
+        → Goes (LeavesPages limits pages) (D.trace device.old) (D.trace device.new) }
+    ensures damaged { IfErr result (λ e. e ≡ Fault.LogDamaged → (D.trace device.new ≡ D.trace device.old)
+        × (IsTrue (D.is_honest device.new) → IsDamaged limits (D.trace device.old).now)) }
+    ensures len { length (D.trace device.new).now.seen ≡ length (D.trace device.old).now.seen }
+    ensures honest { IsTrue (D.is_honest device.new) → IsTrue (D.is_honest device.old) }
+    ensures cause { ReplayFails result (D.failures device.old) (D.failures device.new) }
+{
+    let found = match Log::replay(alloc, device, limits) {
+        Ok(found) => found,
+        Err(fault) => return Err(fault),
+    };
+    bring_home(device, limits, &found.images)?;
+    let mut log = found.log;
+    log.reset(device)?;
+    Ok(log)
+}
+
+/// Makes what a read gives stand through a crash, restores the log and reads the pages. Refused with `NoMemory`, `Io`,
+/// `LogDamaged` and `PageDamaged`.
+fn restore<D: Device>(alloc: Global, device: &mut D, limits: Limits) -> Result<Parts, Fault>
+    requires allowed { AreLimits limits }
+    requires inside { place limits limits.pages ≤ length (D.trace device.old).now.seen }
+    ensures restored { IfOk result (IsRestored limits (D.is_honest device.new) (D.trace device.new).now.seen) }
+    ensures same { IsTrue (D.is_honest device.new) → (pages : List Page) → 0 < length pages
+        → RestartsTo limits (D.trace device.old).now.seen pages
+        → MatchResult result (AreSamePages pages (D.trace device.new).now) IsNoMemoryOrIo }
+    ensures moments { IsTrue (D.is_honest device.new) → (pages : List Page)
+        → RestartsTo limits (D.trace device.old).now.seen pages
+        → Goes (LeavesPages limits pages) (D.trace device.old) (D.trace device.new) }
+    ensures len { length (D.trace device.new).now.seen ≡ length (D.trace device.old).now.seen }
+    ensures honest { IsTrue (D.is_honest device.new) → IsTrue (D.is_honest device.old) }
+    ensures cause { IfErr result (λ e. ((e ≡ Fault.Io) × (D.failures device.new ≡ suc (D.failures device.old)))
+        ⊎ (IsRestoreRefusal limits (D.is_honest device.new) (D.trace device.old) (D.trace device.new) e
+        × (D.failures device.new ≡ D.failures device.old))) }
+    ensures done { OnOk result (D.failures device.new ≡ D.failures device.old) }
+{
+    device.sync()?;
+    let log = restore_log(alloc, device, limits)?;
+    let found = read_pages(alloc, device, limits)?;
+    Ok(Parts { log, found })
+}
+
+/// Finds the index on the device, restores its log and reads its pages.
+fn read_index<D: Device>(alloc: Global, device: &mut D, frames: u32) -> Result<Parts, Fault>
+    ensures frames { OnOk result (AreFrames frames) }
+    ensures found { IfOk result
+        (IsFound (D.is_honest device.new) (D.trace device.old).now.seen (D.trace device.new).now.seen) }
+    ensures same { IsTrue (D.is_honest device.new) → AreFrames frames → (limits : Limits) (pages : List Page)
+        → HasIndex limits pages (D.trace device.old).now.seen → MatchResult result
+        (λ parts. (limits_of_room parts.found.room ≡ limits) × AreSamePages pages (D.trace device.new).now parts) IsNoMemoryOrIo }
+    ensures moments { IsTrue (D.is_honest device.new) → (limits : Limits) (pages : List Page)
+        → HasIndex limits pages (D.trace device.old).now.seen
+        → Goes (LeavesPages limits pages) (D.trace device.old) (D.trace device.new) }
+    ensures len { length (D.trace device.new).now.seen ≡ length (D.trace device.old).now.seen }
+    ensures honest { IsTrue (D.is_honest device.new) → IsTrue (D.is_honest device.old) }
+    ensures cause { IfErr result (λ e. ((e ≡ Fault.Io) × (D.failures device.new ≡ suc (D.failures device.old)))
+        ⊎ (IsRefusal (D.is_honest device.new) frames (D.trace device.old) (D.trace device.new) e
+        × (D.failures device.new ≡ D.failures device.old))) }
+    ensures done { OnOk result (D.failures device.new ≡ D.failures device.old) }
+{
+    let limits = find_limits(device, frames)?;
+    restore(alloc, device, limits)
+}
+
+/// Opens the index on the device, after any crash, for so many pages in memory at once (16 to 1,024). It reads the
+/// superblock, syncs the device, reads the log, writes each image of an open group to the place of its block, syncs
+/// them, closes the log, and reads the pages of the blocks in use. After it, nothing takes memory.
+///
+/// Refused, tested in this order, with the device given back: with `BadLimits` (18) for other numbers of frames; with
+/// `BadSuper` (14) for a device of less than 4,096 bytes; with `BadSuper`, `BadVersion` (15) or `BadLimits` for what
+/// stands in place of a superblock; with `BadSuper` for a device shorter than the superblock says: up to here nothing is
+/// written. Then with `LogDamaged` (16) where an open group of the log is none, and with `PageDamaged` (17) for the first
+/// block in use whose page is none that may stand there, or for block 0 where none is in use. A failed call of the
+/// device answers `Io` (2), a growth that was refused `NoMemory` (1).
+///
+/// It never changes which pages the bytes stand for: after a refusal, or a crash at any moment, it may be called again.
+pub fn open<D: Device>(alloc: Global, device: D, frames: u32) -> Result<Store<D>, Refused<D>>
+    ensures frames { OnOk result (AreFrames frames) }
+    ensures opened { IfOk result (λ store. IsFreshlyOpened (state_of D.Device store)) }
+    ensures alive { IfOk result (λ store. (backing_of (held_by D.Device store)).stopped ≡ false) }
+    ensures durable { IfOk result (λ store. (backing_of (held_by D.Device store)).durable ≡ 0) }
+    // What it has is what stands on the device.
+    ensures read { IsTrue (D.is_honest (device_left D.Device result)) → IfOk result (λ store.
+        StandsOnDevice (state_of D.Device store) (D.trace device).now.seen (D.trace (device_left D.Device result)).now.seen) }
+    // An index is opened with its pages, and refused only for want of memory or of the device.
+    ensures same { IsTrue (D.is_honest (device_left D.Device result)) → AreFrames frames
+        → (limits : Limits) (pages : List Page) → HasIndex limits pages (D.trace device).now.seen
+        → MatchResult result (IsSameIndex D.Device limits pages) (λ refused. IsNoMemoryOrIo refused.fault) }
+    // A crash at each moment since leaves the same index, whatever was answered.
+    ensures moments { IsTrue (D.is_honest (device_left D.Device result)) → (limits : Limits) (pages : List Page)
+        → HasIndex limits pages (D.trace device).now.seen
+        → Goes (LeavesPages limits pages) (D.trace device) (D.trace (device_left D.Device result)) }
+    ensures cause { IfErr result (λ refused.
+        ((refused.fault ≡ Fault.Io) × (D.failures refused.device ≡ suc (D.failures device)))
+        ⊎ (IsRefusal (D.is_honest refused.device) frames (D.trace device) (D.trace refused.device) refused.fault
+        × (D.failures refused.device ≡ D.failures device))) }
+    ensures done { OnOk result (D.failures (device_left D.Device result) ≡ D.failures device) }
+    ensures len { length (D.trace (device_left D.Device result)).now.seen ≡ length (D.trace device).now.seen }
+    ensures honest { IsTrue (D.is_honest (device_left D.Device result)) → IsTrue (D.is_honest device) }
+{
+    let mut device = device;
+    let read = read_index(alloc, &mut device, frames);
+    match read {
+        Ok(Parts { log, found }) => {
+            let Found { room, counter } = found;
+            Ok(Store::new(device, log, room, counter))
+        }
+        Err(fault) => Err(Refused { fault, device }),
+    }
+}
