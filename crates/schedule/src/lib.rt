@@ -3,6 +3,7 @@
 
 mod event;
 mod happening;
+mod over_device;
 mod world;
 
 pub use event::Event;

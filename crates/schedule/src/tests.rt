@@ -1,17 +1,25 @@
+ghost use Rattle.std.specs.Prelude.{◌≡◌, ◌+◌, ◌*◌, ◌≤◌, length};
+ghost use Rattle.device.specs.Memory.{trace_of};
+
 use super::*;
 use arrayvec::ArrayVec;
+use device::{CrashImage, Device, MemDevice};
 use index_model::{Entry, Fault, Key, Limits, Range, RowAddr};
 use page_action::{MapStore, PageStore};
 use page_codec::{Items, Page, PageState};
+use page_store::{Store, StoreRoom};
+use redo_log::Log;
 use session_calls::Answer;
 use std::alloc::Global;
-use std::test::*;
+use std::test::{Fail, *};
 
 const LIMITS: Limits = Limits {
     items: 4,
     pages: 8,
     log_bytes: 65_536,
 };
+
+const LEN: u64 = 4096 + 65_536 + 4096 * 8;
 
 const ALL: Range = Range {
     from: None,
@@ -224,4 +232,63 @@ fn one_to_64_sessions(rt: HostRuntime) {
         assert!(rt; matches!(not_made.fault, Fault::BadLimits));
         assert!(rt; not_made.store.used() == 2);
     }
+}
+
+// Zeros with a metapage and an empty leaf, which stand in memory alone.
+fn over_device(alloc: Global) -> Result<World<Store<MemDevice>>, Fault> {
+    let mut device = MemDevice::new(alloc, LEN)?;
+    if device.len() != LEN || !LIMITS.are_valid() {
+        return Err(Fault::DeviceTooSmall);
+    }
+    let found = Log::replay(alloc, &mut device, LIMITS)?;
+    let mut room = StoreRoom::new(alloc, LIMITS)?;
+    room.add(page(0, Some(1), Items::Meta))?;
+    room.add(page(1, None, Items::Entries(ArrayVec::new())))?;
+    match World::new(alloc, Store::new(device, found.log, room, 0), 2) {
+        Ok(world) => Ok(world),
+        Err(not_made) => Err(not_made.fault),
+    }
+}
+
+// How many entries the last image in the log has, or None where it has no image.
+fn logged(alloc: Global, device: &mut MemDevice) -> Result<Option<usize>, Fault> {
+    if device.len() != LEN || !LIMITS.are_valid() {
+        return Err(Fault::DeviceTooSmall);
+    }
+    let found = Log::replay(alloc, device, LIMITS)?;
+    match found.images.last() {
+        Some(image) => match &image.items {
+            Items::Entries(entries) => Ok(Some(entries.len())),
+            _ => Ok(None),
+        },
+        None => Ok(None),
+    }
+}
+
+#[test]
+fn forced_actions_are_left(rt: HostRuntime) -> Result<(), Fail> {
+    let mut world = over_device(rt.alloc())?;
+    let mut answers = Vec::new(rt.alloc());
+    let events = [
+        Event::Insert(0, entry(0x61, 1)),
+        Event::Step(0),
+        Event::Step(0),
+        Event::Step(0),
+        Event::Force,
+        Event::Insert(1, entry(0x62, 2)),
+        Event::Step(1),
+        Event::Step(1),
+        Event::Step(1),
+    ];
+    assert!(rt; world.run(&events, &mut answers).is_ok());
+    assert_eq!(rt; told(&answers[4]), ("forced", 1));
+    assert_eq!(rt; told(&answers[8]), ("added", 2));
+    assert_eq!(rt; world.actions(), 2);
+    world.crash_law();
+    let device = world.into_store().into_device();
+    for image in [CrashImage::Drop, CrashImage::Keep, CrashImage::Tear] {
+        let mut left = device.crash(rt.alloc(), image)?;
+        assert_eq!(rt; logged(rt.alloc(), &mut left)?, Some(1));
+    }
+    Ok(())
 }

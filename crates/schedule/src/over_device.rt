@@ -1,0 +1,26 @@
+//! A world over a device.
+
+use crate::world::World;
+use device::Device;
+use page_action::PageStore;
+use page_store::Store;
+
+impl<D: Device> World<Store<D>> {
+    ghost use Rattle.std.specs.Prelude.{ℕ, List};
+    ghost use Rattle.device.specs.Moments.{MayHaveLeft};
+    ghost use Rattle.page_codec.specs.declared.page.Page.{Page};
+    ghost use Rattle.page_store.specs.Restart.{RestartsTo};
+    ghost use Rattle.page_store.specs.Stores.{state_of, held_by, IsOwnStore};
+    ghost use Rattle.page_store.specs.declared.store.Store.{Store};
+
+    /// Does nothing: what the words of crashes are for a store over a device. A store is its own where nobody else wrote
+    /// to the device; a crash leaves what the device may have left at some moment from the first store to the second; and
+    /// bytes restart to pages as an open reads them.
+    pub fn crash_law(&self)
+        ensures own { (s : Store D D.Device) → IsOwnStore D.Device s → ⟦<Store<D> as PageStore>⟧.own s }
+        ensures leaves { (s t : Store D D.Device) (image : List ℕ)
+            → MayHaveLeft (held_by D.Device s).trace (held_by D.Device t).trace image → ⟦<Store<D> as PageStore>⟧.leaves s t image }
+        ensures restarts { (s : Store D D.Device) (image : List ℕ) (pages : List Page)
+            → ⟦<Store<D> as PageStore>⟧.restarts s image pages → RestartsTo (state_of D.Device s).limits image pages }
+    {}
+}
