@@ -90,7 +90,7 @@ module _ {S : Type 0} (g : Ghosts S) (start : Entry → Bool) (old : Moment S) (
   pub step_goes : LeavesLess (Some op) slot answer → (m : IsMoved g start old store session op slot (λ ask t. where_stepped ask (g.state old.store) (g.backing old.store) (g.backing store) t) answer)
       → EventDoes g start (Step session) answer old (record { store = store; slots = slice_set old.slots session slot; history = m.then_history; calls = m.then_calls })
   step_goes less m = record {
-    less = λ has. less_at (λ x y. LeavesLess x y answer) less;
+    less = less_at (λ x y. LeavesLess x y answer) less;
     happens = moves old (record { store = store; slots = slice_set old.slots session slot; history = m.then_history; calls = m.then_calls }) refl m.goes;
     grows = m.grows;
     caused = subst (λ (o : Option (Option Op)). IsCaused (where_moved (where_no_call (g.backing old.store).stopped) (λ ask. where_stepped ask (g.state old.store) (g.backing old.store) (g.backing store) session) o) answer) (sym found) m.caused;
@@ -103,7 +103,7 @@ module _ {S : Type 0} (g : Ghosts S) (start : Entry → Bool) (old : Moment S) (
   pub next_goes : GivesLess (Some op) slot answer → (m : IsMoved g start old store session op slot (λ ask t. where_asked_next ask) answer)
       → EventDoes g start (Next session) answer old (record { store = store; slots = slice_set old.slots session slot; history = m.then_history; calls = m.then_calls })
   next_goes less m = record {
-    less = λ has. less_at (λ x y. GivesLess x y answer) less;
+    less = less_at (λ x y. GivesLess x y answer) less;
     happens = moves old (record { store = store; slots = slice_set old.slots session slot; history = m.then_history; calls = m.then_calls }) refl m.goes;
     grows = m.grows;
     caused = subst (λ (o : Option (Option Op)). IsCaused (where_moved (where_no_call false) where_asked_next o) answer) (sym found) m.caused;

@@ -134,13 +134,11 @@ abbrev pub slot_at : List (Option Op) → ℕ → Option Op
 slot_at slots session = unwrap_or (slice_get slots session) None
 
 -- a step that ends no call leaves less to do, and so does an entry that is given
-abbrev pub IsLessLeft : {S : Type 0} → Event → Answer → Moment S → Moment S → Type 0
+abbrev pub IsLessLeft : Event → Answer → List (Option Op) → List (Option Op) → Type 0
 IsLessLeft (Insert session e) answer old new = Unit {0}
 IsLessLeft (Scan session range) answer old new = Unit {0}
-IsLessLeft (Step session) answer old new =
-    has_call old.slots session ≡ true → LeavesLess (slot_at old.slots session) (slot_at new.slots session) answer
-IsLessLeft (Next session) answer old new =
-    has_call old.slots session ≡ true → GivesLess (slot_at old.slots session) (slot_at new.slots session) answer
+IsLessLeft (Step session) answer old new = LeavesLess (slot_at old session) (slot_at new session) answer
+IsLessLeft (Next session) answer old new = GivesLess (slot_at old session) (slot_at new session) answer
 IsLessLeft (End session) answer old new = Unit {0}
 IsLessLeft Force answer old new = Unit {0}
 
@@ -176,7 +174,7 @@ pub record EventDoes {S : Type 0} (g : Ghosts S) (start : Entry → Bool) (event
   pub grows : GrowsByOne old.history new.history
   pub caused : IsCaused (where_happening g event old new) answer
   pub stopped : StopsFirst g event answer old
-  pub less : IsLessLeft event answer old new
+  pub less : IsLessLeft event answer old.slots new.slots
   pub durable : IsDurable (g.backing new.store).durable answer
   pub later : IsLater (g.backing old.store) (g.backing new.store)
   pub fits : Fits g start new

@@ -5,7 +5,7 @@ ghost use Rattle.page_action.specs.States.{Continues};
 ghost use Rattle.session_calls.specs.Sessions.{no_call};
 ghost use Rattle.session_calls.specs.declared.op.Op.{Op};
 ghost use Rattle.schedule.specs.Moments.{has_call};
-ghost use Rattle.schedule.specs.Runs.{session_to_begin};
+ghost use Rattle.schedule.specs.Runs.{session_to_begin, IsLessLeft};
 ghost use Rattle.schedule.specs.Promises.{both, Carries, Does, Runs};
 
 use crate::event::Event;
@@ -22,6 +22,7 @@ pub fn one<S: PageStore>(store: &mut S, slots: &mut [Option<Op>], event: Event) 
     ensures sessions { length slots.new ≡ length slots.old }
     ensures runs { Carries S.PageStore (both store.old slots.old) (both store.new slots.new)
         (Runs S.PageStore (both store.old slots.old) (both store.new slots.new) (event ∷ []) (result ∷ [])) }
+    ensures less { IsLessLeft event result slots.old slots.new }
 {
     pick(store, slots, event)
 }
@@ -33,6 +34,7 @@ fn pick<S: PageStore>(store: &mut S, slots: &mut [Option<Op>], event: Event) -> 
     ensures sessions { length slots.new ≡ length slots.old }
     ensures does { Carries S.PageStore (both store.old slots.old) (both store.new slots.new)
         (Does S.PageStore (both store.old slots.old) (both store.new slots.new) event result) }
+    ensures less { IsLessLeft event result slots.old slots.new }
 {
     match event {
         Event::Insert(session, entry) => insert(store, slots, session, entry),
@@ -80,6 +82,7 @@ fn step<S: PageStore>(store: &mut S, slots: &mut [Option<Op>], session: u32) -> 
     ensures sessions { length slots.new ≡ length slots.old }
     ensures does { Carries S.PageStore (both store.old slots.old) (both store.new slots.new)
         (Does S.PageStore (both store.old slots.old) (both store.new slots.new) (Event.Step session) result) }
+    ensures less { IsLessLeft (Event.Step session) result slots.old slots.new }
 {
     if !is_running(slots, session) {
         return refuse_idle(store.is_stopped());
@@ -91,6 +94,7 @@ fn next<S: PageStore>(store: &S, slots: &mut [Option<Op>], session: u32) -> Answ
     ensures sessions { length slots.new ≡ length slots.old }
     ensures does { Carries S.PageStore (both store.now slots.old) (both store.now slots.new)
         (Does S.PageStore (both store.now slots.old) (both store.now slots.new) (Event.Next session) result) }
+    ensures less { IsLessLeft (Event.Next session) result slots.old slots.new }
 {
     if !is_running(slots, session) {
         return refuse_idle(false);

@@ -35,6 +35,7 @@ impl<S: PageStore> World<S> {
     ghost use Rattle.page_action.specs.Contents.{entry_on_live_leaf};
     ghost use Rattle.page_action.specs.States.{Continues};
     ghost use Rattle.schedule.specs.Moments.{has_call};
+    ghost use Rattle.schedule.specs.Runs.{IsLessLeft};
     ghost use Rattle.schedule.specs.Promises.{IsUnused, answers_behind};
     ghost use Rattle.schedule.specs.Worlds.{WorldFits, WorldKeeps, WorldIsSafe, WorldRuns, WorldCarries};
 
@@ -75,6 +76,8 @@ impl<S: PageStore> World<S> {
         ensures sessions { length self.new.slots.items ≡ length self.old.slots.items }
         ensures runs { WorldCarries S.PageStore self.old self.new
             (WorldRuns S.PageStore self.old self.new (event ∷ []) (result ∷ [])) }
+        // Whatever fits: a step that ends no call leaves less to do, and so does an entry that is given.
+        ensures less { IsLessLeft event result self.old.slots.items self.new.slots.items }
     {
         happening::one(&mut self.store, &mut self.slots, event)
     }
