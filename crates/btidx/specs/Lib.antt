@@ -2,3 +2,4 @@ pub mod Spelling
 pub mod Left
 pub mod Printing
 pub mod Script
+pub mod Events

@@ -3,6 +3,7 @@
 
 mod event;
 mod happening;
+mod memory;
 mod over_device;
 mod world;
 

@@ -16,7 +16,7 @@ use std::alloc::Global;
 /// continuation that fits it afterwards, by events with exactly these answers.
 #[derive(Drop)]
 pub struct World<S> {
-    store: S,
+    pub(crate) store: S,
     slots: Vec<Option<Op>>,
     ghost few: { length slots.items ≤ 64 },
 }
