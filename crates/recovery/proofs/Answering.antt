@@ -14,7 +14,8 @@ use Rattle.page_store.proofs.Restarting.{length-superblock}
 use Rattle.page_store.specs.Rooms.{limits_of_room, pages_of_room}
 use Rattle.redo_log.specs.Reading.{IsOpened, IsDamaged}
 use Rattle.redo_log.specs.declared.log.Log.{Log}
-use Rattle.recovery.specs.Opening.{AreFrames, HasIndex, IsFront, IsRestored, IsRefusal, IsSynced, IsRestoreRefusal, IsNoMemoryOrIo, AreSamePages}
+use Rattle.recovery.specs.Index.{HasIndex}
+use Rattle.recovery.specs.Opening.{AreFrames, IsFront, IsRestored, IsRefusal, IsSynced, IsRestoreRefusal, IsNoMemoryOrIo, AreSamePages}
 use Rattle.recovery.specs.Reading.{AreInUse, IsDamagedAt, IsAllRead}
 use Rattle.recovery.specs.declared.opening.Parts.{Parts}
 use Rattle.recovery.specs.declared.reading.Found.{Found}

@@ -4,3 +4,4 @@ pub mod Blocks
 pub mod Named
 pub mod Restoring
 pub mod Answering
+pub mod Emptying

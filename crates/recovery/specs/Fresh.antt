@@ -1,6 +1,6 @@
 -- A device with an empty index on it.
 use Rattle.std.specs.Prelude.{◌≡◌, ◌⊎◌, ℕ, suc, ◌<◌, ◌≤◌, false, Some, None, List, [], ◌∷◌, length, replicate, Result, MatchResult}
-use Rattle.device.specs.Disk.{Moment, Trace}
+use Rattle.device.specs.Disk.{Moment, Trace, MayLeave}
 use Rattle.device.specs.Places.{Has, OnDisk}
 use Rattle.index_model.specs.Limits.{AreLimits}
 use Rattle.index_model.specs.declared.fault.Fault.{Fault}
@@ -12,6 +12,7 @@ use Rattle.page_codec.specs.Spelling.{page_bytes}
 use Rattle.page_codec.specs.declared.page.Items.TheVariants.{Meta}
 use Rattle.page_codec.specs.declared.page.Page.{Page}
 use Rattle.page_codec.specs.declared.page.PageState.TheVariants.{Live}
+use Rattle.recovery.specs.Index.{HasIndex}
 use Rattle.page_store.specs.Restart.{superblock, place}
 
 -- how many bytes an index takes
@@ -63,6 +64,14 @@ pub record HasBody (limits : Limits) (m : Moment) : Type 0 where
 pub record IsFresh (limits : Limits) (m : Moment) : Type 0 where
   pub superblock : OnDisk 0 (superblock limits) m
   pub body : HasBody limits m
+
+-- whatever a crash leaves is an index of two pages: the metapage and the leaf of an empty one
+pub record LeavesEmpty (limits : Limits) (m : Moment) : Type 0 where
+  pub meta : Page
+  pub is_meta : IsFirstMeta meta
+  pub leaf : Page
+  pub is_leaf : IsFirstLeaf leaf
+  pub leaves : (image : List ℕ) → MayLeave m image → HasIndex limits (meta ∷ leaf ∷ []) image
 
 -- done on limits in their ranges and a device that is long enough, no call of which failed; or refused: bad limits, or
 -- else too short a device, nothing changed; or a call of the device failed once

@@ -1,4 +1,5 @@
 pub mod Superblock
+pub mod Index
 pub mod Fresh
 pub mod Reading
 pub mod Homing

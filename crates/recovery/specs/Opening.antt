@@ -10,7 +10,7 @@ use Rattle.page_action.specs.States.{State}
 use Rattle.page_action.specs.Stored.{AreStored}
 use Rattle.page_codec.specs.declared.page.Page.{Page}
 use Rattle.page_store.specs.Logged.{StandsOpened}
-use Rattle.page_store.specs.Restart.{superblock, place, RestartsTo}
+use Rattle.page_store.specs.Restart.{superblock, place}
 use Rattle.page_store.specs.Rooms.{pages_of_room}
 use Rattle.page_store.specs.Stores.{state_of, device_of, opened_state, IsOwnStore}
 use Rattle.page_store.specs.declared.store.Store.{Store}
@@ -64,12 +64,6 @@ IsRefusal honest frames old new fault =
 -- no crash changes a byte
 abbrev pub IsSynced : Moment → Type 0
 IsSynced m = (i : ℕ) → m.loose i ≡ false
-
--- the bytes are an index of these limits, in their ranges, with these pages, one or more
-pub record HasIndex (limits : Limits) (pages : List Page) (file : List ℕ) : Type 0 where
-  pub allowed : AreLimits limits
-  pub some : 0 < length pages
-  pub restarts : RestartsTo limits file pages
 
 -- an opened log, and what was read
 pub record IsRestored (limits : Limits) (honest : Bool) (file : List ℕ) (parts : Parts) : Type 0 where

@@ -7,7 +7,7 @@ ghost use Rattle.device.specs.Places.{Has, OnDisk, ChangesOnly};
 ghost use Rattle.index_model.specs.Limits.{AreLimits};
 ghost use Rattle.page_codec.specs.Spelling.{page_bytes};
 ghost use Rattle.page_store.specs.Restart.{place};
-ghost use Rattle.recovery.specs.Fresh.{size_of, IsFirstMeta, IsFirstLeaf, AreZero, HasPages, HasBody, IsFresh, CreateEnds};
+ghost use Rattle.recovery.specs.Fresh.{size_of, IsFirstMeta, IsFirstLeaf, AreZero, HasPages, HasBody, IsFresh, LeavesEmpty, CreateEnds};
 
 use crate::superblock::spell_superblock;
 use arrayvec::ArrayVec;
@@ -175,10 +175,12 @@ fn write_index<D: Device>(device: &mut D, limits: &Limits) -> Result<(), Fault>
 /// metapage, one empty leaf, and zeros in all other blocks, all of it synced.
 ///
 /// Refused, with the device as it was: limits out of their ranges (`BadLimits`); a device shorter than
-/// 4,096 + `log_bytes` + 4,096 * `pages` bytes (`DeviceTooSmall`). A failed device call answers `Io`; then the device
-/// is to be made anew, by this call. It takes no memory.
+/// 4,096 + `log_bytes` + 4,096 * `pages` bytes (`DeviceTooSmall`). A failed device call answers `Io`; then, and after a
+/// crash inside of it, the device is to be made anew, by this call, which takes any bytes. It takes no memory.
 pub fn create<D: Device>(device: &mut D, limits: &Limits) -> Result<(), Fault>
     ensures made { OnOk result (IsFresh limits.now (D.trace device.new).now) }
+    // So it can be opened, also after a crash.
+    ensures own { OnOk result (LeavesEmpty limits.now (D.trace device.new).now) }
     ensures ends { CreateEnds limits.now result (D.trace device.old) (D.trace device.new)
         (D.failures device.old) (D.failures device.new) }
     ensures len { length (D.trace device.new).now.seen ≡ length (D.trace device.old).now.seen }

@@ -10,7 +10,8 @@ ghost use Rattle.page_store.specs.Stores.{state_of, held_by};
 ghost use Rattle.index_model.specs.declared.limits.Limits.{Limits};
 ghost use Rattle.page_store.specs.Restart.{place, RestartsTo, LeavesPages};
 ghost use Rattle.redo_log.specs.Reading.{IsOpened, IsDamaged, ReplayFails};
-ghost use Rattle.recovery.specs.Opening.{AreFrames, IsFront, IsFrontRefusal, IsRestoreRefusal, IsSynced, IsRestored, IsFound, HasIndex, IsRefusal, AreSamePages, IsNoMemoryOrIo, IsFreshlyOpened, StandsOnDevice, IsSameIndex, device_left};
+ghost use Rattle.recovery.specs.Index.{HasIndex};
+ghost use Rattle.recovery.specs.Opening.{AreFrames, IsFront, IsFrontRefusal, IsRestoreRefusal, IsSynced, IsRestored, IsFound, IsRefusal, AreSamePages, IsNoMemoryOrIo, IsFreshlyOpened, StandsOnDevice, IsSameIndex, device_left};
 
 use crate::creation::block_at;
 use crate::homing::bring_home;
