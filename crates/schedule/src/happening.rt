@@ -1,12 +1,12 @@
 //! One event of a store with its sessions.
 
-ghost use Rattle.std.specs.Prelude.{◌≡◌, ◌<◌, ◌≤◌, ◌∷◌, [], true, List, Option, length, slice_get};
+ghost use Rattle.std.specs.Prelude.{◌≡◌, ◌<◌, ◌≤◌, ◌+◌, ◌∷◌, [], true, List, Option, IfErr, IsOk, OnOk, OnErr, length, slice_get, take, vec_len, vec_capacity};
 ghost use Rattle.page_action.specs.States.{Continues};
 ghost use Rattle.session_calls.specs.Sessions.{no_call};
 ghost use Rattle.session_calls.specs.declared.op.Op.{Op};
 ghost use Rattle.schedule.specs.Moments.{has_call};
 ghost use Rattle.schedule.specs.Runs.{session_to_begin, IsLessLeft};
-ghost use Rattle.schedule.specs.Promises.{both, Carries, Does, Runs};
+ghost use Rattle.schedule.specs.Promises.{both, Carries, Does, Runs, answers_behind};
 
 use crate::event::Event;
 use index_model::{Entry, Fault, Range, Session};
@@ -25,6 +25,35 @@ pub fn one<S: PageStore>(store: &mut S, slots: &mut [Option<Op>], event: Event) 
     ensures less { IsLessLeft event result slots.old slots.new }
 {
     pick(store, slots, event)
+}
+
+/// Does these events one after the other, each as `one` does, and puts an answer for each behind the answers that are
+/// there. Refused with `NoMemory` where there is no room for the answers: nothing is done then. There are 64 slots at most.
+pub fn run<S: PageStore>(
+    store: &mut S,
+    slots: &mut [Option<Op>],
+    events: &[Event],
+    answers: &mut Vec<Answer>,
+) -> Result<(), Fault>
+    requires few { length slots.old ≤ 64 }
+    ensures steps { Continues S.follows store.old store.new }
+    ensures sessions { length slots.new ≡ length slots.old }
+    ensures runs { OnOk result (Carries S.PageStore (both store.old slots.old) (both store.new slots.new)
+        (Runs S.PageStore (both store.old slots.old) (both store.new slots.new) events.now (answers_behind answers.old.items answers.new.items))) }
+    ensures each { OnOk result (length answers.new.items ≡ length answers.old.items + length events.now) }
+    ensures kept { take (length answers.old.items) answers.new.items ≡ answers.old.items }
+    ensures refused { OnErr result ((store.new ≡ store.old) × (slots.new ≡ slots.old) × (answers.new.items ≡ answers.old.items)) }
+    ensures fault { IfErr result (λ fault. fault ≡ Fault.NoMemory) }
+    ensures room { vec_len answers.old + length events.now ≤ vec_capacity answers.old → IsOk result }
+{
+    let Ok(()) = answers.reserve(events.len()) else {
+        return Err(Fault::NoMemory);
+    };
+    for event in events {
+        let answer = one(store, slots, *event);
+        answers.push_reserved(answer);
+    }
+    Ok(())
 }
 
 // The call of each event.

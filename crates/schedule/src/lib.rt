@@ -8,7 +8,7 @@ mod over_device;
 mod world;
 
 pub use event::Event;
-pub use happening::{is_running, one};
+pub use happening::{is_running, one, run};
 pub use world::{NotMade, World};
 
 #[cfg(test)]

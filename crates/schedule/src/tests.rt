@@ -292,3 +292,25 @@ fn forced_actions_are_left(rt: HostRuntime) -> Result<(), Fail> {
     }
     Ok(())
 }
+
+#[test]
+fn slots_of_another_owner(rt: HostRuntime) -> Result<(), Fail> {
+    let mut store = store(rt.alloc())?;
+    let mut slots = [None, None];
+    let mut answers = Vec::new(rt.alloc());
+    let begun = one(&mut store, &mut slots, Event::Scan(1, ALL));
+    assert_eq!(rt; told(&begun), ("begun", 0));
+    assert!(rt; is_running(&slots, 1));
+    assert!(rt;
+        run(
+            &mut store,
+            &mut slots,
+            &[Event::End(1), Event::Force],
+            &mut answers
+        )
+        .is_ok()
+    );
+    assert!(rt; are_told(answers.as_slice(), &[("ended", 0), ("forced", 0)]));
+    assert!(rt; !is_running(&slots, 1));
+    Ok(())
+}

@@ -13,7 +13,8 @@ use std::alloc::Global;
 /// A store of pages with 1 to 64 sessions, of which each runs one call at most. After it is made, nothing takes memory.
 ///
 /// A world stores no history. Its promise is one of each run: whatever history and calls fitted it before, there is a
-/// continuation that fits it afterwards, by events with exactly these answers.
+/// continuation that fits it afterwards, by events with exactly these answers. Where nobody else writes to the store's
+/// device, a crash at any moment leaves the contents after some first part of that history, with all that was durable.
 #[derive(Drop)]
 pub struct World<S> {
     pub(crate) store: S,
@@ -95,14 +96,7 @@ impl<S: PageStore> World<S> {
         ensures fault { IfErr result (λ fault. fault ≡ Fault.NoMemory) }
         ensures room { vec_len answers.old + length events.now ≤ vec_capacity answers.old → IsOk result }
     {
-        let Ok(()) = answers.reserve(events.len()) else {
-            return Err(Fault::NoMemory);
-        };
-        for event in events {
-            let answer = self.one(*event);
-            answers.push_reserved(answer);
-        }
-        Ok(())
+        happening::run(&mut self.store, &mut self.slots, events, answers)
     }
 
     /// A copy of the page of this block, as it was acted last. Refused with `Io`, `Stopped`, `NoFrame`, and with

@@ -5,11 +5,10 @@ use Rattle.session_calls.specs.declared.answer.Answer.{Answer}
 use Rattle.schedule.specs.declared.event.Event.{Event}
 use Rattle.schedule.specs.Moments.{Moment}
 use Rattle.schedule.specs.Runs.{Ran}
-use Rattle.schedule.specs.Promises.{answers_behind}
-use Rattle.schedule.specs.Worlds.{moment_of}
+use Rattle.schedule.specs.Promises.{both, moment_at, answers_behind}
 use Rattle.schedule.proofs.Keeping.{Laws}
 use Rattle.schedule.proofs.Events.{none_ran, ran_more}
-use Rattle.schedule.proofs.world.World.run.Goals as goal
+use Rattle.schedule.proofs.happening.run.Goals as goal
 
 -- what was answered behind some answers, with one answer more
 behind_more : (before answers : List Answer) (answer : Answer) → length before ≤ length answers → answers_behind before (answers ++ answer ∷ []) ≡ answers_behind before answers ++ answer ∷ []
@@ -33,7 +32,7 @@ loop-event-init g c =
       steps = λ first h. h;
       sessions = refl;
       runs = λ honest start history calls fits.
-          let now : Moment g.row.S.Denot = moment_of c.args.self.now history calls in
+          let now : Moment g.row.S.Denot = moment_at (both c.args.store.now c.args.slots.now) history calls in
           record {
             then_history = history;
             then_calls = calls;
@@ -67,15 +66,15 @@ loop-event-preserved g c =
       steps = λ first h. c.one-answer.ensures.steps first (c.loop-event.invariant.steps first h);
       sessions = c.one-answer.ensures.sessions ∙ c.loop-event.invariant.sessions;
       runs = λ honest start history calls fits.
-          let mid = c.loop-event.self in
-          let new = c.one-answer.new.self in
+          let mid = both c.loop-event.store c.loop-event.slots in
+          let new = both c.one-answer.new.store c.one-answer.new.slots in
           let later = g.met.S.PageStore.follows_later mid.store new.store (c.one-answer.ensures.steps mid.store (g.met.S.PageStore.follows_same mid.store)) in
-          let follows = c.one-answer.ensures.steps c.args.self.now.store (c.loop-event.invariant.steps c.args.self.now.store (g.met.S.PageStore.follows_same c.args.self.now.store)) in
+          let follows = c.one-answer.ensures.steps c.args.store.now (c.loop-event.invariant.steps c.args.store.now (g.met.S.PageStore.follows_same c.args.store.now)) in
           let ran = c.loop-event.invariant.runs (later.honest honest) start history calls fits in
           let one = c.one-answer.ensures.runs honest start ran.then_history ran.then_calls ran.ran.fits in
-          let first : Moment g.row.S.Denot = moment_of c.args.self.now history calls in
-          let between : Moment g.row.S.Denot = moment_of mid ran.then_history ran.then_calls in
-          let last : Moment g.row.S.Denot = moment_of new one.then_history one.then_calls in
+          let first : Moment g.row.S.Denot = moment_at (both c.args.store.now c.args.slots.now) history calls in
+          let between : Moment g.row.S.Denot = moment_at mid ran.then_history ran.then_calls in
+          let last : Moment g.row.S.Denot = moment_at new one.then_history one.then_calls in
           let done : Ran g.S.PageStore start (take index events ++ event ∷ []) (answers_behind before answers ++ answer ∷ []) first last =
           ran_more g.S.PageStore laws start (take index events) (answers_behind before answers) event answer first between last follows ran.ran one.ran in
           let all : Ran g.S.PageStore start (take (index + 1) events) (answers_behind before c.push_reserved.new.self.items) first last =
@@ -89,8 +88,8 @@ loop-event-preserved g c =
 pub returns-clause-runs : goal.returns-clause-runs
 returns-clause-runs g c honest start history calls fits =
     let ran = c.loop-event.invariant.runs honest start history calls fits in
-    let first : Moment g.row.S.Denot = moment_of c.args.self.now history calls in
-    let last : Moment g.row.S.Denot = moment_of c.loop-event.self ran.then_history ran.then_calls in
+    let first : Moment g.row.S.Denot = moment_at (both c.args.store.now c.args.slots.now) history calls in
+    let last : Moment g.row.S.Denot = moment_at (both c.loop-event.store c.loop-event.slots) ran.then_history ran.then_calls in
     record {
       then_history = ran.then_history;
       then_calls = ran.then_calls;
