@@ -3,3 +3,4 @@ pub mod Crashes
 pub mod Runs
 pub mod Promises
 pub mod Worlds
+pub mod Reopening

@@ -4,6 +4,7 @@
 mod event;
 mod happening;
 mod memory;
+mod opening;
 mod over_device;
 mod world;
 

@@ -6,7 +6,14 @@ use page_action::PageStore;
 use page_store::Store;
 
 impl<D: Device> World<Store<D>> {
-    ghost use Rattle.std.specs.Prelude.{ℕ, List};
+    ghost use Rattle.std.specs.Prelude.{ℕ, Bool, List};
+    ghost use Rattle.device.specs.Disk.{MayLeave};
+    ghost use Rattle.index_model.specs.Actions.{Action};
+    ghost use Rattle.index_model.specs.Calls.{Call};
+    ghost use Rattle.index_model.specs.declared.entry.Entry.{Entry};
+    ghost use Rattle.page_store.specs.Logged.{backing_of};
+    ghost use Rattle.schedule.specs.Reopening.{IsIndexAfterFirstPart};
+    ghost use Rattle.schedule.specs.Worlds.{WorldFits, WorldKeeps};
     ghost use Rattle.device.specs.Moments.{MayHaveLeft};
     ghost use Rattle.page_codec.specs.declared.page.Page.{Page};
     ghost use Rattle.page_store.specs.Restart.{RestartsTo};
@@ -22,5 +29,11 @@ impl<D: Device> World<Store<D>> {
             → MayHaveLeft (held_by D.Device s).trace (held_by D.Device t).trace image → ⟦<Store<D> as PageStore>⟧.leaves s t image }
         ensures restarts { (s : Store D D.Device) (image : List ℕ) (pages : List Page)
             → ⟦<Store<D> as PageStore>⟧.restarts s image pages → RestartsTo (state_of D.Device s).limits image pages }
+        // What a crash now leaves of a world that is fitted and keeps its history is an index that can be opened again.
+        ensures index { (start : Entry → Bool) (history : List Action) (calls : List Call) (image : List ℕ)
+            → WorldFits ⟦<Store<D> as PageStore>⟧ self.now start history calls
+            → WorldKeeps ⟦<Store<D> as PageStore>⟧ self.now start history calls
+            → MayLeave (held_by D.Device self.now.store).trace.now image
+            → IsIndexAfterFirstPart (state_of D.Device self.now.store).limits start history (backing_of (held_by D.Device self.now.store)).durable image }
     {}
 }

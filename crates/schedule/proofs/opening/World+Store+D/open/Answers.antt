@@ -1,0 +1,37 @@
+use Rattle.std.proofs.Common.{arith, inl, inr, sym, ap, subst, ◌∙◌, ⊎_elim, IsTrue}
+use Rattle.page_store.specs.Stores.{state_of, device_of}
+use Rattle.tree_shape.specs.Tree.{IsBlinkTree}
+use Rattle.schedule.specs.Promises.{IsUnused}
+use Rattle.schedule.proofs.Opened.{opened_unused, same_start, same_kept}
+use Rattle.schedule.proofs.opening.World+Store+D.open.Goals as goal
+
+pub returns-in-Err-new-clause-begins : goal.returns-in-Err-new-clause-begins
+returns-in-Err-new-clause-begins g c honest frames from to limits pages index tree =
+    ⊎_elim (λ bad. absurd (⊎_elim (λ none. omega (arith, none, from)) (λ many. omega (arith, many, to)) (c.in-Err-new.ensures.limits bad)))
+    (λ memory. inl memory)
+    c.in-Err-new.ensures.memory
+
+pub returns-in-Err-new-clause-cause : goal.returns-in-Err-new-clause-cause
+returns-in-Err-new-clause-cause g c =
+    ⊎_elim (λ bad. inl (bad, c.in-Err-new.ensures.limits bad)) (λ memory. inr (inl memory)) c.in-Err-new.ensures.memory
+
+pub returns-in-Ok-new-clause-begins : goal.returns-in-Ok-new-clause-begins
+returns-in-Ok-new-clause-begins g c honest frames from to limits pages index tree =
+    let store = c.in-Ok.store in
+    let st = state_of g.D.Device store in
+    let same = c.in-Ok.ensures.same (subst (λ (d : g.row.D.Denot). IsTrue (g.D.Device.is_honest d)) (ap (device_of g.D.Device) c.in-Ok-new.ensures.store) honest) frames limits pages index in
+    let opened = c.in-Ok.ensures.opened in
+    let unused : IsUnused st = subst IsUnused (sym opened.is) (opened_unused st.limits st.pages _ _ (subst IsBlinkTree (sym same.pages_are) tree)) in
+    record {
+      limits_are = ap (λ s. (state_of g.D.Device s).limits) c.in-Ok-new.ensures.store ∙ same.limits_are;
+      fits = same_start _ c.in-Ok-new.world st.pages pages same.pages_are (c.in-Ok-new.ensures.fits unused);
+      keeps = same_kept _ c.in-Ok-new.world st.pages pages same.pages_are (c.in-Ok-new.ensures.keeps unused same.own);
+    }
+
+pub returns-in-Err-clause-begins : goal.returns-in-Err-clause-begins
+returns-in-Err-clause-begins g c honest frames from to limits pages index tree =
+    c.in-Err.ensures.same honest frames limits pages index
+
+pub returns-in-Err-clause-cause : goal.returns-in-Err-clause-cause
+returns-in-Err-clause-cause g c =
+    ⊎_elim (λ failed. inr (inr (inl failed))) (λ refused. inr (inr (inr refused.0))) c.in-Err.ensures.cause

@@ -1,0 +1,37 @@
+-- What is left of a world behind a crash, and what a world that is opened again begins with.
+use Rattle.std.specs.Prelude.{◌≡◌, ℕ, ◌≤◌, Bool, List, [], length, take, Result, Ok, Err}
+use Rattle.device.specs.declared.device.Device.{Ghosts as DeviceGhosts}
+use Rattle.index_model.specs.Actions.{Action}
+use Rattle.index_model.specs.declared.entry.Entry.{Entry}
+use Rattle.index_model.specs.declared.limits.Limits.{Limits}
+use Rattle.page_action.specs.Contents.{entry_on_live_leaf}
+use Rattle.page_action.specs.declared.page_store.PageStore.{Ghosts}
+use Rattle.page_codec.specs.declared.page.Page.{Page}
+use Rattle.page_store.specs.Stores.{state_of, device_of}
+use Rattle.page_store.specs.declared.store.Store.{Store}
+use Rattle.recovery.specs.Index.{HasIndex}
+use Rattle.recovery.specs.declared.opening.Refused.{Refused}
+use Rattle.schedule.specs.Crashes.{ArePagesAfter}
+use Rattle.schedule.specs.Worlds.{WorldFits, WorldKeeps}
+use Rattle.schedule.specs.declared.world.World.{World}
+
+-- these bytes are an index whose pages are a B-link tree, with the contents after a first part of the history of at least
+-- so many actions
+pub record IsIndexAfterFirstPart (limits : Limits) (start : Entry → Bool) (history : List Action) (least : ℕ) (image : List ℕ) : Type 0 where
+  pub part : ℕ
+  pub from : least ≤ part
+  pub to : part ≤ length history
+  pub pages : List Page
+  pub index : HasIndex limits pages image
+  pub are : ArePagesAfter start (take part history) pages
+
+-- a world of these limits, fitted by the contents of these pages, no action and no call, which keeps that history
+pub record BeginsWith {D : Type 0} (d : DeviceGhosts D) (g : Ghosts (Store D d)) (limits : Limits) (pages : List Page) (world : World (Store D d)) : Type 0 where
+  pub limits_are : (state_of d world.store).limits ≡ limits
+  pub fits : WorldFits g world (entry_on_live_leaf pages) [] []
+  pub keeps : WorldKeeps g world (entry_on_live_leaf pages) [] []
+
+-- the device as an open left it, in the world or given back
+abbrev pub world_device : {D : Type 0} (d : DeviceGhosts D) → Result (World (Store D d)) (Refused D) → D
+world_device d (Ok world) = device_of d world.store
+world_device d (Err refused) = refused.device
