@@ -1,21 +1,22 @@
 -- An index is restored: its log first, then its pages.
-use Rattle.std.proofs.Common.{◌≡◌, ◌⊎◌, ⊎_elim, inl, inr, ℕ, suc, ◌+◌, ◌<◌, Bool, IsTrue, Result, Ok, Err, List, [], length, take, drop, refl, sym, ◌∙◌, ap, subst}
-use Rattle.std.specs.Prelude.{MatchResult, IfOk, IfErr, IsErrAnd}
+use Rattle.std.proofs.Common.{◌≡◌, ◌≤◌, ◌⊎◌, ⊎_elim, inl, inr, ℕ, suc, ◌+◌, ◌<◌, Bool, IsTrue, Result, Ok, Err, List, [], length, take, drop, refl, sym, ◌∙◌, ap, subst}
+use Rattle.std.specs.Prelude.{MatchResult, IfOk, IfErr, OnOk, IsErrAnd}
 use Rattle.std.proofs.lemmas.List.{take_at}
 use Rattle.device.proofs.Standing.{has_drop}
 use Rattle.device.specs.Disk.{Moment, Trace, next, synced}
 use Rattle.index_model.specs.declared.fault.Fault.{Fault}
 use Rattle.index_model.specs.declared.fault.Fault.TheVariants.{NoMemory, Io, LogDamaged, PageDamaged}
+use Rattle.index_model.specs.Limits.{AreLimits}
 use Rattle.index_model.specs.declared.limits.Limits.{Limits}
 use Rattle.page_codec.specs.declared.page.Page.{Page}
 use Rattle.page_store.specs.Logged.{AreHome, StandsOpened}
-use Rattle.page_store.specs.Restart.{superblock, RestartsTo}
+use Rattle.page_store.specs.Restart.{superblock, place, RestartsTo}
 use Rattle.page_store.proofs.Restarting.{length-superblock}
 use Rattle.page_store.specs.Rooms.{limits_of_room, pages_of_room}
 use Rattle.redo_log.specs.Reading.{IsOpened, IsDamaged}
 use Rattle.redo_log.specs.declared.log.Log.{Log}
 use Rattle.recovery.specs.Index.{HasIndex}
-use Rattle.recovery.specs.Opening.{AreFrames, IsFront, IsRestored, IsRefusal, IsSynced, IsRestoreRefusal, IsNoMemoryOrIo, AreSamePages}
+use Rattle.recovery.specs.Opening.{AreFrames, HasGroups, IsFound, IsFront, IsRestored, IsRefusal, IsSynced, IsRestoreRefusal, IsNoMemoryOrIo, AreSamePages}
 use Rattle.recovery.specs.Reading.{AreInUse, IsDamagedAt, IsAllRead}
 use Rattle.recovery.specs.declared.opening.Parts.{Parts}
 use Rattle.recovery.specs.declared.reading.Found.{Found}
@@ -98,3 +99,15 @@ pub restore_refuses : (limits : Limits) (honest before : Bool) (frames : ℕ) (t
 restore_refuses limits honest before frames t u v e fails middle failed may earlier front same count (inl io) = inl (io.0, io.1 ∙ ap suc count)
 restore_refuses limits honest before frames t u v e fails middle failed may earlier front same count (inr other) =
     inr (inr (limits, may, (λ h. front (earlier h)), subst (λ (w : Trace). IsRestoreRefusal limits honest w v e) same other.0), other.1 ∙ count)
+
+pub found_index : (r : Result Parts Fault) (limits : Limits) (honest : Bool) (t u : Trace) (new : List ℕ) → u ≡ t → AreLimits limits → place limits limits.pages ≤ length new → (IsTrue honest → IsFront limits t.now.seen) → IfOk r (IsRestored limits honest new)
+    → OnOk r (IsTrue honest → HasGroups limits u.now.seen) → IfOk r (IsFound honest t.now.seen new)
+found_index (Ok parts) limits honest t u new same allowed long front restored undamaged = record {
+  limits = limits;
+  allowed = allowed;
+  long = long;
+  restored = restored;
+  front = front;
+  undamaged = λ h. subst (λ (w : Trace). HasGroups limits w.now.seen) same (undamaged h);
+}
+found_index (Err e) limits honest t u new same allowed long front restored undamaged = tt

@@ -14,6 +14,7 @@ use Rattle.page_store.specs.Restart.{superblock, place}
 use Rattle.page_store.specs.Rooms.{pages_of_room}
 use Rattle.page_store.specs.Stores.{state_of, device_of, opened_state, IsOwnStore}
 use Rattle.page_store.specs.declared.store.Store.{Store}
+use Rattle.redo_log.specs.Groups.{Spells, log_range}
 use Rattle.redo_log.specs.Reading.{IsOpened, IsDamaged}
 use Rattle.recovery.specs.Reading.{AreInUse, IsDamagedAt, IsAllRead, greatest_cycle}
 use Rattle.recovery.specs.Superblock.{IsNoSuperblock}
@@ -38,6 +39,10 @@ IsNoFront file fault = IsNoSuperblock (take 4096 file) fault
 -- the faults of a superblock
 abbrev pub IsFrontFault : Fault → Type 0
 IsFrontFault fault = (fault ≡ BadSuper) ⊎ (fault ≡ BadVersion) ⊎ (fault ≡ BadLimits)
+
+-- the log's range is groups: each open one is whole
+abbrev pub HasGroups : Limits → List ℕ → Type 0
+HasGroups limits file = (groups : List (List Page)) × Spells limits (log_range limits file) groups
 
 -- refused before anything is done: frames out of their range; or else a device of less than 4,096 bytes; or else what
 -- stands in front
@@ -70,13 +75,14 @@ pub record IsRestored (limits : Limits) (honest : Bool) (file : List ℕ) (parts
   pub opened : IsOpened limits parts.log
   pub read : IsAllRead limits honest file parts.found
 
--- the index that was found: restored, on a device that is long enough; and its superblock stands there
+-- the index that was found: restored, on a device that is long enough; its superblock stood there, and an undamaged log
 pub record IsFound (honest : Bool) (old new : List ℕ) (parts : Parts) : Type 0 where
   pub limits : Limits
   pub allowed : AreLimits limits
   pub long : place limits limits.pages ≤ length new
   pub restored : IsRestored limits honest new parts
   pub front : IsTrue honest → IsFront limits old
+  pub undamaged : IsTrue honest → HasGroups limits old
 
 -- the pages that were read are these, which stand at home
 pub record AreSamePages (pages : List Page) (m : Moment) (parts : Parts) : Type 0 where
@@ -96,9 +102,11 @@ pub record IsFreshlyOpened (st : State) : Type 0 where
   pub stored : AreStored st.limits 0 st.pages
   pub is : st ≡ opened_state st.limits st.pages (replicate (length st.pages) 0) (greatest_cycle st.pages)
 
--- the index of a store stands on its device: its superblock stood there before, its pages stand there now
+-- the index of a store stands on its device: its superblock and an undamaged log stood there before, its pages stand
+-- there now
 pub record StandsOnDevice (st : State) (old new : List ℕ) : Type 0 where
   pub front : IsFront st.limits old
+  pub undamaged : HasGroups st.limits old
   pub in_use : AreInUse st.limits st.pages new
 
 -- the store has these pages, and is an own device's

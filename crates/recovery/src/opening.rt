@@ -11,7 +11,7 @@ ghost use Rattle.index_model.specs.declared.limits.Limits.{Limits};
 ghost use Rattle.page_store.specs.Restart.{place, RestartsTo, LeavesPages};
 ghost use Rattle.redo_log.specs.Reading.{IsOpened, IsDamaged, ReplayFails};
 ghost use Rattle.recovery.specs.Index.{HasIndex};
-ghost use Rattle.recovery.specs.Opening.{AreFrames, IsFront, IsFrontRefusal, IsRestoreRefusal, IsSynced, IsRestored, IsFound, IsRefusal, AreSamePages, IsNoMemoryOrIo, IsFreshlyOpened, StandsOnDevice, IsSameIndex, device_left};
+ghost use Rattle.recovery.specs.Opening.{AreFrames, HasGroups, IsFront, IsFrontRefusal, IsRestoreRefusal, IsSynced, IsRestored, IsFound, IsRefusal, AreSamePages, IsNoMemoryOrIo, IsFreshlyOpened, StandsOnDevice, IsSameIndex, device_left};
 
 use crate::creation::block_at;
 use crate::homing::bring_home;
@@ -74,6 +74,7 @@ fn restore_log<D: Device>(alloc: Global, device: &mut D, limits: Limits) -> Resu
     requires allowed { AreLimits limits }
     requires inside { place limits limits.pages ≤ length (D.trace device.old).now.seen }
     ensures opened { IfOk result (IsOpened limits) }
+    ensures undamaged { OnOk result (IsTrue (D.is_honest device.new) → HasGroups limits (D.trace device.old).now.seen) }
     ensures same { IsTrue (D.is_honest device.new) → IsSynced (D.trace device.old).now
         → (pages : List Page) → RestartsTo limits (D.trace device.old).now.seen pages
         → MatchResult result (λ log. StandsOpened log (D.trace device.new).now pages) IsNoMemoryOrIo }
@@ -102,6 +103,7 @@ fn restore<D: Device>(alloc: Global, device: &mut D, limits: Limits) -> Result<P
     requires allowed { AreLimits limits }
     requires inside { place limits limits.pages ≤ length (D.trace device.old).now.seen }
     ensures restored { IfOk result (IsRestored limits (D.is_honest device.new) (D.trace device.new).now.seen) }
+    ensures undamaged { OnOk result (IsTrue (D.is_honest device.new) → HasGroups limits (D.trace device.old).now.seen) }
     ensures same { IsTrue (D.is_honest device.new) → (pages : List Page) → 0 < length pages
         → RestartsTo limits (D.trace device.old).now.seen pages
         → MatchResult result (AreSamePages pages (D.trace device.new).now) IsNoMemoryOrIo }

@@ -1,10 +1,10 @@
-use Rattle.std.proofs.Common.{⊎_elim, inl, inr, sym, subst}
+use Rattle.std.proofs.Common.{◌≤◌, ⊎_elim, inl, inr, length, sym, ap, subst, arith}
 use Rattle.device.specs.Disk.{Trace}
 use Rattle.device.specs.Moments.{Goes}
 use Rattle.index_model.specs.declared.limits.Limits.{Limits}
-use Rattle.page_store.specs.Restart.{LeavesPages, RestartsTo}
+use Rattle.page_store.specs.Restart.{place, LeavesPages, RestartsTo}
 use Rattle.recovery.proofs.Blocks.{given}
-use Rattle.recovery.proofs.Answering.{refused, front_of, one_front, found_same, err_map, restore_refuses}
+use Rattle.recovery.proofs.Answering.{refused, front_of, one_front, found_same, found_index, err_map, restore_refuses}
 use Rattle.recovery.proofs.opening.read_index.Goals as goal
 
 pub returns-in_err-limits-clause-same : goal.returns-in_err-limits-clause-same
@@ -41,3 +41,9 @@ returns-clause-cause g c =
     (λ e why. restore_refuses c.in_ok-limits.limits (g.D.Device.is_honest c.restore.new.device) (g.D.Device.is_honest c.find_limits.new.device) c.args.frames (g.D.Device.trace c.args.device.now) (g.D.Device.trace c.find_limits.new.device)
     (g.D.Device.trace c.restore.new.device) e _ _ _ c.in_ok-limits.ensures.frames c.restore.ensures.honest c.in_ok-limits.ensures.front c.find_limits.ensures.trace c.in_ok-limits.ensures.done why)
     c.restore.ensures.cause
+
+pub returns-clause-found : goal.returns-clause-found
+returns-clause-found g c =
+    let long : place c.in_ok-limits.limits c.in_ok-limits.limits.pages ≤ length (g.D.Device.trace c.restore.new.device).now.seen = omega (arith, c.restore.ensures.len, ap (λ (t : Trace). length t.now.seen) c.find_limits.ensures.trace, c.in_ok-limits.ensures.long) in
+    found_index c.restore.result c.in_ok-limits.limits (g.D.Device.is_honest c.restore.new.device) (g.D.Device.trace c.args.device.now) (g.D.Device.trace c.find_limits.new.device) (g.D.Device.trace c.restore.new.device).now.seen
+    c.find_limits.ensures.trace c.in_ok-limits.ensures.allowed long (λ honest. c.in_ok-limits.ensures.front (c.restore.ensures.honest honest)) c.restore.ensures.restored c.restore.ensures.undamaged

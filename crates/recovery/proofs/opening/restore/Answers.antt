@@ -4,6 +4,7 @@ use Rattle.device.specs.Moments.{Goes}
 use Rattle.device.proofs.Going.{goes_on}
 use Rattle.page_store.specs.Restart.{LeavesPages}
 use Rattle.recovery.proofs.Restoring.{sync_leaves}
+use Rattle.recovery.specs.Opening.{HasGroups}
 use Rattle.recovery.proofs.Blocks.{given}
 use Rattle.recovery.proofs.Answering.{refused, firm_then, restarts_then, log_refuses, opened_in_use, pages_refuse, same_pages}
 use Rattle.recovery.proofs.opening.restore.Goals as goal
@@ -75,3 +76,6 @@ returns-clause-moments g c = λ honest pages restarts.
     subst (λ (w : Trace). Goes (LeavesPages limits pages) t w) (sym c.read_pages.ensures.trace)
     (goes_on _ t u _ (sync_leaves limits pages c.sync.result t u restarts c.sync.ensures.trace)
     (c.restore_log.ensures.moments (c.read_pages.ensures.honest honest) (firm_then limits t u is) pages (restarts_then limits t u is pages restarts)))
+
+pub returns-clause-undamaged : goal.returns-clause-undamaged
+returns-clause-undamaged g c = λ honest. subst (λ (w : Trace). HasGroups c.args.limits w.now.seen) c.in_ok-sync.ensures.trace (c.in_ok-log.ensures.undamaged (c.read_pages.ensures.honest honest))

@@ -75,3 +75,6 @@ returns-clause-moments g c = λ honest firm pages restarts.
 
 pub returns-clause-len : goal.returns-clause-len
 returns-clause-len g c = c.reset.ensures.len ∙ (c.bring_home.ensures.len ∙ ap (λ (t : Trace). length t.now.seen) c.replay.ensures.trace)
+
+pub returns-clause-undamaged : goal.returns-clause-undamaged
+returns-clause-undamaged g c = λ honest. (let found = c.in-Ok.ensures.ok (subst IsTrue (c.reset.ensures.honest ∙ c.bring_home.ensures.honest) honest) in (found.groups, found.spells))
