@@ -3,3 +3,4 @@ pub mod Left
 pub mod Printing
 pub mod Script
 pub mod Events
+pub mod Settings

@@ -1,14 +1,28 @@
 //! What the lines of a script are done with: the only file of the program that knows an index.
 
-ghost use Rattle.std.specs.Prelude.{◌≡◌, ◌≤◌, OnOk};
+ghost use Rattle.std.specs.Prelude.{◌≡◌, ◌≤◌, ◌∷◌, [], true, Bool, List, IfOk, OnOk, OnErr};
+ghost use Rattle.device.specs.Memory.{trace_of};
+ghost use Rattle.index_model.specs.Actions.{Action};
+ghost use Rattle.index_model.specs.Calls.{Call};
+ghost use Rattle.index_model.specs.declared.entry.Entry.{Entry as IndexEntry};
+ghost use Rattle.index_model.specs.declared.limits.Limits.{Limits};
+ghost use Rattle.page_codec.specs.declared.page.Page.{Page};
+ghost use Rattle.page_store.specs.Logged.{backing_of};
+ghost use Rattle.page_store.specs.Stores.{state_of, held_by};
+ghost use Rattle.recovery.specs.Index.{HasIndex};
+ghost use Rattle.tree_shape.specs.Tree.{IsBlinkTree};
 ghost use Rattle.session_calls.specs.Sessions.{work_left, IsDrained};
+ghost use Rattle.schedule.specs.Reopening.{BeginsWith, BeginsEmpty, BeginsAfterFirstPart};
 ghost use Rattle.schedule.specs.Runs.{slot_at};
+ghost use Rattle.schedule.specs.Worlds.{WorldFits, WorldKeeps, WorldCarries, WorldRuns};
+ghost use Rattle.btidx.specs.Settings.{IsSetting};
 
-use device::{CrashImage, MemDevice};
+use device::{CrashImage, Device, MemDevice};
 use index_model::{Entry, Fault, Limits, Range};
+use page_action::PageStore;
 use page_codec::Page;
 use page_store::Store;
-use recovery::{create, open};
+use recovery::create;
 use schedule::{Event, World};
 use session_calls::Answer;
 use std::alloc::Global;
@@ -26,7 +40,9 @@ pub struct Setting {
 
 impl Setting {
     /// Whether each size is in its range.
-    pub fn is_valid(&self) -> bool {
+    pub fn is_valid(&self) -> bool
+        ensures { result ≡ true → IsSetting self.now }
+    {
         self.limits.are_valid()
             && 16 <= self.frames
             && self.frames <= 1_024
@@ -50,12 +66,16 @@ pub struct Engine {
     alloc: Global,
     setting: Setting,
     world: World<Store<MemDevice>>,
+    ghost allowed: { IsSetting setting },
 }
 
 impl Engine {
     /// An empty index, made on a device in memory and opened. Refused with `BadLimits` for a size out of its range, and
     /// with `NoMemory`.
-    pub fn new(alloc: Global, setting: &Setting) -> Result<Engine, Fault> {
+    pub fn new(alloc: Global, setting: &Setting) -> Result<Engine, Fault>
+        ensures empty { IfOk result (λ engine.
+            BeginsEmpty ⟦<MemDevice as Device>⟧ ⟦<Store<MemDevice> as PageStore>⟧ setting.now.limits engine.world) }
+    {
         if !setting.is_valid() {
             return Err(Fault::BadLimits);
         }
@@ -69,7 +89,10 @@ impl Engine {
     }
 
     /// One event.
-    pub fn one(&mut self, event: Event) -> Answer {
+    pub fn one(&mut self, event: Event) -> Answer
+        ensures runs { WorldCarries ⟦<Store<MemDevice> as PageStore>⟧ self.old.world self.new.world
+            (WorldRuns ⟦<Store<MemDevice> as PageStore>⟧ self.old.world self.new.world (event ∷ []) (result ∷ [])) }
+    {
         self.world.one(event)
     }
 
@@ -157,26 +180,35 @@ impl Engine {
 
     /// A crash, and the index opened again, with as many sessions. Refused as `open` is, and with `NoMemory`; the index
     /// is as it was then.
-    pub fn crash(&mut self, image: CrashImage) -> Result<(), Fault> {
+    pub fn crash(&mut self, image: CrashImage) -> Result<(), Fault>
+        ensures reopened { OnOk result ((start : IndexEntry → Bool) (history : List Action) (calls : List Call)
+            → WorldFits ⟦<Store<MemDevice> as PageStore>⟧ self.old.world start history calls
+            → WorldKeeps ⟦<Store<MemDevice> as PageStore>⟧ self.old.world start history calls
+            → BeginsAfterFirstPart ⟦<MemDevice as Device>⟧ ⟦<Store<MemDevice> as PageStore>⟧
+            (state_of ⟦<MemDevice as Device>⟧ self.old.world.store).limits start history
+            (backing_of (held_by ⟦<MemDevice as Device>⟧ self.old.world.store)).durable self.new.world) }
+        ensures refused { OnErr result (self.new ≡ self.old) }
+    {
+        self.world.crash_law();
         let device = self.world.crash(self.alloc, image)?;
         self.world = opened(self.alloc, device, &self.setting)?;
         Ok(())
     }
 }
 
-/// The index on a device, with no call running.
+/// The index on a device, with no call running. Refused as `World::open` is.
 fn opened(
     alloc: Global,
     device: MemDevice,
     setting: &Setting,
-) -> Result<World<Store<MemDevice>>, Fault> {
-    let store = match open(alloc, device, setting.frames) {
-        Ok(store) => store,
-        Err(refused) => return Err(refused.fault),
-    };
-    match World::new(alloc, store, setting.sessions) {
+) -> Result<World<Store<MemDevice>>, Fault>
+    ensures begins { IsSetting setting.now → (limits : Limits) (pages : List Page)
+        → HasIndex limits pages (trace_of device).now.seen → IsBlinkTree pages
+        → IfOk result (BeginsWith ⟦<MemDevice as Device>⟧ ⟦<Store<MemDevice> as PageStore>⟧ limits pages) }
+{
+    match World::open(alloc, device, setting.frames, setting.sessions) {
         Ok(world) => Ok(world),
-        Err(not_made) => Err(not_made.fault),
+        Err(refused) => Err(refused.fault),
     }
 }
 

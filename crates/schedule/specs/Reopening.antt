@@ -1,5 +1,5 @@
 -- What is left of a world behind a crash, and what a world that is opened again begins with.
-use Rattle.std.specs.Prelude.{◌≡◌, ℕ, ◌≤◌, Bool, List, [], length, take, Result, Ok, Err}
+use Rattle.std.specs.Prelude.{◌≡◌, ℕ, ◌≤◌, Bool, false, List, [], length, take, Result, Ok, Err}
 use Rattle.device.specs.declared.device.Device.{Ghosts as DeviceGhosts}
 use Rattle.index_model.specs.Actions.{Action}
 use Rattle.index_model.specs.declared.entry.Entry.{Entry}
@@ -35,3 +35,19 @@ pub record BeginsWith {D : Type 0} (d : DeviceGhosts D) (g : Ghosts (Store D d))
 abbrev pub world_device : {D : Type 0} (d : DeviceGhosts D) → Result (World (Store D d)) (Refused D) → D
 world_device d (Ok world) = device_of d world.store
 world_device d (Err refused) = refused.device
+
+-- the world begins with the pages of an index that hold the contents after a first part of the history, of at least so
+-- many actions
+pub record BeginsAfterFirstPart {D : Type 0} (d : DeviceGhosts D) (g : Ghosts (Store D d)) (limits : Limits) (start : Entry → Bool) (history : List Action) (least : ℕ) (world : World (Store D d)) : Type 0 where
+  pub part : ℕ
+  pub from : least ≤ part
+  pub to : part ≤ length history
+  pub pages : List Page
+  pub are : ArePagesAfter start (take part history) pages
+  pub begins : BeginsWith d g limits pages world
+
+-- the world begins with the pages of an empty index
+pub record BeginsEmpty {D : Type 0} (d : DeviceGhosts D) (g : Ghosts (Store D d)) (limits : Limits) (world : World (Store D d)) : Type 0 where
+  pub pages : List Page
+  pub empty : (e : Entry) → entry_on_live_leaf pages e ≡ false
+  pub begins : BeginsWith d g limits pages world
