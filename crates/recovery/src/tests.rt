@@ -222,7 +222,7 @@ fn cycles(alloc: Global, device: MemDevice) -> Option<(u32, u32, u32)> {
 #[test]
 fn each_call_of_an_open_stops(rt: HostRuntime) -> Result<(), Fail> {
     let device = busy_device(&rt)?;
-    let mut stopped = 0;
+    let mut stopped: u32 = 0;
     for image in IMAGES {
         for n in 1..14 {
             let mut left = device.crash(rt.alloc(), image)?;
@@ -233,7 +233,7 @@ fn each_call_of_an_open_stops(rt: HostRuntime) -> Result<(), Fail> {
                 }
                 Err(refused) => {
                     assert_eq!(rt; refused.fault, Fault::Io);
-                    stopped += 1;
+                    stopped = stopped.saturating_add(1);
                     for again in IMAGES {
                         let twice = refused.device.crash(rt.alloc(), again)?;
                         assert_eq!(rt; cycles(rt.alloc(), twice), Some((3, 7, 6)));
