@@ -1,6 +1,6 @@
 -- The pages of an empty index are a tree with no entry on it.
 use Rattle.std.specs.Prelude.{◌≡◌, false, ◌||◌, List, [], ◌∷◌}
-use Rattle.std.proofs.Common.{refl, sym, ap, subst, ◌∙◌}
+use Rattle.std.proofs.Common.{refl, ap, ◌∙◌}
 use Rattle.index_model.specs.Order.{is_among}
 use Rattle.index_model.specs.declared.entry.Entry.{Entry}
 use Rattle.page_action.specs.Contents.{live_entries, is_on, entry_on_live_leaf}

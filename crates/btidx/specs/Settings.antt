@@ -1,5 +1,5 @@
 -- The sizes that a script may be run with.
-use Rattle.std.specs.Prelude.{ℕ, ◌≤◌}
+use Rattle.std.specs.Prelude.{◌≤◌}
 use Rattle.btidx.specs.declared.engine.Setting.{Setting}
 
 -- as many pages in memory, and as many sessions, as an index may have

@@ -3,7 +3,7 @@
 ghost use Rattle.std.specs.Prelude.{◌≡◌, IfOk, IfErr};
 ghost use Rattle.device.specs.Disk.{MayLeave, first};
 ghost use Rattle.device.specs.Memory.{trace_of, left_by, plan_of};
-ghost use Rattle.device.specs.Plans.{no_plan};
+ghost use Rattle.device.specs.Plans.{no_plan, failing_at, stopping_at};
 ghost use Rattle.page_store.specs.Stores.{state_of, held_by, device_of};
 
 use crate::store::Store;
@@ -15,6 +15,7 @@ impl Store<MemDevice> {
     /// The nth device call from now, of reads, writes and syncs, fails once; 0: none does. A write that fails so is kept.
     /// An earlier such plan is dropped; one of `stop_at` stands beside it.
     pub fn fail_at(&mut self, n: u64)
+        ensures plan { plan_of (device_of ⟦<MemDevice as Device>⟧ self.new) ≡ failing_at n (plan_of (device_of ⟦<MemDevice as Device>⟧ self.old)) }
         ensures state { state_of ⟦<MemDevice as Device>⟧ self.new ≡ state_of ⟦<MemDevice as Device>⟧ self.old }
         ensures held { held_by ⟦<MemDevice as Device>⟧ self.new ≡ held_by ⟦<MemDevice as Device>⟧ self.old }
     {
@@ -25,6 +26,7 @@ impl Store<MemDevice> {
     /// nth is a write it is kept; the later calls do nothing. An earlier such plan is dropped; one of `fail_at` stands
     /// beside it.
     pub fn stop_at(&mut self, n: u64)
+        ensures plan { plan_of (device_of ⟦<MemDevice as Device>⟧ self.new) ≡ stopping_at n (plan_of (device_of ⟦<MemDevice as Device>⟧ self.old)) }
         ensures state { state_of ⟦<MemDevice as Device>⟧ self.new ≡ state_of ⟦<MemDevice as Device>⟧ self.old }
         ensures held { held_by ⟦<MemDevice as Device>⟧ self.new ≡ held_by ⟦<MemDevice as Device>⟧ self.old }
     {

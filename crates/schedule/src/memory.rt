@@ -3,7 +3,7 @@
 ghost use Rattle.std.specs.Prelude.{◌≡◌, Bool, List, IfOk, IfErr};
 ghost use Rattle.device.specs.Disk.{MayLeave, first};
 ghost use Rattle.device.specs.Memory.{trace_of, left_by, plan_of};
-ghost use Rattle.device.specs.Plans.{no_plan};
+ghost use Rattle.device.specs.Plans.{no_plan, failing_at, stopping_at};
 ghost use Rattle.index_model.specs.Actions.{Action};
 ghost use Rattle.index_model.specs.Calls.{Call};
 ghost use Rattle.index_model.specs.declared.entry.Entry.{Entry};
@@ -22,6 +22,8 @@ impl World<Store<MemDevice>> {
     /// The nth device call from now, of reads, writes and syncs, fails once; 0: none does. A write that fails so is kept.
     /// An earlier such plan is dropped; one of `stop_at` stands beside it. What fits is kept.
     pub fn fail_at(&mut self, n: u64)
+        ensures plan { plan_of (device_of ⟦<MemDevice as Device>⟧ self.new.store)
+            ≡ failing_at n (plan_of (device_of ⟦<MemDevice as Device>⟧ self.old.store)) }
         ensures steps { Continues ⟦<Store<MemDevice> as PageStore>⟧.follows self.old.store self.new.store }
         ensures fits { (start : Entry → Bool) (history : List Action) (calls : List Call)
             → WorldFits ⟦<Store<MemDevice> as PageStore>⟧ self.old start history calls
@@ -37,6 +39,8 @@ impl World<Store<MemDevice>> {
     /// nth is a write it is kept; the later calls do nothing. An earlier such plan is dropped; one of `fail_at` stands
     /// beside it. What fits is kept.
     pub fn stop_at(&mut self, n: u64)
+        ensures plan { plan_of (device_of ⟦<MemDevice as Device>⟧ self.new.store)
+            ≡ stopping_at n (plan_of (device_of ⟦<MemDevice as Device>⟧ self.old.store)) }
         ensures steps { Continues ⟦<Store<MemDevice> as PageStore>⟧.follows self.old.store self.new.store }
         ensures fits { (start : Entry → Bool) (history : List Action) (calls : List Call)
             → WorldFits ⟦<Store<MemDevice> as PageStore>⟧ self.old start history calls
