@@ -3,3 +3,4 @@ pub mod Owners
 pub mod Frames
 pub mod Keeping
 pub mod Events
+pub mod Joining

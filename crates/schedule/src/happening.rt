@@ -2,7 +2,7 @@
 
 ghost use Rattle.std.specs.Prelude.{◌≡◌, ◌<◌, ◌≤◌, ◌∷◌, [], true, List, Option, ℕ, length, slice_get};
 ghost use Rattle.page_action.specs.States.{Continues};
-ghost use Rattle.session_calls.specs.Sessions.{no_call, AnswersStep, AnswersNext};
+ghost use Rattle.session_calls.specs.Sessions.{no_call, AnswersStep, AnswersNext, AnswersEnd};
 ghost use Rattle.session_calls.specs.declared.op.Op.{Op};
 ghost use Rattle.schedule.specs.Moments.{has_call};
 ghost use Rattle.schedule.specs.Runs.{session_to_begin, slot_at, IsLessLeft, IsOf, OthersStay, AnswersEvent};
@@ -122,6 +122,7 @@ fn end<S: PageStore>(store: &mut S, slots: &mut [Option<Op>], session: u32) -> A
     ensures does { Carries S.PageStore (both store.old slots.old) (both store.new slots.new)
         (Does S.PageStore (both store.old slots.old) (both store.new slots.new) (Event.End session) result) }
     ensures others { OthersStay session slots.old slots.new }
+    ensures kind { AnswersEnd result }
     ensures ended { IsEnded S.PageStore session (both store.old slots.old) (both store.new slots.new) }
 {
     if !is_running(slots, session) {

@@ -171,6 +171,12 @@ AnswersNext (Some (Scan op)) answer = ⊥
 AnswersNext slot (Refused fault) = Unit {0}
 AnswersNext slot answer = ⊥
 
+-- a call is given up, or it is refused
+abbrev pub AnswersEnd : Answer → Type 0
+AnswersEnd Ended = Unit {0}
+AnswersEnd (Refused fault) = Unit {0}
+AnswersEnd answer = ⊥
+
 -- a refusal has its cause
 abbrev pub IsCaused : Circumstances → Answer → Type 0
 IsCaused at (Refused fault) = HasCause at fault

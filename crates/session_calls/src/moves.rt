@@ -10,7 +10,7 @@ ghost use Rattle.descent.specs.Steps.{IsInOrder};
 ghost use Rattle.insert_split.specs.Inserts.{InsertFits};
 ghost use Rattle.scan.specs.Scans.{ScanFits};
 ghost use Rattle.session_calls.specs.Due.{IsDue, IsDueIn, CountsDown};
-ghost use Rattle.session_calls.specs.Sessions.{SlotFits, CallFits, SessionGoes, work_left, LeavesLess, GivesLess, AnswersStep, AnswersNext, where_stepped, where_asked_next, ends_call, no_call, IsIdleStep, session_of};
+ghost use Rattle.session_calls.specs.Sessions.{SlotFits, CallFits, SessionGoes, work_left, LeavesLess, GivesLess, AnswersStep, AnswersNext, AnswersEnd, where_stepped, where_asked_next, ends_call, no_call, IsIdleStep, session_of};
 ghost use Rattle.page_action.specs.Causes.{nothing_wrong};
 ghost use Rattle.session_calls.specs.declared.op.Op.{Op};
 
@@ -153,6 +153,7 @@ pub fn end<S: PageStore>(store: &mut S, slot: &mut Option<Op>) -> Answer
     ensures steps { Continues S.follows store.old store.new }
     ensures idle { slot.old ≡ None → IsIdleStep false store.old store.new slot.new result }
     ensures over { slot.new ≡ None }
+    ensures kind { AnswersEnd result }
     ensures backing { S.backing store.new ≡ S.backing store.old }
     ensures begun { (S.state store.new).begun ≡ (S.state store.old).begun }
     ensures given_up { (op : Op) → slot.old ≡ Some op
