@@ -381,7 +381,7 @@ later_trans a b c one two = record {
   honest = λ h. one.honest (two.honest h);
 }
 
-durable_more : (few many : ℕ) (answer : Answer) → few ≤ many → IsDurable few answer → IsDurable many answer
+pub durable_more : (few many : ℕ) (answer : Answer) → few ≤ many → IsDurable few answer → IsDurable many answer
 durable_more few many Begun le h = tt
 durable_more few many Going le h = tt
 durable_more few many (Added a u) le h = tt

@@ -4,3 +4,4 @@ pub mod Frames
 pub mod Keeping
 pub mod Events
 pub mod Opened
+pub mod Joining

@@ -1,5 +1,5 @@
 -- What is promised of a store with its sessions, whoever holds them.
-use Rattle.std.specs.Prelude.{◌≡◌, ℕ, Bool, true, Option, List, drop, length}
+use Rattle.std.specs.Prelude.{◌≡◌, ℕ, Bool, true, Option, None, List, drop, length}
 use Rattle.index_model.specs.Actions.{Action}
 use Rattle.index_model.specs.Calls.{Call}
 use Rattle.index_model.specs.declared.entry.Entry.{Entry}
@@ -10,8 +10,9 @@ use Rattle.session_calls.specs.Sessions.{IsIdle}
 use Rattle.session_calls.specs.declared.answer.Answer.{Answer}
 use Rattle.session_calls.specs.declared.op.Op.{Op}
 use Rattle.schedule.specs.Moments.{Moment, Fits}
-use Rattle.schedule.specs.Runs.{EventDoes, Ran}
+use Rattle.schedule.specs.Runs.{EventDoes, Ran, slot_at}
 use Rattle.schedule.specs.declared.event.Event.{Event}
+use Rattle.schedule.specs.declared.event.Event.TheVariants.{Insert, Scan, Step, Next, End, Force}
 
 -- a store, and what each of its sessions runs
 pub record StoreAndSlots (S : Type 0) : Type 0 where
@@ -43,6 +44,21 @@ pub record Runs {S : Type 0} (g : Ghosts S) (old new : StoreAndSlots S) (events 
   pub then_history : List Action
   pub then_calls : List Call
   pub ran : Ran g start events answers (moment_at old history calls) (moment_at new then_history then_calls)
+
+-- the session runs nothing, and nothing else of the log and of the count of calls is changed
+pub record IsEnded {S : Type 0} (g : Ghosts S) (session : ℕ) (old new : StoreAndSlots S) : Type 0 where
+  pub over : slot_at new.slots session ≡ None
+  pub backing : g.backing new.store ≡ g.backing old.store
+  pub begun : (g.state new.store).begun ≡ (g.state old.store).begun
+
+-- behind an `End` the session runs nothing, whatever fitted before
+abbrev pub Ends : {S : Type 0} → Ghosts S → Event → StoreAndSlots S → StoreAndSlots S → Type 0
+Ends g (Insert session e) old new = Unit {0}
+Ends g (Scan session range) old new = Unit {0}
+Ends g (Step session) old new = Unit {0}
+Ends g (Next session) old new = Unit {0}
+Ends g (End session) old new = IsEnded g session old new
+Ends g Force old new = Unit {0}
 
 -- pages in order, no act since opening, and no session holds anything
 pub record IsUnused (st : State) : Type 0 where

@@ -1,5 +1,5 @@
 -- What an event does, by what it answers, and runs of events.
-use Rattle.std.specs.Prelude.{◌≡◌, ◌⊎◌, ℕ, ◌≤◌, Bool, true, false, Option, Some, None, unwrap_or, Result, Ok, Err, List, [], ◌∷◌, ◌++◌, length, slice_get, slice_set}
+use Rattle.std.specs.Prelude.{◌≡◌, ◌≢◌, ◌⊎◌, ℕ, ◌≤◌, Bool, true, false, Option, Some, None, unwrap_or, Result, Ok, Err, List, [], ◌∷◌, ◌++◌, length, slice_get, slice_set}
 use Rattle.index_model.specs.Actions.{Action}
 use Rattle.index_model.specs.Calls.{Ask, AskInsert, AskScan, Call}
 use Rattle.index_model.specs.Faults.{Circumstances}
@@ -10,7 +10,7 @@ use Rattle.page_action.specs.Causes.{nothing_wrong, where_forced}
 use Rattle.page_action.specs.States.{IsLater}
 use Rattle.page_action.specs.declared.page_store.PageStore.{Ghosts}
 use Rattle.descent.specs.Steps.{OthersRely}
-use Rattle.session_calls.specs.Sessions.{Told, IsCaused, LeavesLess, GivesLess, begun_call, where_stepped, where_asked_next, where_beginning, is_busy}
+use Rattle.session_calls.specs.Sessions.{Told, IsCaused, LeavesLess, GivesLess, AnswersStep, AnswersNext, AnswersEnd, begun_call, where_stepped, where_asked_next, where_beginning, is_busy}
 use Rattle.session_calls.specs.declared.answer.Answer.{Answer}
 use Rattle.session_calls.specs.declared.answer.Answer.TheVariants.{Begun, Going, Added, Ready, Done, Finished, Gave, Ended, Forced, Flushed, Checkpointed, Refused}
 use Rattle.session_calls.specs.declared.op.Op.{Op}
@@ -141,6 +141,33 @@ IsLessLeft (Step session) answer old new = LeavesLess (slot_at old session) (slo
 IsLessLeft (Next session) answer old new = GivesLess (slot_at old session) (slot_at new session) answer
 IsLessLeft (End session) answer old new = Unit {0}
 IsLessLeft Force answer old new = Unit {0}
+
+-- what a step, a `next` or an end may answer, by what the session runs
+abbrev pub AnswersEvent : Event → Answer → List (Option Op) → Type 0
+AnswersEvent (Insert session e) answer slots = Unit {0}
+AnswersEvent (Scan session range) answer slots = Unit {0}
+AnswersEvent (Step session) answer slots = AnswersStep (slot_at slots session) answer
+AnswersEvent (Next session) answer slots = AnswersNext (slot_at slots session) answer
+AnswersEvent (End session) answer slots = AnswersEnd answer
+AnswersEvent Force answer slots = Unit {0}
+
+-- the event is one of this session, or one of no session
+abbrev pub IsOf : ℕ → Event → Type 0
+IsOf session (Insert of e) = of ≡ session
+IsOf session (Scan of range) = of ≡ session
+IsOf session (Step of) = of ≡ session
+IsOf session (Next of) = of ≡ session
+IsOf session (End of) = of ≡ session
+IsOf session Force = Unit {0}
+
+-- ... each of these
+abbrev pub AreOf : ℕ → List Event → Type 0
+AreOf session [] = Unit {0}
+AreOf session (event ∷ events) = IsOf session event × AreOf session events
+
+-- what the other sessions run is as it was
+abbrev pub OthersStay : ℕ → List (Option Op) → List (Option Op) → Type 0
+OthersStay session old new = (other : ℕ) → other ≢ session → slice_get new other ≡ slice_get old other
 
 -- a number of actions that was answered as durable is not above this
 abbrev pub IsDurable : ℕ → Answer → Type 0

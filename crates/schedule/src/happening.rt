@@ -1,12 +1,12 @@
 //! One event of a store with its sessions.
 
-ghost use Rattle.std.specs.Prelude.{◌≡◌, ◌<◌, ◌≤◌, ◌+◌, ◌∷◌, [], true, List, Option, IfErr, IsOk, OnOk, OnErr, length, slice_get, take, vec_len, vec_capacity};
+ghost use Rattle.std.specs.Prelude.{◌≡◌, ◌<◌, ◌≤◌, ◌+◌, ◌∷◌, [], true, List, Option, ℕ, IfErr, IsOk, OnOk, OnErr, length, slice_get, take, vec_len, vec_capacity};
 ghost use Rattle.page_action.specs.States.{Continues};
-ghost use Rattle.session_calls.specs.Sessions.{no_call};
+ghost use Rattle.session_calls.specs.Sessions.{no_call, AnswersStep, AnswersNext, AnswersEnd};
 ghost use Rattle.session_calls.specs.declared.op.Op.{Op};
 ghost use Rattle.schedule.specs.Moments.{has_call};
-ghost use Rattle.schedule.specs.Runs.{session_to_begin, IsLessLeft};
-ghost use Rattle.schedule.specs.Promises.{both, Carries, Does, Runs, answers_behind};
+ghost use Rattle.schedule.specs.Runs.{session_to_begin, slot_at, IsLessLeft, IsOf, OthersStay, AnswersEvent};
+ghost use Rattle.schedule.specs.Promises.{both, Carries, Does, Runs, Ends, IsEnded, answers_behind};
 
 use crate::event::Event;
 use index_model::{Entry, Fault, Range, Session};
@@ -23,6 +23,10 @@ pub fn one<S: PageStore>(store: &mut S, slots: &mut [Option<Op>], event: Event) 
     ensures runs { Carries S.PageStore (both store.old slots.old) (both store.new slots.new)
         (Runs S.PageStore (both store.old slots.old) (both store.new slots.new) (event ∷ []) (result ∷ [])) }
     ensures less { IsLessLeft event result slots.old slots.new }
+    // ... and the slots of the other sessions stay, each kind of call has its answers, and an `End` leaves none.
+    ensures others { (session : ℕ) → IsOf session event → OthersStay session slots.old slots.new }
+    ensures kind { AnswersEvent event result slots.old }
+    ensures ended { Ends S.PageStore event (both store.old slots.old) (both store.new slots.new) }
 {
     pick(store, slots, event)
 }
@@ -64,6 +68,10 @@ fn pick<S: PageStore>(store: &mut S, slots: &mut [Option<Op>], event: Event) -> 
     ensures does { Carries S.PageStore (both store.old slots.old) (both store.new slots.new)
         (Does S.PageStore (both store.old slots.old) (both store.new slots.new) event result) }
     ensures less { IsLessLeft event result slots.old slots.new }
+    // ... and the slots of the other sessions stay, each kind of call has its answers, and an `End` leaves none.
+    ensures others { (session : ℕ) → IsOf session event → OthersStay session slots.old slots.new }
+    ensures kind { AnswersEvent event result slots.old }
+    ensures ended { Ends S.PageStore event (both store.old slots.old) (both store.new slots.new) }
 {
     match event {
         Event::Insert(session, entry) => insert(store, slots, session, entry),
@@ -86,6 +94,7 @@ fn insert<S: PageStore>(
     ensures sessions { length slots.new ≡ length slots.old }
     ensures does { Carries S.PageStore (both store.old slots.old) (both store.new slots.new)
         (Does S.PageStore (both store.old slots.old) (both store.new slots.new) (Event.Insert session entry) result) }
+    ensures others { OthersStay session slots.old slots.new }
 {
     match find(store, slots, session) {
         Ok(known) => begin_insert(store, known, entry, &mut slots[session as usize]),
@@ -99,6 +108,7 @@ fn scan<S: PageStore>(store: &mut S, slots: &mut [Option<Op>], session: u32, ran
     ensures sessions { length slots.new ≡ length slots.old }
     ensures does { Carries S.PageStore (both store.old slots.old) (both store.new slots.new)
         (Does S.PageStore (both store.old slots.old) (both store.new slots.new) (Event.Scan session range) result) }
+    ensures others { OthersStay session slots.old slots.new }
 {
     match find(store, slots, session) {
         Ok(known) => begin_scan(store, known, range, &mut slots[session as usize]),
@@ -112,6 +122,8 @@ fn step<S: PageStore>(store: &mut S, slots: &mut [Option<Op>], session: u32) -> 
     ensures does { Carries S.PageStore (both store.old slots.old) (both store.new slots.new)
         (Does S.PageStore (both store.old slots.old) (both store.new slots.new) (Event.Step session) result) }
     ensures less { IsLessLeft (Event.Step session) result slots.old slots.new }
+    ensures others { OthersStay session slots.old slots.new }
+    ensures kind { AnswersStep (slot_at slots.old session) result }
 {
     if !is_running(slots, session) {
         return refuse_idle(store.is_stopped());
@@ -124,6 +136,8 @@ fn next<S: PageStore>(store: &S, slots: &mut [Option<Op>], session: u32) -> Answ
     ensures does { Carries S.PageStore (both store.now slots.old) (both store.now slots.new)
         (Does S.PageStore (both store.now slots.old) (both store.now slots.new) (Event.Next session) result) }
     ensures less { IsLessLeft (Event.Next session) result slots.old slots.new }
+    ensures others { OthersStay session slots.old slots.new }
+    ensures kind { AnswersNext (slot_at slots.old session) result }
 {
     if !is_running(slots, session) {
         return refuse_idle(false);
@@ -136,6 +150,9 @@ fn end<S: PageStore>(store: &mut S, slots: &mut [Option<Op>], session: u32) -> A
     ensures sessions { length slots.new ≡ length slots.old }
     ensures does { Carries S.PageStore (both store.old slots.old) (both store.new slots.new)
         (Does S.PageStore (both store.old slots.old) (both store.new slots.new) (Event.End session) result) }
+    ensures others { OthersStay session slots.old slots.new }
+    ensures kind { AnswersEnd result }
+    ensures ended { IsEnded S.PageStore session (both store.old slots.old) (both store.new slots.new) }
 {
     if !is_running(slots, session) {
         return refuse_idle(false);

@@ -153,6 +153,30 @@ abbrev pub GivesLess : Option Op → Option Op → Answer → Type 0
 GivesLess before after (Gave (Some e)) = work_left after < work_left before
 GivesLess before after answer = (after ≡ before) × IsDrained before
 
+-- what a step may answer: of an insert, that it goes on or that its entry is added; of a scan, that it goes on, that
+-- entries are ready or that it has given all; and a refusal
+abbrev pub AnswersStep : Option Op → Answer → Type 0
+AnswersStep (Some (Insert op)) Going = Unit {0}
+AnswersStep (Some (Insert op)) (Added action unfinished) = Unit {0}
+AnswersStep (Some (Scan op)) Going = Unit {0}
+AnswersStep (Some (Scan op)) (Ready count) = Unit {0}
+AnswersStep (Some (Scan op)) Done = Unit {0}
+AnswersStep slot (Refused fault) = Unit {0}
+AnswersStep slot answer = ⊥
+
+-- only a scan gives; all else is refused
+abbrev pub AnswersNext : Option Op → Answer → Type 0
+AnswersNext (Some (Scan op)) (Gave entry) = Unit {0}
+AnswersNext (Some (Scan op)) answer = ⊥
+AnswersNext slot (Refused fault) = Unit {0}
+AnswersNext slot answer = ⊥
+
+-- a call is given up, or it is refused
+abbrev pub AnswersEnd : Answer → Type 0
+AnswersEnd Ended = Unit {0}
+AnswersEnd (Refused fault) = Unit {0}
+AnswersEnd answer = ⊥
+
 -- a refusal has its cause
 abbrev pub IsCaused : Circumstances → Answer → Type 0
 IsCaused at (Refused fault) = HasCause at fault

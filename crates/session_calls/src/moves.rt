@@ -10,7 +10,7 @@ ghost use Rattle.descent.specs.Steps.{IsInOrder};
 ghost use Rattle.insert_split.specs.Inserts.{InsertFits};
 ghost use Rattle.scan.specs.Scans.{ScanFits};
 ghost use Rattle.session_calls.specs.Due.{IsDue, IsDueIn, CountsDown};
-ghost use Rattle.session_calls.specs.Sessions.{SlotFits, CallFits, SessionGoes, work_left, LeavesLess, GivesLess, where_stepped, where_asked_next, ends_call, no_call, IsIdleStep, session_of};
+ghost use Rattle.session_calls.specs.Sessions.{SlotFits, CallFits, SessionGoes, work_left, LeavesLess, GivesLess, AnswersStep, AnswersNext, AnswersEnd, where_stepped, where_asked_next, ends_call, no_call, IsIdleStep, session_of};
 ghost use Rattle.page_action.specs.Causes.{nothing_wrong};
 ghost use Rattle.session_calls.specs.declared.op.Op.{Op};
 
@@ -32,6 +32,7 @@ pub fn step<S: PageStore>(store: &mut S, slot: &mut Option<Op>) -> Answer
         → SessionGoes (where_stepped call.ask (S.state store.old) (S.backing store.old) (S.backing store.new) call.session)
         (S.state store.old) (S.state store.new) start history number call slot.new result }
     ensures less { LeavesLess slot.old slot.new result }
+    ensures kind { AnswersStep slot.old result }
     ensures no_more { work_left slot.new ≤ work_left slot.old }
     ensures due { (S.backing store.new).honest ≡ true → (start : Entry → Bool) (history : List Action) (number : ℕ) (call : Call)
         → SlotFits (S.state store.old) start history number call slot.old
@@ -66,6 +67,7 @@ fn step_insert<S: PageStore>(store: &mut S, op: &mut InsertOp) -> (Answer, bool)
         → CallFits (S.state store.old) start history number call (Op.Insert op.old)
         → SessionGoes (where_stepped call.ask (S.state store.old) (S.backing store.old) (S.backing store.new) call.session)
         (S.state store.old) (S.state store.new) start history number call (if result.1 then None else Some (Op.Insert op.new)) result.0 }
+    ensures kind { AnswersStep (Some (Op.Insert op.old)) result.0 }
     ensures less { LeavesLess (Some (Op.Insert op.old)) (if result.1 then None else Some (Op.Insert op.new)) result.0 }
     ensures no_more { work_left (if result.1 then None else Some (Op.Insert op.new)) ≤ work_left (Some (Op.Insert op.old)) }
     ensures due { (S.backing store.new).honest ≡ true → IsInOrder (S.state store.old) → InsertFits (S.state store.old) op.old
@@ -88,6 +90,7 @@ fn step_scan<S: PageStore>(store: &mut S, op: &mut ScanOp) -> (Answer, bool)
         → CallFits (S.state store.old) start history number call (Op.Scan op.old)
         → SessionGoes (where_stepped call.ask (S.state store.old) (S.backing store.old) (S.backing store.new) call.session)
         (S.state store.old) (S.state store.new) start history number call (if result.1 then None else Some (Op.Scan op.new)) result.0 }
+    ensures kind { AnswersStep (Some (Op.Scan op.old)) result.0 }
     ensures less { LeavesLess (Some (Op.Scan op.old)) (if result.1 then None else Some (Op.Scan op.new)) result.0 }
     ensures no_more { work_left (if result.1 then None else Some (Op.Scan op.new)) ≤ work_left (Some (Op.Scan op.old)) }
     ensures due { (S.backing store.new).honest ≡ true → IsInOrder (S.state store.old) → ScanFits (S.state store.old) op.old
@@ -135,6 +138,7 @@ pub fn next(slot: &mut Option<Op>) -> Answer
         → SlotFits st start history number call slot.old
         → SessionGoes (where_asked_next call.ask) st st start history number call slot.new result }
     ensures less { GivesLess slot.old slot.new result }
+    ensures kind { AnswersNext slot.old result }
     ensures due { (items : ℕ) (pages : List Page) (steps : ℕ) → IsDue items pages slot.old steps → IsDue items pages slot.new steps }
 {
     match slot {
@@ -148,6 +152,10 @@ pub fn next(slot: &mut Option<Op>) -> Answer
 pub fn end<S: PageStore>(store: &mut S, slot: &mut Option<Op>) -> Answer
     ensures steps { Continues S.follows store.old store.new }
     ensures idle { slot.old ≡ None → IsIdleStep false store.old store.new slot.new result }
+    ensures over { slot.new ≡ None }
+    ensures kind { AnswersEnd result }
+    ensures backing { S.backing store.new ≡ S.backing store.old }
+    ensures begun { (S.state store.new).begun ≡ (S.state store.old).begun }
     ensures given_up { (op : Op) → slot.old ≡ Some op
         → S.state store.new ≡ after_end (session_of op) (S.state store.old) }
     ensures goes { (start : Entry → Bool) (history : List Action) (number : ℕ) (call : Call)

@@ -1,0 +1,3 @@
+pub mod Composing
+pub mod Tellings
+pub mod Given

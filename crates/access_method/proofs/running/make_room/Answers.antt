@@ -1,0 +1,19 @@
+use Rattle.std.proofs.Common.{refl}
+use Rattle.schedule.proofs.Keeping.{Laws}
+use Rattle.schedule.specs.Promises.{both}
+use Rattle.access_method.specs.Telling.{IsSilent}
+use Rattle.access_method.proofs.Composing.{StoreLaws, goes_nowhere}
+use Rattle.access_method.proofs.running.make_room.Goals as goal
+
+pub returns-else-room-lt5-clause-goes : goal.returns-else-room-lt5-clause-goes
+returns-else-room-lt5-clause-goes g c session slots =
+    let kept : Laws g.S.PageStore = record {
+      same = g.met.S.PageStore.follows_same;
+      durable_few = g.met.S.PageStore.durable_few;
+      own_stays = g.met.S.PageStore.own_stays;
+      past_now = g.met.S.PageStore.past_now;
+      past_stays = g.met.S.PageStore.past_stays;
+      leaves_first = g.met.S.PageStore.leaves_first;
+    } in
+    let laws : StoreLaws g.S.PageStore = record { kept = kept; later = g.met.S.PageStore.follows_later } in
+    goes_nowhere g.S.PageStore laws session IsSilent (both c.args.store.now slots) (λ x. record { history_is = refl; calls_is = refl })
