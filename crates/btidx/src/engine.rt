@@ -18,7 +18,7 @@ ghost use Rattle.schedule.specs.Worlds.{WorldFits, WorldKeeps, WorldCarries, Wor
 ghost use Rattle.btidx.specs.Settings.{IsSetting};
 
 use device::{CrashImage, Device, MemDevice};
-use index_model::{Entry, Fault, Limits, Range};
+use index_model::{DeadRows, Entry, Fault, Limits, Range, RowAddr};
 use page_action::PageStore;
 use page_codec::Page;
 use page_store::Store;
@@ -51,6 +51,20 @@ impl Setting {
     }
 }
 
+/// A set of dead rows without rows: no line names one yet.
+#[derive(Drop)]
+pub struct NoRows {}
+
+impl DeadRows for NoRows {
+    ghost use Rattle.std.specs.Prelude.{false};
+
+    ghost is_in = { λ rows row. false };
+
+    fn is_dead(&self, _row: RowAddr) -> bool {
+        false
+    }
+}
+
 /// Takes what an engine gives one after the other.
 pub trait Sink {
     /// The next entry of a list.
@@ -65,7 +79,7 @@ pub trait Sink {
 pub struct Engine {
     alloc: Global,
     setting: Setting,
-    world: World<Store<MemDevice>>,
+    world: World<Store<MemDevice>, NoRows>,
     ghost allowed: { IsSetting setting },
 }
 
@@ -201,14 +215,20 @@ fn opened(
     alloc: Global,
     device: MemDevice,
     setting: &Setting,
-) -> Result<World<Store<MemDevice>>, Fault>
+) -> Result<World<Store<MemDevice>, NoRows>, Fault>
     ensures begins { IsSetting setting.now → (limits : Limits) (pages : List Page)
         → HasIndex limits pages (trace_of device).now.seen → IsBlinkTree pages
         → IfOk result (BeginsWith ⟦<MemDevice as Device>⟧ ⟦<Store<MemDevice> as PageStore>⟧ limits pages) }
 {
-    match World::open(alloc, device, setting.frames, setting.sessions) {
+    match World::open(
+        alloc,
+        device,
+        setting.frames,
+        setting.sessions,
+        Vec::new(alloc),
+    ) {
         Ok(world) => Ok(world),
-        Err(refused) => Err(refused.fault),
+        Err(not_opened) => Err(not_opened.fault),
     }
 }
 

@@ -40,8 +40,8 @@ pub tree_has_pages : (pages : List Page) → IsBlinkTree pages → 0 < length pa
 tree_has_pages pages tree = (let two : length pages ≡ 2 = ap (λ (ps : List Page). length ps) tree.pages_are in omega arith)
 
 -- a world begins with the contents of these pages, by whatever name they are called
-pub same_start : {S : Type 0} (g : Ghosts S) (world : World S) (read pages : List Page) → read ≡ pages → WorldFits g world (entry_on_live_leaf read) [] [] → WorldFits g world (entry_on_live_leaf pages) [] []
+pub same_start : {S T : Type 0} (g : Ghosts S) (world : World S T) (read pages : List Page) → read ≡ pages → WorldFits g world (entry_on_live_leaf read) [] [] → WorldFits g world (entry_on_live_leaf pages) [] []
 same_start g world read pages same fits = subst (λ (ps : List Page). WorldFits g world (entry_on_live_leaf ps) [] []) same fits
 
-pub same_kept : {S : Type 0} (g : Ghosts S) (world : World S) (read pages : List Page) → read ≡ pages → WorldKeeps g world (entry_on_live_leaf read) [] [] → WorldKeeps g world (entry_on_live_leaf pages) [] []
+pub same_kept : {S T : Type 0} (g : Ghosts S) (world : World S T) (read pages : List Page) → read ≡ pages → WorldKeeps g world (entry_on_live_leaf read) [] [] → WorldKeeps g world (entry_on_live_leaf pages) [] []
 same_kept g world read pages same keeps = subst (λ (ps : List Page). WorldKeeps g world (entry_on_live_leaf ps) [] []) same keeps

@@ -10,9 +10,9 @@ use Rattle.page_codec.specs.declared.page.Page.{Page}
 use Rattle.page_store.specs.Stores.{state_of, device_of}
 use Rattle.page_store.specs.declared.store.Store.{Store}
 use Rattle.recovery.specs.Index.{HasIndex}
-use Rattle.recovery.specs.declared.opening.Refused.{Refused}
 use Rattle.schedule.specs.Crashes.{ArePagesAfter}
 use Rattle.schedule.specs.Worlds.{WorldFits, WorldKeeps}
+use Rattle.schedule.specs.declared.opening.NotOpened.{NotOpened}
 use Rattle.schedule.specs.declared.world.World.{World}
 
 -- these bytes are an index whose pages are a B-link tree, with the contents after a first part of the history of at least
@@ -26,19 +26,19 @@ pub record IsIndexAfterFirstPart (limits : Limits) (start : Entry → Bool) (his
   pub are : ArePagesAfter start (take part history) pages
 
 -- a world of these limits, fitted by the contents of these pages, no action and no call, which keeps that history
-pub record BeginsWith {D : Type 0} (d : DeviceGhosts D) (g : Ghosts (Store D d)) (limits : Limits) (pages : List Page) (world : World (Store D d)) : Type 0 where
+pub record BeginsWith {D T : Type 0} (d : DeviceGhosts D) (g : Ghosts (Store D d)) (limits : Limits) (pages : List Page) (world : World (Store D d) T) : Type 0 where
   pub limits_are : (state_of d world.store).limits ≡ limits
   pub fits : WorldFits g world (entry_on_live_leaf pages) [] []
   pub keeps : WorldKeeps g world (entry_on_live_leaf pages) [] []
 
 -- the device as an open left it, in the world or given back
-abbrev pub world_device : {D : Type 0} (d : DeviceGhosts D) → Result (World (Store D d)) (Refused D) → D
+abbrev pub world_device : {D T : Type 0} (d : DeviceGhosts D) → Result (World (Store D d) T) (NotOpened D T) → D
 world_device d (Ok world) = device_of d world.store
-world_device d (Err refused) = refused.device
+world_device d (Err not_opened) = not_opened.device
 
 -- the world begins with the pages of an index that hold the contents after a first part of the history, of at least so
 -- many actions
-pub record BeginsAfterFirstPart {D : Type 0} (d : DeviceGhosts D) (g : Ghosts (Store D d)) (limits : Limits) (start : Entry → Bool) (history : List Action) (least : ℕ) (world : World (Store D d)) : Type 0 where
+pub record BeginsAfterFirstPart {D T : Type 0} (d : DeviceGhosts D) (g : Ghosts (Store D d)) (limits : Limits) (start : Entry → Bool) (history : List Action) (least : ℕ) (world : World (Store D d) T) : Type 0 where
   pub part : ℕ
   pub from : least ≤ part
   pub to : part ≤ length history
@@ -47,7 +47,7 @@ pub record BeginsAfterFirstPart {D : Type 0} (d : DeviceGhosts D) (g : Ghosts (S
   pub begins : BeginsWith d g limits pages world
 
 -- the world begins with the pages of an empty index
-pub record BeginsEmpty {D : Type 0} (d : DeviceGhosts D) (g : Ghosts (Store D d)) (limits : Limits) (world : World (Store D d)) : Type 0 where
+pub record BeginsEmpty {D T : Type 0} (d : DeviceGhosts D) (g : Ghosts (Store D d)) (limits : Limits) (world : World (Store D d) T) : Type 0 where
   pub pages : List Page
   pub empty : (e : Entry) → entry_on_live_leaf pages e ≡ false
   pub begins : BeginsWith d g limits pages world

@@ -10,6 +10,7 @@ mod world;
 
 pub use event::Event;
 pub use happening::{is_running, one, run};
+pub use opening::NotOpened;
 pub use world::{NotMade, World};
 
 #[cfg(test)]

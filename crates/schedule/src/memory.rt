@@ -13,12 +13,12 @@ ghost use Rattle.schedule.specs.Worlds.{WorldFits, WorldKeeps};
 
 use crate::world::World;
 use device::{CrashImage, Device, MemDevice};
-use index_model::Fault;
+use index_model::{DeadRows, Fault};
 use page_action::PageStore;
 use page_store::Store;
 use std::alloc::Global;
 
-impl World<Store<MemDevice>> {
+impl<T: DeadRows + Drop> World<Store<MemDevice>, T> {
     /// The nth device call from now, of reads, writes and syncs, fails once; 0: none does. A write that fails so is kept.
     /// An earlier such plan is dropped; one of `stop_at` stands beside it. What fits is kept.
     pub fn fail_at(&mut self, n: u64)

@@ -2,11 +2,12 @@
 
 use crate::world::World;
 use device::Device;
+use index_model::DeadRows;
 use page_action::PageStore;
 use page_store::Store;
 
-impl<D: Device> World<Store<D>> {
-    ghost use Rattle.std.specs.Prelude.{ℕ, Bool, List};
+impl<D: Device, T: DeadRows + Drop> World<Store<D>, T> {
+    ghost use Rattle.std.specs.Prelude.{◌≡◌, ℕ, Bool, List};
     ghost use Rattle.device.specs.Disk.{MayLeave};
     ghost use Rattle.index_model.specs.Actions.{Action};
     ghost use Rattle.index_model.specs.Calls.{Call};
@@ -17,7 +18,7 @@ impl<D: Device> World<Store<D>> {
     ghost use Rattle.device.specs.Moments.{MayHaveLeft};
     ghost use Rattle.page_codec.specs.declared.page.Page.{Page};
     ghost use Rattle.page_store.specs.Restart.{RestartsTo};
-    ghost use Rattle.page_store.specs.Stores.{state_of, held_by, IsOwnStore};
+    ghost use Rattle.page_store.specs.Stores.{state_of, held_by, device_of, IsOwnStore};
     ghost use Rattle.page_store.specs.declared.store.Store.{Store};
 
     /// Does nothing: what the words of crashes are for a store over a device. A store is its own where nobody else wrote
@@ -36,4 +37,11 @@ impl<D: Device> World<Store<D>> {
             → MayLeave (held_by D.Device self.now.store).trace.now image
             → IsIndexAfterFirstPart (state_of D.Device self.now.store).limits start history (backing_of (held_by D.Device self.now.store)).durable image }
     {}
+
+    /// The device below.
+    pub fn into_device(self) -> D
+        ensures { result ≡ device_of D.Device self.store }
+    {
+        self.into_store().into_device()
+    }
 }

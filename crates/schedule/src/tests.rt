@@ -4,7 +4,7 @@ ghost use Rattle.device.specs.Memory.{trace_of};
 use super::*;
 use arrayvec::ArrayVec;
 use device::{CrashImage, Device, MemDevice};
-use index_model::{Entry, Fault, Key, Limits, Range, RowAddr};
+use index_model::{DeadRows, Entry, Fault, Key, Limits, Range, RowAddr};
 use page_action::{MapStore, PageStore};
 use page_codec::{Items, Page, PageState};
 use page_store::{Store, StoreRoom};
@@ -12,6 +12,20 @@ use redo_log::Log;
 use session_calls::Answer;
 use std::alloc::Global;
 use std::test::{Fail, *};
+
+/// A set without rows.
+#[derive(Drop)]
+struct NoRows {}
+
+impl DeadRows for NoRows {
+    ghost use Rattle.std.specs.Prelude.{false};
+
+    ghost is_in = { λ rows row. false };
+
+    fn is_dead(&self, _row: RowAddr) -> bool {
+        false
+    }
+}
 
 const LIMITS: Limits = Limits {
     items: 4,
@@ -49,8 +63,8 @@ fn store(alloc: Global) -> Result<MapStore, Fault> {
     Ok(store)
 }
 
-fn world(alloc: Global, sessions: u32) -> Result<World<MapStore>, Fault> {
-    match World::new(alloc, store(alloc)?, sessions) {
+fn world(alloc: Global, sessions: u32) -> Result<World<MapStore, NoRows>, Fault> {
+    match World::new(alloc, store(alloc)?, sessions, Vec::new(alloc)) {
         Ok(world) => Ok(world),
         Err(not_made) => Err(not_made.fault),
     }
@@ -225,7 +239,8 @@ fn one_to_64_sessions(rt: HostRuntime) {
             assert!(rt; false);
             return;
         };
-        let Err(not_made) = World::new(rt.alloc(), store, sessions) else {
+        let sets: Vec<NoRows> = Vec::new(rt.alloc());
+        let Err(not_made) = World::new(rt.alloc(), store, sessions, sets) else {
             assert!(rt; false);
             return;
         };
@@ -235,7 +250,7 @@ fn one_to_64_sessions(rt: HostRuntime) {
 }
 
 // Zeros with a metapage and an empty leaf, which stand in memory alone.
-fn over_device(alloc: Global) -> Result<World<Store<MemDevice>>, Fault> {
+fn over_device(alloc: Global) -> Result<World<Store<MemDevice>, NoRows>, Fault> {
     let mut device = MemDevice::new(alloc, LEN)?;
     if device.len() != LEN || !LIMITS.are_valid() {
         return Err(Fault::DeviceTooSmall);
@@ -244,7 +259,12 @@ fn over_device(alloc: Global) -> Result<World<Store<MemDevice>>, Fault> {
     let mut room = StoreRoom::new(alloc, LIMITS)?;
     room.add(page(0, Some(1), Items::Meta))?;
     room.add(page(1, None, Items::Entries(ArrayVec::new())))?;
-    match World::new(alloc, Store::new(device, found.log, room, 0), 2) {
+    match World::new(
+        alloc,
+        Store::new(device, found.log, room, 0),
+        2,
+        Vec::new(alloc),
+    ) {
         Ok(world) => Ok(world),
         Err(not_made) => Err(not_made.fault),
     }

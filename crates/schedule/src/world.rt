@@ -4,7 +4,7 @@ ghost use Rattle.std.specs.Prelude.{◌≡◌, ◌≤◌, IfOk, IfErr, length, N
 
 use crate::event::Event;
 use crate::happening;
-use index_model::Fault;
+use index_model::{DeadRows, Fault};
 use page_action::PageStore;
 use page_codec::Page;
 use session_calls::{Answer, Op};
@@ -16,20 +16,23 @@ use std::alloc::Global;
 /// continuation that fits it afterwards, by events with exactly these answers. Where nobody else writes to the store's
 /// device, a crash at any moment leaves the contents after some first part of that history, with all that was durable.
 #[derive(Drop)]
-pub struct World<S> {
+pub struct World<S, T> {
     pub(crate) store: S,
     slots: Vec<Option<Op>>,
+    /// The sets of dead rows that events name by their places.
+    sets: Vec<T>,
     ghost few: { length slots.items ≤ 64 },
 }
 
-/// Why a world was not made, with the store as it was.
+/// Why a world was not made, with the store and the sets as they were.
 #[derive(Drop)]
-pub struct NotMade<S> {
+pub struct NotMade<S, T> {
     pub fault: Fault,
     pub store: S,
+    pub sets: Vec<T>,
 }
 
-impl<S: PageStore> World<S> {
+impl<S: PageStore, T: DeadRows + Drop> World<S, T> {
     ghost use Rattle.std.specs.Prelude.{◌≡◌, ◌⊎◌, ◌<◌, ◌≤◌, ◌∷◌, [], true, IfOk, IfErr, OnOk, OnErr, length, slice_get, Some, ◌+◌, take, IsOk, vec_len, vec_capacity};
     ghost use Rattle.index_model.specs.Faults.{HasCause};
     ghost use Rattle.page_action.specs.Causes.{where_read};
@@ -40,20 +43,28 @@ impl<S: PageStore> World<S> {
     ghost use Rattle.schedule.specs.Promises.{IsUnused, answers_behind};
     ghost use Rattle.schedule.specs.Worlds.{WorldFits, WorldKeeps, WorldIsSafe, WorldRuns, WorldCarries};
 
-    /// A world over the store with so many sessions, none of which has a call. Refused with `BadLimits` unless it is
-    /// 1 to 64 sessions, and with `NoMemory`; the store is given back.
+    /// A world over the store with so many sessions, none of which has a call, and the sets of dead rows that its events
+    /// may name. Refused with `BadLimits` unless it is 1 to 64 sessions, and with `NoMemory`; the store and the sets are
+    /// given back.
     ///
     /// Where the store's pages are in order and it has made no act, the world is fitted by the contents of its pages, no
     /// actions and no calls. Where nobody else wrote to its device, it keeps this history over crashes.
-    pub fn new(alloc: Global, store: S, sessions: u32) -> Result<World<S>, NotMade<S>>
+    pub fn new(
+        alloc: Global,
+        store: S,
+        sessions: u32,
+        sets: Vec<T>,
+    ) -> Result<World<S, T>, NotMade<S, T>>
         ensures store { IfOk result (λ world. world.store ≡ store) }
         ensures sessions { IfOk result (λ world. length world.slots.items ≡ sessions) }
+        ensures sets { IfOk result (λ world. world.sets ≡ sets) }
         ensures few { OnOk result ((1 ≤ sessions) × (sessions ≤ 64)) }
         ensures fits { IsUnused (S.state store) → IfOk result (λ world.
             WorldFits S.PageStore world (entry_on_live_leaf (S.state store).pages) [] []) }
         ensures keeps { IsUnused (S.state store) → S.own store → IfOk result (λ world.
             WorldKeeps S.PageStore world (entry_on_live_leaf (S.state store).pages) [] []) }
         ensures given_back { IfErr result (λ not_made. not_made.store ≡ store) }
+        ensures sets_back { IfErr result (λ not_made. not_made.sets ≡ sets) }
         ensures first { IfErr result (λ not_made. (sessions ≡ 0) ⊎ (64 < sessions) → not_made.fault ≡ Fault.BadLimits) }
         ensures limits { IfErr result (λ not_made. not_made.fault ≡ Fault.BadLimits → (sessions ≡ 0) ⊎ (64 < sessions)) }
         ensures memory { IfErr result (λ not_made. (not_made.fault ≡ Fault.BadLimits) ⊎ (not_made.fault ≡ Fault.NoMemory)) }
@@ -62,11 +73,12 @@ impl<S: PageStore> World<S> {
             return Err(NotMade {
                 fault: Fault::BadLimits,
                 store,
+                sets,
             });
         }
         match empty_slots(alloc, sessions) {
-            Ok(slots) => Ok(World { store, slots }),
-            Err(fault) => Err(NotMade { fault, store }),
+            Ok(slots) => Ok(World { store, slots, sets }),
+            Err(fault) => Err(NotMade { fault, store, sets }),
         }
     }
 
@@ -75,6 +87,7 @@ impl<S: PageStore> World<S> {
     pub fn one(&mut self, event: Event) -> Answer
         ensures steps { Continues S.follows self.old.store self.new.store }
         ensures sessions { length self.new.slots.items ≡ length self.old.slots.items }
+        ensures sets { self.new.sets ≡ self.old.sets }
         ensures runs { WorldCarries S.PageStore self.old self.new
             (WorldRuns S.PageStore self.old self.new (event ∷ []) (result ∷ [])) }
         // Whatever fits: a step that ends no call leaves less to do, and so does an entry that is given.
@@ -88,6 +101,7 @@ impl<S: PageStore> World<S> {
     pub fn run(&mut self, events: &[Event], answers: &mut Vec<Answer>) -> Result<(), Fault>
         ensures steps { Continues S.follows self.old.store self.new.store }
         ensures sessions { length self.new.slots.items ≡ length self.old.slots.items }
+        ensures sets { self.new.sets ≡ self.old.sets }
         ensures runs { OnOk result (WorldCarries S.PageStore self.old self.new
             (WorldRuns S.PageStore self.old self.new events.now (answers_behind answers.old.items answers.new.items))) }
         ensures each { OnOk result (length answers.new.items ≡ length answers.old.items + length events.now) }
@@ -103,6 +117,7 @@ impl<S: PageStore> World<S> {
     /// `PageDamaged` for a block that is not in use. What fits is kept.
     pub fn page(&mut self, block: u32) -> Result<Page, Fault>
         ensures steps { Continues S.follows self.old.store self.new.store }
+        ensures sets { self.new.sets ≡ self.old.sets }
         ensures fits { WorldCarries S.PageStore self.old self.new (WorldFits S.PageStore self.new) }
         ensures crash { WorldCarries S.PageStore self.old self.new (WorldIsSafe S.PageStore self.old self.new) }
         ensures page { (S.backing self.new.store).honest ≡ true
@@ -116,6 +131,7 @@ impl<S: PageStore> World<S> {
     pub fn abandon(&mut self, session: u32) -> Answer
         ensures steps { Continues S.follows self.old.store self.new.store }
         ensures sessions { length self.new.slots.items ≡ length self.old.slots.items }
+        ensures sets { self.new.sets ≡ self.old.sets }
         ensures runs { WorldCarries S.PageStore self.old self.new
             (WorldRuns S.PageStore self.old self.new (Event.End session ∷ []) (result ∷ [])) }
     {

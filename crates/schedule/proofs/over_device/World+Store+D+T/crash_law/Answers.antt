@@ -4,7 +4,7 @@ use Rattle.page_store.specs.Crashing.{leaves_first, left_now}
 use Rattle.page_store.specs.Following.{follows_same}
 use Rattle.page_store.specs.Logged.{held_of}
 use Rattle.schedule.proofs.Opened.{tree_has_pages}
-use Rattle.schedule.proofs.over_device.World+Store+D.crash_law.Goals as goal
+use Rattle.schedule.proofs.over_device.World+Store+D+T.crash_law.Goals as goal
 
 pub returns-clause-index : goal.returns-clause-index
 returns-clause-index g c start history calls image fits keeps may =

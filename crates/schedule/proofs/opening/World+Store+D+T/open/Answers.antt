@@ -3,7 +3,7 @@ use Rattle.page_store.specs.Stores.{state_of, device_of}
 use Rattle.tree_shape.specs.Tree.{IsBlinkTree}
 use Rattle.schedule.specs.Promises.{IsUnused}
 use Rattle.schedule.proofs.Opened.{opened_unused, same_start, same_kept}
-use Rattle.schedule.proofs.opening.World+Store+D.open.Goals as goal
+use Rattle.schedule.proofs.opening.World+Store+D+T.open.Goals as goal
 
 pub returns-in-Err-new-clause-begins : goal.returns-in-Err-new-clause-begins
 returns-in-Err-new-clause-begins g c honest frames from to limits pages index tree =
