@@ -1,11 +1,11 @@
 -- A run followed by a run is a run.
-use Rattle.std.proofs.Common.{◌≡◌, ℕ, ◌≤◌, Bool, List, [], ◌∷◌, ◌++◌, refl, sym, subst, append_assoc}
+use Rattle.std.proofs.Common.{ℕ, ◌≤◌, Bool, List, [], ◌∷◌, ◌++◌, sym, subst, append_assoc}
 use Rattle.std.proofs.lemmas.List.{append-nil}
 use Rattle.index_model.specs.declared.entry.Entry.{Entry}
 use Rattle.page_action.specs.declared.page_store.PageStore.{Ghosts}
 use Rattle.session_calls.specs.declared.answer.Answer.{Answer}
 use Rattle.schedule.specs.Moments.{Moment}
-use Rattle.schedule.specs.Runs.{AreDurable, IsRun, Ran, IsOf, AreOf}
+use Rattle.schedule.specs.Runs.{AreDurable, IsRun, Ran, AreOf}
 use Rattle.schedule.specs.declared.event.Event.{Event}
 use Rattle.schedule.proofs.Keeping.{Laws, safe}
 use Rattle.schedule.proofs.Events.{durable_more, later_trans}
