@@ -1,6 +1,6 @@
 -- Each event of a world that is fitted, and runs that go on by one event.
 use Rattle.std.proofs.Common.{◌≡◌, ◌≢◌, ℕ, zero, suc, ◌<◌, ◌≤◌, ◌⊎◌, Bool, true, false, Option, Some, None, unwrap_or, Ok, Err, List, [], ◌∷◌, ◌++◌, length, slice_get, slice_set, slice_index_or, refl, sym, ap, subst, arith, inl, inr, ◌∙◌, append_assoc}
-use Rattle.std.proofs.lemmas.List.{append-nil}
+use Rattle.std.proofs.lemmas.List.{append-nil, append_cancel_left}
 use Rattle.std.proofs.lemmas.Option.{slice_get_read}
 use Rattle.std.proofs.lemmas.Bool.{cases_eq}
 use Rattle.index_model.specs.Actions.{Action}
@@ -12,16 +12,18 @@ use Rattle.index_model.specs.declared.fault.Fault.{Fault}
 use Rattle.index_model.specs.declared.fault.Fault.TheVariants.{NoSession, Stopped, SessionBusy}
 use Rattle.page_action.specs.Causes.{nothing_wrong, where_forced}
 use Rattle.page_action.specs.MapStore.{same_later}
-use Rattle.page_action.specs.States.{State, Backing, IsLater}
+use Rattle.page_action.specs.States.{State, Backing, IsLater, after_begin}
 use Rattle.page_action.specs.declared.page_store.PageStore.{Ghosts}
 use Rattle.descent.specs.Steps.{OthersRely}
-use Rattle.session_calls.specs.Sessions.{Matches, IsIdle, OpRuns, SlotFits, SlotStands, SessionGoes, SessionBegins, IsBegun, IsNotBegun, IsCaused, LeavesLess, GivesLess, begun_call, where_stepped, where_asked_next}
+use Rattle.session_calls.specs.Sessions.{Matches, IsIdle, OpRuns, CallFits, SlotFits, SlotStands, SessionGoes, SessionBegins, IsBegun, IsNotBegun, IsCaused, LeavesLess, GivesLess, begun_call, where_stepped, where_asked_next}
 use Rattle.session_calls.specs.declared.answer.Answer.{Answer}
 use Rattle.session_calls.specs.declared.answer.Answer.TheVariants.{Begun, Going, Added, Ready, Done, Finished, Gave, Ended, Forced, Flushed, Checkpointed, Refused}
 use Rattle.session_calls.specs.declared.op.Op.{Op}
+use Rattle.session_calls.specs.Due.{IsDueIn}
 use Rattle.session_calls.proofs.Undisturbed.{undisturbed}
 use Rattle.schedule.specs.Moments.{Moment, IsRunningCall, SlotRuns, IsFree, SlotMatches, Fits, slot_has_call, has_call}
-use Rattle.schedule.specs.Runs.{GrowsByOne, GoesOn, Stays, Moves, Begins, ask_of, where_no_call, where_moved, where_begun_at, session_to_begin, slot_at, IsDurable, AreDurable, EventDoes, EventGoes, IsRun, Ran}
+use Rattle.schedule.specs.Counts.{InsertHasSteps, ScanHasSteps, StepIsCounted, StaysAsDue}
+use Rattle.schedule.specs.Runs.{IsOf, OthersStay, LeavesBe, GrowsByOne, GoesOn, Stays, Moves, Begins, ask_of, where_no_call, where_moved, where_begun_at, session_to_begin, slot_at, IsDurable, AreDurable, EventDoes, EventGoes, IsRun, Ran}
 use Rattle.schedule.specs.declared.event.Event.{Event}
 use Rattle.schedule.specs.declared.event.Event.TheVariants.{Insert, Scan, Step, Next, End, Force}
 use Rattle.schedule.proofs.Lists.{get_set_same, get_set_other, length_set, get_within, get_append_some, get_append_new, get_append_cases, same_some}
@@ -41,6 +43,41 @@ slot_of_call slots session x lt read has = of x read (slice_get_read slots (leng
     of None r g = absurd (true_false (sym has ∙ ap slot_has_call g))
     of (Some op) r g = (op, sym r, g)
 
+-- what an event leaves as it was: a call is due after as many steps on the same pages, within the same limits
+pub leaves_be : {S : Type 0} (g : Ghosts S) (event : Event) (old new : Moment S) → (g.state new.store).limits ≡ (g.state old.store).limits
+    → (new.history ≡ old.history → (g.state new.store).pages ≡ (g.state old.store).pages)
+    → ((session : ℕ) → IsOf session event → OthersStay session old.slots new.slots) → LeavesBe g event old new
+leaves_be g event old new limits pages others = record {
+  limits = limits;
+  others = others;
+  pages = pages;
+  due = λ quiet session other of apart steps due.
+      still_due (g.state old.store) (g.state new.store) steps limits (pages quiet) (slot_at old.slots other) (slot_at new.slots other)
+      (ap (λ (o : Option (Option Op)). unwrap_or o None) (others session of other apart)) due;
+}
+  where
+    still_due : (before now : State) (steps : ℕ) → now.limits ≡ before.limits → now.pages ≡ before.pages
+        → (was is : Option Op) → is ≡ was → IsDueIn before was steps → IsDueIn now is steps
+    still_due before now steps l p was is same due = rw (l, p, same) due
+
+-- nothing at all is changed but the log and the device
+pub stays_be : {S : Type 0} (g : Ghosts S) (event : Event) (old new : Moment S) → g.state new.store ≡ g.state old.store → new.slots ≡ old.slots → LeavesBe g event old new
+stays_be g event old new same slots = leaves_be g event old new (ap (λ (st : State). st.limits) same) (λ quiet. ap (λ (st : State). st.pages) same)
+    (λ session of other apart. ap (λ (s : List (Option Op)). slice_get s other) slots)
+
+-- the slot of one session is set
+others_stay_set : (slots : List (Option Op)) (session : ℕ) (slot : Option Op) → (s : ℕ) → session ≡ s → OthersStay s slots (slice_set slots session slot)
+others_stay_set slots session slot s same other apart = get_set_other slots session other slot (λ e. apart (e ∙ same))
+
+-- what a session runs after its slot is set
+slot_set : (slots : List (Option Op)) (session : ℕ) (slot : Option Op) → session < length slots → slot_at (slice_set slots session slot) session ≡ slot
+slot_set slots session slot within = ap (λ (o : Option (Option Op)). unwrap_or o None) (get_set_same slots session slot within)
+
+-- the running call of a session fits
+pub call_fits : {S : Type 0} (g : Ghosts S) (start : Entry → Bool) (old : Moment S) (session : ℕ) (op : Op) → Fits g start old
+    → (runs : SlotRuns g start old session op) → CallFits (g.state old.store) start old.history runs.number runs.call op
+call_fits g start old session op fits runs = record { world = fits.matches; running = runs.is.running; meets = fits.meets runs.number runs.call runs.is.found; runs = runs.runs }
+
 -- an event of a running call
 pub record IsMoved {S : Type 0} (g : Ghosts S) (start : Entry → Bool) (old : Moment S) (store : S) (session : ℕ) (op : Op) (slot : Option Op) (at : Ask → ℕ → Circumstances) (answer : Answer) : Type 0 where
   pub then_history : List Action
@@ -49,6 +86,8 @@ pub record IsMoved {S : Type 0} (g : Ghosts S) (start : Entry → Bool) (old : M
   pub grows : GrowsByOne old.history then_history
   pub caused : IsCaused (at (ask_of op) session) answer
   pub durable : IsDurable (g.backing store).durable answer
+  pub limits : (g.state store).limits ≡ (g.state old.store).limits
+  pub pages : then_history ≡ old.history → (g.state store).pages ≡ (g.state old.store).pages
   pub fits : Fits g start (record { store = store; slots = slice_set old.slots session slot; history = then_history; calls = then_calls })
 
 pub moved : {S : Type 0} (g : Ghosts S) (start : Entry → Bool) (old : Moment S) (store : S) (session : ℕ) (op : Op) (slot : Option Op) (at : Ask → ℕ → Circumstances) (answer : Answer)
@@ -58,7 +97,7 @@ pub moved : {S : Type 0} (g : Ghosts S) (start : Entry → Bool) (old : Moment S
 moved g start old store session op slot at answer fits found goes =
     let runs : SlotRuns g start old session op = fits.running session (Some op) found in
     let one : SessionGoes (at runs.call.ask runs.call.session) (g.state old.store) (g.state store) start old.history runs.number runs.call slot answer =
-    goes runs.number runs.call (record { world = fits.matches; running = runs.is.running; meets = fits.meets runs.number runs.call runs.is.found; runs = runs.runs }) in
+    goes runs.number runs.call (call_fits g start old session op fits runs) in
     let others : OthersRely session (g.state old.store) (g.state store) = subst (λ (t : ℕ). OthersRely t (g.state old.store) (g.state store)) runs.is.session_is one.others in
     let same = told_same answer start old.history one.acts runs.number runs.call one.after runs.is.running (λ e ask. none_added (g.state old.store) start old.history runs.call op e runs.runs ask) one.meets one.told in
     record {
@@ -68,6 +107,8 @@ moved g start old store session op slot at answer fits found goes =
       grows = record { acts = one.acts; is = refl; few = told_few answer runs.number (length old.history) one.acts runs.call one.after one.told };
       caused = subst (λ (t : ℕ). IsCaused (at (ask_of op) t) answer) runs.is.session_is
           (subst (λ (a : Ask). IsCaused (at a runs.call.session) answer) (asked (g.state old.store) start old.history runs.call op runs.runs) one.caused);
+      limits = one.limits;
+      pages = λ quiet. one.pages (append_cancel_left old.history one.acts [] (quiet ∙ sym (append-nil old.history)));
       durable = told_durable answer (g.backing store).durable runs.number (length old.history) one.acts runs.call one.after one.told;
       fits = goes_fits g start old store session one.after one.acts op slot fits found runs same others one.world one.meets one.holds;
     }
@@ -84,13 +125,15 @@ module _ {S : Type 0} (g : Ghosts S) (start : Entry → Bool) (old : Moment S) (
   less_at : (P : Option Op → Option Op → Type 0) → P (Some op) slot → P (slot_at old.slots session) (slot_at (slice_set old.slots session slot) session)
   less_at P h =
       let before : slot_at old.slots session ≡ Some op = ap (λ (o : Option (Option Op)). unwrap_or o None) found in
-      let after : slot_at (slice_set old.slots session slot) session ≡ slot = ap (λ (o : Option (Option Op)). unwrap_or o None) (get_set_same old.slots session slot (get_within old.slots session (Some op) found)) in
+      let after : slot_at (slice_set old.slots session slot) session ≡ slot = slot_set old.slots session slot (get_within old.slots session (Some op) found) in
       subst (λ (x : Option Op). P x (slot_at (slice_set old.slots session slot) session)) (sym before) (subst (λ (x : Option Op). P (Some op) x) (sym after) h)
 
-  pub step_goes : LeavesLess (Some op) slot answer → (m : IsMoved g start old store session op slot (λ ask t. where_stepped ask (g.state old.store) (g.backing old.store) (g.backing store) t) answer)
+  pub step_goes : LeavesLess (Some op) slot answer → StepIsCounted (g.state old.store) (g.state store) (Some op) slot answer → (m : IsMoved g start old store session op slot (λ ask t. where_stepped ask (g.state old.store) (g.backing old.store) (g.backing store) t) answer)
       → EventDoes g start (Step session) answer old (record { store = store; slots = slice_set old.slots session slot; history = m.then_history; calls = m.then_calls })
-  step_goes less m = record {
+  step_goes less counts m = record {
     less = less_at (λ x y. LeavesLess x y answer) less;
+    counts = less_at (λ x y. StepIsCounted (g.state old.store) (g.state store) x y answer) counts;
+    quiet = leaves_be g (Step session) old (record { store = store; slots = slice_set old.slots session slot; history = m.then_history; calls = m.then_calls }) m.limits m.pages (others_stay_set old.slots session slot);
     happens = moves old (record { store = store; slots = slice_set old.slots session slot; history = m.then_history; calls = m.then_calls }) refl m.goes;
     grows = m.grows;
     caused = subst (λ (o : Option (Option Op)). IsCaused (where_moved (where_no_call (g.backing old.store).stopped) (λ ask. where_stepped ask (g.state old.store) (g.backing old.store) (g.backing store) session) o) answer) (sym found) m.caused;
@@ -100,10 +143,12 @@ module _ {S : Type 0} (g : Ghosts S) (start : Entry → Bool) (old : Moment S) (
     fits = m.fits;
   }
 
-  pub next_goes : GivesLess (Some op) slot answer → (m : IsMoved g start old store session op slot (λ ask t. where_asked_next ask) answer)
+  pub next_goes : GivesLess (Some op) slot answer → StaysAsDue (g.state old.store) (g.state store) (Some op) slot → (m : IsMoved g start old store session op slot (λ ask t. where_asked_next ask) answer)
       → EventDoes g start (Next session) answer old (record { store = store; slots = slice_set old.slots session slot; history = m.then_history; calls = m.then_calls })
-  next_goes less m = record {
+  next_goes less counts m = record {
     less = less_at (λ x y. GivesLess x y answer) less;
+    counts = less_at (λ x y. StaysAsDue (g.state old.store) (g.state store) x y) counts;
+    quiet = leaves_be g (Next session) old (record { store = store; slots = slice_set old.slots session slot; history = m.then_history; calls = m.then_calls }) m.limits m.pages (others_stay_set old.slots session slot);
     happens = moves old (record { store = store; slots = slice_set old.slots session slot; history = m.then_history; calls = m.then_calls }) refl m.goes;
     grows = m.grows;
     caused = subst (λ (o : Option (Option Op)). IsCaused (where_moved (where_no_call false) where_asked_next o) answer) (sym found) m.caused;
@@ -117,6 +162,8 @@ module _ {S : Type 0} (g : Ghosts S) (start : Entry → Bool) (old : Moment S) (
       → EventDoes g start (End session) answer old (record { store = store; slots = slice_set old.slots session slot; history = m.then_history; calls = m.then_calls })
   end_goes m = record {
     less = tt;
+    counts = tt;
+    quiet = leaves_be g (End session) old (record { store = store; slots = slice_set old.slots session slot; history = m.then_history; calls = m.then_calls }) m.limits m.pages (others_stay_set old.slots session slot);
     happens = moves old (record { store = store; slots = slice_set old.slots session slot; history = m.then_history; calls = m.then_calls }) refl m.goes;
     grows = m.grows;
     caused = subst (λ (o : Option (Option Op)). IsCaused (where_moved (where_no_call false) (λ ask. nothing_wrong) o) answer) (sym found) m.caused;
@@ -153,6 +200,8 @@ forced g start old store count fits same later runs number durable =
       caused = tt;
       stopped = λ is. absurd (true_false (sym is ∙ runs));
       less = tt;
+      counts = tt;
+      quiet = stays_be g Force old (record { store = store; slots = old.slots; history = old.history; calls = old.calls }) same refl;
       durable = (let n : count ≡ (g.state old.store).acts = number in let d : (g.backing store).durable ≡ (g.state old.store).acts = durable in omega arith);
       later = later;
       fits = fits_still g start old store same fits;
@@ -168,6 +217,8 @@ not_forced g start old store fault fits same later runs cause = record {
   caused = cause;
   stopped = λ is. absurd (true_false (sym is ∙ runs));
   less = tt;
+  counts = tt;
+  quiet = stays_be g Force old (record { store = store; slots = old.slots; history = old.history; calls = old.calls }) same refl;
   durable = tt;
   later = later;
   fits = fits_still g start old store same fits;
@@ -239,6 +290,9 @@ pub record IsBeginning {S : Type 0} (g : Ghosts S) (start : Entry → Bool) (old
   pub begins : Begins g (slice_get old.slots session) session ask answer old (record { store = store; slots = slice_set old.slots session slot; history = old.history; calls = then_calls })
   pub caused : IsCaused (where_begun_at g old (slice_get old.slots session)) answer
   pub durable : IsDurable (g.backing store).durable answer
+  pub within : session < length old.slots
+  pub limits : (g.state store).limits ≡ (g.state old.store).limits
+  pub pages : (g.state store).pages ≡ (g.state old.store).pages
   pub fits : Fits g start (record { store = store; slots = slice_set old.slots session slot; history = old.history; calls = then_calls })
 
 -- the slot of a session with no call is as its history says
@@ -259,6 +313,9 @@ module _ {S : Type 0} (g : Ghosts S) (start : Entry → Bool) (old : Moment S) (
         then_calls = old.calls;
         begins = stays_at (slice_get old.slots session) (record { fault = fault; refused = refl; state_is = h.state; slots_is = slots_is; history_is = refl; calls_is = refl });
         caused = subst (λ (o : Option (Option Op)). IsCaused (where_begun_at g old o) (Refused fault)) (sym at) h.cause;
+        within = get_within old.slots session before at;
+        limits = ap (λ (st : State). st.limits) h.state;
+        pages = ap (λ (st : State). st.pages) h.state;
         durable = tt;
         fits = subst (λ (s : List (Option Op)). Fits g start (record { store = store; slots = s; history = old.history; calls = old.calls })) (sym slots_is) (fits_still g start old store h.state fits);
       }
@@ -270,30 +327,33 @@ module _ {S : Type 0} (g : Ghosts S) (start : Entry → Bool) (old : Moment S) (
       stays_at (Some (Some op)) s = s
 
 module _ {S : Type 0} (g : Ghosts S) (start : Entry → Bool) (old : Moment S) (store : S) (session : ℕ) (ask : Ask) (fits : Fits g start old) (free : slice_get old.slots session ≡ Some None) where
-  is_begun : (slot : Option Op) → IsBegun (g.state old.store) (g.state store) start old.history (length old.calls) session ask slot → IsBeginning g start old store session ask slot Begun
-  is_begun None h = absurd (h.holds.0 refl)
-  is_begun (Some op) h = record {
+  is_begun : (known : ℕ) (slot : Option Op) → g.state store ≡ after_begin known (g.state old.store) → IsBegun (g.state old.store) (g.state store) start old.history (length old.calls) session ask slot → IsBeginning g start old store session ask slot Begun
+  is_begun known None counted h = absurd (h.holds.0 refl)
+  is_begun known (Some op) counted h = record {
     then_calls = old.calls ++ begun_call session ask (length old.history) ∷ [];
     begins = subst (λ (o : Option (Option Op)). Begins g o session ask Begun old (record { store = store; slots = slice_set old.slots session (Some op); history = old.history; calls = old.calls ++ begun_call session ask (length old.history) ∷ [] })) (sym free)
         (inl (record { told = refl; history_is = refl; calls_is = refl; others = h.others }));
     caused = tt;
+    within = get_within old.slots session None free;
+    limits = ap (λ (st : State). st.limits) counted;
+    pages = ap (λ (st : State). st.pages) counted;
     durable = tt;
     fits = begun_fits g start old store session ask op fits free h;
   }
 
-  begins_by : (slot : Option Op) (answer : Answer) → SessionBegins (g.state old.store) (g.backing old.store) (g.state store) start old.history (length old.calls) session ask None slot answer → IsBeginning g start old store session ask slot answer
-  begins_by slot Begun h = is_begun slot h
-  begins_by slot Going h = absurd h
-  begins_by slot (Added a u) h = absurd h
-  begins_by slot (Ready r) h = absurd h
-  begins_by slot Done h = absurd h
-  begins_by slot (Finished s) h = absurd h
-  begins_by slot (Gave g) h = absurd h
-  begins_by slot Ended h = absurd h
-  begins_by slot (Forced n) h = absurd h
-  begins_by slot (Flushed b) h = absurd h
-  begins_by slot (Checkpointed n) h = absurd h
-  begins_by slot (Refused fault) h = not_begun g start old store session ask None fits free slot fault h
+  begins_by : (known : ℕ) (slot : Option Op) (answer : Answer) → (answer ≡ Begun → g.state store ≡ after_begin known (g.state old.store)) → SessionBegins (g.state old.store) (g.backing old.store) (g.state store) start old.history (length old.calls) session ask None slot answer → IsBeginning g start old store session ask slot answer
+  begins_by known slot Begun counted h = is_begun known slot (counted refl) h
+  begins_by known slot Going counted h = absurd h
+  begins_by known slot (Added a u) counted h = absurd h
+  begins_by known slot (Ready r) counted h = absurd h
+  begins_by known slot Done counted h = absurd h
+  begins_by known slot (Finished s) counted h = absurd h
+  begins_by known slot (Gave g) counted h = absurd h
+  begins_by known slot Ended counted h = absurd h
+  begins_by known slot (Forced n) counted h = absurd h
+  begins_by known slot (Flushed b) counted h = absurd h
+  begins_by known slot (Checkpointed n) counted h = absurd h
+  begins_by known slot (Refused fault) counted h = not_begun g start old store session ask None fits free slot fault h
 
 -- the session that was found
 pub found : (is_stopped : Bool) (o : Option (Option Op)) (session known : ℕ) → Ok known ≡ session_to_begin is_stopped o session → (is_stopped ≡ false) × (o ≡ Some None) × (known ≡ session)
@@ -306,13 +366,14 @@ found false (Some (Some op)) session known h = absurd cc
 pub begins_at : {S : Type 0} (g : Ghosts S) (start : Entry → Bool) (old : Moment S) (store : S) (session known : ℕ) (ask : Ask) (before slot : Option Op) (answer : Answer) → Fits g start old
     → Ok known ≡ session_to_begin (g.backing old.store).stopped (slice_get old.slots session) session → slice_get old.slots session ≡ Some before
     → ((s : Entry → Bool) (l : List Action) (n : ℕ) → SlotStands (g.state old.store) s l known before → SessionBegins (g.state old.store) (g.backing old.store) (g.state store) s l n known ask before slot answer)
+    → (answer ≡ Begun → g.state store ≡ after_begin known (g.state old.store))
     → IsBeginning g start old store session ask slot answer
-begins_at g start old store session known ask before slot answer fits ok at begins =
+begins_at g start old store session known ask before slot answer fits ok at begins counted =
     let is = found (g.backing old.store).stopped (slice_get old.slots session) session known ok in
     let none : before ≡ None = (let a : slice_get old.slots session ≡ Some before = at in let b : slice_get old.slots session ≡ Some None = is.1 in cc) in
     let stands : SlotStands (g.state old.store) start old.history known before = subst (λ (t : ℕ). SlotStands (g.state old.store) start old.history t before) (sym is.2) (slot_stands g start old session before fits at) in
     let did : SessionBegins (g.state old.store) (g.backing old.store) (g.state store) start old.history (length old.calls) known ask before slot answer = begins start old.history (length old.calls) stands in
-    begins_by g start old store session ask fits is.1 slot answer
+    begins_by g start old store session ask fits is.1 known slot answer counted
     (subst (λ (b : Option Op). SessionBegins (g.state old.store) (g.backing old.store) (g.state store) start old.history (length old.calls) session ask b slot answer) none
     (subst (λ (t : ℕ). SessionBegins (g.state old.store) (g.backing old.store) (g.state store) start old.history (length old.calls) t ask before slot answer) is.2 did))
 
@@ -335,13 +396,35 @@ module _ {S : Type 0} (g : Ghosts S) (start : Entry → Bool) (old : Moment S) (
   not_found_first false o fault h is = absurd cc
 
 module _ {S : Type 0} (g : Ghosts S) (start : Entry → Bool) (old : Moment S) (store : S) (session : ℕ) (slot : Option Op) (answer : Answer) (runs : (g.backing old.store).stopped ≡ false) (later : IsLater (g.backing old.store) (g.backing store)) where
-  pub insert_goes : (e : Entry) (m : IsBeginning g start old store session (AskInsert e) slot answer)
+  pub insert_goes : (e : Entry) → (answer ≡ Begun → InsertHasSteps (g.state old.store) (g.state store) e slot) → (m : IsBeginning g start old store session (AskInsert e) slot answer)
       → EventDoes g start (Insert session e) answer old (record { store = store; slots = slice_set old.slots session slot; history = old.history; calls = m.then_calls })
-  insert_goes e m = record { happens = m.begins; grows = no_growth old.history; caused = m.caused; stopped = λ is. absurd (true_false (sym is ∙ runs)); less = tt; durable = m.durable; later = later; fits = m.fits }
+  insert_goes e counts m = record {
+    happens = m.begins;
+    grows = no_growth old.history;
+    caused = m.caused;
+    stopped = λ is. absurd (true_false (sym is ∙ runs));
+    less = tt;
+    counts = λ begun. subst (λ (x : Option Op). InsertHasSteps (g.state old.store) (g.state store) e x) (sym (slot_set old.slots session slot m.within)) (counts begun);
+    quiet = leaves_be g (Insert session e) old (record { store = store; slots = slice_set old.slots session slot; history = old.history; calls = m.then_calls }) m.limits (λ same. m.pages) (others_stay_set old.slots session slot);
+    durable = m.durable;
+    later = later;
+    fits = m.fits;
+  }
 
-  pub scan_goes : (range : Range) (m : IsBeginning g start old store session (AskScan range) slot answer)
+  pub scan_goes : (range : Range) → (answer ≡ Begun → ScanHasSteps (g.state old.store) (g.state store) slot) → (m : IsBeginning g start old store session (AskScan range) slot answer)
       → EventDoes g start (Scan session range) answer old (record { store = store; slots = slice_set old.slots session slot; history = old.history; calls = m.then_calls })
-  scan_goes range m = record { happens = m.begins; grows = no_growth old.history; caused = m.caused; stopped = λ is. absurd (true_false (sym is ∙ runs)); less = tt; durable = m.durable; later = later; fits = m.fits }
+  scan_goes range counts m = record {
+    happens = m.begins;
+    grows = no_growth old.history;
+    caused = m.caused;
+    stopped = λ is. absurd (true_false (sym is ∙ runs));
+    less = tt;
+    counts = λ begun. subst (λ (x : Option Op). ScanHasSteps (g.state old.store) (g.state store) x) (sym (slot_set old.slots session slot m.within)) (counts begun);
+    quiet = leaves_be g (Scan session range) old (record { store = store; slots = slice_set old.slots session slot; history = old.history; calls = m.then_calls }) m.limits (λ same. m.pages) (others_stay_set old.slots session slot);
+    durable = m.durable;
+    later = later;
+    fits = m.fits;
+  }
 
 module _ {S : Type 0} (g : Ghosts S) (start : Entry → Bool) (old : Moment S) (session : ℕ) (fault : Fault) (fits : Fits g start old) (none : Err fault ≡ session_to_begin (g.backing old.store).stopped (slice_get old.slots session) session) where
   pub insert_refused : (e : Entry) → EventDoes g start (Insert session e) (Refused fault) old old
@@ -350,6 +433,8 @@ module _ {S : Type 0} (g : Ghosts S) (start : Entry → Bool) (old : Moment S) (
     grows = no_growth old.history;
     caused = not_found_why g start old session (AskInsert e) fits (g.backing old.store).stopped (slice_get old.slots session) fault refl none;
     less = tt;
+    counts = λ begun. absurd cc;
+    quiet = stays_be g (Insert session e) old old refl refl;
     stopped = not_found_first g start old session (AskInsert e) fits (g.backing old.store).stopped (slice_get old.slots session) fault none;
     durable = tt;
     later = same_later (g.backing old.store);
@@ -362,6 +447,8 @@ module _ {S : Type 0} (g : Ghosts S) (start : Entry → Bool) (old : Moment S) (
     grows = no_growth old.history;
     caused = not_found_why g start old session (AskScan range) fits (g.backing old.store).stopped (slice_get old.slots session) fault refl none;
     less = tt;
+    counts = λ begun. absurd cc;
+    quiet = stays_be g (Scan session range) old old refl refl;
     stopped = not_found_first g start old session (AskScan range) fits (g.backing old.store).stopped (slice_get old.slots session) fault none;
     durable = tt;
     later = same_later (g.backing old.store);

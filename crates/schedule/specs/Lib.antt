@@ -1,5 +1,6 @@
 pub mod Moments
 pub mod Crashes
+pub mod Counts
 pub mod Runs
 pub mod Promises
 pub mod Worlds

@@ -7,7 +7,7 @@ use Rattle.index_model.specs.declared.entry.Entry.{Entry}
 use Rattle.index_model.specs.declared.fault.Fault.{Fault}
 use Rattle.index_model.specs.declared.fault.Fault.TheVariants.{Stopped, NoSession, SessionBusy}
 use Rattle.page_action.specs.Causes.{nothing_wrong, where_forced}
-use Rattle.page_action.specs.States.{IsLater}
+use Rattle.page_action.specs.States.{State, IsLater}
 use Rattle.page_action.specs.declared.page_store.PageStore.{Ghosts}
 use Rattle.descent.specs.Steps.{OthersRely}
 use Rattle.session_calls.specs.Sessions.{Told, IsCaused, LeavesLess, GivesLess, AnswersStep, AnswersNext, AnswersEnd, begun_call, where_stepped, where_asked_next, where_beginning, is_busy}
@@ -16,6 +16,7 @@ use Rattle.session_calls.specs.declared.answer.Answer.TheVariants.{Begun, Going,
 use Rattle.session_calls.specs.declared.op.Op.{Op}
 use Rattle.session_calls.specs.declared.op.Op.TheVariants.{Insert as Inserts, Scan as Scans}
 use Rattle.schedule.specs.Moments.{Moment, IsRunningCall, Fits, has_call}
+use Rattle.schedule.specs.Counts.{InsertHasSteps, ScanHasSteps, StepIsCounted, StaysAsDue}
 use Rattle.schedule.specs.Crashes.{KeepsHistory, IsCrashSafe}
 use Rattle.schedule.specs.declared.event.Event.{Event}
 use Rattle.schedule.specs.declared.event.Event.TheVariants.{Insert, Scan, Step, Next, End, Force}
@@ -169,6 +170,25 @@ AreOf session (event ∷ events) = IsOf session event × AreOf session events
 abbrev pub OthersStay : ℕ → List (Option Op) → List (Option Op) → Type 0
 OthersStay session old new = (other : ℕ) → other ≢ session → slice_get new other ≡ slice_get old other
 
+-- how many steps a call takes, by its event: a beginning says after how many it is due, each step is counted, and a `next`
+-- costs none
+abbrev pub Counts : State → State → Event → Answer → List (Option Op) → List (Option Op) → Type 0
+Counts old new (Insert session e) answer before after = answer ≡ Begun → InsertHasSteps old new e (slot_at after session)
+Counts old new (Scan session range) answer before after = answer ≡ Begun → ScanHasSteps old new (slot_at after session)
+Counts old new (Step session) answer before after = StepIsCounted old new (slot_at before session) (slot_at after session) answer
+Counts old new (Next session) answer before after = StaysAsDue old new (slot_at before session) (slot_at after session)
+Counts old new (End session) answer before after = Unit {0}
+Counts old new Force answer before after = Unit {0}
+
+-- What an event leaves as it was: the limits; what the other sessions run; and where it appends no action, the pages. So
+-- an event of others that appends no action costs a call that is due no step.
+pub record LeavesBe {S : Type 0} (g : Ghosts S) (event : Event) (old new : Moment S) : Type 0 where
+  pub limits : (g.state new.store).limits ≡ (g.state old.store).limits
+  pub others : (session : ℕ) → IsOf session event → OthersStay session old.slots new.slots
+  pub pages : new.history ≡ old.history → (g.state new.store).pages ≡ (g.state old.store).pages
+  pub due : new.history ≡ old.history → (session other : ℕ) → IsOf session event → other ≢ session
+      → StaysAsDue (g.state old.store) (g.state new.store) (slot_at old.slots other) (slot_at new.slots other)
+
 -- a number of actions that was answered as durable is not above this
 abbrev pub IsDurable : ℕ → Answer → Type 0
 IsDurable durable (Forced count) = count ≤ durable
@@ -202,6 +222,10 @@ pub record EventDoes {S : Type 0} (g : Ghosts S) (start : Entry → Bool) (event
   pub caused : IsCaused (where_happening g event old new) answer
   pub stopped : StopsFirst g event answer old
   pub less : IsLessLeft event answer old.slots new.slots
+  -- how many steps the call takes
+  pub counts : Counts (g.state old.store) (g.state new.store) event answer old.slots new.slots
+  -- what is as it was
+  pub quiet : LeavesBe g event old new
   pub durable : IsDurable (g.backing new.store).durable answer
   pub later : IsLater (g.backing old.store) (g.backing new.store)
   pub fits : Fits g start new

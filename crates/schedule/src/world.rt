@@ -15,6 +15,7 @@ use std::alloc::Global;
 /// A world stores no history. Its promise is one of each run: whatever history and calls fitted it before, there is a
 /// continuation that fits it afterwards, by events with exactly these answers. Where nobody else writes to the store's
 /// device, a crash at any moment leaves the contents after some first part of that history, with all that was durable.
+/// Each event of the run also says how many steps its call takes (`counts`), and what it leaves as it was (`quiet`).
 #[derive(Drop)]
 pub struct World<S, T> {
     pub(crate) store: S,

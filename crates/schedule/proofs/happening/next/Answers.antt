@@ -2,6 +2,7 @@ use Rattle.std.proofs.Common.{sym, ◌∙◌, subst, Option}
 use Rattle.page_action.specs.MapStore.{same_later}
 use Rattle.session_calls.specs.Sessions.{GivesLess, SlotFits, where_asked_next}
 use Rattle.session_calls.specs.declared.op.Op.{Op}
+use Rattle.schedule.specs.Counts.{StaysAsDue}
 use Rattle.schedule.specs.Moments.{Moment}
 use Rattle.schedule.specs.Promises.{both, moment_at}
 use Rattle.schedule.proofs.Events.{slot_of_call, moved, next_goes}
@@ -18,8 +19,10 @@ returns-clause-does g c honest start history calls fits =
     let m = moved g.S.PageStore start old store session at.0 slot (λ ask t. where_asked_next ask) c.next.result fits at.2
     (λ number call before. c.next.ensures.goes (g.S.PageStore.state store) start history number call (subst (λ (x : Option Op). SlotFits (g.S.PageStore.state old.store) start old.history number call x) (sym at.1) before)) in
     let less = subst (λ (x : Option Op). GivesLess x slot c.next.result) at.1 c.next.ensures.less in
+    let counts = subst (λ (x : Option Op). StaysAsDue (g.S.PageStore.state store) (g.S.PageStore.state store) x slot) at.1
+    (c.next.ensures.due (g.S.PageStore.state store).limits.items (g.S.PageStore.state store).pages) in
     record {
       then_history = m.then_history;
       then_calls = m.then_calls;
-      does = next_goes g.S.PageStore start old store session at.0 slot c.next.result at.2 (same_later (g.S.PageStore.backing store)) less m;
+      does = next_goes g.S.PageStore start old store session at.0 slot c.next.result at.2 (same_later (g.S.PageStore.backing store)) less counts m;
     }
