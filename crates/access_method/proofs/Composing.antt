@@ -73,6 +73,18 @@ module _ {S : Type 0} (g : Ghosts S) (laws : StoreLaws g) (session : ℕ) where
     tells = same (moment_at a history calls);
   }
 
+  -- ... where this follows from what fits
+  pub goes_still : (Tells : Moment S → Moment S → Type 0) (a : StoreAndSlots S) → ((start : Entry → Bool) (x : Moment S) → x.slots ≡ a.slots → Fits g start x → Tells x x) → Goes g session Tells a a
+  goes_still Tells a same honest start history calls fits = record {
+    then_history = history;
+    then_calls = calls;
+    events = [];
+    answers = [];
+    own = tt;
+    ran = none_ran g laws.kept start (moment_at a history calls) fits;
+    tells = same start (moment_at a history calls) refl fits;
+  }
+
   -- one event
   pub goes_by : (Tells : Moment S → Moment S → Type 0) (event : Event) (answer : Answer) (a b : StoreAndSlots S) → IsOf session event
       → Carries g a b (Runs g a b (event ∷ []) (answer ∷ []))

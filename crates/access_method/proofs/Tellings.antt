@@ -20,7 +20,7 @@ set_same [] i x h = refl
 set_same (y ∷ ys) zero x h = cc
 set_same (y ∷ ys) (suc n) x h = ap (λ l. y ∷ l) (set_same ys n x h)
 
-true_false : true ≡ false → ⊥
+pub true_false : true ≡ false → ⊥
 true_false h = cc
 
 module _ {S : Type 0} (g : Ghosts S) (start : Entry → Bool) (now : Moment S) (fits : Fits g start now) (session : ℕ) where

@@ -1,3 +1,5 @@
 pub mod Telling
 pub mod Giving
 pub mod Going
+pub mod Tokens
+pub mod Indexes

@@ -17,7 +17,11 @@ use schedule::{Event, one};
 use session_calls::{Answer, Op};
 
 // The next entry that the session's scan has ready; where none is, one step of it.
-fn advance<S: PageStore>(store: &mut S, slots: &mut [Option<Op>], session: u32) -> Result<Answer, Fault>
+fn advance<S: PageStore>(
+    store: &mut S,
+    slots: &mut [Option<Op>],
+    session: u32,
+) -> Result<Answer, Fault>
     requires few { length slots.old ≤ 64 }
     ensures steps { Continues S.follows store.old store.new }
     ensures sessions { length slots.new ≡ length slots.old }
@@ -33,7 +37,11 @@ fn advance<S: PageStore>(store: &mut S, slots: &mut [Option<Op>], session: u32) 
 }
 
 // Goes on until the session's scan gives an entry or is over.
-fn seek<S: PageStore>(store: &mut S, slots: &mut [Option<Op>], session: u32) -> Result<Answer, Fault>
+fn seek<S: PageStore>(
+    store: &mut S,
+    slots: &mut [Option<Op>],
+    session: u32,
+) -> Result<Answer, Fault>
     requires few { length slots.old ≤ 64 }
     ensures steps { Continues S.follows store.old store.new }
     ensures sessions { length slots.new ≡ length slots.old }

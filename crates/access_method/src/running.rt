@@ -52,7 +52,11 @@ fn make_room<S: PageStore>(store: &mut S) -> Result<(), Fault>
 }
 
 // One step of the session's call, which has room in the log. Refused, with no step made, where the room can't be made.
-pub(crate) fn step<S: PageStore>(store: &mut S, slots: &mut [Option<Op>], session: u32) -> Result<Answer, Fault>
+pub(crate) fn step<S: PageStore>(
+    store: &mut S,
+    slots: &mut [Option<Op>],
+    session: u32,
+) -> Result<Answer, Fault>
     requires few { length slots.old ≤ 64 }
     ensures steps { Continues S.follows store.old store.new }
     ensures sessions { length slots.new ≡ length slots.old }
@@ -104,7 +108,11 @@ fn begin<S: PageStore>(store: &mut S, slots: &mut [Option<Op>], entry: Entry) ->
 }
 
 // Begins an insert and runs it until a step doesn't answer `Going`.
-fn come<S: PageStore>(store: &mut S, slots: &mut [Option<Op>], entry: Entry) -> Result<Answer, Fault>
+fn come<S: PageStore>(
+    store: &mut S,
+    slots: &mut [Option<Op>],
+    entry: Entry,
+) -> Result<Answer, Fault>
     requires few { length slots.old ≤ 64 }
     ensures steps { Continues S.follows store.old store.new }
     ensures sessions { length slots.new ≡ length slots.old }

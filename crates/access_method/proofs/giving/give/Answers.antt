@@ -54,4 +54,3 @@ returns-in-Err-clause-goes g c =
     c.seek-came.ensures.steps c.give_up-in-Err.ensures.steps c.seek-came.ensures.goes c.give_up-in-Err.ensures.goes
     (λ start x y z at fx fy fz one two. subst (λ (r : Result (Option Entry) Fault). TellsGiven session r x z) is
     (end_given g.S.PageStore start session came x y z fx (λ e some. (let f : given_of came ≡ Err c.in-Err.fault = is in absurd cc)) one two))
-

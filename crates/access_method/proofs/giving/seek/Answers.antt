@@ -8,7 +8,6 @@ use Rattle.access_method.proofs.Composing.{StoreLaws, goes_then, goes_nowhere, g
 use Rattle.access_method.proofs.Tellings.{silent_then, going_stays, ready_stays, stays_then, err_stays}
 use Rattle.std.proofs.Common.{inl, inr}
 use Rattle.access_method.proofs.giving.seek.Goals as goal
-
 use Rattle.access_method.specs.Going.{Goes}
 use Rattle.access_method.proofs.giving.seek.Given.{Over}
 use Rattle.access_method.proofs.giving.seek.Goals.{After-advance}

@@ -7,7 +7,6 @@ use Rattle.access_method.specs.Telling.{TellsStep, StaysRunning}
 use Rattle.access_method.proofs.Composing.{StoreLaws, goes_then, goes_nowhere, goes_told}
 use Rattle.access_method.proofs.Tellings.{silent_then, going_stays, stays_then, err_stays}
 use Rattle.access_method.proofs.running.run.Goals as goal
-
 use Rattle.access_method.specs.Going.{Goes}
 use Rattle.access_method.proofs.running.run.Given.{Over}
 use Rattle.access_method.proofs.running.run.Goals.{After-step}

@@ -1,0 +1,71 @@
+-- What is promised of an index.
+use Rattle.std.specs.Prelude.{◌≡◌, ℕ, suc, Bool, true, false, Option, Some, None, Result, Ok, Err, List, ◌∷◌, [], ◌++◌, length, slice_get, slice_set}
+use Rattle.index_model.specs.Actions.{Action}
+use Rattle.index_model.specs.Calls.{AskScan, Call}
+use Rattle.index_model.specs.declared.entry.Entry.{Entry}
+use Rattle.index_model.specs.declared.fault.Fault.{Fault}
+use Rattle.index_model.specs.declared.range.Range.{Range}
+use Rattle.page_action.specs.declared.page_store.PageStore.{Ghosts}
+use Rattle.session_calls.specs.Sessions.{begun_call}
+use Rattle.schedule.specs.Moments.{Moment, Fits}
+use Rattle.schedule.specs.Crashes.{KeepsHistory}
+use Rattle.schedule.specs.Promises.{StoreAndSlots, moment_at}
+use Rattle.access_method.specs.Telling.{IsSilent, HasNone}
+use Rattle.access_method.specs.Going.{Goes}
+use Rattle.access_method.specs.declared.index.Index.{Index}
+use Rattle.access_method.specs.declared.token.ScanToken.{ScanToken}
+use Rattle.access_method.specs.declared.token.Seat.{Seat}
+
+-- the store of an index, and what its sessions run
+abbrev pub inside : {S : Type 0} → Index S → StoreAndSlots S
+inside index = record { store = index.store; slots = index.slots }
+
+-- these contents at the start, this history and these calls fit the index
+abbrev pub IndexFits : {S : Type 0} → Ghosts S → Index S → (Entry → Bool) → List Action → List Call → Type 0
+IndexFits g index start history calls = Fits g start (moment_at (inside index) history calls)
+
+-- ... and each crash leaves a first part of the history
+abbrev pub IndexKeeps : {S : Type 0} → Ghosts S → Index S → (Entry → Bool) → List Action → List Call → Type 0
+IndexKeeps g index start history calls = KeepsHistory g start (moment_at (inside index) history calls)
+
+-- for whatever fitted the index before there is a run of events of this session, and this is told
+abbrev pub IndexGoes : {S : Type 0} → Ghosts S → ℕ → (Moment S → Moment S → Type 0) → Index S → Index S → Type 0
+IndexGoes g session Tells old new = Goes g session Tells (inside old) (inside new)
+
+-- there is a session by whose events nothing is told
+pub record GoesSilent {S : Type 0} (g : Ghosts S) (old new : Index S) : Type 0 where
+  pub session : ℕ
+  pub goes : IndexGoes g session IsSilent old new
+
+-- tokens are as they were
+pub record KeepsTokens {S : Type 0} (old new : Index S) : Type 0 where
+  pub seats_is : new.seats ≡ old.seats
+  pub given_is : new.given ≡ old.given
+
+-- the token is one that was never given before, and is open; no other token is changed
+pub record IsNewToken {S : Type 0} (old new : Index S) (token : ScanToken) : Type 0 where
+  pub number_is : token.number ≡ old.given
+  pub given_is : new.given ≡ suc old.given
+  pub was_free : slice_get old.seats token.session ≡ Some None
+  pub seats_is : new.seats ≡ slice_set old.seats token.session (Some (record { number = token.number; is_refused = false }))
+
+-- the seat of an open token is this now; no other token is changed
+pub record SeatBecomes {S : Type 0} (token : ScanToken) (seat : Option Seat) (old new : Index S) : Type 0 where
+  pub given_is : new.given ≡ old.given
+  pub seats_is : new.seats ≡ slice_set old.seats token.session seat
+
+-- its seat, answering, or refused
+abbrev pub seat_with : ScanToken → Bool → Option Seat
+seat_with token is_refused = Some (record { number = token.number; is_refused = is_refused })
+
+-- the old call is given up, if it still ran, and a scan of the range is begun; no action is appended
+pub record RescanTold {S : Type 0} (session : ℕ) (range : Range) (old new : Moment S) : Type 0 where
+  pub history_is : new.history ≡ old.history
+  pub given_up : List Call
+  pub kept : HasNone session old → given_up ≡ old.calls
+  pub calls_is : new.calls ≡ given_up ++ begun_call session (AskScan range) (length old.history) ∷ []
+
+-- the tokens after an entry was asked for: a fault is kept
+abbrev pub TokenAfter : {S : Type 0} → ScanToken → Result (Option Entry) Fault → Index S → Index S → Type 0
+TokenAfter token (Ok given) old new = KeepsTokens old new
+TokenAfter token (Err fault) old new = SeatBecomes token (seat_with token true) old new

@@ -1,0 +1,148 @@
+use super::*;
+use arrayvec::ArrayVec;
+use device::{Device, MemDevice};
+use index_model::{Entry, Fault, Key, Limits, Range, RowAddr};
+use page_action::{MapStore, PageStore};
+use page_codec::{Items, Page, PageState};
+use page_store::Store;
+use recovery::{create, open};
+use std::alloc::Global;
+use std::test::{Fail, *};
+
+const LIMITS: Limits = Limits {
+    items: 4,
+    pages: 8,
+    log_bytes: 65_536,
+};
+
+const LEN: u64 = 4096 + 65_536 + 4096 * 8;
+
+const ALL: Range = Range {
+    from: None,
+    below: None,
+};
+
+fn entry(key: u8, offset: u16) -> Entry {
+    Entry {
+        key: Key::new(&[key]).unwrap_or(Key::EMPTY),
+        row: RowAddr::new(0, offset).unwrap_or_default(),
+    }
+}
+
+// An empty index, made on a device in memory and opened.
+fn index(alloc: Global) -> Result<Index<Store<MemDevice>>, Fault> {
+    let mut device = MemDevice::new(alloc, LEN)?;
+    create(&mut device, &LIMITS)?;
+    match open(alloc, device, 16) {
+        Ok(store) => Ok(Index::new(store)),
+        Err(refused) => Err(refused.fault),
+    }
+}
+
+fn page(block: u32, right: Option<u32>, items: Items) -> Page {
+    Page {
+        block,
+        level: 0,
+        state: PageState::Live,
+        split: false,
+        left: None,
+        right,
+        high: None,
+        cycle: 0,
+        deletion: 0,
+        items,
+    }
+}
+
+// An empty index without a device.
+fn in_memory(alloc: Global) -> Result<Index<MapStore>, Fault> {
+    let mut store = MapStore::new(alloc, LIMITS)?;
+    store.add(page(0, Some(1), Items::Meta))?;
+    store.add(page(1, None, Items::Entries(ArrayVec::new())))?;
+    Ok(Index::new(store))
+}
+
+// The number of the row that a scan gives, or 0 where it has given all; behind 100 the number of a refusal.
+fn given<S: PageStore>(index: &mut Index<S>, token: ScanToken) -> u64 {
+    match index.amgettuple(token) {
+        Ok(Some(entry)) => u64::from(entry.row.offset()),
+        Ok(None) => 0,
+        Err(fault) => 100 + u64::from(fault.number()),
+    }
+}
+
+#[test]
+fn entries_are_given_in_order(rt: HostRuntime) -> Result<(), Fail> {
+    let mut index = index(rt.alloc())?;
+    for (place, key) in [0x63, 0x61, 0x62].iter().enumerate() {
+        let inserted = index.aminsert(entry(*key, u16::from(*key)))?;
+        assert_eq!(rt; inserted.action, place as u64 + 1);
+        assert!(rt; inserted.unfinished.is_none());
+    }
+    assert_eq!(rt; index.aminsert(entry(0x61, 0x61)), Err(Fault::Exists));
+    assert_eq!(rt; index.commit(), Ok(3));
+    let token = index.ambeginscan(ALL)?;
+    for expected in [0x61, 0x62, 0x63, 0, 0] {
+        assert_eq!(rt; given(&mut index, token), expected);
+    }
+    let part = Range {
+        from: Key::new(&[0x62]).ok(),
+        below: Key::new(&[0x63]).ok(),
+    };
+    index.amrescan(token, part)?;
+    for expected in [0x62, 0, 0] {
+        assert_eq!(rt; given(&mut index, token), expected);
+    }
+    assert_eq!(rt; index.amendscan(token), Ok(()));
+    assert_eq!(rt; index.checkpoint(), Ok(3));
+    let device = index.into_device();
+    assert_eq!(rt; device.len(), LEN);
+    Ok(())
+}
+
+#[test]
+fn closed_tokens_are_refused(rt: HostRuntime) -> Result<(), Fail> {
+    let mut index = in_memory(rt.alloc())?;
+    let first = index.ambeginscan(ALL)?;
+    assert_eq!(rt; index.amendscan(first), Ok(()));
+    let second = index.ambeginscan(ALL)?;
+    assert!(rt; first != second);
+    assert_eq!(rt; given(&mut index, first), 112);
+    assert_eq!(rt; index.amendscan(first), Err(Fault::NoSession));
+    assert_eq!(rt; index.amrescan(first, ALL), Err(Fault::NoSession));
+    assert_eq!(rt; given(&mut index, second), 0);
+    Ok(())
+}
+
+#[test]
+fn at_most_63_scans(rt: HostRuntime) -> Result<(), Fail> {
+    let mut index = in_memory(rt.alloc())?;
+    let first = index.ambeginscan(ALL)?;
+    for _scan in 1..63 {
+        assert!(rt; index.ambeginscan(ALL).is_ok());
+    }
+    assert_eq!(rt; index.ambeginscan(ALL), Err(Fault::NoSession));
+    assert_eq!(rt; index.amendscan(first), Ok(()));
+    assert!(rt; index.ambeginscan(ALL).is_ok());
+    Ok(())
+}
+
+#[test]
+fn a_failed_device_stops_the_index(rt: HostRuntime) -> Result<(), Fail> {
+    let mut device = MemDevice::new(rt.alloc(), LEN)?;
+    create(&mut device, &LIMITS)?;
+    device.fail_at(12);
+    let Ok(store) = open(rt.alloc(), device, 16) else {
+        return Ok(());
+    };
+    let mut index = Index::new(store);
+    let token = index.ambeginscan(ALL)?;
+    assert!(rt; index.aminsert(entry(0x61, 1)).is_ok());
+    let mut refused = false;
+    for _time in 0..12 {
+        refused = refused || index.commit().is_err() || index.aminsert(entry(0x62, 2)).is_err();
+    }
+    assert!(rt; refused);
+    assert!(rt; index.amendscan(token).is_ok());
+    Ok(())
+}
