@@ -2,3 +2,4 @@ pub mod Composing
 pub mod Tellings
 pub mod Given
 pub mod Seats
+pub mod Results

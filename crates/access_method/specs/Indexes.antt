@@ -1,18 +1,21 @@
 -- What is promised of an index.
-use Rattle.std.specs.Prelude.{◌≡◌, ℕ, suc, Bool, true, false, Option, Some, None, Result, Ok, Err, List, ◌∷◌, [], ◌++◌, length, slice_get, slice_set}
+use Rattle.std.specs.Prelude.{◌||◌, ◌≡◌, ℕ, suc, Bool, true, false, Option, Some, None, Result, Ok, Err, List, ◌∷◌, [], ◌++◌, length, slice_get, slice_set}
 use Rattle.index_model.specs.Actions.{Action}
-use Rattle.index_model.specs.Calls.{AskScan, Call}
+use Rattle.index_model.specs.Calls.{AskScan, Call, IsScanAnswer, IsScanAnswerSoFar}
+use Rattle.index_model.specs.Order.{same_entry}
+use Rattle.page_action.specs.Contents.{entry_on_live_leaf}
 use Rattle.index_model.specs.declared.entry.Entry.{Entry}
 use Rattle.index_model.specs.declared.fault.Fault.{Fault}
 use Rattle.index_model.specs.declared.range.Range.{Range}
 use Rattle.page_action.specs.declared.page_store.PageStore.{Ghosts}
 use Rattle.session_calls.specs.Sessions.{begun_call}
-use Rattle.schedule.specs.Moments.{Moment, Fits}
+use Rattle.schedule.specs.Moments.{Moment, IsRunningCall, Fits}
 use Rattle.schedule.specs.Crashes.{KeepsHistory}
 use Rattle.schedule.specs.Promises.{StoreAndSlots, moment_at}
 use Rattle.access_method.specs.Telling.{IsSilent, HasNone}
 use Rattle.access_method.specs.Going.{Goes}
 use Rattle.access_method.specs.declared.index.Index.{Index}
+use Rattle.access_method.specs.declared.inserted.Inserted.{Inserted}
 use Rattle.access_method.specs.declared.token.ScanToken.{ScanToken}
 use Rattle.access_method.specs.declared.token.Seat.{Seat}
 
@@ -69,3 +72,29 @@ pub record RescanTold {S : Type 0} (session : ℕ) (range : Range) (old new : Mo
 abbrev pub TokenAfter : {S : Type 0} → ScanToken → Result (Option Entry) Fault → Index S → Index S → Type 0
 TokenAfter token (Ok given) old new = KeepsTokens old new
 TokenAfter token (Err fault) old new = SeatBecomes token (seat_with token true) old new
+
+-- whether an entry stands on the store's pages
+abbrev pub has_entry : {S : Type 0} → Ghosts S → S → Entry → Bool
+has_entry g store e = entry_on_live_leaf (g.state store).pages e
+
+-- the entry wasn't there; the contents are those before and the entry; and the action that added it is the last one
+pub record IsInserted {S : Type 0} (g : Ghosts S) (entry : Entry) (inserted : Inserted) (old new : S) : Type 0 where
+  pub was_absent : has_entry g old entry ≡ false
+  pub contents : (e : Entry) → has_entry g new e ≡ (same_entry entry e || has_entry g old e)
+  pub action_is : inserted.action ≡ (g.state new).acts
+
+-- the entry is inserted; or the contents are those before
+abbrev pub InsertsOrKeeps : {S : Type 0} → Ghosts S → Entry → Result Inserted Fault → S → S → Type 0
+InsertsOrKeeps g entry (Ok inserted) old new = IsInserted g entry inserted old new
+InsertsOrKeeps g entry (Err fault) old new = (e : Entry) → has_entry g new e ≡ has_entry g old e
+
+-- what a scan has given with this entry is right so far; or all that it gave is the right answer since it was begun
+abbrev pub GivesRight : (Entry → Bool) → List Action → Range → Call → Result (Option Entry) Fault → Type 0
+GivesRight start history range call (Ok (Some entry)) = IsScanAnswerSoFar start history range call.began (length history) (call.given ++ entry ∷ [])
+GivesRight start history range call (Ok None) = IsScanAnswer start history range call.began (length history) call.given
+GivesRight start history range call (Err fault) = Unit {0}
+
+-- ... of the session's running scan
+abbrev pub AnswersScan : ℕ → Result (Option Entry) Fault → (Entry → Bool) → List Action → List Call → Type 0
+AnswersScan session result start history calls = (number : ℕ) (call : Call) (range : Range) → IsRunningCall calls session number call → call.ask ≡ AskScan range
+    → GivesRight start history range call result

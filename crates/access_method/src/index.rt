@@ -47,19 +47,19 @@ fn free_seat(seats: &[Option<Seat>]) -> Option<usize>
 }
 
 impl<S: PageStore> Index<S> {
-    ghost use Rattle.std.specs.Prelude.{◌≡◌, ◌⊎◌, [], true, false, None, Some, Ok, Err, IfOk, IfErr, OnOk, OnErr, OnSome, IsErr, ◌<◌, slice_get};
+    ghost use Rattle.std.specs.Prelude.{◌≡◌, ◌⊎◌, [], true, false, None, Some, Ok, Err, IfOk, IfErr, OnOk, OnErr, OnSome, IsErr, ◌<◌, ◌≤◌, slice_get};
     ghost use Rattle.access_method.specs.declared.token.ScanToken.{ScanToken};
     ghost use Rattle.page_action.specs.Contents.{entry_on_live_leaf};
     ghost use Rattle.index_model.specs.Faults.{HasCause};
     ghost use Rattle.page_action.specs.Causes.{where_forced, is_at_end};
     ghost use Rattle.page_action.specs.States.{Continues};
-    ghost use Rattle.schedule.specs.Promises.{IsUnused};
+    ghost use Rattle.schedule.specs.Promises.{IsUnused, Carries};
     ghost use Rattle.index_model.specs.Calls.{AskScan};
     ghost use Rattle.schedule.specs.Runs.{slot_at};
     ghost use Rattle.access_method.specs.Telling.{IsSilent, InsertTold, HasBegun, TellsEnd};
     ghost use Rattle.access_method.specs.Giving.{TellsGiven, EndsUnlessGiven};
     ghost use Rattle.access_method.specs.Tokens.{seat_of, AreTaken};
-    ghost use Rattle.access_method.specs.Indexes.{inside, IndexFits, IndexKeeps, IndexGoes, GoesSilent, KeepsTokens, IsNewToken, SeatBecomes, seat_with, RescanTold, TokenAfter};
+    ghost use Rattle.access_method.specs.Indexes.{inside, IndexFits, IndexKeeps, IndexGoes, GoesSilent, KeepsTokens, IsNewToken, SeatBecomes, seat_with, RescanTold, TokenAfter, InsertsOrKeeps, AnswersScan};
 
     /// An index over the store, with no call and no open scan. Where the store's pages are in order and it has made no
     /// act, the index is fitted by the contents of its pages, no actions and no calls; over an own device it keeps them
@@ -85,6 +85,8 @@ impl<S: PageStore> Index<S> {
     pub fn aminsert(&mut self, entry: Entry) -> Result<Inserted, Fault>
         ensures steps { Continues S.follows self.old.store self.new.store }
         ensures runs { IndexGoes S.PageStore 63 (InsertTold entry result) self.old self.new }
+        ensures inserts { Carries S.PageStore (inside self.old) (inside self.new)
+            (λ start history calls. InsertsOrKeeps S.PageStore entry result self.old.store self.new.store) }
         ensures tokens { KeepsTokens self.old self.new }
     {
         insert(&mut self.store, &mut self.slots, entry)
@@ -112,6 +114,7 @@ impl<S: PageStore> Index<S> {
         ensures runs { IndexGoes S.PageStore 0 IsSilent self.old self.new }
         ensures number { IfOk result (λ n. n ≡ (S.state self.old.store).acts) }
         ensures durable { OnOk result ((S.backing self.new.store).durable ≡ (S.state self.old.store).acts) }
+        ensures room { OnOk result (5 ≤ (S.backing self.new.store).room) }
         ensures cause { IfErr result (HasCause (where_forced (S.backing self.old.store) (S.backing self.new.store))) }
         ensures tokens { KeepsTokens self.old self.new }
     {
@@ -139,6 +142,7 @@ impl<S: PageStore> Index<S> {
     pub fn amgettuple(&mut self, token: ScanToken) -> Result<Option<Entry>, Fault>
         ensures steps { Continues S.follows self.old.store self.new.store }
         ensures runs { IndexGoes S.PageStore token.session (TellsGiven token.session result) self.old self.new }
+        ensures answers { Carries S.PageStore (inside self.old) (inside self.new) (AnswersScan token.session result) }
         ensures closed { seat_of self.old.seats token ≡ None → (result ≡ Err Fault.NoSession) × (self.new ≡ self.old) }
         ensures refused { seat_of self.old.seats token ≡ seat_with token true
             → (result ≡ Err Fault.NoSession) × (self.new ≡ self.old) }

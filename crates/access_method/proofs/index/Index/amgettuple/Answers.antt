@@ -2,13 +2,16 @@ use Rattle.std.proofs.Common.{Ok, Err, Option, List, None, Some, sym, refl, ap, 
 use Rattle.session_calls.specs.declared.op.Op.{Op}
 use Rattle.schedule.proofs.Keeping.{Laws}
 use Rattle.schedule.specs.Moments.{has_call}
+use Rattle.schedule.specs.Promises.{both}
 use Rattle.access_method.proofs.Composing.{StoreLaws, goes_nowhere}
 use Rattle.access_method.specs.Giving.{TellsGiven}
 use Rattle.access_method.specs.Indexes.{inside}
 use Rattle.access_method.proofs.Tellings.{runs_has_call, true_false}
 use Rattle.std.proofs.Common.{true}
 use Rattle.index_model.specs.declared.fault.Fault.TheVariants.{NoSession}
+use Rattle.schedule.specs.Promises.{moment_at}
 use Rattle.access_method.proofs.Composing.{goes_still}
+use Rattle.access_method.proofs.Results.{gives_right}
 use Rattle.access_method.proofs.Seats.{agree_over}
 use Rattle.access_method.proofs.index.Index.amgettuple.Goals as goal
 
@@ -52,6 +55,16 @@ returns-then-not-is_running-clause-runs g c =
     let session = c.args.token.session in
     goes_still g.S.PageStore laws session (TellsGiven session (Ok None)) (inside c.args.self.now)
     (λ start x at fits number call range is ask. absurd (true_false (sym (runs_has_call g.S.PageStore start x fits session number call is) ∙ ap (λ (l : List (Option Op)). has_call l session) at ∙ sym c.is_running.ensures.value ∙ c.if-not-is_running.true)))
+
+pub returns-then-not-is_running-clause-answers : goal.returns-then-not-is_running-clause-answers
+returns-then-not-is_running-clause-answers g c honest start history calls fits number call range is ask =
+    let session = c.args.token.session in
+    absurd (true_false (sym (runs_has_call g.S.PageStore start (moment_at (inside c.args.self.now) history calls) fits session number call is) ∙ sym c.is_running.ensures.value ∙ c.if-not-is_running.true))
+
+pub returns-in-Ok-clause-answers : goal.returns-in-Ok-clause-answers
+returns-in-Ok-clause-answers g c honest start history calls fits =
+    gives_right g.S.PageStore c.args.token.session (Ok c.in-Ok.given) (inside c.args.self.now) (both c.give.new.store c.give.new.slots) start history calls
+    (c.in-Ok.ensures.goes honest start history calls fits)
 
 pub invariant_of-self-in-Err : goal.invariant_of-self-in-Err
 invariant_of-self-in-Err g c = record {

@@ -1,4 +1,12 @@
+use Rattle.schedule.specs.Promises.{both}
+use Rattle.access_method.specs.Indexes.{inside}
+use Rattle.access_method.proofs.Results.{inserts_or_keeps}
 use Rattle.access_method.proofs.index.Index.aminsert.Goals as goal
 
 pub returns-clause-runs : goal.returns-clause-runs
 returns-clause-runs g c = c.insert.ensures.goes c.args.self.now.agree.inserts
+
+pub returns-clause-inserts : goal.returns-clause-inserts
+returns-clause-inserts g c honest start history calls fits =
+    inserts_or_keeps g.S.PageStore c.args.entry c.insert.result (inside c.args.self.now) (both c.insert.new.store c.insert.new.slots) start history calls fits
+    (c.insert.ensures.goes c.args.self.now.agree.inserts honest start history calls fits)
