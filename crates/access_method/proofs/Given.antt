@@ -147,4 +147,4 @@ end_given {S} g start session came x y z fits no_entry tells end number call ran
     of (Ok (Flushed b)) some t = absurd t.told
     of (Ok (Checkpointed n)) some t = absurd t.told
     of (Ok (Refused f)) some t = quiet t.acts t.told.0 t.history_is
-    of (Err f) some t = end.history_is ∙ t.history_is
+    of (Err f) some t = end.history_is ∙ t.silent.history_is

@@ -1,11 +1,12 @@
 -- What the answers of an insert and of a scan say, read off the run.
 use Rattle.std.proofs.Common.{◌≡◌, ◌||◌, ℕ, ◌+◌, Bool, Option, Some, None, Result, Ok, Err, List, [], ◌∷◌, ◌++◌, length, take, slice_get, refl, sym, ap, subst, ◌∙◌, arith, length-append}
-use Rattle.std.proofs.lemmas.List.{take_at}
-use Rattle.index_model.specs.Actions.{Action, contents_after}
-use Rattle.index_model.specs.Calls.{Ask, AskInsert, AskScan, Call, Ending, Running, Finished as EndsFinished, Meets, AnswersRight, IsAdded, IsScanAnswer, IsScanAnswerSoFar, end_of}
+use Rattle.std.proofs.lemmas.List.{take_at, take_all}
+use Rattle.index_model.specs.Actions.{ThereAtSomeMoment, Action, contents_after}
+use Rattle.index_model.specs.Calls.{Failed, Ask, AskInsert, AskScan, Call, Ending, Running, Finished as EndsFinished, Meets, AnswersRight, IsAdded, IsScanAnswer, IsScanAnswerSoFar, end_of}
 use Rattle.index_model.specs.Order.{same_entry}
 use Rattle.index_model.specs.declared.entry.Entry.{Entry}
 use Rattle.index_model.specs.declared.fault.Fault.{Fault}
+use Rattle.index_model.specs.declared.fault.Fault.TheVariants.{Exists}
 use Rattle.index_model.specs.declared.range.Range.{Range}
 use Rattle.index_model.proofs.Histories.{contents_after-add}
 use Rattle.page_action.specs.declared.page_store.PageStore.{Ghosts}
@@ -40,7 +41,17 @@ inserts_or_keeps g entry (Ok inserted) old new start history calls fits r =
           omega (arith, a, b, c));
     }
 inserts_or_keeps g entry (Err fault) old new start history calls fits r =
-    λ e. r.ran.fits.matches.contents e ∙ ap (λ (l : List Action). contents_after start l e) r.tells ∙ sym (fits.matches.contents e)
+    let failed : Call = ended (begun_call 63 (AskInsert entry) (length history)) (Failed Exists) (length history) in
+    record {
+      contents = λ e. r.ran.fits.matches.contents e ∙ ap (λ (l : List Action). contents_after start l e) r.tells.history_is ∙ sym (fits.matches.contents e);
+      was_there = λ exists. (
+          let found : slice_get r.then_calls (length calls) ≡ Some failed = ap (λ (l : List Call). slice_get l (length calls)) (r.tells.exists_is exists) ∙ get_append_new calls failed in
+          let meets : Meets start r.then_history (length calls) failed = r.ran.fits.meets (length calls) failed found in
+          let at : ThereAtSomeMoment start r.then_history (length history) (length history) entry = meets.right.end.1 refl in
+          let moment : at.moment ≡ length history = (let a = at.since in let b = at.until in omega (arith, a, b)) in
+          let first : take at.moment r.then_history ≡ history = ap (λ (n : ℕ). take n r.then_history) moment ∙ ap (λ (l : List Action). take (length history) l) r.tells.history_is ∙ take_all (length history) history (omega arith) in
+          fits.matches.contents entry ∙ ap (λ (l : List Action). contents_after start l entry) (sym first) ∙ at.there);
+    }
 
 -- a running scan's answer so far
 so_far : (start : Entry → Bool) (history : List Action) (number began until : ℕ) (ask : Ask) (range : Range) (given : List Entry) (added : Option ℕ) (ending : Ending) → ask ≡ AskScan range → ending ≡ Running

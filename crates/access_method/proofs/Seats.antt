@@ -99,6 +99,6 @@ rescan_told session range u x y z end began = record {
 -- a beginning that is refused, and then an end
 pub refused_silent : {S : Type 0} (session : ℕ) (range : Range) (fault : Fault) (x y z : Moment S) → HasNone session x → BeginTold session (AskScan range) (Err fault) x y → TellsEnd session y z → IsSilent x z
 refused_silent session range fault x y z free began end = record {
-  history_is = end.history_is ∙ began.history_is;
-  calls_is = end.calls_is (λ number call is. free number call (record { found = ap (λ (l : List Call). slice_get l number) (sym began.calls_is) ∙ is.found; session_is = is.session_is; running = is.running })) ∙ began.calls_is;
+  history_is = end.history_is ∙ began.silent.history_is;
+  calls_is = end.calls_is (λ number call is. free number call (record { found = ap (λ (l : List Call). slice_get l number) (sym began.silent.calls_is) ∙ is.found; session_is = is.session_is; running = is.running })) ∙ began.silent.calls_is;
 }

@@ -1,19 +1,23 @@
 -- What each event of a session tells of its running call.
-use Rattle.std.proofs.Common.{IsErr, ◌≡◌, ℕ, zero, suc, ◌<◌, Bool, true, false, Option, Some, None, unwrap_or, Result, Ok, Err, List, [], ◌∷◌, ◌++◌, length, slice_get, slice_set, refl, sym, ap, subst, ◌∙◌, arith, inl, inr}
+use Rattle.std.proofs.Common.{◌≢◌, ◌≡◌, ℕ, zero, suc, ◌<◌, Bool, true, false, Option, Some, None, unwrap_or, Result, Ok, Err, List, [], ◌∷◌, ◌++◌, length, slice_get, slice_set, refl, sym, ap, subst, ◌∙◌, arith, inl, inr}
 use Rattle.std.proofs.lemmas.List.{append-nil}
 use Rattle.index_model.specs.Actions.{Action, Add}
-use Rattle.index_model.specs.Calls.{Ask, AskInsert, Call, Running}
+use Rattle.index_model.specs.Calls.{Failed, Ask, AskInsert, Call, Running}
 use Rattle.index_model.specs.declared.entry.Entry.{Entry}
 use Rattle.index_model.specs.declared.fault.Fault.{Fault}
 use Rattle.page_action.specs.declared.page_store.PageStore.{Ghosts}
-use Rattle.session_calls.specs.Sessions.{AnswersEnd, Told, Adds, ended_added, begun_call}
+use Rattle.session_calls.specs.Sessions.{IsCaused, Refuses, ended, AnswersEnd, Told, Adds, ended_added, begun_call}
 use Rattle.session_calls.specs.declared.answer.Answer.{Answer}
 use Rattle.session_calls.specs.declared.answer.Answer.TheVariants.{Begun, Going, Added, Ready, Done, Finished, Gave, Ended, Forced, Flushed, Checkpointed, Refused}
 use Rattle.session_calls.specs.declared.op.Op.{Op}
 use Rattle.schedule.specs.Moments.{Moment, IsRunningCall, SlotRuns, SlotMatches, Fits, has_call}
-use Rattle.schedule.specs.Runs.{GoesOn, Stays, Moves, IsBegunCall, Begins, slot_at}
+use Rattle.schedule.specs.Runs.{where_begun_at, GoesOn, Stays, Moves, IsBegunCall, Begins, slot_at}
 use Rattle.schedule.proofs.Lists.{get_append_new, get_append_cases, get_some, same_some}
-use Rattle.access_method.specs.Telling.{BeginTold, begun_of, HasCome, InsertTold, outcome_of, IsSilent, IsTold, StepTold, TellsStep, StaysRunning, HasNone, HasBegun, TellsBegin, TellsEnd}
+use Rattle.index_model.specs.Faults.{HasCause}
+use Rattle.index_model.specs.declared.fault.Fault.TheVariants.{Exists, NoSession}
+use Rattle.page_action.specs.Causes.{where_forced}
+use Rattle.page_action.specs.States.{Backing}
+use Rattle.access_method.specs.Telling.{IsNotAdded, CameTo, BeginTold, begun_of, HasCome, InsertTold, outcome_of, IsSilent, IsTold, StepTold, TellsStep, StaysRunning, HasNone, HasBegun, TellsBegin, TellsEnd}
 
 set_same : {X : Type 0} (xs : List X) (i : ℕ) (x : X) → slice_get xs i ≡ Some x → slice_set xs i x ≡ xs
 set_same [] i x h = refl
@@ -95,7 +99,7 @@ silent_then session result x y z stays tells number call is =
       history_is = t.history_is ∙ ap (λ (l : List Action). l ++ t.acts) s.history_is;
       calls_is = t.calls_is ∙ ap (λ (l : List Call). slice_set l number t.after) s.calls_is;
     }
-    of (Err fault) t s = record { history_is = t.history_is ∙ s.history_is; calls_is = t.calls_is ∙ s.calls_is }
+    of (Err fault) t s = record { silent = record { history_is = t.silent.history_is ∙ s.history_is; calls_is = t.silent.calls_is ∙ s.calls_is }; not_exists = t.not_exists }
 
 -- a running call stays so where nothing is told of it
 pub stays_then : {S : Type 0} (session : ℕ) (x y z : Moment S) → StaysRunning session x y → StaysRunning session y z → StaysRunning session x z
@@ -116,24 +120,36 @@ ready_stays session count x y tells number call is = let t : IsTold number call 
 pub none_stays : {S : Type 0} (session : ℕ) (x y : Moment S) → TellsStep session (Ok (Gave None)) x y → StaysRunning session x y
 none_stays session x y tells number call is = let t : IsTold number call (Gave None) x y = tells number call is in quiet_told session number call (Gave None) x y is (λ _. tt) t t.told.0 t.told.1
 
+-- a beginning is not refused because an entry was there
+begin_not_exists : {S : Type 0} (g : Ghosts S) (x : Moment S) (o : Option (Option Op)) (fault : Fault) → IsCaused (where_begun_at g x o) (Refused fault) → fault ≢ Exists
+begin_not_exists g x None fault cause e = let c : HasCause (where_begun_at g x None) Exists = subst (λ (f : Fault). HasCause (where_begun_at g x None) f) e cause in absurd (true_false (sym c))
+begin_not_exists g x (Some slot) fault cause e = let c : HasCause (where_begun_at g x (Some slot)) Exists = subst (λ (f : Fault). HasCause (where_begun_at g x (Some slot)) f) e cause in absurd (true_false (sym c))
+
+-- nor is a force
+pub force_not_exists : (old new : Backing) (fault : Fault) → HasCause (where_forced old new) fault → fault ≢ Exists
+force_not_exists old new fault cause e = let c : HasCause (where_forced old new) Exists = subst (λ (f : Fault). HasCause (where_forced old new) f) e cause in absurd (true_false (sym c))
+
 -- a beginning
-pub begins_tells : {S : Type 0} (g : Ghosts S) (o : Option (Option Op)) (session : ℕ) (ask : Ask) (answer : Answer) (x y : Moment S) → Begins g o session ask answer x y → TellsBegin session ask answer x y
-begins_tells {S} g o session ask answer x y begins = of o begins
+begins_tells : {S : Type 0} (g : Ghosts S) (o : Option (Option Op)) (session : ℕ) (ask : Ask) (answer : Answer) (x y : Moment S) → Begins g o session ask answer x y → IsCaused (where_begun_at g x o) answer → TellsBegin session ask answer x y
+begins_tells {S} g o session ask answer x y begins cause = of o begins (begin_not_exists g x o)
   where
-    stays : Stays g answer x y → TellsBegin session ask answer x y
-    stays s = subst (λ (a : Answer). TellsBegin session ask a x y) (sym s.refused) (record { history_is = s.history_is; calls_is = s.calls_is })
+    stays : (why : (fault : Fault) → IsCaused (where_begun_at g x o) (Refused fault) → fault ≢ Exists) → Stays g answer x y → TellsBegin session ask answer x y
+    stays why s = subst (λ (a : Answer). TellsBegin session ask a x y) (sym s.refused) (record {
+      silent = record { history_is = s.history_is; calls_is = s.calls_is };
+      not_exists = why s.fault (subst (λ (a : Answer). IsCaused (where_begun_at g x o) a) s.refused cause);
+    })
 
     begun : IsBegunCall g session ask answer x y → TellsBegin session ask answer x y
     begun b = subst (λ (a : Answer). TellsBegin session ask a x y) (sym b.told) (record { history_is = b.history_is; calls_is = b.calls_is })
 
-    of : (o : Option (Option Op)) → Begins g o session ask answer x y → TellsBegin session ask answer x y
-    of None h = stays h
-    of (Some None) h = elim h [ inl b ↦ begun b | inr s ↦ stays s ]
-    of (Some (Some op)) h = stays h
+    of : (p : Option (Option Op)) → Begins g p session ask answer x y → ((fault : Fault) → IsCaused (where_begun_at g x o) (Refused fault) → fault ≢ Exists) → TellsBegin session ask answer x y
+    of None h why = stays why h
+    of (Some None) h why = elim h [ inl b ↦ begun b | inr s ↦ stays why s ]
+    of (Some (Some op)) h why = stays why h
 
 -- ... by whether it has begun
-pub begins_told : {S : Type 0} (g : Ghosts S) (o : Option (Option Op)) (session : ℕ) (ask : Ask) (answer : Answer) (x y : Moment S) → Begins g o session ask answer x y → BeginTold session ask (begun_of answer) x y
-begins_told g o session ask answer x y begins = of answer (begins_tells g o session ask answer x y begins)
+pub begins_told : {S : Type 0} (g : Ghosts S) (o : Option (Option Op)) (session : ℕ) (ask : Ask) (answer : Answer) (x y : Moment S) → Begins g o session ask answer x y → IsCaused (where_begun_at g x o) answer → BeginTold session ask (begun_of answer) x y
+begins_told g o session ask answer x y begins cause = of answer (begins_tells g o session ask answer x y begins cause)
   where
     of : (a : Answer) → TellsBegin session ask a x y → BeginTold session ask (begun_of a) x y
     of Begun h = h
@@ -171,26 +187,6 @@ ends_tells g x y session (Flushed b) true goes is = absurd is
 ends_tells g x y session (Checkpointed n) true goes is = absurd is
 ends_tells g x y session answer false stays is = record { history_is = stays.history_is; calls_is = λ free. stays.calls_is }
 
--- a refusal before a step
-pub err_told : {S : Type 0} (number : ℕ) (call : Call) (r : Result Answer Fault) (x y : Moment S) → IsErr r → IsSilent x y → StepTold number call r x y
-err_told number call (Ok answer) x y is silent = absurd cc
-err_told number call (Err fault) x y is silent = silent
-
--- ... in a result of another type
-pub err_stays : {S : Type 0} (session : ℕ) (old new : Result Answer Fault) (fault : Fault) (x y : Moment S) → old ≡ Err fault → IsErr new → TellsStep session old x y → TellsStep session new x y
-err_stays session (Ok a) new fault x y was is tells number call running = absurd cc
-err_stays session (Err f) new fault x y was is tells number call running = err_told number call new x y is (tells number call running)
-
--- a call that isn't begun
-pub not_begun : {S : Type 0} (session : ℕ) (ask : Ask) (r : Result (Unit {0}) Fault) (fault : Fault) (x y : Moment S) → r ≡ Err fault → BeginTold session ask r x y → y.history ≡ x.history
-not_begun session ask (Ok u) fault x y was told = told.history_is
-not_begun session ask (Err f) fault x y was told = told.history_is
-
--- ... and before it has come anywhere
-pub err_come : {S : Type 0} (session : ℕ) (ask : Ask) (r : Result Answer Fault) (x y : Moment S) → IsErr r → y.history ≡ x.history → HasCome session ask r x y
-err_come session ask (Ok answer) x y is same = absurd cc
-err_come session ask (Err fault) x y is same = same
-
 set_new : {X : Type 0} (xs : List X) (x y : X) → slice_set (xs ++ x ∷ []) (length xs) y ≡ xs ++ y ∷ []
 set_new [] x y = refl
 set_new (z ∷ xs) x y = ap (λ l. z ∷ l) (set_new xs x y)
@@ -215,7 +211,7 @@ begun_came session ask result x y z began tells = of result (tells (length x.cal
       calls_is = t.calls_is ∙ ap (λ (l : List Call). slice_set l (length x.calls) t.after) began.calls_is
           ∙ set_new x.calls (begun_call session ask (length x.history)) t.after;
     }
-    of (Err fault) t = t.history_is ∙ began.history_is
+    of (Err fault) t = (t.silent.history_is ∙ began.history_is, t.not_exists)
 
 -- a call that has come to its end, in a session that had none
 pub ended_none : {S : Type 0} (session : ℕ) (x y : Moment S) (after : Call) → HasNone session x → y.calls ≡ x.calls ++ after ∷ [] → (after.ending ≡ Running → ⊥) → HasNone session y
@@ -227,11 +223,20 @@ ended_none session x y after none calls over number call is =
 
 -- an insert that came so far, and then an end
 pub insert_told : {S : Type 0} (entry : Entry) (came : Result Answer Fault) (x y z : Moment S) → HasNone 63 x → HasCome 63 (AskInsert entry) came x y → TellsEnd 63 y z → InsertTold entry (outcome_of came) x z
-insert_told entry (Err fault) x y z free came end = end.history_is ∙ came
+insert_told entry (Err fault) x y z free came end = record { history_is = end.history_is ∙ came.0; exists_is = λ e. absurd (came.1 e) }
 insert_told {S} entry (Ok answer) x y z free came end = of answer came
   where
-    quiet : (acts : List Action) → acts ≡ [] → y.history ≡ x.history ++ acts → z.history ≡ x.history
-    quiet acts none is = end.history_is ∙ is ∙ ap (λ (l : List Action). x.history ++ l) none ∙ append-nil x.history
+    quiet : (acts : List Action) → acts ≡ [] → y.history ≡ x.history ++ acts → IsNotAdded entry NoSession x z
+    quiet acts none is = record { history_is = end.history_is ∙ is ∙ ap (λ (l : List Action). x.history ++ l) none ∙ append-nil x.history; exists_is = λ e. absurd cc }
+
+    -- a call that was refused because its entry was there has ended
+    exists_told : (fault : Fault) → (c : CameTo 63 (AskInsert entry) (Refused fault) x y) → fault ≡ Exists
+        → z.calls ≡ x.calls ++ ended (begun_call 63 (AskInsert entry) (length x.history)) (Failed Exists) (length x.history) ∷ []
+    exists_told fault c e =
+        let after : Call = ended (begun_call 63 (AskInsert entry) (length x.history)) (Failed Exists) (length x.history) in
+        let is : c.after ≡ after = subst (λ (f : Fault). Refuses f (length x.history) (begun_call 63 (AskInsert entry) (length x.history)) c.after) e c.told.1 in
+        let calls : y.calls ≡ x.calls ++ after ∷ [] = c.calls_is ∙ ap (λ (a : Call). x.calls ++ a ∷ []) is in
+        end.calls_is (ended_none 63 x y after free calls (λ e. cc)) ∙ calls
 
     of : (a : Answer) → HasCome 63 (AskInsert entry) (Ok a) x y → InsertTold entry (outcome_of (Ok a)) x z
     of Begun c = absurd c.told
@@ -254,4 +259,4 @@ insert_told {S} entry (Ok answer) x y z free came end = of answer came
     of (Forced n) c = absurd c.told
     of (Flushed b) c = absurd c.told
     of (Checkpointed n) c = absurd c.told
-    of (Refused fault) c = quiet c.acts c.told.0 c.history_is
+    of (Refused fault) c = record { history_is = end.history_is ∙ c.history_is ∙ ap (λ (l : List Action). x.history ++ l) c.told.0 ∙ append-nil x.history; exists_is = λ e. exists_told fault c e }

@@ -6,6 +6,7 @@ use Rattle.index_model.specs.Order.{same_entry}
 use Rattle.page_action.specs.Contents.{entry_on_live_leaf}
 use Rattle.index_model.specs.declared.entry.Entry.{Entry}
 use Rattle.index_model.specs.declared.fault.Fault.{Fault}
+use Rattle.index_model.specs.declared.fault.Fault.TheVariants.{Exists}
 use Rattle.index_model.specs.declared.range.Range.{Range}
 use Rattle.page_action.specs.declared.page_store.PageStore.{Ghosts}
 use Rattle.session_calls.specs.Sessions.{begun_call}
@@ -83,10 +84,15 @@ pub record IsInserted {S : Type 0} (g : Ghosts S) (entry : Entry) (inserted : In
   pub contents : (e : Entry) → has_entry g new e ≡ (same_entry entry e || has_entry g old e)
   pub action_is : inserted.action ≡ (g.state new).acts
 
+-- the contents are those before; and where an insert was refused because the entry was there, it was
+pub record KeepsContents {S : Type 0} (g : Ghosts S) (entry : Entry) (fault : Fault) (old new : S) : Type 0 where
+  pub contents : (e : Entry) → has_entry g new e ≡ has_entry g old e
+  pub was_there : fault ≡ Exists → has_entry g old entry ≡ true
+
 -- the entry is inserted; or the contents are those before
 abbrev pub InsertsOrKeeps : {S : Type 0} → Ghosts S → Entry → Result Inserted Fault → S → S → Type 0
 InsertsOrKeeps g entry (Ok inserted) old new = IsInserted g entry inserted old new
-InsertsOrKeeps g entry (Err fault) old new = (e : Entry) → has_entry g new e ≡ has_entry g old e
+InsertsOrKeeps g entry (Err fault) old new = KeepsContents g entry fault old new
 
 -- what a scan has given with this entry is right so far; or all that it gave is the right answer since it was begun
 abbrev pub GivesRight : (Entry → Bool) → List Action → Range → Call → Result (Option Entry) Fault → Type 0

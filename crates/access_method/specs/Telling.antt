@@ -1,11 +1,11 @@
 -- What is told of one session's call, by the history and the calls before and after.
-use Rattle.std.specs.Prelude.{◌≡◌, ℕ, suc, Result, Ok, Err, List, [], ◌∷◌, ◌++◌, length, slice_set}
+use Rattle.std.specs.Prelude.{◌≡◌, ◌≢◌, ℕ, suc, Result, Ok, Err, List, [], ◌∷◌, ◌++◌, length, slice_set}
 use Rattle.index_model.specs.Actions.{Action, Add}
-use Rattle.index_model.specs.Calls.{Ask, AskInsert, Call}
+use Rattle.index_model.specs.Calls.{Ask, AskInsert, Failed, Call}
 use Rattle.index_model.specs.declared.fault.Fault.{Fault}
-use Rattle.index_model.specs.declared.fault.Fault.TheVariants.{NoSession}
+use Rattle.index_model.specs.declared.fault.Fault.TheVariants.{NoSession, Exists}
 use Rattle.index_model.specs.declared.entry.Entry.{Entry}
-use Rattle.session_calls.specs.Sessions.{Told, begun_call, ended_added}
+use Rattle.session_calls.specs.Sessions.{Told, begun_call, ended_added, ended}
 use Rattle.session_calls.specs.declared.answer.Answer.{Answer}
 use Rattle.session_calls.specs.declared.answer.Answer.TheVariants.{Begun, Added, Refused}
 use Rattle.schedule.specs.Moments.{Moment, IsRunningCall}
@@ -24,10 +24,15 @@ pub record IsTold {S : Type 0} (number : ℕ) (call : Call) (answer : Answer) (o
   pub history_is : new.history ≡ old.history ++ acts
   pub calls_is : new.calls ≡ slice_set old.calls number after
 
--- a step was made with this answer; or the room for it could not be made, and nothing is told
+-- nothing is told, and what was refused was not refused because the entry was there
+pub record IsRefused {S : Type 0} (fault : Fault) (old new : Moment S) : Type 0 where
+  pub silent : IsSilent old new
+  pub not_exists : fault ≢ Exists
+
+-- a step was made with this answer; or the room for it could not be made
 abbrev pub StepTold : {S : Type 0} → ℕ → Call → Result Answer Fault → Moment S → Moment S → Type 0
 StepTold number call (Ok answer) old new = IsTold number call answer old new
-StepTold number call (Err fault) old new = IsSilent old new
+StepTold number call (Err fault) old new = IsRefused fault old new
 
 -- ... of the session's running call
 abbrev pub TellsStep : {S : Type 0} → ℕ → Result Answer Fault → Moment S → Moment S → Type 0
@@ -49,7 +54,7 @@ pub record HasBegun {S : Type 0} (session : ℕ) (ask : Ask) (old new : Moment S
 -- a call is begun, or refused
 abbrev pub TellsBegin : {S : Type 0} → ℕ → Ask → Answer → Moment S → Moment S → Type 0
 TellsBegin session ask Begun old new = HasBegun session ask old new
-TellsBegin session ask (Refused fault) old new = IsSilent old new
+TellsBegin session ask (Refused fault) old new = IsRefused fault old new
 TellsBegin session ask answer old new = ⊥
 
 -- whether a call has begun, by the answer
@@ -61,7 +66,7 @@ begun_of answer = Err NoSession
 -- ... and what is told then
 abbrev pub BeginTold : {S : Type 0} → ℕ → Ask → Result (Unit {0}) Fault → Moment S → Moment S → Type 0
 BeginTold session ask (Ok begun) old new = HasBegun session ask old new
-BeginTold session ask (Err fault) old new = IsSilent old new
+BeginTold session ask (Err fault) old new = IsRefused fault old new
 
 -- the session's call is given up, if it still runs: no action is appended, and else no call is changed
 pub record TellsEnd {S : Type 0} (session : ℕ) (old new : Moment S) : Type 0 where
@@ -78,7 +83,7 @@ pub record CameTo {S : Type 0} (session : ℕ) (ask : Ask) (answer : Answer) (ol
 
 abbrev pub HasCome : {S : Type 0} → ℕ → Ask → Result Answer Fault → Moment S → Moment S → Type 0
 HasCome session ask (Ok answer) old new = CameTo session ask answer old new
-HasCome session ask (Err fault) old new = new.history ≡ old.history
+HasCome session ask (Err fault) old new = (new.history ≡ old.history) × (fault ≢ Exists)
 
 -- what an insert answers that came to this
 abbrev pub outcome_of : Result Answer Fault → Result Inserted Fault
@@ -93,7 +98,12 @@ pub record IsAddedNow {S : Type 0} (entry : Entry) (inserted : Inserted) (old ne
   pub action_is : inserted.action ≡ suc (length old.history)
   pub calls_is : new.calls ≡ old.calls ++ ended_added (begun_call 63 (AskInsert entry) (length old.history)) inserted.action inserted.unfinished ∷ []
 
+-- no action is appended; where the entry was there, the call has ended with this
+pub record IsNotAdded {S : Type 0} (entry : Entry) (fault : Fault) (old new : Moment S) : Type 0 where
+  pub history_is : new.history ≡ old.history
+  pub exists_is : fault ≡ Exists → new.calls ≡ old.calls ++ ended (begun_call 63 (AskInsert entry) (length old.history)) (Failed Exists) (length old.history) ∷ []
+
 -- the entry is added, or no action is appended
 abbrev pub InsertTold : {S : Type 0} → Entry → Result Inserted Fault → Moment S → Moment S → Type 0
 InsertTold entry (Ok inserted) old new = IsAddedNow entry inserted old new
-InsertTold entry (Err fault) old new = new.history ≡ old.history
+InsertTold entry (Err fault) old new = IsNotAdded entry fault old new

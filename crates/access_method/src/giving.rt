@@ -49,9 +49,12 @@ fn seek<S: PageStore>(
     ensures goes { Goes S.PageStore session (TellsStep session result) (both store.old slots.old) (both store.new slots.new) }
 {
     loop {
-        match advance(store, slots, session)? {
-            Answer::Going | Answer::Ready(_) => {}
-            answer => return Ok(answer),
+        match advance(store, slots, session) {
+            Ok(answer) => match answer {
+                Answer::Going | Answer::Ready(_) => {}
+                answer => return Ok(answer),
+            },
+            Err(fault) => return Err(fault),
         }
     }
 }

@@ -65,8 +65,10 @@ pub(crate) fn step<S: PageStore>(
     ensures less { IfOk result (LeavesLess (slot_at slots.old session) (slot_at slots.new session)) }
     ensures kind { IfOk result (AnswersStep (slot_at slots.old session)) }
 {
-    make_room(store)?;
-    Ok(one(store, slots, Event::Step(session)))
+    match make_room(store) {
+        Ok(()) => Ok(one(store, slots, Event::Step(session))),
+        Err(fault) => Err(fault),
+    }
 }
 
 // Steps of the session's call until one doesn't answer `Going`.
@@ -78,9 +80,10 @@ fn run<S: PageStore>(store: &mut S, slots: &mut [Option<Op>], session: u32) -> R
     ensures goes { Goes S.PageStore session (TellsStep session result) (both store.old slots.old) (both store.new slots.new) }
 {
     loop {
-        match step(store, slots, session)? {
-            Answer::Going => {}
-            answer => return Ok(answer),
+        match step(store, slots, session) {
+            Ok(Answer::Going) => {}
+            Ok(answer) => return Ok(answer),
+            Err(fault) => return Err(fault),
         }
     }
 }
@@ -119,8 +122,10 @@ fn come<S: PageStore>(
     ensures others { OthersStay 63 slots.old slots.new }
     ensures goes { Goes S.PageStore 63 (HasCome 63 (AskInsert entry) result) (both store.old slots.old) (both store.new slots.new) }
 {
-    begin(store, slots, entry)?;
-    run(store, slots, 63)
+    match begin(store, slots, entry) {
+        Ok(()) => run(store, slots, 63),
+        Err(fault) => Err(fault),
+    }
 }
 
 // What an insert answers that came to this.

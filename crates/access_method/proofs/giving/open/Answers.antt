@@ -24,4 +24,4 @@ returns-clause-goes g c =
     let session = c.args.session in
     let ask = AskScan c.args.range in
     goes_by g.S.PageStore laws session (BeginTold session ask c.begun.result) (Scan session c.args.range) answer (both c.args.store.now c.args.slots.now) (both c.one.new.store c.one.new.slots) refl c.one.ensures.runs
-    (λ start x y at fits does. subst (λ (r : Result (Unit {0}) Fault). BeginTold session ask r x y) (sym c.begun.ensures) (begins_told g.S.PageStore _ session ask answer x y does.happens))
+    (λ start x y at fits does. subst (λ (r : Result (Unit {0}) Fault). BeginTold session ask r x y) (sym c.begun.ensures) (begins_told g.S.PageStore _ session ask answer x y does.happens does.caused))

@@ -1,11 +1,11 @@
-use Rattle.std.proofs.Common.{Result, Ok, refl, subst, ap, ◌∙◌}
+use Rattle.std.proofs.Common.{◌≡◌, Result, Ok, Err, refl, subst, ap, ◌∙◌}
 use Rattle.index_model.specs.declared.fault.Fault.{Fault}
 use Rattle.session_calls.specs.declared.answer.Answer.{Answer}
 use Rattle.schedule.proofs.Keeping.{Laws}
 use Rattle.schedule.specs.Promises.{both}
 use Rattle.access_method.specs.Telling.{TellsStep, StaysRunning}
 use Rattle.access_method.proofs.Composing.{StoreLaws, goes_then, goes_nowhere, goes_told}
-use Rattle.access_method.proofs.Tellings.{silent_then, going_stays, ready_stays, stays_then, err_stays}
+use Rattle.access_method.proofs.Tellings.{silent_then, going_stays, ready_stays, stays_then}
 use Rattle.std.proofs.Common.{inl, inr}
 use Rattle.access_method.proofs.giving.seek.Goals as goal
 use Rattle.access_method.specs.Going.{Goes}
@@ -50,11 +50,26 @@ last g c =
     c.loop-answer.invariant.steps c.advance.ensures.steps c.loop-answer.invariant.goes c.advance.ensures.goes
     (λ start x y z at fx fy fz one two. silent_then session result x y z one two)
 
-pub returns-in_err-answer-clause-goes : goal.returns-in_err-answer-clause-goes
-returns-in_err-answer-clause-goes g c =
-    let session = c.args.session in
-    goes_told g.S.PageStore session (TellsStep session c.advance.result) (TellsStep session c.from_residual.result) _ _ (λ x z t. err_stays session c.advance.result c.from_residual.result c.in_err-answer.field-0.0 x z c.in_err-answer.was c.from_residual.ensures.0 t)
-    (last g ((goal.at.returns-in_err-answer-clause-goes g c).After-advance))
+-- ... as it is answered
+answered : (g : Over) (c : After-advance g) (r : Result Answer Fault) → c.advance.result ≡ r
+    → Goes g.S.PageStore c.args.session (TellsStep c.args.session r) (both c.args.store.now c.args.slots.now) (both c.advance.new.store c.advance.new.slots)
+answered g c r is = goes_told g.S.PageStore c.args.session (TellsStep c.args.session c.advance.result) (TellsStep c.args.session r) _ _ (λ x z t. subst (λ (s : Result Answer Fault). TellsStep c.args.session s x z) is t) (last g c)
+
+pub returns-in_default : goal.returns-in_default
+returns-in_default g c = record {
+  steps = λ f h. c.advance.ensures.steps f (c.loop-answer.invariant.steps f h);
+  sessions = c.advance.ensures.sessions ∙ c.loop-answer.invariant.sessions;
+  others = λ o ne. c.advance.ensures.others o ne ∙ c.loop-answer.invariant.others o ne;
+  goes = answered g ((goal.at.returns-in_default g c).After-advance) (Ok c.in-Ok.answer) c.in-Ok.is;
+}
+
+pub returns-in-Err : goal.returns-in-Err
+returns-in-Err g c = record {
+  steps = λ f h. c.advance.ensures.steps f (c.loop-answer.invariant.steps f h);
+  sessions = c.advance.ensures.sessions ∙ c.loop-answer.invariant.sessions;
+  others = λ o ne. c.advance.ensures.others o ne ∙ c.loop-answer.invariant.others o ne;
+  goes = answered g ((goal.at.returns-in-Err g c).After-advance) (Err c.in-Err.fault) c.in-Err.is;
+}
 
 pub loop-answer-preserved : goal.loop-answer-preserved
 loop-answer-preserved g c =
@@ -77,18 +92,7 @@ loop-answer-preserved g c =
           (both c.args.store.now c.args.slots.now) (both c.loop-answer.store c.loop-answer.slots) (both c.advance.new.store c.advance.new.slots)
           c.loop-answer.invariant.steps c.advance.ensures.steps c.loop-answer.invariant.goes c.advance.ensures.goes
           (λ start x y z at fx fy fz one two. stays_then session x y z one (elim c.in-Going.is [
-            | inl going ↦ going_stays session y z (subst (λ (r : Result Answer Fault). TellsStep session r y z) (c.in_ok-answer.was ∙ ap (λ (a : Answer). Ok a) going) two)
-            | inr ready ↦ ready_stays session ready.0 y z (subst (λ (r : Result Answer Fault). TellsStep session r y z) (c.in_ok-answer.was ∙ ap (λ (a : Answer). Ok a) ready.1) two)
+            | inl going ↦ going_stays session y z (subst (λ (r : Result Answer Fault). TellsStep session r y z) (c.in-Ok.is ∙ ap (λ (a : Answer). Ok a) going) two)
+            | inr ready ↦ ready_stays session ready.0 y z (subst (λ (r : Result Answer Fault). TellsStep session r y z) (c.in-Ok.is ∙ ap (λ (a : Answer). Ok a) ready.1) two)
           ]));
-    }
-
-pub returns-in_default : goal.returns-in_default
-returns-in_default g c =
-    let session = c.args.session in
-    record {
-      steps = λ f h. c.advance.ensures.steps f (c.loop-answer.invariant.steps f h);
-      sessions = c.advance.ensures.sessions ∙ c.loop-answer.invariant.sessions;
-      others = λ o ne. c.advance.ensures.others o ne ∙ c.loop-answer.invariant.others o ne;
-      goes = goes_told g.S.PageStore session (TellsStep session c.advance.result) (TellsStep session (Ok c.in_ok-answer.answer)) _ _ (λ x z t. subst (λ (r : Result Answer Fault). TellsStep session r x z) c.in_ok-answer.was t)
-          (last g ((goal.at.returns-in_default g c).After-advance));
     }

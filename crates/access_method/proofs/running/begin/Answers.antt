@@ -23,4 +23,4 @@ returns-clause-goes g c =
     let answer = c.one.result in
     let ask = AskInsert c.args.entry in
     goes_by g.S.PageStore laws 63 (BeginTold 63 ask c.begun.result) (Insert 63 c.args.entry) answer (both c.args.store.now c.args.slots.now) (both c.one.new.store c.one.new.slots) refl c.one.ensures.runs
-    (λ start x y at fits does. subst (λ (r : Result (Unit {0}) Fault). BeginTold 63 ask r x y) (sym c.begun.ensures) (begins_told g.S.PageStore _ 63 ask answer x y does.happens))
+    (λ start x y at fits does. subst (λ (r : Result (Unit {0}) Fault). BeginTold 63 ask r x y) (sym c.begun.ensures) (begins_told g.S.PageStore _ 63 ask answer x y does.happens does.caused))

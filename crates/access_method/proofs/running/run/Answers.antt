@@ -1,13 +1,15 @@
-use Rattle.std.proofs.Common.{Result, Ok, refl, subst, ap, ◌∙◌}
+use Rattle.std.proofs.Common.{◌≡◌, Result, Ok, Err, refl, subst, ◌∙◌}
 use Rattle.index_model.specs.declared.fault.Fault.{Fault}
 use Rattle.session_calls.specs.declared.answer.Answer.{Answer}
+use Rattle.session_calls.specs.declared.answer.Answer.TheVariants.{Going}
 use Rattle.schedule.proofs.Keeping.{Laws}
 use Rattle.schedule.specs.Promises.{both}
 use Rattle.access_method.specs.Telling.{TellsStep, StaysRunning}
 use Rattle.access_method.proofs.Composing.{StoreLaws, goes_then, goes_nowhere, goes_told}
-use Rattle.access_method.proofs.Tellings.{silent_then, going_stays, stays_then, err_stays}
+use Rattle.access_method.proofs.Tellings.{silent_then, going_stays, stays_then}
 use Rattle.access_method.proofs.running.run.Goals as goal
 use Rattle.access_method.specs.Going.{Goes}
+use Rattle.std.proofs.Common.{rules}
 use Rattle.access_method.proofs.running.run.Given.{Over}
 use Rattle.access_method.proofs.running.run.Goals.{After-step}
 
@@ -49,11 +51,26 @@ last g c =
     c.loop-answer.invariant.steps c.step.ensures.steps c.loop-answer.invariant.goes c.step.ensures.goes
     (λ start x y z at fx fy fz one two. silent_then session result x y z one two)
 
-pub returns-in_err-answer-clause-goes : goal.returns-in_err-answer-clause-goes
-returns-in_err-answer-clause-goes g c =
-    let session = c.args.session in
-    goes_told g.S.PageStore session (TellsStep session c.step.result) (TellsStep session c.from_residual.result) _ _ (λ x z t. err_stays session c.step.result c.from_residual.result c.in_err-answer.field-0.0 x z c.in_err-answer.was c.from_residual.ensures.0 t)
-    (last g ((goal.at.returns-in_err-answer-clause-goes g c).After-step))
+-- ... as it is answered
+answered : (g : Over) (c : After-step g) (r : Result Answer Fault) → c.step.result ≡ r
+    → Goes g.S.PageStore c.args.session (TellsStep c.args.session r) (both c.args.store.now c.args.slots.now) (both c.step.new.store c.step.new.slots)
+answered g c r is = goes_told g.S.PageStore c.args.session (TellsStep c.args.session c.step.result) (TellsStep c.args.session r) _ _ (λ x z t. subst (λ (s : Result Answer Fault). TellsStep c.args.session s x z) is t) (last g c)
+
+pub returns-in-Ok : goal.returns-in-Ok
+returns-in-Ok g c = record {
+  steps = λ f h. c.step.ensures.steps f (c.loop-answer.invariant.steps f h);
+  sessions = c.step.ensures.sessions ∙ c.loop-answer.invariant.sessions;
+  others = λ o ne. c.step.ensures.others o ne ∙ c.loop-answer.invariant.others o ne;
+  goes = answered g ((goal.at.returns-in-Ok g c).After-step) (Ok c.in-Ok.answer) (search rules);
+}
+
+pub returns-in-Err : goal.returns-in-Err
+returns-in-Err g c = record {
+  steps = λ f h. c.step.ensures.steps f (c.loop-answer.invariant.steps f h);
+  sessions = c.step.ensures.sessions ∙ c.loop-answer.invariant.sessions;
+  others = λ o ne. c.step.ensures.others o ne ∙ c.loop-answer.invariant.others o ne;
+  goes = answered g ((goal.at.returns-in-Err g c).After-step) (Err c.in-Err.fault) c.in-Err.is;
+}
 
 pub loop-answer-preserved : goal.loop-answer-preserved
 loop-answer-preserved g c =
@@ -68,6 +85,7 @@ loop-answer-preserved g c =
     let laws : StoreLaws g.S.PageStore = record { kept = kept; later = g.met.S.PageStore.follows_later } in
     let session = c.args.session in
     let result = c.step.result in
+    let whole : c.step.result ≡ Ok Going = search rules in
     record {
       steps = λ f h. c.step.ensures.steps f (c.loop-answer.invariant.steps f h);
       sessions = c.step.ensures.sessions ∙ c.loop-answer.invariant.sessions;
@@ -75,16 +93,5 @@ loop-answer-preserved g c =
       goes = goes_then g.S.PageStore laws session (StaysRunning session) (TellsStep session result) (StaysRunning session)
           (both c.args.store.now c.args.slots.now) (both c.loop-answer.store c.loop-answer.slots) (both c.step.new.store c.step.new.slots)
           c.loop-answer.invariant.steps c.step.ensures.steps c.loop-answer.invariant.goes c.step.ensures.goes
-          (λ start x y z at fx fy fz one two. stays_then session x y z one (going_stays session y z (subst (λ (r : Result Answer Fault). TellsStep session r y z) (c.in_ok-answer.was ∙ ap (λ (a : Answer). Ok a) c.in-Going.is) two)));
-    }
-
-pub returns-in_default : goal.returns-in_default
-returns-in_default g c =
-    let session = c.args.session in
-    record {
-      steps = λ f h. c.step.ensures.steps f (c.loop-answer.invariant.steps f h);
-      sessions = c.step.ensures.sessions ∙ c.loop-answer.invariant.sessions;
-      others = λ o ne. c.step.ensures.others o ne ∙ c.loop-answer.invariant.others o ne;
-      goes = goes_told g.S.PageStore session (TellsStep session c.step.result) (TellsStep session (Ok c.in_ok-answer.answer)) _ _ (λ x z t. subst (λ (r : Result Answer Fault). TellsStep session r x z) c.in_ok-answer.was t)
-          (last g ((goal.at.returns-in_default g c).After-step));
+          (λ start x y z at fx fy fz one two. stays_then session x y z one (going_stays session y z (subst (λ (r : Result Answer Fault). TellsStep session r y z) whole two)));
     }
