@@ -131,18 +131,20 @@ fn at_most_63_scans(rt: HostRuntime) -> Result<(), Fail> {
 fn a_failed_device_stops_the_index(rt: HostRuntime) -> Result<(), Fail> {
     let mut device = MemDevice::new(rt.alloc(), LEN)?;
     create(&mut device, &LIMITS)?;
+    // To open makes 7 calls of the device, the first commit 4: the next is the first of the second commit.
     device.fail_at(12);
     let Ok(store) = open(rt.alloc(), device, 16) else {
+        assert!(rt; false);
         return Ok(());
     };
     let mut index = Index::new(store);
     let token = index.ambeginscan(ALL)?;
     assert!(rt; index.aminsert(entry(0x61, 1)).is_ok());
-    let mut refused = false;
-    for _time in 0..12 {
-        refused = refused || index.commit().is_err() || index.aminsert(entry(0x62, 2)).is_err();
-    }
-    assert!(rt; refused);
+    assert_eq!(rt; index.commit(), Ok(1));
+    assert!(rt; index.aminsert(entry(0x62, 2)).is_ok());
+    assert_eq!(rt; index.commit(), Err(Fault::Io));
+    assert_eq!(rt; index.commit(), Err(Fault::Stopped));
+    assert!(rt; matches!(index.aminsert(entry(0x63, 3)), Err(Fault::Stopped)));
     assert!(rt; index.amendscan(token).is_ok());
     Ok(())
 }
