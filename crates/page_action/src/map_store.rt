@@ -43,12 +43,12 @@ impl MapStore {
     ghost use Rattle.latch_table.specs.Holdings.{nothing_held};
     ghost use Rattle.page_action.specs.States.{State};
     ghost use Rattle.page_action.specs.Reuse.{is_reusable};
-    ghost use Rattle.page_action.specs.MapStore.{state_of, empty, added, IsNotAdded};
+    ghost use Rattle.page_action.specs.MapStore.{map_state, empty, added, CannotAdd};
 
     /// A store with no page in use. Refused with `BadLimits`, and with `NoMemory` where the room for the pages
     /// cannot be had.
     pub fn new(alloc: Global, limits: Limits) -> Result<MapStore, Fault>
-        ensures made { IfOk result (λ store. state_of store ≡ empty limits) }
+        ensures made { IfOk result (λ store. map_state store ≡ empty limits) }
         ensures allowed { OnOk result (AreLimits limits) }
         ensures fault { IfErr result (λ e. ((e ≡ Fault.BadLimits) × (AreLimits limits → ⊥))
             ⊎ ((e ≡ Fault.NoMemory) × AreLimits limits)) }
@@ -77,8 +77,8 @@ impl MapStore {
     }
 
     fn is_reusable(&self, block: usize) -> bool
-        requires { block < length (state_of self.now).pages }
-        ensures { result ≡ is_reusable (state_of self.now) block }
+        requires { block < length (map_state self.now).pages }
+        ensures { result ≡ is_reusable (map_state self.now) block }
     {
         is_deleted(self.pages[block].state)
             && others_began_after(&self.running, self.counted[block], None)
@@ -88,9 +88,9 @@ impl MapStore {
     /// the format, is not that block's, or has more items than the limits allow; with `IndexFull` where no block is
     /// unused.
     pub fn add(&mut self, page: Page) -> Result<(), Fault>
-        ensures done { OnOk result (state_of self.new ≡ added page (state_of self.old)) }
-        ensures refused { OnErr result (state_of self.new ≡ state_of self.old) }
-        ensures fault { IfErr result (IsNotAdded page (state_of self.old)) }
+        ensures done { OnOk result (map_state self.new ≡ added page (map_state self.old)) }
+        ensures refused { OnErr result (map_state self.new ≡ map_state self.old) }
+        ensures fault { IfErr result (CannotAdd page (map_state self.old)) }
     {
         let block = self.pages.len();
         if block >= self.limits.pages as usize {
@@ -107,17 +107,13 @@ impl MapStore {
 
 impl PageStore for MapStore {
     ghost use Rattle.page_action.specs.States.{IsLater};
-    ghost use Rattle.page_action.specs.MapStore.{state_of, backing_of, same_later};
+    ghost use Rattle.page_action.specs.MapStore.{map_state, map_backing, map_laws};
 
-    ghost state = { state_of };
+    ghost state = { map_state };
 
-    ghost backing = { backing_of };
+    ghost backing = { map_backing };
 
-    ghost follows = { λ s t. IsLater (backing_of s) (backing_of t) };
-
-    ghost follows_same = { λ s. same_later (backing_of s) };
-
-    ghost follows_later = { λ s t h. h };
+    ghost follows = { λ s t. IsLater (map_backing s) (map_backing t) };
 
     ghost own = { λ s. ⊥ };
 
@@ -127,17 +123,7 @@ impl PageStore for MapStore {
 
     ghost restarts = { λ s image pages. ⊥ };
 
-    ghost durable_few = { λ s. s.not_ahead };
-
-    ghost own_stays = { λ s t own h. own };
-
-    ghost acts_later = { λ s t own h. absurd own };
-
-    ghost past_now = { λ s own. absurd own };
-
-    ghost past_stays = { λ s t part own h le. absurd own };
-
-    ghost leaves_first = { λ s t image own h left. absurd own };
+    ghost laws = { map_laws };
 
     fn page(&mut self, block: u32) -> Result<Page, Fault> {
         let at = block as usize;
