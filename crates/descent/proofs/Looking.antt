@@ -1,5 +1,5 @@
 -- A page that is read under a latch which is let go leaves the store as it was.
-use Rattle.std.proofs.Common.{◌≡◌, ℕ, zero, suc, ◌≤◌, nat_le, Result, Ok, Err, List, [], ◌∷◌, ◌++◌, length, slice_set, refl, ap, inl, inr, ◌∙◌, arith}
+use Rattle.std.proofs.Common.{◌≡◌, ℕ, zero, suc, ◌≤◌, nat_lt, Result, Ok, Err, List, [], ◌∷◌, ◌++◌, length, slice_set, refl, ap, inl, inr, ◌∙◌, arith}
 use Rattle.std.specs.Prelude.{IfErr}
 use Rattle.std.proofs.lemmas.Bool.{cases_lt}
 use Rattle.index_model.specs.Faults.{Circumstances, HasCause}
@@ -41,7 +41,7 @@ pins_set (h ∷ table) (suc session) holding same = ap (λ (ps : List ℕ). h.pi
 
 pub read_under_latch : (st : State) (old new : Backing) (session block page : ℕ) (mode : Mode) → where_read (with_table st (latched st.table session block mode)) old new page ≡ where_read st old new page
 read_under_latch st old new session block page mode =
-    ap (λ (ps : List ℕ). let c : Circumstances = record (where_read st old new page) { frames_are_pinned = nat_le st.frames (count_apart ([] ++ ps)) } in c)
+    ap (λ (ps : List ℕ). let c : Circumstances = record (where_read st old new page) { frames_are_pinned = nat_lt st.frames (count_apart ((page ∷ []) ++ ps)) } in c)
     (pins_set st.table session (record { latches = record { block = block; mode = mode } ∷ (holding_of st.table session).latches; pins = (holding_of st.table session).pins }) refl)
 
 -- the causes of a reading are causes of a latched one

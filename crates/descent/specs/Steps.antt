@@ -1,11 +1,12 @@
 -- What the steps of one session's call do to a store, and what other sessions may rely on meanwhile.
-use Rattle.std.specs.Prelude.{◌≡◌, ◌≢◌, ℕ, suc, true, false, ◌||◌, length, slice_get}
-use Rattle.index_model.specs.Order.{same_entry}
+use Rattle.std.specs.Prelude.{◌≡◌, ◌≢◌, ℕ, suc, Bool, true, false, Option, Some, None, unwrap_or, [], length, slice_get}
+use Rattle.index_model.specs.Actions.{Effect, Add, Remove, Shape, said_of}
+use Rattle.index_model.specs.Order.{is_among, IsAscending}
 use Rattle.index_model.specs.declared.entry.Entry.{Entry}
 use Rattle.latch_table.specs.Holdings.{Table, holding_of, latches_exclude}
 use Rattle.latch_table.specs.declared.mode.Mode.TheVariants.{Shared, Exclusive}
 use Rattle.page_action.specs.Contents.{entry_on_live_leaf}
-use Rattle.page_action.specs.States.{State}
+use Rattle.page_action.specs.States.{State, with_table}
 use Rattle.tree_shape.specs.Tree.{IsBlinkTree}
 
 -- the session holds a latch of the block that excludes all others
@@ -35,20 +36,31 @@ pub record MayRely (session : ℕ) (old new : State) : Type 0 where
 abbrev pub OthersRely : ℕ → State → State → Type 0
 OthersRely session old new = (other : ℕ) → other ≢ session → MayRely other old new
 
--- a step with no action
-pub record IsQuiet (session : ℕ) (old new : State) : Type 0 where
-  pub pages : new.pages ≡ old.pages
-  pub limits : new.limits ≡ old.limits
-  pub acts : new.acts ≡ old.acts
-  pub order : IsInOrder new
-  pub others : OthersRely session old new
+-- an effect that may be, by what was there: an entry is added that wasn't; entries are removed, one or more, ascending, that
+-- were; or the shape of the pages is changed
+abbrev pub IsApt : (Entry → Bool) → Effect → Type 0
+IsApt was_there (Add e) = was_there e ≡ false
+IsApt was_there (Remove es) = (es ≢ []) × IsAscending es × ((e : Entry) → is_among es e ≡ true → was_there e ≡ true)
+IsApt was_there Shape = Unit {0}
 
--- a step whose action adds this entry, which wasn't there
-pub record IsAddition (session : ℕ) (old new : State) (e : Entry) (action : ℕ) : Type 0 where
-  pub limits : new.limits ≡ old.limits
+-- one act was done, with this effect on the contents
+pub record HasActed (effect : Effect) (old new : State) : Type 0 where
   pub acts : new.acts ≡ suc old.acts
-  pub number : action ≡ suc old.acts
-  pub absent : entry_on_live_leaf old.pages e ≡ false
-  pub adds : (x : Entry) → entry_on_live_leaf new.pages x ≡ (same_entry e x || entry_on_live_leaf old.pages x)
+  pub apt : IsApt (entry_on_live_leaf old.pages) effect
+  pub contents : (e : Entry) → entry_on_live_leaf new.pages e ≡ unwrap_or (said_of effect e) (entry_on_live_leaf old.pages e)
+
+-- one act was done, with this effect; or, with none, nothing but latches and pins is changed
+abbrev pub Changes : Option Effect → State → State → Type 0
+Changes None old new = new ≡ with_table old new.table
+Changes (Some effect) old new = HasActed effect old new
+
+-- A step of this session's call, with one effect at most: the pages are in order, calls and limits are as they were, and
+-- every other session may rely on what it held.
+pub record Does (session : ℕ) (effect : Option Effect) (old new : State) : Type 0 where
+  pub changes : Changes effect old new
+  pub limits : new.limits ≡ old.limits
+  pub frames : new.frames ≡ old.frames
+  pub begun : new.begun ≡ old.begun
+  pub running : new.running ≡ old.running
   pub order : IsInOrder new
   pub others : OthersRely session old new

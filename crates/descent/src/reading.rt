@@ -1,6 +1,6 @@
 //! Reading a page for a session.
 
-ghost use Rattle.std.specs.Prelude.{◌≡◌, ◌<◌, ◌≤◌, true, IfOk, IfErr, OnOk, OnErr, Some, ℕ, length, slice_get};
+ghost use Rattle.std.specs.Prelude.{◌≡◌, ◌<◌, ◌≤◌, true, Err, IfOk, IfErr, OnOk, OnErr, Some, ℕ, length, slice_get};
 ghost use Rattle.index_model.specs.Faults.{HasCause};
 ghost use Rattle.latch_table.specs.Holdings.{HasRoom};
 ghost use Rattle.page_action.specs.States.{State, Continues};
@@ -22,6 +22,7 @@ pub fn look<S: PageStore>(store: &mut S, session: Session, block: u32) -> Result
     ensures stored { IfOk result (IsStored (S.state store.old).limits block) }
     ensures used { OnOk result (block < length (S.state store.old).pages) }
     ensures inside { OnOk result (length (S.state store.old).pages ≤ (S.state store.old).limits.pages) }
+    ensures stopped { (S.backing store.old).stopped ≡ true → result ≡ Err Fault.Stopped }
     ensures cause { HasRoom (S.state store.old).table session → IfErr result (HasCause (where_looked (S.state store.old) (S.backing store.old) (S.backing store.new) session block)) }
 {
     if store.is_stopped() {
@@ -38,6 +39,7 @@ pub fn look<S: PageStore>(store: &mut S, session: Session, block: u32) -> Result
 pub fn root<S: PageStore>(store: &mut S, session: Session) -> Result<u32, Fault>
     ensures steps { Continues S.follows store.old store.new }
     ensures state { S.state store.new ≡ S.state store.old }
+    ensures stopped { (S.backing store.old).stopped ≡ true → result ≡ Err Fault.Stopped }
     ensures root { (S.backing store.new).honest ≡ true → IsBlinkTree (S.state store.old).pages → IfOk result (λ b. b ≡ 1) }
     ensures cause { (S.backing store.new).honest ≡ true → IsBlinkTree (S.state store.old).pages → HasRoom (S.state store.old).table session
         → IfErr result (HasCause (where_looked (S.state store.old) (S.backing store.old) (S.backing store.new) session 0)) }

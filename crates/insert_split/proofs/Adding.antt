@@ -1,6 +1,8 @@
 -- What taking the leaf and adding the entry leave of a store.
-use Rattle.std.proofs.Common.{◌≡◌, ◌≢◌, ℕ, zero, suc, ◌<◌, ◌≤◌, Bool, true, false, ◌||◌, nat_le, Some, List, [], ◌∷◌, length, slice_get, refl, sym, ap, subst, ◌∙◌, arith}
+use Rattle.std.proofs.Common.{◌≡◌, ◌≢◌, ℕ, zero, suc, ◌<◌, ◌≤◌, Bool, true, false, ◌||◌, nat_le, Option, Some, None, if◌then◌else◌, List, [], ◌∷◌, length, slice_get, refl, sym, ap, subst, ◌∙◌, arith}
 use Rattle.std.proofs.lemmas.Bool.{ltb-true, lt-ltb}
+use Rattle.std.specs.Prelude.{unwrap_or}
+use Rattle.index_model.specs.Actions.{Add, said_of}
 use Rattle.index_model.specs.Faults.{HasCause}
 use Rattle.index_model.specs.Order.{same_entry, is_among}
 use Rattle.index_model.specs.declared.entry.Entry.{Entry}
@@ -15,9 +17,9 @@ use Rattle.page_action.specs.Causes.{where_acted, is_at_end, are_frames_pinned}
 use Rattle.page_action.specs.Contents.{entry_on_live_leaf}
 use Rattle.page_action.specs.States.{State, Backing, with_table, with_pages, after_act}
 use Rattle.tree_shape.specs.Tree.{IsOnlyLeaf, IsBlinkTree}
-use Rattle.descent.specs.Steps.{HoldsAlone, AreApart, IsInOrder, IsQuiet, IsAddition}
+use Rattle.descent.specs.Steps.{HoldsAlone, AreApart, IsInOrder, Does}
 use Rattle.descent.proofs.Contents.{contents_of_two, contents_of_tree, leaf_is}
-use Rattle.descent.proofs.Quiet.{quiet_table}
+use Rattle.descent.proofs.Quiet.{does_hold}
 use Rattle.descent.proofs.Tables.{apart_latched, apart_pins, any_excluded}
 use Rattle.insert_split.specs.Inserts.{leaf_held, where_inserting}
 
@@ -29,7 +31,7 @@ holds_latch : (table : Table) (session block : ℕ) → session < length table �
 holds_latch table session block low nothing = holding_of-latched table session block Exclusive low ∙ ap (λ (h : Holding). held_of h block) nothing
 
 pub takes_leaf : (old new : State) (session block : ℕ) → session < 64 → IsInOrder old → holding_of old.table session ≡ nothing_held → is_held_by_another old.table session block Exclusive ≡ false
-    → new ≡ with_table old (pinned (latched old.table session block Exclusive) session block) → IsQuiet session old new × (holding_of new.table session ≡ leaf_held block)
+    → new ≡ with_table old (pinned (latched old.table session block Exclusive) session block) → Does session None old new × (holding_of new.table session ≡ leaf_held block)
 takes_leaf old new session block low order nothing free is =
     let many : length old.table ≡ 64 = order.holdings in
     let below : session < length old.table = omega arith in
@@ -41,7 +43,7 @@ takes_leaf old new session block low order nothing free is =
     let room : length (holding_of mid session).pins < 2 = subst (λ (h : Holding). length h.pins < 2) (sym mid_held) (omega arith) in
     let end : Table = pinned mid session block in
     let end_held : holding_of end session ≡ leaf_held block = holding_of-pinned mid session block mid_below room ∙ ap (λ (h : Holding). let k : Holding = record { latches = h.latches; pins = block ∷ h.pins } in k) mid_held in (
-      quiet_table session old new end is order
+      does_hold session old new end is order
           (apart_pins mid session _ mid_below mid_apart)
           (length-pinned mid session block ∙ mid_many ∙ many)
           (λ other differ. holding_of-pinned_other mid session other block differ ∙ holding_of-latched_other old.table session other block Exclusive differ),
@@ -90,14 +92,25 @@ module _ (old : State) (session : ℕ) (e : Entry) (page changed : Page) (order 
       let theirs : latches_exclude (holding_of old.table other).latches 1 Exclusive ≡ true = any_excluded (holding_of old.table other).latches 1 Exclusive (subst (λ (b : ℕ). HoldsAlone old.table other b) is_leaf alone) in
       true_false (sym theirs ∙ free)
 
-  pub adds_entry : (new : State) (action : ℕ) → new ≡ after_act (changed ∷ []) old → action ≡ suc old.acts → IsAddition session old new e action
-  adds_entry new action new_is number = subst (λ (st : State). IsAddition session old st e action) (sym new_is) (record {
+  said : (x : Entry) → unwrap_or (said_of (Add e) x) (is_among (entries_of page.items) x) ≡ (same_entry e x || is_among (entries_of page.items) x)
+  said x = by (same_entry e x)
+    where
+      by : (b : Bool) → unwrap_or (if b then Some true else None) (is_among (entries_of page.items) x) ≡ (b || is_among (entries_of page.items) x)
+      by true = refl
+      by false = refl
+
+  pub adds_entry : (new : State) → new ≡ after_act (changed ∷ []) old → Does session (Some (Add e)) old new
+  adds_entry new new_is = subst (λ (st : State). Does session (Some (Add e)) old st) (sym new_is) (record {
+    changes = record {
+      acts = refl;
+      apt = was e ∙ absent;
+      contents = λ x. ap (λ (ps : List Page). entry_on_live_leaf ps x) new_pages ∙ contents_of_two order.tree.meta changed order.tree.names_root.kind changed_only.alive x
+          ∙ among x ∙ sym (said x) ∙ ap (unwrap_or (said_of (Add e) x)) (sym (was x));
+    };
     limits = refl;
-    acts = refl;
-    number = number;
-    absent = was e ∙ absent;
-    adds = λ x. ap (λ (ps : List Page). entry_on_live_leaf ps x) new_pages ∙ contents_of_two order.tree.meta changed order.tree.names_root.kind changed_only.alive x
-        ∙ among x ∙ ap (λ (b : Bool). same_entry e x || b) (sym (was x));
+    frames = refl;
+    begun = refl;
+    running = refl;
     order = record { tree = new_tree; apart = order.apart; holdings = order.holdings; calls = order.calls };
     others = λ other differ. record { held = refl; number = refl; pages = λ block alone. others_keep block (not_the_leaf other block differ alone) };
   })
@@ -124,7 +137,7 @@ acted_cause st first second third session e page le alive promised at_one BadRow
 acted_cause st first second third session e page le alive promised at_one IndexFull h = absurd cc
 acted_cause st first second third session e page le alive promised at_one LogFull h = subst (λ (n : ℕ). nat_le n 1 ≡ true) promised h
 acted_cause st first second third session e page le alive promised at_one NoFrame h =
-    or_right (are_frames_pinned st []) (are_frames_pinned st (1 ∷ [])) (subst (λ (b : ℕ). are_frames_pinned st (b ∷ []) ≡ true) at_one h)
+    or_right (are_frames_pinned st (0 ∷ [])) (are_frames_pinned st (1 ∷ [])) (subst (λ (b : ℕ). are_frames_pinned st (b ∷ []) ≡ true) at_one h)
 acted_cause st first second third session e page le alive promised at_one VacuumRunning h = absurd cc
 acted_cause st first second third session e page le alive promised at_one NoSession h = absurd cc
 acted_cause st first second third session e page le alive promised at_one SessionBusy h = absurd cc

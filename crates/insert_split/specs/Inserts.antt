@@ -1,9 +1,10 @@
 -- What an insert knows between its steps, and what a step of it does.
-use Rattle.std.specs.Prelude.{◌≡◌, ◌⊎◌, ℕ, ◌<◌, ◌≤◌, ◌||◌, nat_le, Bool, true, false, Option, Some, None, Result, Ok, Err, [], ◌∷◌, length, slice_get}
+use Rattle.std.specs.Prelude.{◌≡◌, ◌⊎◌, ℕ, suc, ◌<◌, ◌≤◌, ◌||◌, nat_le, Bool, true, false, Option, Some, None, Result, Ok, Err, OnErr, [], ◌∷◌, length, slice_get}
+use Rattle.index_model.specs.Actions.{Add}
 use Rattle.index_model.specs.Faults.{Circumstances, HasCause}
 use Rattle.index_model.specs.declared.entry.Entry.{Entry}
 use Rattle.index_model.specs.declared.fault.Fault.{Fault}
-use Rattle.index_model.specs.declared.fault.Fault.TheVariants.{Exists, IndexFull, PageDamaged}
+use Rattle.index_model.specs.declared.fault.Fault.TheVariants.{Stopped, Exists, IndexFull, PageDamaged}
 use Rattle.index_model.specs.Order.{is_among}
 use Rattle.tree_shape.specs.Leaf.{MayHold}
 use Rattle.latch_table.specs.Holdings.{Holding, holding_of, nothing_held, is_held_by_another}
@@ -12,8 +13,9 @@ use Rattle.page_codec.specs.Edits.{entries_of}
 use Rattle.page_codec.specs.declared.page.Page.{Page}
 use Rattle.page_action.specs.Causes.{nothing_wrong, has_failed, is_at_end, are_frames_pinned}
 use Rattle.page_action.specs.Contents.{entry_on_live_leaf}
-use Rattle.page_action.specs.States.{State, Backing}
-use Rattle.descent.specs.Steps.{IsQuiet, IsAddition}
+use Rattle.page_action.specs.States.{State, Backing, Continues, with_table}
+use Rattle.page_action.specs.declared.page_store.PageStore.{Ghosts}
+use Rattle.descent.specs.Steps.{IsInOrder, Does}
 use Rattle.insert_split.specs.declared.insert.InsertAt.{InsertAt}
 use Rattle.insert_split.specs.declared.insert.InsertAt.TheVariants.{Start, At, Holding as Holds}
 use Rattle.insert_split.specs.declared.insert.InsertOp.{InsertOp}
@@ -61,7 +63,7 @@ where_inserting st old new session e = record nothing_wrong {
   entry_was_there = entry_on_live_leaf st.pages e;
   no_block_is_free = is_full_page st.limits.items (slice_get st.pages 1);
   log_is_full = nat_le old.promised 1;
-  frames_are_pinned = are_frames_pinned st [] || are_frames_pinned st (1 ∷ []);
+  frames_are_pinned = are_frames_pinned st (0 ∷ []) || are_frames_pinned st (1 ∷ []);
 }
 
 -- why a page gives no place for an entry
@@ -83,19 +85,42 @@ IsHolding Start = ⊥
 IsHolding (At block) = ⊥
 IsHolding (Holds block) = Unit {0}
 
-pub record IsGoing (old new : State) (before after : InsertOp) : Type 0 where
-  pub quiet : IsQuiet before.session old new
+-- a step that goes on has no action yet, on one leaf
+pub record InsertGoesOn (old new : State) (before after : InsertOp) : Type 0 where
+  pub does : Does before.session None old new
   pub fits : InsertFits new after
   pub next : IsNextAt before.at after.at
 
-pub record IsRefused (old : State) (old_backing : Backing) (new : State) (new_backing : Backing) (before after : InsertOp) (fault : Fault) : Type 0 where
-  pub state : new ≡ old
-  pub op : after ≡ before
-  pub cause : HasCause (where_inserting old old_backing new_backing before.session before.entry) fault
+-- the last step adds the entry, by the action of this number, and leaves no split unfinished
+pub record InsertAdds (old new : State) (before : InsertOp) (action : ℕ) (unfinished : Option Fault) : Type 0 where
+  pub does : Does before.session (Some (Add before.entry)) old new
+  pub number : action ≡ suc old.acts
+  pub finished : unfinished ≡ None
+  pub held : IsHolding before.at
 
 -- what a step of an insert does, by what it answers
 abbrev pub InsertStepped : State → Backing → State → Backing → InsertOp → InsertOp → Result InsertStep Fault → Type 0
-InsertStepped old old_backing new new_backing before after (Ok Going) = IsGoing old new before after
-InsertStepped old old_backing new new_backing before after (Ok (Added action unfinished)) =
-    IsAddition before.session old new before.entry action × (unfinished ≡ None) × IsHolding before.at
-InsertStepped old old_backing new new_backing before after (Err fault) = IsRefused old old_backing new new_backing before after fault
+InsertStepped old old_backing new new_backing before after (Ok Going) = InsertGoesOn old new before after
+InsertStepped old old_backing new new_backing before after (Ok (Added action unfinished)) = InsertAdds old new before action unfinished
+InsertStepped old old_backing new new_backing before after (Err fault) =
+    HasCause (where_inserting old old_backing new_backing before.session before.entry) fault
+
+-- a refused step changes neither the pages, nor who holds what, nor the call
+pub record InsertStays (old new : State) (before after : InsertOp) : Type 0 where
+  pub state : new ≡ old
+  pub op : after ≡ before
+
+-- A step of an insert. On any pages: a refused one changes nothing, a stopped log refuses it, and one that goes on leaves
+-- fewer steps, and nothing but latches and pins changed. On pages in order, over a device that keeps its model: what it
+-- does, and why it is refused.
+pub record InsertSteps {S : Type 0} (g : Ghosts S) (before after : InsertOp) (old new : S) (result : Result InsertStep Fault) : Type 0 where
+  pub steps : Continues g.follows old new
+  pub session : after.session ≡ before.session
+  pub entry : after.entry ≡ before.entry
+  pub refused : OnErr result (InsertStays (g.state old) (g.state new) before after)
+  pub stopped : (g.backing old).stopped ≡ true → result ≡ Err Stopped
+  pub quiet : result ≡ Ok Going → g.state new ≡ with_table (g.state old) (g.state new).table
+  pub fewer : LeavesFewer before.at after.at result
+  pub no_more : steps_left after.at ≤ steps_left before.at
+  pub stepped : (g.backing new).honest ≡ true → IsInOrder (g.state old) → InsertFits (g.state old) before
+      → InsertStepped (g.state old) (g.backing old) (g.state new) (g.backing new) before after result

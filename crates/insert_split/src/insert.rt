@@ -6,9 +6,7 @@ ghost use Rattle.index_model.specs.Order.{is_among};
 ghost use Rattle.page_codec.specs.Edits.{entries_of};
 ghost use Rattle.page_codec.specs.Grammar.{IsPage};
 ghost use Rattle.tree_shape.specs.Leaf.{IsPlaceOf, MayHold};
-ghost use Rattle.page_action.specs.States.{State, Continues};
-ghost use Rattle.descent.specs.Steps.{IsInOrder};
-ghost use Rattle.insert_split.specs.Inserts.{InsertFits, InsertStepped, LeavesFewer, PlaceRefused, steps_left};
+ghost use Rattle.insert_split.specs.Inserts.{InsertSteps, PlaceRefused};
 
 use descent::{look, root};
 use index_model::{Entry, Fault, Session};
@@ -67,15 +65,7 @@ impl InsertOp {
     /// `IndexFull` where its leaf is full; with `Io`, `Stopped`, `LogFull`, `NoFrame`; with `PageDamaged` on pages that
     /// are no tree. A refused step changes nothing.
     pub fn step<S: PageStore>(&mut self, store: &mut S) -> Result<InsertStep, Fault>
-        ensures steps { Continues S.follows store.old store.new }
-        ensures refused { OnErr result (S.state store.new ≡ S.state store.old) }
-        ensures session { self.new.session ≡ self.old.session }
-        ensures entry { self.new.entry ≡ self.old.entry }
-        ensures stepped { (S.backing store.new).honest ≡ true → IsInOrder (S.state store.old)
-            → InsertFits (S.state store.old) self.old
-            → InsertStepped (S.state store.old) (S.backing store.old) (S.state store.new) (S.backing store.new) self.old self.new result }
-        ensures fewer { LeavesFewer self.old.at self.new.at result }
-        ensures no_more { steps_left self.new.at ≤ steps_left self.old.at }
+        ensures { InsertSteps S.PageStore self.old self.new store.old store.new result }
     {
         match self.at {
             InsertAt::Start => self.find_root(store),
@@ -87,15 +77,7 @@ impl InsertOp {
     // The first step: reads the metapage.
     fn find_root<S: PageStore>(&mut self, store: &mut S) -> Result<InsertStep, Fault>
         requires { self.old.at ≡ InsertAt.Start }
-        ensures steps { Continues S.follows store.old store.new }
-        ensures refused { OnErr result (S.state store.new ≡ S.state store.old) }
-        ensures session { self.new.session ≡ self.old.session }
-        ensures entry { self.new.entry ≡ self.old.entry }
-        ensures stepped { (S.backing store.new).honest ≡ true → IsInOrder (S.state store.old)
-            → InsertFits (S.state store.old) self.old
-            → InsertStepped (S.state store.old) (S.backing store.old) (S.state store.new) (S.backing store.new) self.old self.new result }
-        ensures fewer { LeavesFewer self.old.at self.new.at result }
-        ensures no_more { steps_left self.new.at ≤ steps_left self.old.at }
+        ensures { InsertSteps S.PageStore self.old self.new store.old store.new result }
     {
         let block = root(store, self.session)?;
         self.at = InsertAt::At(block);
@@ -105,15 +87,7 @@ impl InsertOp {
     // Reads the leaf, latches it exclusively and pins it.
     fn take<S: PageStore>(&mut self, store: &mut S, block: u32) -> Result<InsertStep, Fault>
         requires { self.old.at ≡ InsertAt.At block }
-        ensures steps { Continues S.follows store.old store.new }
-        ensures refused { OnErr result (S.state store.new ≡ S.state store.old) }
-        ensures session { self.new.session ≡ self.old.session }
-        ensures entry { self.new.entry ≡ self.old.entry }
-        ensures stepped { (S.backing store.new).honest ≡ true → IsInOrder (S.state store.old)
-            → InsertFits (S.state store.old) self.old
-            → InsertStepped (S.state store.old) (S.backing store.old) (S.state store.new) (S.backing store.new) self.old self.new result }
-        ensures fewer { LeavesFewer self.old.at self.new.at result }
-        ensures no_more { steps_left self.new.at ≤ steps_left self.old.at }
+        ensures { InsertSteps S.PageStore self.old self.new store.old store.new result }
     {
         let page = look(store, self.session, block)?;
         if !may_hold(&page, &self.entry) {
@@ -128,15 +102,7 @@ impl InsertOp {
     // Puts the entry into the leaf that it holds.
     fn add<S: PageStore>(&mut self, store: &mut S, block: u32) -> Result<InsertStep, Fault>
         requires { self.old.at ≡ InsertAt.Holding block }
-        ensures steps { Continues S.follows store.old store.new }
-        ensures refused { OnErr result (S.state store.new ≡ S.state store.old) }
-        ensures session { self.new.session ≡ self.old.session }
-        ensures entry { self.new.entry ≡ self.old.entry }
-        ensures stepped { (S.backing store.new).honest ≡ true → IsInOrder (S.state store.old)
-            → InsertFits (S.state store.old) self.old
-            → InsertStepped (S.state store.old) (S.backing store.old) (S.state store.new) (S.backing store.new) self.old self.new result }
-        ensures fewer { LeavesFewer self.old.at self.new.at result }
-        ensures no_more { steps_left self.new.at ≤ steps_left self.old.at }
+        ensures { InsertSteps S.PageStore self.old self.new store.old store.new result }
     {
         if store.is_stopped() {
             return Err(Fault::Stopped);

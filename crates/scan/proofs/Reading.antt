@@ -1,5 +1,5 @@
 -- What reading the leaf gives a scan.
-use Rattle.std.proofs.Common.{◌≡◌, ℕ, ◌<◌, Bool, true, false, ◌&&◌, Some, [], ◌∷◌, length, slice_get, refl, sym, ap, subst, inl, inr, ◌∙◌, arith}
+use Rattle.std.proofs.Common.{◌≡◌, ℕ, ◌<◌, Bool, true, false, ◌&&◌, Some, None, [], ◌∷◌, length, slice_get, refl, sym, ap, subst, inl, inr, ◌∙◌, arith}
 use Rattle.std.proofs.lemmas.Bool.{cases_Bool, and_parts}
 use Rattle.index_model.specs.Order.{is_among, is_past, IsAscending}
 use Rattle.index_model.specs.Range.{from_admits, below_admits}
@@ -16,11 +16,11 @@ use Rattle.page_codec.specs.declared.page.PageState.TheVariants.{Live}
 use Rattle.page_action.specs.Contents.{entry_on_live_leaf}
 use Rattle.page_action.specs.States.{State, with_table}
 use Rattle.tree_shape.specs.Leaf.{IsCopiedFrom}
-use Rattle.descent.specs.Steps.{IsInOrder, IsQuiet}
+use Rattle.descent.specs.Steps.{IsInOrder, Does}
 use Rattle.descent.proofs.Contents.{contents_of_tree, leaf_is}
-use Rattle.descent.proofs.Quiet.{quiet_table}
+use Rattle.descent.proofs.Quiet.{does_hold}
 use Rattle.descent.proofs.Tables.{apart_pins}
-use Rattle.scan.specs.Scans.{waiting, IsBehind, leaf_pinned, ScanFits, IsRead}
+use Rattle.scan.specs.Scans.{waiting, IsBehind, leaf_pinned, ScanFits, LeafIsRead}
 use Rattle.scan.specs.declared.steps.ScanAt.{ScanAt}
 use Rattle.scan.specs.declared.steps.ScanAt.TheVariants.{At, Last}
 use Rattle.scan.specs.declared.steps.ScanOp.{ScanOp}
@@ -36,12 +36,12 @@ leaf_ascends page has alive h = kind_ascends page page.items has alive h.kind
 
 -- the leaf pinned
 pub pins_leaf : (old new : State) (session : ℕ) → session < 64 → IsInOrder old → holding_of old.table session ≡ nothing_held → new ≡ with_table old (pinned old.table session 1)
-    → IsQuiet session old new × (holding_of new.table session ≡ leaf_pinned)
+    → Does session None old new × (holding_of new.table session ≡ leaf_pinned)
 pins_leaf old new session low order nothing is =
     let many : length old.table ≡ 64 = order.holdings in
     let below : session < length old.table = omega arith in
     let room : length (holding_of old.table session).pins < 2 = subst (λ (h : Holding). length h.pins < 2) (sym nothing) (omega arith) in (
-      quiet_table session old new (pinned old.table session 1) is order (apart_pins old.table session _ below order.apart) (length-pinned old.table session 1 ∙ many)
+      does_hold session old new (pinned old.table session 1) is order (apart_pins old.table session _ below order.apart) (length-pinned old.table session 1 ∙ many)
           (λ other differ. holding_of-pinned_other old.table session other 1 differ),
       ap (λ (st : State). holding_of st.table session) is ∙ holding_of-pinned old.table session 1 below room
           ∙ ap (λ (h : Holding). let k : Holding = record { latches = h.latches; pins = 1 ∷ h.pins } in k) nothing,
@@ -70,7 +70,7 @@ module _ (old new : State) (before after : ScanOp) (block : ℕ) (page : Page) (
   behind_at : (e : Entry) → is_past before.frontier e ≡ false → IsBehind before.frontier before.at e
   behind_at e h = subst (λ (a : ScanAt). IsBehind before.frontier a e) (sym at) h
 
-  pub reads_leaf : IsRead old before after
+  pub reads_leaf : LeafIsRead old before after
   reads_leaf = record {
     ascends = copied.ascends;
     matched = λ e m. (let p = given_parts e m in rw (fits.started e p.1, p.2) refl);

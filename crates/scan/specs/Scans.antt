@@ -1,18 +1,20 @@
 -- What a scan knows between its steps, and what a step of it does.
-use Rattle.std.specs.Prelude.{◌≡◌, ◌⊎◌, ℕ, suc, ◌+◌, ◌*◌, ◌<◌, true, false, Option, Some, None, Result, Ok, Err, List, [], ◌∷◌, length, drop}
+use Rattle.std.specs.Prelude.{◌≡◌, ◌⊎◌, ℕ, suc, ◌+◌, ◌*◌, ◌<◌, ◌≤◌, ◌||◌, true, false, Option, Some, None, Result, Ok, Err, OnErr, List, [], ◌∷◌, length, drop}
 use Rattle.index_model.specs.Faults.{Circumstances, HasCause}
 use Rattle.index_model.specs.Order.{is_among, is_past, AscendsPast}
 use Rattle.index_model.specs.Range.{matches, start_of, from_admits}
 use Rattle.index_model.specs.declared.bound.Bound.{Bound}
 use Rattle.index_model.specs.declared.entry.Entry.{Entry}
 use Rattle.index_model.specs.declared.fault.Fault.{Fault}
+use Rattle.index_model.specs.declared.fault.Fault.TheVariants.{Stopped}
 use Rattle.index_model.specs.declared.range.Range.{Range}
 use Rattle.latch_table.specs.Holdings.{Holding, holding_of, nothing_held, is_held_by_another}
 use Rattle.latch_table.specs.declared.mode.Mode.TheVariants.{Shared}
 use Rattle.page_action.specs.Causes.{nothing_wrong, has_failed, are_frames_pinned}
 use Rattle.page_action.specs.Contents.{entry_on_live_leaf}
-use Rattle.page_action.specs.States.{State, Backing}
-use Rattle.descent.specs.Steps.{IsQuiet}
+use Rattle.page_action.specs.States.{State, Backing, Continues, with_table}
+use Rattle.page_action.specs.declared.page_store.PageStore.{Ghosts}
+use Rattle.descent.specs.Steps.{IsInOrder, Does}
 use Rattle.scan.specs.declared.steps.ScanAt.{ScanAt}
 use Rattle.scan.specs.declared.steps.ScanAt.TheVariants.{Start, At, Last}
 use Rattle.scan.specs.declared.steps.ScanOp.{ScanOp}
@@ -69,19 +71,19 @@ reads_left (At block) = 1
 reads_left Last = 0
 
 -- what is left to do: a page gives 50 entries at most
-abbrev pub work_left : ScanOp → ℕ
-work_left op = 51 * reads_left op.at + length (waiting op)
+abbrev pub scan_work : ScanOp → ℕ
+scan_work op = 51 * reads_left op.at + length (waiting op)
 
 -- a step that reads a page leaves less to do, whatever the pages are; with nothing ready, each step that isn't the last
-abbrev pub LeavesLess : ScanOp → ScanOp → Result ScanStep Fault → Type 0
-LeavesLess before after (Ok Going) = work_left after < work_left before
-LeavesLess before after (Ok (Ready count)) = waiting before ≡ [] → work_left after < work_left before
-LeavesLess before after (Ok Done) = Unit {0}
-LeavesLess before after (Err fault) = Unit {0}
+abbrev pub ScanLeavesLess : ScanOp → ScanOp → Result ScanStep Fault → Type 0
+ScanLeavesLess before after (Ok Going) = scan_work after < scan_work before
+ScanLeavesLess before after (Ok (Ready count)) = waiting before ≡ [] → scan_work after < scan_work before
+ScanLeavesLess before after (Ok Done) = Unit {0}
+ScanLeavesLess before after (Err fault) = Unit {0}
 
 -- what a leaf gave: the matches beyond the frontier as it was, of what the pages hold now; each match that the scan
 -- has read beyond now, it had read beyond before, or it is among them
-pub record IsRead (st : State) (before after : ScanOp) : Type 0 where
+pub record LeafIsRead (st : State) (before after : ScanOp) : Type 0 where
   pub ascends : AscendsPast (Some before.frontier) (waiting after)
   pub matched : (e : Entry) → is_among (waiting after) e ≡ true → matches before.range e ≡ true
   pub there : (e : Entry) → is_among (waiting after) e ≡ true → entry_on_live_leaf st.pages e ≡ true
@@ -95,24 +97,24 @@ where_scanning st old new session = record nothing_wrong {
   device_failed = has_failed old new;
   is_stopped = old.stopped;
   is_held_by_another = λ b. is_held_by_another st.table session b Shared;
-  frames_are_pinned = are_frames_pinned st [];
+  frames_are_pinned = are_frames_pinned st (0 ∷ []) || are_frames_pinned st (1 ∷ []);
 }
 
 -- the metapage is read
 pub record IsMoving (old new : State) (before after : ScanOp) : Type 0 where
-  pub quiet : IsQuiet before.session old new
+  pub does : Does before.session None old new
   pub fits : ScanFits new after
   pub from : before.at ≡ Start
   pub op : after ≡ record before { at = At 1 }
 
 -- the last leaf is read
 pub record IsReading (old new : State) (before after : ScanOp) (count : ℕ) : Type 0 where
-  pub quiet : IsQuiet before.session old new
+  pub does : Does before.session None old new
   pub fits : ScanFits new after
   pub none : waiting before ≡ []
   pub from : (block : ℕ) × (before.at ≡ At block)
   pub last : after.at ≡ Last
-  pub read : IsRead old before after
+  pub read : LeafIsRead old before after
   pub count_is : count ≡ length (waiting after)
 
 -- entries are ready
@@ -129,14 +131,37 @@ pub record IsDone (old new : State) (before after : ScanOp) : Type 0 where
   pub none : waiting before ≡ []
   pub last : before.at ≡ Last
 
-pub record IsRefused (old : State) (old_backing : Backing) (new : State) (new_backing : Backing) (before after : ScanOp) (fault : Fault) : Type 0 where
-  pub state : new ≡ old
-  pub op : after ≡ before
-  pub cause : HasCause (where_scanning old old_backing new_backing before.session) fault
-
 -- what a step of a scan does, by what it answers
 abbrev pub ScanStepped : State → Backing → State → Backing → ScanOp → ScanOp → Result ScanStep Fault → Type 0
 ScanStepped old old_backing new new_backing before after (Ok Going) = IsMoving old new before after
 ScanStepped old old_backing new new_backing before after (Ok (Ready count)) = IsWaiting old new before after count ⊎ IsReading old new before after count
 ScanStepped old old_backing new new_backing before after (Ok Done) = IsDone old new before after
-ScanStepped old old_backing new new_backing before after (Err fault) = IsRefused old old_backing new new_backing before after fault
+ScanStepped old old_backing new new_backing before after (Err fault) = HasCause (where_scanning old old_backing new_backing before.session) fault
+
+-- a refused step changes neither the pages, nor who holds what, nor the call
+pub record ScanStays (old new : State) (before after : ScanOp) : Type 0 where
+  pub state : new ≡ old
+  pub op : after ≡ before
+
+-- as many entries are ready as are told
+abbrev pub ReadyIsCounted : ScanOp → Result ScanStep Fault → Type 0
+ReadyIsCounted after (Ok Going) = Unit {0}
+ReadyIsCounted after (Ok (Ready count)) = count ≡ length (waiting after)
+ReadyIsCounted after (Ok Done) = Unit {0}
+ReadyIsCounted after (Err fault) = Unit {0}
+
+-- A step of a scan. On any pages: nothing but latches and pins is changed, a refused one changes nothing, a stopped log
+-- refuses it, as many entries are ready as it says, and one that reads a page leaves less to do. On pages in order, over a
+-- device that keeps its model: what it does, and why it is refused.
+pub record ScanSteps {S : Type 0} (g : Ghosts S) (before after : ScanOp) (old new : S) (result : Result ScanStep Fault) : Type 0 where
+  pub steps : Continues g.follows old new
+  pub session : after.session ≡ before.session
+  pub range : after.range ≡ before.range
+  pub quiet : g.state new ≡ with_table (g.state old) (g.state new).table
+  pub refused : OnErr result (ScanStays (g.state old) (g.state new) before after)
+  pub stopped : (g.backing old).stopped ≡ true → result ≡ Err Stopped
+  pub ready : ReadyIsCounted after result
+  pub less : ScanLeavesLess before after result
+  pub no_more : scan_work after ≤ scan_work before
+  pub stepped : (g.backing new).honest ≡ true → IsInOrder (g.state old) → ScanFits (g.state old) before
+      → ScanStepped (g.state old) (g.backing old) (g.state new) (g.backing new) before after result

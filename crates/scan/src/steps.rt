@@ -2,9 +2,7 @@
 
 ghost use Rattle.std.specs.Prelude.{◌≡◌, ◌≤◌, ◌<◌, ◌↔◌, true, IsTrue, [], length, drop, OnErr, MatchOption};
 ghost use Rattle.index_model.specs.Range.{start_of};
-ghost use Rattle.page_action.specs.States.{State, Continues};
 ghost use Rattle.tree_shape.specs.Tree.{IsOnlyLeaf};
-ghost use Rattle.descent.specs.Steps.{IsInOrder};
 
 use arrayvec::ArrayVec;
 use descent::{look, root};
@@ -50,7 +48,7 @@ pub enum ScanStep {
 }
 
 impl ScanOp {
-    ghost use Rattle.scan.specs.Scans.{fresh_scan, waiting, ScanFits, ScanStepped, LeavesLess, work_left, IsNext};
+    ghost use Rattle.scan.specs.Scans.{fresh_scan, waiting, ScanSteps, IsNext};
 
     /// A scan of the range before its first step.
     pub fn new(session: Session, range: Range) -> ScanOp
@@ -91,15 +89,7 @@ impl ScanOp {
     /// Refused with `Blocked`, and the same step may be made again; with `Io`, `Stopped`, `NoFrame`; with `PageDamaged`
     /// on pages that are no tree. A refused step changes nothing.
     pub fn step<S: PageStore>(&mut self, store: &mut S) -> Result<ScanStep, Fault>
-        ensures steps { Continues S.follows store.old store.new }
-        ensures refused { OnErr result (S.state store.new ≡ S.state store.old) }
-        ensures session { self.new.session ≡ self.old.session }
-        ensures range { self.new.range ≡ self.old.range }
-        ensures stepped { (S.backing store.new).honest ≡ true → IsInOrder (S.state store.old)
-            → ScanFits (S.state store.old) self.old
-            → ScanStepped (S.state store.old) (S.backing store.old) (S.state store.new) (S.backing store.new) self.old self.new result }
-        ensures less { LeavesLess self.old self.new result }
-        ensures no_more { work_left self.new ≤ work_left self.old }
+        ensures { ScanSteps S.PageStore self.old self.new store.old store.new result }
     {
         if store.is_stopped() {
             return Err(Fault::Stopped);
@@ -119,15 +109,7 @@ impl ScanOp {
     fn find_root<S: PageStore>(&mut self, store: &mut S) -> Result<ScanStep, Fault>
         requires at { self.old.at ≡ ScanAt.Start }
         requires none { waiting self.old ≡ [] }
-        ensures steps { Continues S.follows store.old store.new }
-        ensures refused { OnErr result (S.state store.new ≡ S.state store.old) }
-        ensures session { self.new.session ≡ self.old.session }
-        ensures range { self.new.range ≡ self.old.range }
-        ensures stepped { (S.backing store.new).honest ≡ true → IsInOrder (S.state store.old)
-            → ScanFits (S.state store.old) self.old
-            → ScanStepped (S.state store.old) (S.backing store.old) (S.state store.new) (S.backing store.new) self.old self.new result }
-        ensures less { LeavesLess self.old self.new result }
-        ensures no_more { work_left self.new ≤ work_left self.old }
+        ensures { ScanSteps S.PageStore self.old self.new store.old store.new result }
     {
         let block = root(store, self.session)?;
         self.at = ScanAt::At(block);
@@ -138,15 +120,7 @@ impl ScanOp {
     fn read<S: PageStore>(&mut self, store: &mut S, block: u32) -> Result<ScanStep, Fault>
         requires at { self.old.at ≡ ScanAt.At block }
         requires none { waiting self.old ≡ [] }
-        ensures steps { Continues S.follows store.old store.new }
-        ensures refused { OnErr result (S.state store.new ≡ S.state store.old) }
-        ensures session { self.new.session ≡ self.old.session }
-        ensures range { self.new.range ≡ self.old.range }
-        ensures stepped { (S.backing store.new).honest ≡ true → IsInOrder (S.state store.old)
-            → ScanFits (S.state store.old) self.old
-            → ScanStepped (S.state store.old) (S.backing store.old) (S.state store.new) (S.backing store.new) self.old self.new result }
-        ensures less { LeavesLess self.old self.new result }
-        ensures no_more { work_left self.new ≤ work_left self.old }
+        ensures { ScanSteps S.PageStore self.old self.new store.old store.new result }
     {
         let page = look(store, self.session, block)?;
         if !is_only_leaf(&page) {

@@ -1,6 +1,6 @@
 -- The steps of a call that is due, counted down.
 use Rattle.std.proofs.lemmas.Bool.{lt-leb}
-use Rattle.std.proofs.Common.{◌≡◌, ℕ, suc, ◌+◌, ◌<◌, Bool, true, false, if◌then◌else◌, Option, Some, None, List, length, slice_get, refl, sym, ap, subst, ◌∙◌, arith}
+use Rattle.std.proofs.Common.{◌≡◌, ℕ, suc, ◌<◌, Bool, true, false, if◌then◌else◌, Option, Some, None, List, length, slice_get, refl, sym, ap, subst, ◌∙◌, arith}
 use Rattle.index_model.specs.Faults.{Circumstances, HasCause}
 use Rattle.index_model.specs.Order.{IsUpTo}
 use Rattle.index_model.specs.declared.bound.Bound.{Bound}
@@ -11,19 +11,19 @@ use Rattle.page_codec.specs.Edits.{entries_of, HasEntries}
 use Rattle.page_codec.specs.declared.page.Items.{Items}
 use Rattle.page_codec.specs.declared.page.Items.TheVariants.{Meta, Entries, Downlinks}
 use Rattle.page_codec.specs.declared.page.Page.{Page}
-use Rattle.page_action.specs.Contents.{entry_on_live_leaf}
-use Rattle.page_action.specs.States.{State, Backing, after_begin, after_end}
+use Rattle.page_action.specs.States.{State, Backing}
 use Rattle.tree_shape.specs.Tree.{IsBlinkTree}
 use Rattle.descent.specs.Steps.{IsInOrder}
-use Rattle.descent.specs.Ways.{level_with, level_at, root_level, NoneIsFlagged, Covers, CoversEntry, HasRoomFor}
+use Rattle.descent.specs.Ways.{level_with, level_at, root_level, Covers, CoversEntry}
 use Rattle.descent.proofs.Contents.{leaf_is}
-use Rattle.insert_split.specs.Inserts.{InsertStands, InsertFits, IsNextAt, IsGoing, is_full_page, where_inserting}
+use Rattle.descent.proofs.Quiet.{pages_stay}
+use Rattle.insert_split.specs.Inserts.{InsertStands, InsertFits, IsNextAt, InsertGoesOn, is_full_page, where_inserting}
 use Rattle.insert_split.specs.declared.insert.InsertAt.{InsertAt}
 use Rattle.insert_split.specs.declared.insert.InsertAt.TheVariants.{Start as InsertStart, At as InsertReads, Holding}
 use Rattle.insert_split.specs.declared.insert.InsertOp.{InsertOp}
-use Rattle.session_calls.specs.Sessions.{ends_call}
+use Rattle.session_calls.specs.Ops.{ends_call}
+use Rattle.session_calls.specs.Sessions.{slot_after}
 use Rattle.session_calls.specs.Due.{insert_steps, IsOnEntryWay, InsertIsDue, IsDueIn, StaysDue, IsHindered, CountsDown}
-use Rattle.session_calls.specs.declared.answer.Answer.{Answer}
 use Rattle.session_calls.specs.declared.answer.Answer.TheVariants.{Going, Refused}
 use Rattle.session_calls.specs.declared.op.Op.{Op}
 use Rattle.session_calls.specs.declared.op.Op.TheVariants.{Insert}
@@ -64,8 +64,9 @@ module _ (pages : List Page) (tree : IsBlinkTree pages) where
 
 -- an insert that goes on is due one step sooner
 pub insert_counts : (old new : State) (before after : InsertOp) (left : ℕ) → IsInOrder old → InsertFits old before → InsertIsDue old.limits.items old.pages before (suc left)
-    → after.entry ≡ before.entry → IsGoing old new before after → CountsDown old new (Some (Insert before)) (Some (Insert after)) left Going
+    → after.entry ≡ before.entry → InsertGoesOn old new before after → CountsDown old new (Some (Insert before)) (Some (Insert after)) left Going
 insert_counts old new before after left order fits due same step =
+    let pages = pages_stay before.session old new step.does in
     let next = insert_next old.pages order.tree before.session before.entry old left before.at after.at fits.stands step.next due.steps_are due.way in
     let then_due : InsertIsDue old.limits.items old.pages after left = record {
       steps_are = next.1;
@@ -75,7 +76,7 @@ insert_counts old new before after left order fits due same step =
       room = rw same due.room;
     } in (
       next.0,
-      record { pages = step.quiet.pages; limits = step.quiet.limits; due = rw (step.quiet.pages, step.quiet.limits) then_due },
+      record { pages = pages; limits = step.does.limits; due = rw (pages, step.does.limits) then_due },
     )
 
 -- the pages give no cause for a refusal
@@ -93,38 +94,37 @@ true_false : {b : Bool} → b ≡ false → b ≡ true → ⊥
 true_false falls holds = cc
 
 -- a refused step of a call that is due
-module _ (at : Circumstances) (old new : State) (op : Op) (session left : ℕ) (none : NoneOnPages at) (due : IsDueIn old (Some op) (suc left)) where
-  hindered : (fault : Fault) → new ≡ (if ends_call fault then after_end session old else old) → HasCause at fault
-      → IsHindered old new (if ends_call fault then None else Some op) (suc left) fault
-  hindered NoMemory is h = absurd (true_false none.grown h)
-  hindered Io is h = tt
-  hindered Stopped is h = tt
-  hindered (Blocked b) is h = subst (λ (st : State). StaysDue old st (Some op) (suc left)) (sym is) (record { pages = refl; limits = refl; due = due })
-  hindered Exists is h = absurd (true_false none.new h)
-  hindered KeyTooLong is h = absurd h
-  hindered BadRow is h = absurd h
-  hindered IndexFull is h = absurd (true_false none.free h)
-  hindered LogFull is h = tt
-  hindered NoFrame is h = tt
-  hindered VacuumRunning is h = absurd (true_false none.no_vacuum h)
-  hindered NoSession is h = absurd (true_false none.session h)
-  hindered SessionBusy is h = absurd (true_false none.idle h)
-  hindered BadSuper is h = absurd h
-  hindered BadVersion is h = absurd h
-  hindered LogDamaged is h = absurd h
-  hindered (PageDamaged b) is h = absurd (true_false (none.sound b) h)
-  hindered BadLimits is h = absurd h
-  hindered TooTall is h = absurd (true_false none.low h)
-  hindered DeviceTooSmall is h = absurd h
+module _ (at : Circumstances) (old new : State) (op : Op) (left : ℕ) (none : NoneOnPages at) (due : IsDueIn old (Some op) (suc left)) (same : new ≡ old) where
+  hindered : (fault : Fault) → HasCause at fault → IsHindered old new (if ends_call fault then None else Some op) (suc left) fault
+  hindered NoMemory h = absurd (true_false none.grown h)
+  hindered Io h = tt
+  hindered Stopped h = tt
+  hindered (Blocked b) h = subst (λ (st : State). StaysDue old st (Some op) (suc left)) (sym same) (record { pages = refl; limits = refl; due = due })
+  hindered Exists h = absurd (true_false none.new h)
+  hindered KeyTooLong h = absurd h
+  hindered BadRow h = absurd h
+  hindered IndexFull h = absurd (true_false none.free h)
+  hindered LogFull h = tt
+  hindered NoFrame h = tt
+  hindered VacuumRunning h = absurd (true_false none.no_vacuum h)
+  hindered NoSession h = absurd (true_false none.session h)
+  hindered SessionBusy h = absurd (true_false none.idle h)
+  hindered BadSuper h = absurd h
+  hindered BadVersion h = absurd h
+  hindered LogDamaged h = absurd h
+  hindered (PageDamaged b) h = absurd (true_false (none.sound b) h)
+  hindered BadLimits h = absurd h
+  hindered TooTall h = absurd (true_false none.low h)
+  hindered DeviceTooSmall h = absurd h
 
 not_full : (items : ℕ) (page : Option Page) (leaf : Page) → page ≡ Some leaf → length (entries_of leaf.items) < items → is_full_page items page ≡ false
 not_full items page leaf found room = rw found (lt-leb items (length (entries_of leaf.items)) room)
 
 -- a refused step of an insert that is due
 pub insert_hindered : (old new : State) (first second : Backing) (before after : InsertOp) (left : ℕ) (fault : Fault) → IsInOrder old → InsertIsDue old.limits.items old.pages before (suc left)
-    → after ≡ before → new ≡ (if ends_call fault then after_end after.session old else old) → HasCause (where_inserting old first second before.session before.entry) fault
-    → CountsDown old new (Some (Insert before)) (if ends_call fault then None else Some (Insert after)) left (Refused fault)
-insert_hindered old new first second before after left fault order due same is cause =
+    → after ≡ before → new ≡ old → HasCause (where_inserting old first second before.session before.entry) fault
+    → CountsDown old new (Some (Insert before)) (slot_after (Refused fault) (Insert after)) left (Refused fault)
+insert_hindered old new first second before after left fault order due same_op same cause =
     let leaf : CoversEntry old.pages before.entry 1 = covers_leaf old.pages order.tree (λ high. IsUpTo high before.entry) tt in
     let kind : HasEntries leaf.page.items = subst (λ (p : Page). HasEntries p.items) (leaf_is old.pages order.tree leaf.page leaf.found) order.tree.is_only.kind in
     let none : NoneOnPages (where_inserting old first second before.session before.entry) = record {
@@ -137,21 +137,4 @@ insert_hindered old new first second before after left fault order due same is c
       sound = λ block. refl;
       low = refl;
     } in
-    rw same (hindered (where_inserting old first second before.session before.entry) old new (Insert before) before.session left none due fault
-    (is ∙ ap (λ (op : InsertOp). if ends_call fault then after_end op.session old else old) same) cause)
-
--- an insert that begins is due
-pub insert_due : (old new : State) (session : ℕ) (e : Entry) (op : InsertOp) → new ≡ after_begin session old → op ≡ record { session = session; entry = e; at = InsertStart } → NoneIsFlagged old.pages
-    → entry_on_live_leaf old.pages e ≡ false → HasRoomFor old.limits.items old.pages e → IsDueIn new (Some (Insert op)) (root_level old.pages + 3)
-insert_due old new session e op is op_is whole absent room = rw (is, op_is) (record { steps_are = refl; whole = whole; way = tt; absent = absent; room = room })
-
--- a slot that runs no call has none that is due
-pub none_counts : (old new : State) (before after : Option Op) (left : ℕ) (answer : Answer) → before ≡ None → IsDueIn old before (suc left) → CountsDown old new before after left answer
-none_counts old new before after left answer is due = absurd (subst (λ (slot : Option Op). IsDueIn old slot (suc left)) is due)
-
--- what is told of a call that is over, and of one that is kept
-pub over_counts : (old new : State) (before : Option Op) (kept : Op) (left : ℕ) (answer : Answer) (is_over : Bool) → is_over ≡ true → CountsDown old new before (if is_over then None else Some kept) left answer → CountsDown old new before None left answer
-over_counts old new before kept left answer is_over e h = subst (λ (b : Bool). CountsDown old new before (if b then None else Some kept) left answer) e h
-
-pub kept_counts : (old new : State) (before : Option Op) (kept : Op) (left : ℕ) (answer : Answer) (is_over : Bool) → is_over ≡ false → CountsDown old new before (if is_over then None else Some kept) left answer → CountsDown old new before (Some kept) left answer
-kept_counts old new before kept left answer is_over e h = subst (λ (b : Bool). CountsDown old new before (if b then None else Some kept) left answer) e h
+    rw same_op (hindered (where_inserting old first second before.session before.entry) old new (Insert before) left none due same fault cause)

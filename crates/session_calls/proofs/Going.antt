@@ -1,122 +1,237 @@
--- Events of calls over histories: those with no action, and the one that adds.
-use Rattle.std.proofs.Common.{◌≡◌, ℕ, suc, ◌<◌, ◌≤◌, Bool, true, false, ◌||◌, Option, Some, None, List, [], ◌∷◌, ◌++◌, length, slice_get, refl, sym, ap, subst, ◌∙◌, arith, length-append}
+-- Steps of operations over histories, and the events that they make.
+use Rattle.std.proofs.Common.{◌≡◌, ℕ, suc, ◌+◌, ◌<◌, Bool, true, false, if◌then◌else◌, Option, Some, None, List, [], ◌++◌, length, refl, sym, ap, subst, ◌∙◌}
 use Rattle.std.proofs.lemmas.List.{append-nil}
-use Rattle.index_model.specs.Actions.{Add, Action, is_there_after, ThereAtSomeMoment}
-use Rattle.index_model.specs.Calls.{Ask, AskInsert, AskScan, AskBulkDelete, AskCleanup, Ending, Running, Added as EndsAdded, GivenUp, Failed, Call, AnswersRight, InsertMayFail, IsInsertAnswer, end_of, Meets}
-use Rattle.index_model.specs.Faults.{Circumstances}
-use Rattle.index_model.specs.Order.{same_entry}
+use Rattle.index_model.specs.Actions.{Effect, Action, contents_after}
+use Rattle.index_model.specs.Calls.{AskInsert, Running, Added as EndsAdded, GivenUp, Failed, Call, InsertMayFail, Meets}
+use Rattle.index_model.specs.Faults.{Circumstances, HasCause}
 use Rattle.index_model.specs.declared.entry.Entry.{Entry}
 use Rattle.index_model.specs.declared.fault.Fault.{Fault}
-use Rattle.index_model.proofs.Histories.{contents_after-add, there_before, there_now}
 use Rattle.page_action.specs.Contents.{entry_on_live_leaf}
 use Rattle.page_action.specs.States.{State, after_end}
-use Rattle.descent.specs.Steps.{IsQuiet, IsAddition}
-use Rattle.session_calls.specs.Sessions.{Matches, SlotIs, ended, ended_added, Told, IsCaused, SessionGoes}
+use Rattle.descent.specs.Steps.{Does}
+use Rattle.descent.proofs.Quiet.{does_nothing, pages_stay}
+use Rattle.session_calls.specs.Ops.{session_of, ask_of, add_of, OpFits, OpKnows, IsCaused, IsFaultCaused, is_last, ends_call}
+use Rattle.session_calls.specs.Sessions.{Matches, OpRuns, CallFits, acts_of, act_count, IsAsked, add_after, noted, ended, Told, SessionGoes, OpGoes, HoldsOn}
 use Rattle.session_calls.specs.declared.answer.Answer.{Answer}
-use Rattle.session_calls.specs.declared.answer.Answer.TheVariants.{Added}
+use Rattle.session_calls.specs.declared.answer.Answer.TheVariants.{Going, Added, Ready, Ended, Refused}
 use Rattle.session_calls.specs.declared.op.Op.{Op}
-use Rattle.session_calls.proofs.Ending.{addition_then_end, ended_idle}
+use Rattle.session_calls.specs.declared.op.Op.TheVariants.{Insert, Scan}
+use Rattle.page_action.specs.Causes.{nothing_wrong}
+use Rattle.session_calls.proofs.Telling.{told_same}
+use Rattle.session_calls.proofs.Effects.{matches_after, started_after, ended_matches, ended_others, ended_idle}
+use Rattle.session_calls.proofs.Meeting.{grown, began_before, meets_noted, meets_failed, meets_given_up, meets_ended_added, there_at_present}
 
-get_append_new : {A : Type 0} (xs : List A) (y : A) → slice_get (xs ++ y ∷ []) (length xs) ≡ Some y
-get_append_new [] y = refl
-get_append_new (x ∷ xs) y = get_append_new xs y
+-- a step of an operation is an event of its session; where its answer is the last, what the session held is let go
+module _ (at : Circumstances) (old mid new : State) (start : Entry → Bool) (history : List Action) (number : ℕ) (call : Call) (op : Op) (answer : Answer)
+    (matches : Matches old start history) (low : call.session < 64) (goes : OpGoes at old mid start history number call op answer) where
+  mid_matches : Matches mid start (history ++ acts_of number goes.effect)
+  mid_matches = matches_after call.session goes.effect old mid start history number matches goes.does
 
-pub matches_quiet : (session : ℕ) (old new : State) (start : Entry → Bool) (history : List Action) → IsQuiet session old new → Matches old start history → Matches new start history
-matches_quiet session old new start history quiet m = record {
-  contents = λ e. rw quiet.pages (m.contents e);
-  count = quiet.acts ∙ m.count;
-  order = quiet.order;
-}
+  mid_pages : goes.effect ≡ None → mid.pages ≡ old.pages
+  mid_pages none = pages_stay call.session old mid (subst (λ (x : Option Effect). Does call.session x old mid) none goes.does)
 
--- an event with no action
-pub quiet_goes : (at : Circumstances) (old new : State) (start : Entry → Bool) (history : List Action) (number : ℕ) (call after : Call) (slot : Option Op) (answer : Answer)
-    → Matches old start history → IsQuiet call.session old new → Told answer number (length history) [] call after → IsCaused at answer → Meets start history number after → SlotIs new start history after slot
-    → SessionGoes at old new start history number call slot answer
-quiet_goes at old new start history number call after slot answer m quiet told caused meets holds = record {
-  acts = [];
+  by_last : (b : Bool) → new ≡ (if b then after_end call.session mid else mid) → HoldsOn b mid start (history ++ acts_of number goes.effect) goes.then_call op → goes.then_call.session ≡ call.session
+      → SessionGoes at old new start history number call (if b then None else Some op) answer
+  by_last true is holds same = subst (λ (st : State). SessionGoes at old st start history number call None answer) (sym is) (record {
+    effect = goes.effect;
+    after = goes.then_call;
+    asked = goes.asked;
+    told = goes.told;
+    caused = goes.caused;
+    world = ended_matches mid call.session start (history ++ acts_of number goes.effect) low mid_matches;
+    limits = goes.does.limits;
+    frames = goes.does.frames;
+    pages = mid_pages;
+    others = ended_others old mid call.session goes.does.others;
+    meets = goes.meets;
+    holds = (holds, rw same (ended_idle call.session mid low mid_matches.order));
+  })
+  by_last false is holds same = subst (λ (st : State). SessionGoes at old st start history number call (Some op) answer) (sym is) (record {
+    effect = goes.effect;
+    after = goes.then_call;
+    asked = goes.asked;
+    told = goes.told;
+    caused = goes.caused;
+    world = mid_matches;
+    limits = goes.does.limits;
+    frames = goes.does.frames;
+    pages = mid_pages;
+    others = goes.does.others;
+    meets = goes.meets;
+    holds = holds;
+  })
+
+  same_session : call.ending ≡ Running → goes.then_call.session ≡ call.session
+  same_session running = (told_same (history ++ acts_of number goes.effect) (length history) goes.effect call goes.then_call running (grown history number goes.effect) answer goes.told).session
+
+  pub event_of_last : is_last answer ≡ true → new ≡ after_end call.session mid → call.ending ≡ Running → SessionGoes at old new start history number call None answer
+  event_of_last last is running = by_last true is
+      (subst (λ (b : Bool). HoldsOn b mid start (history ++ acts_of number goes.effect) goes.then_call op) last goes.holds) (same_session running)
+
+  pub event_of_more : is_last answer ≡ false → new ≡ mid → call.ending ≡ Running → SessionGoes at old new start history number call (Some op) answer
+  event_of_more more is running = by_last false is
+      (subst (λ (b : Bool). HoldsOn b mid start (history ++ acts_of number goes.effect) goes.then_call op) more goes.holds) (same_session running)
+
+-- an operation is one of a session that exists
+pub low_of : (st : State) (op : Op) → OpFits st op → session_of op < 64
+low_of st (Insert op) fits = fits.session
+low_of st (Scan op) fits = fits.session
+
+-- a running call that is given up
+pub event_of_end : (old new : State) (start : Entry → Bool) (history : List Action) (number : ℕ) (call : Call) (op : Op) → CallFits old start history number call op → new ≡ after_end (session_of op) old
+    → SessionGoes nothing_wrong old new start history number call None Ended
+event_of_end old new start history number call op fits is =
+    let low : call.session < 64 = subst (λ (t : ℕ). t < 64) fits.runs.session (low_of old op fits.runs.fits) in
+    let mine : new ≡ after_end call.session old = is ∙ ap (λ (t : ℕ). after_end t old) fits.runs.session in
+    subst (λ (st : State). SessionGoes nothing_wrong old st start history number call None Ended) (sym mine) (record {
+      effect = None;
+      after = ended call GivenUp (length history);
+      asked = tt;
+      told = record { none = refl; after_is = refl };
+      caused = tt;
+      world = subst (λ (l : List Action). Matches (after_end call.session old) start l) (sym (append-nil history)) (ended_matches old call.session start history low fits.world);
+      limits = refl;
+      frames = refl;
+      pages = λ none. refl;
+      others = ended_others old old call.session (does_nothing call.session old old refl fits.world.order).others;
+      meets = subst (λ (l : List Action). Meets start l number (ended call GivenUp (length history))) (sym (append-nil history)) (meets_given_up start history number call fits.meets fits.running);
+      holds = (λ h. cc, ended_idle call.session old low fits.world.order);
+    })
+
+-- an event with no action, which changes nothing of the pages
+pub event_of_nothing : (at : Circumstances) (old new : State) (start : Entry → Bool) (history : List Action) (number : ℕ) (call after : Call) (op : Op) (answer : Answer)
+    → Matches old start history → new ≡ old → Told answer (length history) None call after → IsCaused at answer → Meets start history number after → after.ending ≡ Running → OpRuns new start history after op
+    → SessionGoes at old new start history number call (Some op) answer
+event_of_nothing at old new start history number call after op answer m same told caused meets running runs = record {
+  effect = None;
   after = after;
+  asked = tt;
   told = told;
   caused = caused;
-  world = subst (λ (l : List Action). Matches new start l) (sym (append-nil history)) (matches_quiet call.session old new start history quiet m);
-  limits = quiet.limits;
-  pages = λ none. quiet.pages;
-  others = quiet.others;
+  world = matches_after call.session None old new start history number m (does_nothing call.session old new same m.order);
+  limits = ap (λ (st : State). st.limits) same;
+  frames = ap (λ (st : State). st.frames) same;
+  pages = λ none. ap (λ (st : State). st.pages) same;
+  others = (does_nothing call.session old new same m.order).others;
   meets = subst (λ (l : List Action). Meets start l number after) (sym (append-nil history)) meets;
-  holds = subst (λ (l : List Action). SlotIs new start l after slot) (sym (append-nil history)) holds;
+  holds = (running, subst (λ (l : List Action). OpRuns new start l after op) (sym (append-nil history)) runs);
 }
 
-module _ (start : Entry → Bool) (history : List Action) (number : ℕ) (call : Call) (meets : Meets start history number call) (running : call.ending ≡ Running) where
-  pub began_before : call.began ≤ length history
-  began_before = subst (λ (x : Ending). call.began ≤ end_of history x call.until) running meets.began
+-- the steps of an operation that runs a call
+module _ (at : Circumstances) (old new : State) (start : Entry → Bool) (history : List Action) (number : ℕ) (call : Call) (before after : Op)
+    (fits : CallFits old start history number call before) (session : session_of after ≡ session_of before) (ask : ask_of after ≡ ask_of before) where
+  -- one that goes on
+  pub step_goes_on : (effect : Option Effect) → Does (session_of before) effect old new → IsAsked (contents_after start history) call.ask call.added effect
+      → add_of after ≡ add_after (add_of before) (suc (length history)) effect → OpFits new after → OpKnows start (history ++ acts_of number effect) call.began call.given after
+      → OpGoes at old new start history number call after Going
+  step_goes_on effect does asked add then_fits knows =
+      let mine : Does call.session effect old new = subst (λ (t : ℕ). Does t effect old new) fits.runs.session does in
+      record {
+        effect = effect;
+        then_call = noted call (length history) effect;
+        does = mine;
+        asked = asked;
+        told = refl;
+        caused = tt;
+        meets = meets_noted start history number call fits.meets fits.running effect asked;
+        holds = (
+          fits.running,
+          record {
+            ask = fits.runs.ask ∙ sym ask;
+            session = session ∙ fits.runs.session;
+            added = ap (λ (o : Option ℕ). add_after o (suc (length history)) effect) fits.runs.added ∙ sym add;
+            started = started_after call.session call.session effect old new mine fits.runs.started;
+            fits = then_fits;
+            knows = knows;
+          },
+        );
+      }
 
-  pub right_now : AnswersRight start history number call.began (length history) call.ask call.given call.added Running
-  right_now = subst (λ (x : Ending). AnswersRight start history number call.began (end_of history x call.until) call.ask call.given call.added x) running meets.right
+  -- one that finds entries
+  pub step_is_ready : (count : ℕ) → Does (session_of before) None old new → add_of after ≡ add_of before → OpFits new after → OpKnows start history call.began call.given after
+      → OpGoes at old new start history number call after (Ready count)
+  step_is_ready count does add then_fits knows =
+      let mine : Does call.session None old new = subst (λ (t : ℕ). Does t None old new) fits.runs.session does in
+      record {
+        effect = None;
+        then_call = call;
+        does = mine;
+        asked = tt;
+        told = record { none = refl; after_is = refl };
+        caused = tt;
+        meets = subst (λ (l : List Action). Meets start l number call) (sym (append-nil history)) fits.meets;
+        holds = (
+          fits.running,
+          subst (λ (l : List Action). OpRuns new start l call after) (sym (append-nil history)) (record {
+            ask = fits.runs.ask ∙ sym ask;
+            session = session ∙ fits.runs.session;
+            added = fits.runs.added ∙ sym add;
+            started = started_after call.session call.session None old new mine fits.runs.started;
+            fits = then_fits;
+            knows = knows;
+          }),
+        );
+      }
 
-  given_up_ask : (ask : Ask) → AnswersRight start history number call.began (length history) ask call.given call.added Running → AnswersRight start history number call.began (length history) ask call.given call.added GivenUp
-  given_up_ask (AskInsert e) h = record { add = h.add; end = tt }
-  given_up_ask (AskScan r) h = h
-  given_up_ask (AskBulkDelete dead) h = tt
-  given_up_ask AskCleanup h = tt
+  -- an insert that is over with its Add, which it may make now
+  pub step_adds : (e : Entry) (action : ℕ) (unfinished : Option Fault) (effect : Option Effect) → ask_of before ≡ AskInsert e → Does (session_of before) effect old new
+      → IsAsked (contents_after start history) call.ask call.added effect → add_after (add_of before) (suc (length history)) effect ≡ Some action → IsFaultCaused at unfinished
+      → OpGoes at old new start history number call after (Added action unfinished)
+  step_adds e action unfinished effect inserts does asked add caused =
+      let more : List Action = history ++ acts_of number effect in
+      let then_call : Call = noted call (length history) effect in
+      let noted_is : then_call.added ≡ Some action = ap (λ (o : Option ℕ). add_after o (suc (length history)) effect) fits.runs.added ∙ add in
+      record {
+        effect = effect;
+        then_call = ended then_call (EndsAdded action unfinished) (act_count effect + length history);
+        does = subst (λ (t : ℕ). Does t effect old new) fits.runs.session does;
+        asked = asked;
+        told = record { noted_is = noted_is; after_is = refl };
+        caused = caused;
+        meets = subst (λ (n : ℕ). Meets start more number (ended then_call (EndsAdded action unfinished) n)) (grown history number effect)
+            (meets_ended_added start more number then_call (meets_noted start history number call fits.meets fits.running effect asked) fits.running e action unfinished (fits.runs.ask ∙ inserts) noted_is);
+        holds = λ h. absurd cc;
+      }
 
-  -- a call that is given up meets its definition
-  pub meets_given_up : Meets start history number (ended call GivenUp (length history))
-  meets_given_up = record { began = began_before; until = omega arith; right = given_up_ask call.ask right_now }
+  -- one that is refused
+  pub step_is_refused : (fault : Fault) → new ≡ old → after ≡ before → HasCause at fault → add_of before ≡ None
+      → ((e : Entry) → ask_of before ≡ AskInsert e → at.entry_was_there ≡ true → entry_on_live_leaf old.pages e ≡ true)
+      → OpGoes at old new start history number call after (Refused fault)
+  step_is_refused fault same same_op cause none there = by_end (ends_call fault) refl
+    where
+      may : (e : Entry) → call.ask ≡ AskInsert e → (call.added ≡ None) × InsertMayFail start history call.began (length history) e fault
+      may e asked = (
+        fits.runs.added ∙ none,
+        λ is. there_at_present old start history call.began e fits.world (began_before start history number call fits.meets fits.running)
+            (there e (sym fits.runs.ask ∙ asked) (subst (λ (f : Fault). HasCause at f) is cause)),
+      )
 
-  failed_ask : (f : Fault) (ask : Ask) → ((e : Entry) → ask ≡ AskInsert e → (call.added ≡ None) × InsertMayFail start history call.began (length history) e f)
-      → AnswersRight start history number call.began (length history) ask call.given call.added Running → AnswersRight start history number call.began (length history) ask call.given call.added (Failed f)
-  failed_ask f (AskInsert e) may h = record { add = h.add; end = may e refl }
-  failed_ask f (AskScan r) may h = h
-  failed_ask f (AskBulkDelete dead) may h = tt
-  failed_ask f AskCleanup may h = tt
+      does : Does call.session None old new
+      does = does_nothing call.session old new same fits.world.order
 
-  -- so does one that a fault ends
-  pub meets_failed : (f : Fault) → ((e : Entry) → call.ask ≡ AskInsert e → (call.added ≡ None) × InsertMayFail start history call.began (length history) e f) → Meets start history number (ended call (Failed f) (length history))
-  meets_failed f may = record { began = began_before; until = omega arith; right = failed_ask f call.ask may right_now }
-
--- an entry that the pages hold now was there at some moment
-pub there_at_present : (st : State) (start : Entry → Bool) (history : List Action) (began : ℕ) (e : Entry) → Matches st start history → began ≤ length history → entry_on_live_leaf st.pages e ≡ true → ThereAtSomeMoment start history began (length history) e
-there_at_present st start history began e m le h = record { moment = length history; since = le; until = omega arith; there = there_now start history e ∙ sym (m.contents e) ∙ h }
-
--- the step that adds the entry, and ends the call
-pub add_goes : (at : Circumstances) (old mid new : State) (start : Entry → Bool) (history : List Action) (number : ℕ) (call : Call) (e : Entry) (action : ℕ) (unfinished : Option Fault)
-    → call.session < 64 → Matches old start history → Meets start history number call → call.ending ≡ Running → call.ask ≡ AskInsert e → IsAddition call.session old mid e action → new ≡ after_end call.session mid
-    → SessionGoes at old new start history number call None (Added action unfinished)
-add_goes at old mid new start history number call e action unfinished low m meets running ask added is =
-    let step : IsAddition call.session old new e action = addition_then_end call.session old mid new e action low added is in
-    let one : Action = record { by = number; effect = Add e } in
-    let more : List Action = history ++ one ∷ [] in
-    let number_is : action ≡ suc (length history) = step.number ∙ ap suc m.count in
-    let longer : length more ≡ suc (length history) = omega (arith, length-append history (one ∷ [])) in
-    let began : call.began ≤ length history = began_before start history number call meets running in
-    let absent : is_there_after start more (length history) e ≡ false = there_before start history (one ∷ []) (length history) e (omega arith) ∙ there_now start history e ∙ sym (m.contents e) ∙ step.absent in
-    let answer : IsInsertAnswer start more number call.began action e (Some action) (EndsAdded action unfinished) = record {
-      add = record {
-        before = length history;
-        number_is = number_is;
-        since = began;
-        until = omega arith;
-        action_is = get_append_new history one;
-        was_absent = absent;
-      };
-      end = refl;
-    } in
-    record {
-      acts = one ∷ [];
-      after = ended_added call action unfinished;
-      told = record { entry = e; ask = ask; one = refl; action_is = number_is; changed = refl };
-      caused = tt;
-      world = record {
-        contents = λ x. step.adds x ∙ ap (λ (b : Bool). same_entry e x || b) (m.contents x) ∙ sym (contents_after-add start history number e x);
-        count = step.acts ∙ ap suc m.count ∙ sym longer;
-        order = step.order;
-      };
-      limits = step.limits;
-      pages = λ none. absurd cc;
-      others = step.others;
-      meets = record {
-        began = omega arith;
-        until = omega arith;
-        right = subst (λ (a : Ask). AnswersRight start more number call.began action a call.given (Some action) (EndsAdded action unfinished)) (sym ask) answer;
-      };
-      holds = (let idle = ended_idle call.session mid new low added.order is in ((λ h. cc), idle.0, idle.1));
-    }
+      by_end : (b : Bool) → ends_call fault ≡ b → OpGoes at old new start history number call after (Refused fault)
+      by_end true ends = record {
+        effect = None;
+        then_call = ended call (Failed fault) (length history);
+        does = does;
+        asked = tt;
+        told = (refl, rw ends refl);
+        caused = cause;
+        meets = subst (λ (l : List Action). Meets start l number (ended call (Failed fault) (length history))) (sym (append-nil history))
+            (meets_failed start history number call fits.meets fits.running fault may);
+        holds = subst (λ (b : Bool). HoldsOn b new start (history ++ []) (ended call (Failed fault) (length history)) after) (sym ends) (λ h. cc);
+      }
+      by_end false ends = record {
+        effect = None;
+        then_call = call;
+        does = does;
+        asked = tt;
+        told = (refl, rw ends refl);
+        caused = cause;
+        meets = subst (λ (l : List Action). Meets start l number call) (sym (append-nil history)) fits.meets;
+        holds = subst (λ (b : Bool). HoldsOn b new start (history ++ []) call after) (sym ends) (
+          fits.running,
+          subst (λ (l : List Action). OpRuns new start l call after) (sym (append-nil history))
+              (subst (λ (st : State). OpRuns st start history call after) (sym same) (subst (λ (op : Op). OpRuns old start history call op) (sym same_op) fits.runs)),
+        );
+      }

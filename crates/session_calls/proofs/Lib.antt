@@ -1,8 +1,10 @@
-pub mod Ending
+pub mod Lists
+pub mod Telling
+pub mod Meeting
+pub mod Effects
 pub mod Going
+pub mod Inserting
 pub mod Scanning
-pub mod Refusing
-pub mod Beginning
-pub mod Lessening
 pub mod Undisturbed
+pub mod Beginning
 pub mod Counting

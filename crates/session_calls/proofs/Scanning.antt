@@ -1,10 +1,10 @@
 -- Events of scans over histories.
-use Rattle.std.proofs.Common.{◌≡◌, ◌⊎◌, ℕ, ◌<◌, ◌≤◌, Bool, true, false, ◌||◌, Option, Some, None, List, [], ◌∷◌, ◌++◌, length, refl, sym, ap, subst, inl, inr, ◌∙◌, arith, append_assoc}
+use Rattle.std.proofs.Common.{◌≡◌, ◌⊎◌, ℕ, ◌≤◌, Bool, true, false, ◌||◌, Option, Some, None, List, [], ◌∷◌, ◌++◌, length, refl, sym, ap, subst, inl, inr, ◌∙◌, arith, append_assoc}
 use Rattle.std.proofs.lemmas.List.{append-nil}
 use Rattle.std.proofs.lemmas.Bool.{or_cases}
 use Rattle.std.specs.List.{AllByRecursion}
 use Rattle.index_model.specs.Actions.{Action}
-use Rattle.index_model.specs.Calls.{Ask, AskScan, Ending, Running, Finished as EndsFinished, Call, IsReached, IsUpToLast, IsScanAnswer, IsScanAnswerSoFar, AnswersRight, end_of}
+use Rattle.index_model.specs.Calls.{Ask, AskScan, Ending, Running, Finished as EndsFinished, Call, IsReached, IsUpToLast, IsScanAnswer, IsScanAnswerSoFar, AnswersRight, end_of, Meets}
 use Rattle.index_model.specs.Faults.{Circumstances}
 use Rattle.index_model.specs.Order.{bound_of, same_entry, is_among, is_past, IsPast, AscendsPast, IsAscending, last_or}
 use Rattle.index_model.specs.Range.{matches}
@@ -14,17 +14,18 @@ use Rattle.index_model.specs.declared.range.Range.{Range}
 use Rattle.index_model.proofs.Ascending.{is_past-falls, same_entry-is, same_entry-self, three_ways, IsPast-trans, is_among-append, is_among-past, AscendsPast-append, AscendsPast-front, AscendsPast-back, AscendsPast-from, last_or-append}
 use Rattle.index_model.proofs.Histories.{there_now}
 use Rattle.page_action.specs.Contents.{entry_on_live_leaf}
-use Rattle.page_action.specs.States.{State, after_end}
-use Rattle.descent.specs.Steps.{IsQuiet}
-use Rattle.scan.specs.Scans.{waiting, IsNext, IsBehind, IsRead, IsReading, IsWaiting}
+use Rattle.page_action.specs.States.{State}
+use Rattle.scan.specs.Scans.{waiting, ScanFits, IsNext, IsBehind, LeafIsRead, IsMoving, IsReading, IsWaiting, IsDone}
 use Rattle.scan.specs.declared.steps.ScanAt.{ScanAt}
 use Rattle.scan.specs.declared.steps.ScanAt.TheVariants.{Start, At, Last}
 use Rattle.scan.specs.declared.steps.ScanOp.{ScanOp}
-use Rattle.session_calls.specs.Sessions.{Matches, IsScanSoFar, CallFits, ended, given_one, SessionGoes}
-use Rattle.session_calls.specs.declared.answer.Answer.TheVariants.{Ready, Done, Gave}
+use Rattle.session_calls.specs.Ops.{IsScanSoFar}
+use Rattle.session_calls.specs.Sessions.{Matches, OpRuns, CallFits, ended, given_one, SessionGoes, OpGoes}
+use Rattle.session_calls.specs.declared.answer.Answer.TheVariants.{Going, Ready, Done, Gave}
 use Rattle.session_calls.specs.declared.op.Op.TheVariants.{Scan}
-use Rattle.session_calls.proofs.Ending.{quiet_then_end, quiet_none, ended_idle}
-use Rattle.session_calls.proofs.Going.{quiet_goes, began_before, there_at_present}
+use Rattle.descent.proofs.Quiet.{does_nothing}
+use Rattle.session_calls.proofs.Going.{event_of_nothing, step_goes_on, step_is_ready}
+use Rattle.session_calls.proofs.Meeting.{began_before, there_at_present}
 
 or_left : (a b : Bool) → a ≡ true → (a || b) ≡ true
 or_left true b h = refl
@@ -51,7 +52,7 @@ all_by P Q (x ∷ xs) f h = (f x h.0, all_by P Q xs f h.1)
 
 -- the last leaf brings a scan on
 module _ (st : State) (start : Entry → Bool) (history : List Action) (began : ℕ) (given : List Entry) (before after : ScanOp) (m : Matches st start history) (le : began ≤ length history)
-    (range : after.range ≡ before.range) (none : waiting before ≡ []) (from : (block : ℕ) × (before.at ≡ At block)) (last : after.at ≡ Last) (read : IsRead st before after)
+    (range : after.range ≡ before.range) (none : waiting before ≡ []) (from : (block : ℕ) × (before.at ≡ At block)) (last : after.at ≡ Last) (read : LeafIsRead st before after)
     (far : IsScanSoFar start history began given before) where
   was_given : given ++ waiting before ≡ given
   was_given = ap (λ (xs : List Entry). given ++ xs) none ∙ append-nil given
@@ -89,46 +90,6 @@ module _ (st : State) (start : Entry → Bool) (history : List Action) (began : 
     reached = λ e h. all_behind e;
     onward = λ e not. absurd (not (all_behind e));
   }
-
--- a step that reads
-pub reading_goes : (at : Circumstances) (old new : State) (start : Entry → Bool) (history : List Action) (number : ℕ) (call : Call) (before after : ScanOp) (count : ℕ)
-    → CallFits old start history number call (Scan before) → after.session ≡ before.session → after.range ≡ before.range → IsReading old new before after count
-    → SessionGoes at old new start history number call (Some (Scan after)) (Ready count)
-reading_goes at old new start history number call before after count fits session range step =
-    quiet_goes at old new start history number call call (Some (Scan after)) (Ready count) fits.world (subst (λ (t : ℕ). IsQuiet t old new) fits.runs.session step.quiet) (refl, refl) tt fits.meets (
-      fits.running,
-      record {
-        ask = fits.runs.ask ∙ ap AskScan (sym range);
-        session = session ∙ fits.runs.session;
-        fits = step.fits;
-        so_far = so_far_read old start history call.began call.given before after fits.world (began_before start history number call fits.meets fits.running) range step.none step.from step.last step.read fits.runs.so_far;
-      },
-    )
-
--- the step that finds all given
-pub done_goes : (at : Circumstances) (old new : State) (start : Entry → Bool) (history : List Action) (number : ℕ) (call : Call) (before : ScanOp)
-    → CallFits old start history number call (Scan before) → waiting before ≡ [] → before.at ≡ Last → new ≡ after_end call.session old
-    → SessionGoes at old new start history number call None Done
-done_goes at old new start history number call before fits none last is =
-    let far = fits.runs.so_far in
-    let low : call.session < 64 = subst (λ (t : ℕ). t < 64) fits.runs.session fits.runs.fits.session in
-    let all : call.given ++ waiting before ≡ call.given = ap (λ (xs : List Entry). call.given ++ xs) none ∙ append-nil call.given in
-    let answer : IsScanAnswer start history before.range call.began (length history) call.given = record {
-      only = record {
-        ascending = subst IsAscending all far.ascending;
-        matched = λ e h. far.matched e (subst (λ (xs : List Entry). is_among xs e ≡ true) (sym all) h);
-        was_there = λ e h. far.was_there e (subst (λ (xs : List Entry). is_among xs e ≡ true) (sym all) h);
-      };
-      all = λ e within match through. subst (λ (xs : List Entry). is_among xs e ≡ true) all (far.complete e (subst (λ (a : ScanAt). IsBehind before.frontier a e) (sym last) tt) match through);
-    } in
-    quiet_goes at old new start history number call (ended call EndsFinished (length history)) None Done fits.world
-    (quiet_then_end call.session old old new low (quiet_none call.session old old refl fits.world.order) is) (refl, refl) tt
-    (record {
-      began = began_before start history number call fits.meets fits.running;
-      until = omega arith;
-      right = subst (λ (a : Ask). AnswersRight start history number call.began (length history) a call.given call.added EndsFinished) (sym fits.runs.ask) answer;
-    })
-    (let idle = ended_idle call.session old new low fits.world.order is in ((λ h. cc), idle.0, idle.1))
 
 -- what isn't beyond an entry that isn't beyond a bound isn't beyond the bound
 at_or_before : (b : Bound) (x e : Entry) → is_past (bound_of e) x ≡ false → is_past b e ≡ false → is_past b x ≡ false
@@ -189,54 +150,99 @@ module _ (start : Entry → Bool) (history : List Action) (began : ℕ) (given r
 pub gave_goes : (at : Circumstances) (st : State) (start : Entry → Bool) (history : List Action) (number : ℕ) (call : Call) (before after : ScanOp) (e : Entry)
     → CallFits st start history number call (Scan before) → IsNext before (Some e) after → SessionGoes at st st start history number call (Some (Scan after)) (Gave (Some e))
 gave_goes at st start history number call before after e fits next =
-    let far = fits.runs.so_far in
+    let far = fits.runs.knows in
     let same : (call.given ++ e ∷ []) ++ waiting after ≡ call.given ++ waiting before = joined start history call.began call.given (waiting after) e before far next.0 in
     let session : after.session ≡ before.session = ap (λ (x : ScanOp). x.session) next.1 in
     let range : after.range ≡ before.range = ap (λ (x : ScanOp). x.range) next.1 in
     let frontier : after.frontier ≡ before.frontier = ap (λ (x : ScanOp). x.frontier) next.1 in
     let where_at : after.at ≡ before.at = ap (λ (x : ScanOp). x.at) next.1 in
     let answer = next_meets start history call.began call.given (waiting after) e before far next.0 in
-    quiet_goes at st st start history number call (given_one call e) (Some (Scan after)) (Gave (Some e)) fits.world (quiet_none call.session st st refl fits.world.order) (refl, refl) tt
+    event_of_nothing at st st start history number call (given_one call e) (Scan after) (Gave (Some e)) fits.world refl (record { none = refl; after_is = refl }) tt
     (record {
       began = fits.meets.began;
       until = fits.meets.until;
       right = subst (λ (x : Ending). AnswersRight start history number call.began (end_of history x call.until) call.ask (call.given ++ e ∷ []) call.added x) (sym fits.running)
           (subst (λ (a : Ask). AnswersRight start history number call.began (length history) a (call.given ++ e ∷ []) call.added Running) (sym fits.runs.ask) answer);
-    }) (
-      fits.running,
-      record {
-        ask = fits.runs.ask ∙ ap AskScan (sym range);
-        session = session ∙ fits.runs.session;
-        fits = record { session = rw session fits.runs.fits.session; stands = rw (session, where_at) fits.runs.fits.stands; started = rw (frontier, range) fits.runs.fits.started };
-        so_far = record {
-          ascending = rw same far.ascending;
-          matched = rw (same, range) far.matched;
-          was_there = rw same far.was_there;
-          complete = rw (same, range, frontier, where_at) far.complete;
-          reached = rw (same, frontier, where_at) far.reached;
-          onward = rw (same, frontier, where_at) far.onward;
-        };
-      },
-    )
-
--- no entry is ready
-pub none_goes : (at : Circumstances) (st : State) (start : Entry → Bool) (history : List Action) (number : ℕ) (call : Call) (before after : ScanOp)
-    → CallFits st start history number call (Scan before) → IsNext before None after → SessionGoes at st st start history number call (Some (Scan after)) (Gave None)
-none_goes at st start history number call before after fits next =
-    quiet_goes at st st start history number call call (Some (Scan after)) (Gave None) fits.world (quiet_none call.session st st refl fits.world.order) (refl, refl) tt fits.meets
-    (fits.running, rw next.1 fits.runs)
+    }) fits.running (record {
+      ask = fits.runs.ask ∙ ap AskScan (sym range);
+      session = session ∙ fits.runs.session;
+      added = fits.runs.added;
+      started = fits.runs.started;
+      fits = record { session = rw session fits.runs.fits.session; stands = rw (session, where_at) fits.runs.fits.stands; started = rw (frontier, range) fits.runs.fits.started };
+      knows = record {
+        ascending = rw same far.ascending;
+        matched = rw (same, range) far.matched;
+        was_there = rw same far.was_there;
+        complete = rw (same, range, frontier, where_at) far.complete;
+        reached = rw (same, frontier, where_at) far.reached;
+        onward = rw (same, frontier, where_at) far.onward;
+      };
+    })
 
 -- what `next` answers
 pub next_goes : (at : Circumstances) (st : State) (start : Entry → Bool) (history : List Action) (number : ℕ) (call : Call) (before after : ScanOp) (answer : Option Entry)
     → CallFits st start history number call (Scan before) → IsNext before answer after → SessionGoes at st st start history number call (Some (Scan after)) (Gave answer)
-next_goes at st start history number call before after None fits next = none_goes at st start history number call before after fits next
+next_goes at st start history number call before after None fits next =
+    event_of_nothing at st st start history number call call (Scan after) (Gave None) fits.world refl (record { none = refl; after_is = refl }) tt fits.meets fits.running
+    (subst (λ (op : ScanOp). OpRuns st start history call (Scan op)) (sym next.1) fits.runs)
 next_goes at st start history number call before after (Some e) fits next = gave_goes at st start history number call before after e fits next
 
--- what a step answers whose entries are ready, or that reads
-pub ready_goes : (at : Circumstances) (old new : State) (start : Entry → Bool) (history : List Action) (number : ℕ) (call : Call) (before after : ScanOp) (count : ℕ)
-    → CallFits old start history number call (Scan before) → after.session ≡ before.session → after.range ≡ before.range → IsWaiting old new before after count ⊎ IsReading old new before after count
-    → SessionGoes at old new start history number call (Some (Scan after)) (Ready count)
-ready_goes at old new start history number call before after count fits session range (inr step) = reading_goes at old new start history number call before after count fits session range step
-ready_goes at old new start history number call before after count fits session range (inl step) =
-    quiet_goes at old new start history number call call (Some (Scan after)) (Ready count) fits.world (quiet_none call.session old new step.state fits.world.order) (refl, refl) tt fits.meets
-    (fits.running, rw (step.state, step.op) fits.runs)
+-- a scan that has read the metapage has read nothing of the leaves
+starts_on : (start : Entry → Bool) (history : List Action) (began : ℕ) (given : List Entry) (op : ScanOp) → op.at ≡ Start
+    → IsScanSoFar start history began given op → IsScanSoFar start history began given (record op { at = At 1 })
+starts_on start history began given op is far = record {
+  ascending = far.ascending;
+  matched = far.matched;
+  was_there = far.was_there;
+  complete = λ e behind. far.complete e (subst (λ (a : ScanAt). IsBehind op.frontier a e) (sym is) behind);
+  reached = λ e h. subst (λ (a : ScanAt). IsBehind op.frontier a e) is (far.reached e h);
+  onward = λ e not. far.onward e (λ behind. not (subst (λ (a : ScanAt). IsBehind op.frontier a e) is behind));
+}
+
+-- the steps of a scan
+module _ (at : Circumstances) (old new : State) (start : Entry → Bool) (history : List Action) (number : ℕ) (call : Call) (before after : ScanOp)
+    (fits : CallFits old start history number call (Scan before)) (session : after.session ≡ before.session) (range : after.range ≡ before.range) where
+  pub reading_goes : (count : ℕ) → IsReading old new before after count → OpGoes at old new start history number call (Scan after) (Ready count)
+  reading_goes count step = step_is_ready at old new start history number call (Scan before) (Scan after) fits session (ap AskScan range) count step.does refl step.fits
+      (so_far_read old start history call.began call.given before after fits.world (began_before start history number call fits.meets fits.running) range step.none step.from step.last step.read fits.runs.knows)
+
+  pub ready_goes : (count : ℕ) → IsWaiting old new before after count ⊎ IsReading old new before after count → OpGoes at old new start history number call (Scan after) (Ready count)
+  ready_goes count (inr step) = reading_goes count step
+  ready_goes count (inl step) = step_is_ready at old new start history number call (Scan before) (Scan after) fits session (ap AskScan range) count
+      (does_nothing before.session old new step.state fits.world.order) refl
+      (subst (λ (st : State). ScanFits st after) (sym step.state) (subst (λ (op : ScanOp). ScanFits old op) (sym step.op) fits.runs.fits))
+      (subst (λ (op : ScanOp). IsScanSoFar start history call.began call.given op) (sym step.op) fits.runs.knows)
+
+  -- the step that finds all given
+  pub done_goes : IsDone old new before after → OpGoes at old new start history number call (Scan after) Done
+  done_goes step =
+      let far = fits.runs.knows in
+      let all : call.given ++ waiting before ≡ call.given = ap (λ (xs : List Entry). call.given ++ xs) step.none ∙ append-nil call.given in
+      let answer : IsScanAnswer start history before.range call.began (length history) call.given = record {
+        only = record {
+          ascending = subst IsAscending all far.ascending;
+          matched = λ e h. far.matched e (subst (λ (xs : List Entry). is_among xs e ≡ true) (sym all) h);
+          was_there = λ e h. far.was_there e (subst (λ (xs : List Entry). is_among xs e ≡ true) (sym all) h);
+        };
+        all = λ e within match through. subst (λ (xs : List Entry). is_among xs e ≡ true) all (far.complete e (subst (λ (a : ScanAt). IsBehind before.frontier a e) (sym step.last) tt) match through);
+      } in
+      record {
+        effect = None;
+        then_call = ended call EndsFinished (length history);
+        does = does_nothing call.session old new step.state fits.world.order;
+        asked = tt;
+        told = record { none = refl; after_is = refl };
+        caused = tt;
+        meets = subst (λ (l : List Action). Meets start l number (ended call EndsFinished (length history))) (sym (append-nil history)) (record {
+          began = began_before start history number call fits.meets fits.running;
+          until = omega arith;
+          right = subst (λ (a : Ask). AnswersRight start history number call.began (length history) a call.given call.added EndsFinished) (sym fits.runs.ask) answer;
+        });
+        holds = λ h. cc;
+      }
+
+  -- the step that reads the metapage
+  pub moving_goes : IsMoving old new before after → OpGoes at old new start history number call (Scan after) Going
+  moving_goes step = step_goes_on at old new start history number call (Scan before) (Scan after) fits session (ap AskScan range) None step.does tt refl step.fits
+      (subst (λ (l : List Action). IsScanSoFar start l call.began call.given after) (sym (append-nil history))
+      (subst (λ (op : ScanOp). IsScanSoFar start history call.began call.given op) (sym step.op) (starts_on start history call.began call.given before step.from fits.runs.knows)))

@@ -19,6 +19,9 @@ use Rattle.session_calls.specs.declared.answer.Answer.{Answer}
 use Rattle.session_calls.specs.declared.answer.Answer.TheVariants.{Going, Added, Ready, Refused}
 use Rattle.session_calls.specs.declared.op.Op.{Op}
 use Rattle.session_calls.specs.declared.op.Op.TheVariants.{Insert, Scan}
+use Rattle.session_calls.specs.declared.request.Request.{Request}
+use Rattle.session_calls.specs.declared.request.Request.TheVariants.{Insert as ToInsert, Scan as ToScan}
+use Rattle.session_calls.specs.Sessions.{work_left}
 
 -- the steps of an insert until its entry is added: the metapage, a page of each level, and the act
 abbrev pub insert_steps : List Page → InsertAt → ℕ
@@ -97,3 +100,19 @@ abbrev pub CountsDown : State → State → Option Op → Option Op → ℕ → 
 CountsDown old new before after left Going = (0 < left) × StaysDue old new after left
 CountsDown old new before after left (Refused fault) = IsHindered old new after (suc left) fault
 CountsDown old new before after left answer = (left ≡ 0) × IsAwaited before answer
+
+-- the steps of a request on its own, more than the root's level
+abbrev pub steps_for : Request → ℕ
+steps_for (ToInsert e) = 3
+steps_for (ToScan range) = 2
+
+-- a request that its leaf can serve at once: of an insert, the entry isn't there, and its leaf has room
+abbrev pub IsServable : State → Request → Type 0
+IsServable st (ToInsert e) = (entry_on_live_leaf st.pages e ≡ false) × HasRoomFor st.limits.items st.pages e
+IsServable st (ToScan range) = Unit {0}
+
+-- A call has begun: where no page is flagged and its leaf can serve it, it is due after so many steps more than the root's
+-- level. What is left to do for it has a bound, whatever the pages are.
+pub record HasSteps (old new : State) (request : Request) (slot : Option Op) : Type 0 where
+  pub due : NoneIsFlagged old.pages → IsServable old request → IsDueIn new slot (root_level old.pages + steps_for request)
+  pub bounded : work_left new.pages slot < 281474976710656

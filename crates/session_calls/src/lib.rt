@@ -5,12 +5,14 @@ mod answer;
 mod begins;
 mod moves;
 mod op;
+mod request;
 mod stable;
 
 pub use answer::Answer;
-pub use begins::{begin_insert, begin_scan};
+pub use begins::begin;
 pub use moves::{end, next, step};
 pub use op::Op;
+pub use request::Request;
 pub use stable::calls_are_undisturbed;
 
 #[cfg(test)]

@@ -1,10 +1,17 @@
 //! Running calls.
 
-ghost use Rattle.std.specs.Prelude.{◌≡◌};
+ghost use Rattle.std.specs.Prelude.{◌≡◌, true, false, Bool, List, ℕ, Some, suc};
+ghost use Rattle.index_model.specs.Actions.{Action};
+ghost use Rattle.index_model.specs.Calls.{Call};
+ghost use Rattle.index_model.specs.declared.entry.Entry.{Entry};
+ghost use Rattle.descent.specs.Steps.{IsInOrder};
 
-use index_model::Session;
-use insert_split::InsertOp;
-use scan::ScanOp;
+use crate::answer::Answer;
+use crate::request::Request;
+use index_model::{Fault, Session};
+use insert_split::{InsertOp, InsertStep};
+use page_action::PageStore;
+use scan::{ScanOp, ScanStep};
 
 /// A running call of a session.
 #[derive(Drop)]
@@ -14,7 +21,19 @@ pub enum Op {
 }
 
 impl Op {
-    ghost use Rattle.session_calls.specs.Sessions.{session_of};
+    ghost use Rattle.session_calls.specs.Due.{IsDueIn, CountsDown};
+    ghost use Rattle.session_calls.specs.Ops.{op_before, session_of, OpFits, where_stepped};
+    ghost use Rattle.session_calls.specs.Sessions.{CallFits, OpSteps, OpGoes, slot_after};
+
+    /// The call that a session asks for, before its first step.
+    pub fn new(session: Session, request: Request) -> Op
+        ensures { result ≡ op_before session request }
+    {
+        match request {
+            Request::Insert(entry) => Op::Insert(InsertOp::new(session, entry)),
+            Request::Scan(range) => Op::Scan(ScanOp::new(session, range)),
+        }
+    }
 
     /// The session whose call it is.
     pub fn session(&self) -> Session
@@ -23,6 +42,35 @@ impl Op {
         match self {
             Op::Insert(op) => op.session,
             Op::Scan(op) => op.session,
+        }
+    }
+
+    // One step. After an answer that is its last, what the session holds is still held.
+    pub(crate) fn step<S: PageStore>(&mut self, store: &mut S) -> Answer
+        ensures all { OpSteps S.PageStore self.old self.new store.old store.new result }
+        ensures goes { (S.backing store.new).honest ≡ true → (start : Entry → Bool) (history : List Action) (number : ℕ) (call : Call)
+            → CallFits (S.state store.old) start history number call self.old
+            → OpGoes (where_stepped call.ask (S.state store.old) (S.backing store.old) (S.backing store.new) call.session)
+            (S.state store.old) (S.state store.new) start history number call self.new result }
+        ensures due { (S.backing store.new).honest ≡ true → IsInOrder (S.state store.old) → OpFits (S.state store.old) self.old
+            → (left : ℕ) → IsDueIn (S.state store.old) (Some self.old) (suc left)
+            → CountsDown (S.state store.old) (S.state store.new) (Some self.old) (slot_after result self.new) left result }
+    {
+        match self {
+            Op::Insert(op) => match op.step(store) {
+                Ok(InsertStep::Going) => Answer::Going,
+                Ok(InsertStep::Added { action, unfinished }) => Answer::Added {
+                    action,
+                    unfinished,
+                },
+                Err(fault) => Answer::Refused(fault),
+            },
+            Op::Scan(op) => match op.step(store) {
+                Ok(ScanStep::Going) => Answer::Going,
+                Ok(ScanStep::Ready(count)) => Answer::Ready(count),
+                Ok(ScanStep::Done) => Answer::Done,
+                Err(fault) => Answer::Refused(fault),
+            },
         }
     }
 }

@@ -64,9 +64,9 @@ fn an_insert_and_a_scan(rt: HostRuntime) {
             Answer::Refused(Fault::NoSession)
         )
     );
-    let begun = begin_insert(&mut store, session, entry(1, 7), &mut slot);
+    let begun = begin(&mut store, session, Request::Insert(entry(1, 7)), &mut slot);
     assert!(rt; matches!(begun, Answer::Begun));
-    let busy = begin_scan(&mut store, session, ALL, &mut slot);
+    let busy = begin(&mut store, session, Request::Scan(ALL), &mut slot);
     assert!(rt; matches!(busy, Answer::Refused(Fault::SessionBusy)));
     assert!(rt; matches!(next(&mut slot), Answer::Refused(Fault::NoSession)));
     assert!(rt; matches!(step(&mut store, &mut slot), Answer::Going));
@@ -83,7 +83,7 @@ fn an_insert_and_a_scan(rt: HostRuntime) {
     );
     assert!(rt; slot.is_none());
 
-    let begun = begin_scan(&mut store, session, ALL, &mut slot);
+    let begun = begin(&mut store, session, Request::Scan(ALL), &mut slot);
     assert!(rt; matches!(begun, Answer::Begun));
     assert!(rt; matches!(step(&mut store, &mut slot), Answer::Going));
     assert!(rt; matches!(step(&mut store, &mut slot), Answer::Ready(1)));
@@ -104,7 +104,7 @@ fn a_call_is_given_up(rt: HostRuntime) {
         return;
     };
     let mut slot = None;
-    let _begun = begin_scan(&mut store, session, ALL, &mut slot);
+    let _begun = begin(&mut store, session, Request::Scan(ALL), &mut slot);
     assert_eq!(rt; slot.as_ref().map(Op::session), Some(session));
     assert!(rt; matches!(end(&mut store, &mut slot), Answer::Ended));
     assert!(rt;

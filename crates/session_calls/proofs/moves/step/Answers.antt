@@ -1,72 +1,24 @@
-use Rattle.std.proofs.Common.{◌≡◌, ap, subst, sym, ◌∙◌, suc, Option, Some, Bool, true, false}
-use Rattle.page_action.specs.States.{State}
-use Rattle.session_calls.proofs.Counting.{none_counts, over_counts, kept_counts}
-use Rattle.session_calls.specs.Due.{IsDueIn}
+use Rattle.std.proofs.Common.{◌<◌, ℕ, Option, refl, sym, ap, subst, ◌∙◌}
+use Rattle.page_action.specs.States.{after_end}
 use Rattle.session_calls.specs.Sessions.{SlotFits}
 use Rattle.session_calls.specs.declared.op.Op.{Op}
-use Rattle.session_calls.proofs.Lessening.{idle_less, kept_less}
-use Rattle.session_calls.specs.declared.answer.Answer.{Answer}
-use Rattle.session_calls.specs.declared.op.Op.TheVariants.{Insert, Scan}
-use Rattle.session_calls.proofs.moves.step.Goals.{in-None, in-Some-Insert, in-Some-Scan}
+use Rattle.session_calls.proofs.Going.{event_of_last, event_of_more, low_of}
 use Rattle.session_calls.proofs.moves.step.Goals as goal
 
-pub returns-else-is_over-clause-less : goal.returns-else-is_over-clause-less
-returns-else-is_over-clause-less g c = elim c.match-slot.branch [
-  | in-None w ↦
-      let h = idle_less (g.S.PageStore.backing c.args.store.now).stopped c.args.slot.now c.match-slot.slot in
-      rw (w.answer-is, w.idle.ensures) h
-  | in-Some-Insert w ↦
-      let over : w.step_insert.result.1 ≡ false = ap (λ (p : Answer × Bool). p.1) (sym w.answer-is) ∙ c.if-is_over.false in
-      let h = kept_less (Some (Insert w.in-Some-Insert.op)) (Insert w.step_insert.new.op) w.step_insert.result.1 w.step_insert.result.0 over w.step_insert.ensures.less in
-      rw (w.answer-is, w.slot-is, w.in-Some-Insert.is, w.in-Some-Insert.field-0-is) h
-  | in-Some-Scan w ↦
-      let over : w.step_scan.result.1 ≡ false = ap (λ (p : Answer × Bool). p.1) (sym w.answer-is) ∙ c.if-is_over.false in
-      let h = kept_less (Some (Scan w.in-Some-Scan.op)) (Scan w.step_scan.new.op) w.step_scan.result.1 w.step_scan.result.0 over w.step_scan.ensures.less in
-      rw (w.answer-is, w.slot-is, w.in-Some-Scan.is, w.in-Some-Scan.field-0-is) h
-]
+pub returns-then-is_last-clause-goes : goal.returns-then-is_last-clause-goes
+returns-then-is_last-clause-goes g c honest start history number call fits =
+    let old = g.S.PageStore.state c.args.store.now in
+    let mid = g.S.PageStore.state c.step-answer.new.store in
+    let mine = subst (λ (slot : Option Op). SlotFits old start history number call slot) c.in-Some.is fits in
+    let low : call.session < 64 = subst (λ (t : ℕ). t < 64) mine.runs.session (low_of old c.in-Some.op mine.runs.fits) in
+    let goes = rw (sym c.end.ensures.backing) at (c.step-answer.ensures.goes (rw (sym c.end.ensures.backing) honest) start history number call mine) in
+    event_of_last _ old mid (g.S.PageStore.state c.end.new.self) start history number call c.step-answer.new.self c.step-answer.result mine.world low goes
+    (sym c.is_last.ensures ∙ c.if-is_last.true) (c.end.ensures.state ∙ ap (λ (t : ℕ). after_end t mid) (c.session-session.ensures ∙ mine.runs.session)) mine.running
 
-pub returns-then-is_over-clause-due : goal.returns-then-is_over-clause-due
-returns-then-is_over-clause-due g c honest start history number call fits left due =
-    let old : State = g.S.PageStore.state c.args.store.now in
-    elim c.match-slot.branch [
-      | in-None w ↦ none_counts old (g.S.PageStore.state c.match-slot.store) c.args.slot.now _ left c.match-slot.answer.0 w.in-None.is due
-      | in-Some-Insert w ↦
-          let over : w.step_insert.result.1 ≡ true = ap (λ (p : Answer × Bool). p.1) (sym w.answer-is) ∙ c.if-is_over.true in
-          let slot_is = w.in-Some-Insert.is ∙ ap (λ (op : Op). Some op) w.in-Some-Insert.field-0-is in
-          let runs = subst (λ (slot : Option Op). SlotFits old start history number call slot) slot_is fits in
-          let due_then = subst (λ (slot : Option Op). IsDueIn old slot (suc left)) slot_is due in
-          let h = over_counts old (g.S.PageStore.state w.step_insert.new.store) (Some (Insert w.in-Some-Insert.op)) (Insert w.step_insert.new.op) left w.step_insert.result.0 w.step_insert.result.1 over
-          (w.step_insert.ensures.due (rw w.store-is at honest) runs.world.order runs.runs.fits left due_then) in
-          rw (w.answer-is, w.store-is, slot_is) h
-      | in-Some-Scan w ↦
-          let over : w.step_scan.result.1 ≡ true = ap (λ (p : Answer × Bool). p.1) (sym w.answer-is) ∙ c.if-is_over.true in
-          let slot_is = w.in-Some-Scan.is ∙ ap (λ (op : Op). Some op) w.in-Some-Scan.field-0-is in
-          let runs = subst (λ (slot : Option Op). SlotFits old start history number call slot) slot_is fits in
-          let due_then = subst (λ (slot : Option Op). IsDueIn old slot (suc left)) slot_is due in
-          let h = over_counts old (g.S.PageStore.state w.step_scan.new.store) (Some (Scan w.in-Some-Scan.op)) (Scan w.step_scan.new.op) left w.step_scan.result.0 w.step_scan.result.1 over
-          (w.step_scan.ensures.due (rw w.store-is at honest) runs.world.order runs.runs.fits left due_then) in
-          rw (w.answer-is, w.store-is, slot_is) h
-    ]
-
-pub returns-else-is_over-clause-due : goal.returns-else-is_over-clause-due
-returns-else-is_over-clause-due g c honest start history number call fits left due =
-    let old : State = g.S.PageStore.state c.args.store.now in
-    elim c.match-slot.branch [
-      | in-None w ↦ none_counts old (g.S.PageStore.state c.match-slot.store) c.args.slot.now _ left c.match-slot.answer.0 w.in-None.is due
-      | in-Some-Insert w ↦
-          let over : w.step_insert.result.1 ≡ false = ap (λ (p : Answer × Bool). p.1) (sym w.answer-is) ∙ c.if-is_over.false in
-          let slot_is = w.in-Some-Insert.is ∙ ap (λ (op : Op). Some op) w.in-Some-Insert.field-0-is in
-          let runs = subst (λ (slot : Option Op). SlotFits old start history number call slot) slot_is fits in
-          let due_then = subst (λ (slot : Option Op). IsDueIn old slot (suc left)) slot_is due in
-          let h = kept_counts old (g.S.PageStore.state w.step_insert.new.store) (Some (Insert w.in-Some-Insert.op)) (Insert w.step_insert.new.op) left w.step_insert.result.0 w.step_insert.result.1 over
-          (w.step_insert.ensures.due (rw w.store-is at honest) runs.world.order runs.runs.fits left due_then) in
-          rw (w.answer-is, w.store-is, w.slot-is, slot_is) h
-      | in-Some-Scan w ↦
-          let over : w.step_scan.result.1 ≡ false = ap (λ (p : Answer × Bool). p.1) (sym w.answer-is) ∙ c.if-is_over.false in
-          let slot_is = w.in-Some-Scan.is ∙ ap (λ (op : Op). Some op) w.in-Some-Scan.field-0-is in
-          let runs = subst (λ (slot : Option Op). SlotFits old start history number call slot) slot_is fits in
-          let due_then = subst (λ (slot : Option Op). IsDueIn old slot (suc left)) slot_is due in
-          let h = kept_counts old (g.S.PageStore.state w.step_scan.new.store) (Some (Scan w.in-Some-Scan.op)) (Scan w.step_scan.new.op) left w.step_scan.result.0 w.step_scan.result.1 over
-          (w.step_scan.ensures.due (rw w.store-is at honest) runs.world.order runs.runs.fits left due_then) in
-          rw (w.answer-is, w.store-is, w.slot-is, slot_is) h
-    ]
+pub returns-else-is_last-clause-goes : goal.returns-else-is_last-clause-goes
+returns-else-is_last-clause-goes g c honest start history number call fits =
+    let old = g.S.PageStore.state c.args.store.now in
+    let mine = subst (λ (slot : Option Op). SlotFits old start history number call slot) c.in-Some.is fits in
+    let low : call.session < 64 = subst (λ (t : ℕ). t < 64) mine.runs.session (low_of old c.in-Some.op mine.runs.fits) in
+    event_of_more _ old (g.S.PageStore.state c.step-answer.new.store) (g.S.PageStore.state c.step-answer.new.store) start history number call c.step-answer.new.self c.step-answer.result mine.world low
+    (c.step-answer.ensures.goes honest start history number call mine) (sym c.is_last.ensures ∙ c.if-is_last.false) refl mine.running

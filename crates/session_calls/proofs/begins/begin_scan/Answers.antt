@@ -1,9 +1,0 @@
-use Rattle.std.proofs.Common.{sym, ◌∙◌}
-use Rattle.session_calls.proofs.Beginning.{scan_begun, idle_slot}
-use Rattle.session_calls.proofs.begins.begin_scan.Goals as goal
-
-pub returns-clause-begins : goal.returns-clause-begins
-returns-clause-begins g c start history number stands =
-    let idle = idle_slot (g.S.PageStore.state c.args.store.now) start history c.args.session c.args.slot.now (sym c.is_some.ensures ∙ c.in_default.ensures.free) stands in
-    scan_begun (g.S.PageStore.state c.args.store.now) (g.S.PageStore.state c.begin.new.store) start history number c.args.session c.args.range c.new.result
-    c.in_default.ensures.low idle.0 idle.1 c.in_default.ensures.done c.new.ensures

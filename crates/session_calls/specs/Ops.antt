@@ -1,0 +1,144 @@
+-- The words of a running call that each operation fills in: what it was asked, what it knows between its steps, what it may
+-- answer, and what is left to do for it.
+use Rattle.std.specs.Prelude.{◌≡◌, ℕ, ◌||◌, Bool, true, false, Option, Some, None, List, [], ◌++◌, length}
+use Rattle.index_model.specs.Actions.{Action, ThereAtSomeMoment}
+use Rattle.index_model.specs.Calls.{Ask, AskInsert, AskScan, AskBulkDelete, AskCleanup, GivesAll}
+use Rattle.index_model.specs.Faults.{Circumstances, HasCause}
+use Rattle.index_model.specs.Order.{is_among, IsAscending, IsPast, last_or}
+use Rattle.index_model.specs.Range.{matches}
+use Rattle.index_model.specs.declared.entry.Entry.{Entry}
+use Rattle.index_model.specs.declared.fault.Fault.{Fault}
+use Rattle.index_model.specs.declared.fault.Fault.TheVariants.{Stopped, Blocked, NoSession}
+use Rattle.page_action.specs.Causes.{nothing_wrong, is_at_end}
+use Rattle.page_action.specs.States.{State, Backing}
+use Rattle.page_codec.specs.declared.page.Page.{Page}
+use Rattle.insert_split.specs.Inserts.{InsertFits, where_inserting, steps_left}
+use Rattle.insert_split.specs.declared.insert.InsertAt.TheVariants.{Start}
+use Rattle.scan.specs.Scans.{ScanFits, IsBehind, waiting, fresh_scan, where_scanning, scan_work}
+use Rattle.scan.specs.declared.steps.ScanOp.{ScanOp}
+use Rattle.session_calls.specs.declared.answer.Answer.{Answer}
+use Rattle.session_calls.specs.declared.answer.Answer.TheVariants.{Begun, Going, Added, Ready, Done, Finished, Gave, Ended, Forced, Flushed, Checkpointed, Refused}
+use Rattle.session_calls.specs.declared.op.Op.{Op}
+use Rattle.session_calls.specs.declared.op.Op.TheVariants.{Insert, Scan}
+use Rattle.session_calls.specs.declared.request.Request.{Request}
+use Rattle.session_calls.specs.declared.request.Request.TheVariants.{Insert as ToInsert, Scan as ToScan}
+
+-- what a request asks
+abbrev pub asked_by : Request → Ask
+asked_by (ToInsert e) = AskInsert e
+asked_by (ToScan range) = AskScan range
+
+-- the operation of a session's request, before its first step
+abbrev pub op_before : ℕ → Request → Op
+op_before session (ToInsert e) = Insert (record { session = session; entry = e; at = Start })
+op_before session (ToScan range) = Scan (fresh_scan session range)
+
+-- the session whose call it is
+abbrev pub session_of : Op → ℕ
+session_of (Insert op) = op.session
+session_of (Scan op) = op.session
+
+-- what it was asked
+abbrev pub ask_of : Op → Ask
+ask_of (Insert op) = AskInsert op.entry
+ask_of (Scan op) = AskScan op.range
+
+-- the number of its Add, if it has one: an insert of one leaf ends with it
+abbrev pub add_of : Op → Option ℕ
+add_of (Insert op) = None
+add_of (Scan op) = None
+
+-- the entries that it has ready to be given
+abbrev pub ready_of : Op → List Entry
+ready_of (Insert op) = []
+ready_of (Scan op) = waiting op
+
+-- what it knows of the pages between its steps
+abbrev pub OpFits : State → Op → Type 0
+OpFits st (Insert op) = InsertFits st op
+OpFits st (Scan op) = ScanFits st op
+
+-- what a scan has given and holds ready, against the moments of its interval so far
+pub record IsScanSoFar (start : Entry → Bool) (history : List Action) (began : ℕ) (given : List Entry) (op : ScanOp) : Type 0 where
+  pub ascending : IsAscending (given ++ waiting op)
+  pub matched : (e : Entry) → is_among (given ++ waiting op) e ≡ true → matches op.range e ≡ true
+  pub was_there : (e : Entry) → is_among (given ++ waiting op) e ≡ true → ThereAtSomeMoment start history began (length history) e
+  pub complete : GivesAll start history op.range began (length history) (given ++ waiting op) (IsBehind op.frontier op.at)
+  pub reached : (e : Entry) → is_among (given ++ waiting op) e ≡ true → IsBehind op.frontier op.at e
+  pub onward : (e : Entry) → (IsBehind op.frontier op.at e → ⊥) → IsPast (last_or None (given ++ waiting op)) e
+
+-- what it knows of the moments since it began
+abbrev pub OpKnows : (Entry → Bool) → List Action → ℕ → List Entry → Op → Type 0
+OpKnows start history began given (Insert op) = Unit {0}
+OpKnows start history began given (Scan op) = IsScanSoFar start history began given op
+
+-- the circumstances of a step
+abbrev pub where_stepped : Ask → State → Backing → Backing → ℕ → Circumstances
+where_stepped (AskInsert e) st old new session = where_inserting st old new session e
+where_stepped (AskScan range) st old new session = where_scanning st old new session
+where_stepped (AskBulkDelete dead) st old new session = nothing_wrong
+where_stepped AskCleanup st old new session = nothing_wrong
+
+-- the circumstances of a `next`: only a scan has entries to give
+abbrev pub where_asked_next : Ask → Circumstances
+where_asked_next (AskScan range) = nothing_wrong
+where_asked_next (AskInsert e) = record nothing_wrong { no_such_session = true }
+where_asked_next (AskBulkDelete dead) = record nothing_wrong { no_such_session = true }
+where_asked_next AskCleanup = record nothing_wrong { no_such_session = true }
+
+-- the circumstances of a beginning
+abbrev pub where_beginning : State → Backing → Bool → Circumstances
+where_beginning st old busy = record nothing_wrong { is_stopped = old.stopped || is_at_end st.begun; session_has_a_call = busy }
+
+-- a fault that is left behind has its cause
+abbrev pub IsFaultCaused : Circumstances → Option Fault → Type 0
+IsFaultCaused at None = Unit {0}
+IsFaultCaused at (Some fault) = HasCause at fault
+
+-- a refusal has its cause, and so has the fault of a split that an insert leaves unfinished
+abbrev pub IsCaused : Circumstances → Answer → Type 0
+IsCaused at (Refused fault) = HasCause at fault
+IsCaused at (Added action unfinished) = IsFaultCaused at unfinished
+IsCaused at answer = Unit {0}
+
+-- whether a fault ends the call: one that is blocked goes on, and so does one that the event doesn't fit
+abbrev pub ends_call : Fault → Bool
+ends_call (Blocked b) = false
+ends_call NoSession = false
+ends_call fault = true
+
+-- whether the answer to a step ends the call
+abbrev pub is_last : Answer → Bool
+is_last Begun = false
+is_last Going = false
+is_last (Added action unfinished) = true
+is_last (Ready count) = false
+is_last Done = true
+is_last (Finished stats) = true
+is_last (Gave entry) = false
+is_last Ended = true
+is_last (Forced count) = false
+is_last (Flushed block) = false
+is_last (Checkpointed count) = false
+is_last (Refused fault) = ends_call fault
+
+-- What a step may answer: of an insert, that it goes on or that its entry is added; of a scan, that it goes on, how many
+-- entries are ready, or that it has given all; and a refusal.
+abbrev pub OpAnswers : Op → Op → Answer → Type 0
+OpAnswers (Insert op) after Going = Unit {0}
+OpAnswers (Insert op) after (Added action unfinished) = Unit {0}
+OpAnswers (Scan op) after Going = Unit {0}
+OpAnswers (Scan op) after (Ready count) = count ≡ length (ready_of after)
+OpAnswers (Scan op) after Done = Unit {0}
+OpAnswers before after (Refused fault) = Unit {0}
+OpAnswers before after answer = ⊥
+
+-- on a stopped log a step is refused with `Stopped`; an insert whose entry is logged ends as added, with that fault
+abbrev pub AnswersStopped : Option ℕ → Answer → Type 0
+AnswersStopped None answer = answer ≡ Refused Stopped
+AnswersStopped (Some action) answer = answer ≡ Added action (Some Stopped)
+
+-- what is left to do for a call on these pages: steps, and entries to give
+abbrev pub op_work : List Page → Op → ℕ
+op_work pages (Insert op) = steps_left op.at
+op_work pages (Scan op) = scan_work op
