@@ -1,18 +1,19 @@
 -- What an event of one session leaves the others: the frame of a running call's event, of a beginning and of a refusal.
 use Rattle.std.proofs.Common.{◌≡◌, ◌≢◌, ℕ, suc, ◌+◌, ◌-◌, ◌<◌, ◌≤◌, Bool, Option, Some, None, List, ◌++◌, length, slice_get, slice_set, sym, ap, subst, arith, inl, inr, ◌∙◌, length-append}
 use Rattle.std.proofs.lemmas.Bool.{cases_eq, cases_lt}
-use Rattle.index_model.specs.Actions.{Effect, Add, Remove, Shape, Action, is_there_after}
+use Rattle.index_model.specs.Actions.{Effect, Add, Remove, Shape, Action, contents_after, is_there_after}
 use Rattle.index_model.specs.Calls.{Ask, AskInsert, AskScan, AskBulkDelete, AskCleanup, Ending, Running, Added, Finished, Vacuumed, GivenUp, Failed, Call, Meets, MayAct, IsOwned, end_of}
 use Rattle.index_model.specs.declared.entry.Entry.{Entry}
 use Rattle.index_model.proofs.Histories.{there_before, meets_later}
 use Rattle.page_action.specs.declared.page_store.PageStore.{Ghosts}
 use Rattle.descent.specs.Steps.{OthersRely}
-use Rattle.session_calls.specs.Sessions.{Matches, IsIdle, SlotIs}
+use Rattle.session_calls.specs.Sessions.{Matches, IsIdle, SlotIs, IsAsked, acts_of}
 use Rattle.session_calls.specs.declared.op.Op.{Op}
-use Rattle.session_calls.proofs.Undisturbed.{undisturbed}
-use Rattle.schedule.specs.Moments.{Moment, IsRunningCall, SlotRuns, SlotMatches, Fits}
+use Rattle.session_calls.proofs.Telling.{IsSameCall}
+use Rattle.session_calls.proofs.Undisturbed.{undisturbed, idle_undisturbed}
+use Rattle.schedule.specs.Snapshots.{Snapshot, IsRunningCall, SlotRuns, SlotMatches, Fits}
 use Rattle.schedule.proofs.Lists.{get_set_same, get_set_other, length_set, get_within, get_append, get_append_right, same_some}
-use Rattle.schedule.proofs.Owners.{IsSameCall}
+use Rattle.schedule.proofs.Owners.{add_stays, own_action}
 
 -- what was there before actions that came later
 may_later : (start : Entry → Bool) (history acts : List Action) (before : ℕ) (effect : Effect) (ask : Ask) (added : Option ℕ) → before ≤ length history
@@ -56,11 +57,15 @@ until_of history acts (Vacuumed y) k n h = h
 until_of history acts GivenUp k n h = h
 until_of history acts (Failed f) k n h = h
 
-module _ {S : Type 0} (g : Ghosts S) (start : Entry → Bool) (old : Moment S) (store : S) (session : ℕ) (after : Call) (acts : List Action) (op : Op) (slot : Option Op)
+module _ {S : Type 0} (g : Ghosts S) (start : Entry → Bool) (old : Snapshot S) (store : S) (session : ℕ) (after : Call) (effect : Option Effect) (op : Op) (slot : Option Op)
     (fits : Fits g start old) (at : slice_get old.slots session ≡ Some (Some op)) (runs : SlotRuns g start old session op)
-    (same : IsSameCall start old.history acts runs.number runs.call after)
-    (others : OthersRely session (g.state old.store) (g.state store)) (world : Matches (g.state store) start (old.history ++ acts)) (meets : Meets start (old.history ++ acts) runs.number after)
-    (holds : SlotIs (g.state store) start (old.history ++ acts) after slot) where
+    (same : IsSameCall (old.history ++ acts_of runs.number effect) (length old.history) effect runs.call after)
+    (asked : IsAsked (contents_after start old.history) runs.call.ask runs.call.added effect)
+    (others : OthersRely session (g.state old.store) (g.state store)) (world : Matches (g.state store) start (old.history ++ acts_of runs.number effect)) (meets : Meets start (old.history ++ acts_of runs.number effect) runs.number after)
+    (holds : SlotIs (g.state store) start (old.history ++ acts_of runs.number effect) after slot) where
+  abbrev acts : List Action
+  acts = acts_of runs.number effect
+
   here : slice_get (slice_set old.calls runs.number after) runs.number ≡ Some after
   here = get_set_same old.calls runs.number after (get_within old.calls runs.number runs.call runs.is.found)
 
@@ -103,7 +108,7 @@ module _ {S : Type 0} (g : Ghosts S) (start : Entry → Bool) (old : Moment S) (
 
   slot_theirs : (u : ℕ) (o : Option Op) → u ≢ session → SlotMatches g start old u o
       → SlotMatches g start (record { store = store; slots = slice_set old.slots session slot; history = old.history ++ acts; calls = slice_set old.calls runs.number after }) u o
-  slot_theirs u None ne h = record { none = λ j c r. h.none j c (theirs u j c ne r); idle = (others u ne).held ∙ h.idle }
+  slot_theirs u None ne h = record { none = λ j c r. h.none j c (theirs u j c ne r); idle = idle_undisturbed (g.state old.store) (g.state store) u (others u ne) h.idle }
   slot_theirs u (Some other) ne h =
       let apart : h.number ≢ runs.number = λ e. (
       let k : h.call ≡ runs.call = same_some (slice_get old.calls runs.number) h.call runs.call (subst (λ (i : ℕ). slice_get old.calls i ≡ Some h.call) e h.is.found) runs.is.found in
@@ -131,7 +136,8 @@ module _ {S : Type 0} (g : Ghosts S) (start : Entry → Bool) (old : Moment S) (
           since = (let b : after.began ≡ runs.call.began = same.began in omega arith);
           until = (let u : end_of (old.history ++ acts) after.ending after.until ≡ length (old.history ++ acts) = same.until in omega (arith, length-append old.history acts));
           may = may_later start old.history acts before a.effect after.ask after.added (omega arith)
-              (may_kept (is_there_after start old.history before) (suc before) a.effect after.ask runs.call.added after.added same.keeps
+              (may_kept (is_there_after start old.history before) (suc before) a.effect after.ask runs.call.added after.added
+              (λ action had. same.added ∙ add_stays (contents_after start old.history) runs.call.ask runs.call.added (suc (length old.history)) effect asked action had)
               (subst (λ (x : Ask). MayAct (is_there_after start old.history before) (suc before) a.effect x runs.call.added) (sym same.ask) may));
         })
     | inr n ↦ (
@@ -148,17 +154,19 @@ module _ {S : Type 0} (g : Ghosts S) (start : Entry → Bool) (old : Moment S) (
   owned_now : (before : ℕ) (a : Action) → length old.history ≤ before → slice_get (old.history ++ acts) before ≡ Some a
       → IsOwned start (old.history ++ acts) (slice_set old.calls runs.number after) before a
   owned_now before a ge h =
-      let own = same.own (before - length old.history) a (sym (get_append_right old.history acts before ge) ∙ h) in
-      let q : length old.history + (before - length old.history) ≡ before = omega arith in
+      let own = own_action start old.history runs.number runs.call.ask runs.call.added effect asked (before - length old.history) a (sym (get_append_right old.history acts before ge) ∙ h) in
+      let q : length old.history ≡ before = (let z : before - length old.history ≡ 0 = own.0 in omega arith) in
       let within : before < length (old.history ++ acts) = get_within (old.history ++ acts) before a h in
       let meets_at : runs.call.began ≤ end_of old.history runs.call.ending runs.call.until = (fits.meets runs.number runs.call runs.is.found).began in
       let began : runs.call.began ≤ length old.history = subst (λ (x : Ending). runs.call.began ≤ end_of old.history x runs.call.until) runs.is.running meets_at in
       record {
         call = after;
-        found = subst (λ (j : ℕ). slice_get (slice_set old.calls runs.number after) j ≡ Some after) (sym own.0) here;
+        found = subst (λ (j : ℕ). slice_get (slice_set old.calls runs.number after) j ≡ Some after) (sym own.1) here;
         since = (let b : after.began ≡ runs.call.began = same.began in omega arith);
         until = (let u : end_of (old.history ++ acts) after.ending after.until ≡ length (old.history ++ acts) = same.until in omega arith);
-        may = subst (λ (j : ℕ). MayAct (is_there_after start (old.history ++ acts) j) (suc j) a.effect after.ask after.added) q own.1;
+        may = subst (λ (j : ℕ). MayAct (is_there_after start (old.history ++ acts) j) (suc j) a.effect after.ask after.added) q
+            (subst (λ (x : Ask). MayAct (is_there_after start (old.history ++ acts) (length old.history)) (suc (length old.history)) a.effect x after.added) (sym same.ask)
+            (subst (λ (o : Option ℕ). MayAct (is_there_after start (old.history ++ acts) (length old.history)) (suc (length old.history)) a.effect runs.call.ask o) (sym same.added) own.2));
       }
 
   pub goes_fits : Fits g start (record { store = store; slots = slice_set old.slots session slot; history = old.history ++ acts; calls = slice_set old.calls runs.number after })
@@ -172,6 +180,11 @@ module _ {S : Type 0} (g : Ghosts S) (start : Entry → Bool) (old : Moment S) (
           (subst (λ (x : Option Op). SlotMatches g start (record { store = store; slots = slice_set old.slots session slot; history = old.history ++ acts; calls = slice_set old.calls runs.number after }) session x) (sym k) (slot_mine slot holds)))
       | inr n ↦ slot_theirs u o n (fits.running u o (sym (get_set_other old.slots session u slot n) ∙ h))
     ];
+    beyond = λ u far. (
+        let many : length (slice_set old.slots session slot) ≡ length old.slots = length_set old.slots session slot in
+        let within : session < length old.slots = get_within old.slots session (Some op) at in
+        let apart : u ≢ session = λ e. absurd (let x : u ≡ session = e in omega arith) in
+        idle_undisturbed (g.state old.store) (g.state store) u (others u apart) (fits.beyond u (omega arith)));
     known = λ i c h. rw (length_set old.slots session slot) (elim (cases_eq i runs.number) [
       | inl e ↦ (
           let w : session < length old.slots = get_within old.slots session (Some op) at in

@@ -4,11 +4,12 @@ use Rattle.std.proofs.lemmas.List.{append-nil}
 use Rattle.index_model.specs.declared.entry.Entry.{Entry}
 use Rattle.page_action.specs.declared.page_store.PageStore.{Ghosts}
 use Rattle.session_calls.specs.declared.answer.Answer.{Answer}
-use Rattle.schedule.specs.Moments.{Moment}
-use Rattle.schedule.specs.Runs.{AreDurable, IsRun, Ran, AreOf}
+use Rattle.schedule.specs.Snapshots.{Snapshot}
+use Rattle.schedule.specs.Events.{AreOf}
+use Rattle.schedule.specs.Runs.{AreDurable, IsRun, Ran}
 use Rattle.schedule.specs.declared.event.Event.{Event}
 use Rattle.schedule.proofs.Keeping.{Laws, safe}
-use Rattle.schedule.proofs.Events.{durable_more, later_trans}
+use Rattle.schedule.proofs.Running.{durable_more, later_trans}
 
 are_durable_more : (few many : ℕ) (answers : List Answer) → few ≤ many → AreDurable few answers → AreDurable many answers
 are_durable_more few many [] le h = tt
@@ -19,7 +20,7 @@ both_durable durable [] two h k = k
 both_durable durable (x ∷ xs) two h k = (h.0, both_durable durable xs two h.1 k)
 
 -- a run is one behind more answers, if they were durable before it
-run_behind : {S : Type 0} (g : Ghosts S) (start : Entry → Bool) (before told : List Answer) (events : List Event) (answers : List Answer) (first last : Moment S)
+run_behind : {S : Type 0} (g : Ghosts S) (start : Entry → Bool) (before told : List Answer) (events : List Event) (answers : List Answer) (first last : Snapshot S)
     → AreDurable (g.backing first.store).durable before → IsRun g start told events answers first last → IsRun g start (before ++ told) events answers first last
 run_behind g start before told [] [] first last durable run = run
 run_behind g start before told (x ∷ xs) (y ∷ ys) first last durable run = (
@@ -35,11 +36,11 @@ run_behind g start before told (x ∷ xs) (y ∷ ys) first last durable run = (
 run_behind g start before told [] (y ∷ ys) first last durable run = absurd run
 run_behind g start before told (x ∷ xs) [] first last durable run = absurd run
 
-run_then : {S : Type 0} (g : Ghosts S) (start : Entry → Bool) (told : List Answer) (events then_events : List Event) (answers then_answers : List Answer) (first mid last : Moment S)
+run_then : {S : Type 0} (g : Ghosts S) (start : Entry → Bool) (told : List Answer) (events then_events : List Event) (answers then_answers : List Answer) (first mid last : Snapshot S)
     → IsRun g start told events answers first mid → IsRun g start (told ++ answers) then_events then_answers mid last
     → IsRun g start told (events ++ then_events) (answers ++ then_answers) first last
 run_then {S} g start told [] more [] then_answers first mid last run next =
-    subst (λ (m : Moment S). IsRun g start told more then_answers m last) (sym run)
+    subst (λ (m : Snapshot S). IsRun g start told more then_answers m last) (sym run)
     (subst (λ (t : List Answer). IsRun g start t more then_answers mid last) (append-nil told) next)
 run_then g start told (x ∷ xs) more (y ∷ ys) then_answers first mid last run next = (
   run.0,
@@ -54,7 +55,7 @@ run_then g start told [] more (y ∷ ys) then_answers first mid last run next = 
 run_then g start told (x ∷ xs) more [] then_answers first mid last run next = absurd run
 
 -- a run followed by a run is a run, with all that holds at its end
-pub ran_then : {S : Type 0} (g : Ghosts S) (laws : Laws g) (start : Entry → Bool) (events then_events : List Event) (answers then_answers : List Answer) (first mid last : Moment S)
+pub ran_then : {S : Type 0} (g : Ghosts S) (laws : Laws g) (start : Entry → Bool) (events then_events : List Event) (answers then_answers : List Answer) (first mid last : Snapshot S)
     → g.follows first.store last.store → Ran g start events answers first mid → Ran g start then_events then_answers mid last
     → Ran g start (events ++ then_events) (answers ++ then_answers) first last
 ran_then {S} g laws start events then_events answers then_answers first mid last follows one two = record {
@@ -62,6 +63,7 @@ ran_then {S} g laws start events then_events answers then_answers first mid last
       (subst (λ (t : List Answer). IsRun g start t then_events then_answers mid last) (append-nil answers)
       (run_behind g start answers [] then_events then_answers mid last one.acknowledged two.run));
   fits = two.fits;
+  follows = follows;
   acknowledged = both_durable (g.backing last.store).durable answers then_answers
       (are_durable_more (g.backing mid.store).durable (g.backing last.store).durable answers two.later.durable one.acknowledged) two.acknowledged;
   later = later_trans (g.backing first.store) (g.backing mid.store) (g.backing last.store) one.later two.later;

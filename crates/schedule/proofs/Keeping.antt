@@ -5,22 +5,16 @@ use Rattle.std.proofs.lemmas.List.{append-nil, take_all, take-append-le}
 use Rattle.index_model.specs.Actions.{Action}
 use Rattle.index_model.specs.declared.entry.Entry.{Entry}
 use Rattle.page_codec.specs.declared.page.Page.{Page}
-use Rattle.page_action.specs.Crashes.{LeavesFirstPart}
+use Rattle.page_action.specs.Laws.{IsPageStore}
 use Rattle.page_action.specs.declared.page_store.PageStore.{Ghosts}
 use Rattle.session_calls.specs.Sessions.{Matches}
-use Rattle.schedule.specs.Moments.{Moment}
+use Rattle.schedule.specs.Snapshots.{Snapshot}
 use Rattle.schedule.specs.Crashes.{ArePagesAfter, KeepsHistory, IsCrashSafe}
-use Rattle.schedule.specs.Runs.{GrowsByOne}
+use Rattle.schedule.specs.Events.{GrowsByOne}
 
--- the laws of a store's acts and crashes
-pub record Laws {S : Type 0} (g : Ghosts S) : Type 0 where
-  pub same : (s : S) → g.follows s s
-  pub durable_few : (s : S) → (g.backing s).durable ≤ (g.state s).acts
-  pub own_stays : (s t : S) → g.own s → g.follows s t → g.own t
-  pub past_now : (s : S) → g.own s → g.past s (g.state s).acts ≡ (g.state s).pages
-  pub past_stays : (s t : S) (part : ℕ) → g.own s → g.follows s t → part ≤ (g.state s).acts → g.past t part ≡ g.past s part
-  pub leaves_first : (s t : S) (image : List ℕ) → g.own s → g.follows s t → g.leaves s t image
-      → LeavesFirstPart (g.backing s).durable (g.state t).acts (g.past t) (g.restarts t image)
+-- the laws of a store
+abbrev pub Laws : {S : Type 0} → Ghosts S → Type 0
+Laws g = IsPageStore g.state g.backing g.follows g.own g.past g.leaves g.restarts
 
 -- nothing is appended
 pub no_growth : (history : List Action) → GrowsByOne history history
@@ -28,13 +22,13 @@ no_growth history = record { acts = []; is = sym (append-nil history); few = ome
 
 module _ {S : Type 0} (g : Ghosts S) (laws : Laws g) (start : Entry → Bool) where
   -- the pages of now are those after all of the history
-  pages_now : (new : Moment S) → g.own new.store → Matches (g.state new.store) start new.history → (part : ℕ) → length new.history ≤ part → ArePagesAfter start (take part new.history) (g.past new.store (length new.history))
+  pages_now : (new : Snapshot S) → g.own new.store → Matches (g.state new.store) start new.history → (part : ℕ) → length new.history ≤ part → ArePagesAfter start (take part new.history) (g.past new.store (length new.history))
   pages_now new own matches part all =
       subst (λ (l : List Action). ArePagesAfter start l (g.past new.store (length new.history))) (sym (take_all part new.history all))
       (subst (λ (ps : List Page). ArePagesAfter start new.history ps) (sym (ap (λ (n : ℕ). g.past new.store n) (sym matches.count) ∙ laws.past_now new.store own))
       (record { contents = matches.contents; tree = matches.order.tree }))
 
-  module _ (old new : Moment S) (follows : g.follows old.store new.store) where
+  module _ (old new : Snapshot S) (follows : g.follows old.store new.store) where
     -- what a crash leaves, where the history is kept before and after
     pub safe : g.own old.store → Matches (g.state new.store) start new.history → KeepsHistory g start new → IsCrashSafe g start old new
     safe own matches keeps = record {

@@ -3,5 +3,6 @@ pub mod Owners
 pub mod Frames
 pub mod Keeping
 pub mod Events
-pub mod Opened
+pub mod Making
+pub mod Running
 pub mod Joining

@@ -1,7 +1,4 @@
-pub mod Moments
+pub mod Snapshots
 pub mod Crashes
-pub mod Counts
+pub mod Events
 pub mod Runs
-pub mod Promises
-pub mod Worlds
-pub mod Reopening

@@ -17,4 +17,6 @@ pub enum Event {
     End(u32),
     /// Makes all actions durable.
     Force,
+    /// Makes all actions durable, writes each changed page to its place and closes the log.
+    Checkpoint,
 }

@@ -1,17 +1,17 @@
 //! One event of a store with its sessions.
 
-ghost use Rattle.std.specs.Prelude.{◌≡◌, ◌<◌, ◌≤◌, ◌+◌, ◌∷◌, [], true, List, Option, ℕ, IfErr, IsOk, OnOk, OnErr, length, slice_get, take, vec_len, vec_capacity};
+ghost use Rattle.std.specs.Prelude.{◌≡◌, ◌<◌, ◌≤◌, ◌+◌, ◌∷◌, [], true, List, Option, IfErr, IsOk, OnOk, OnErr, length, slice_get, take, vec_len, vec_capacity};
 ghost use Rattle.page_action.specs.States.{Continues};
-ghost use Rattle.session_calls.specs.Sessions.{no_call, AnswersStep, AnswersNext, AnswersEnd};
+ghost use Rattle.session_calls.specs.Sessions.{no_call};
 ghost use Rattle.session_calls.specs.declared.op.Op.{Op};
-ghost use Rattle.schedule.specs.Moments.{has_call};
-ghost use Rattle.schedule.specs.Runs.{session_to_begin, slot_at, IsLessLeft, IsOf, OthersStay, AnswersEvent};
-ghost use Rattle.schedule.specs.Promises.{both, Carries, Does, Runs, Ends, IsEnded, answers_behind};
+ghost use Rattle.schedule.specs.Snapshots.{both, has_call};
+ghost use Rattle.schedule.specs.Events.{Begins, Moves, Steps, Takes, GivesUp, Keeps, Forces, Checkpoints, kind_of, session_to_begin, EventAlways};
+ghost use Rattle.schedule.specs.Runs.{Carries, Runs, Makes, answers_behind};
 
 use crate::event::Event;
-use index_model::{Entry, Fault, Range, Session};
+use index_model::{Fault, Session};
 use page_action::PageStore;
-use session_calls::{Answer, Op, begin_insert, begin_scan};
+use session_calls::{Answer, Op, Request};
 
 /// Does one event on a store, whose session i runs what the slot i has, and answers what the event gave, a refusal among
 /// the answers. Where several refusals apply, the first of `Stopped`, `NoSession`, `SessionBusy` is answered. There are 64
@@ -20,19 +20,18 @@ pub fn one<S: PageStore>(store: &mut S, slots: &mut [Option<Op>], event: Event) 
     requires few { length slots.old ≤ 64 }
     ensures steps { Continues S.follows store.old store.new }
     ensures sessions { length slots.new ≡ length slots.old }
+    ensures always { EventAlways S.PageStore (kind_of event) result (both store.old slots.old) (both store.new slots.new) }
     ensures runs { Carries S.PageStore (both store.old slots.old) (both store.new slots.new)
         (Runs S.PageStore (both store.old slots.old) (both store.new slots.new) (event ∷ []) (result ∷ [])) }
-    ensures less { IsLessLeft event result slots.old slots.new }
-    // ... and the slots of the other sessions stay, each kind of call has its answers, and an `End` leaves none.
-    ensures others { (session : ℕ) → IsOf session event → OthersStay session slots.old slots.new }
-    ensures kind { AnswersEvent event result slots.old }
-    ensures ended { Ends S.PageStore event (both store.old slots.old) (both store.new slots.new) }
+    // A step that goes on logs nothing yet, on one leaf.
+    ensures calm { result ≡ Answer.Going → (S.state store.new).acts ≡ (S.state store.old).acts }
 {
     pick(store, slots, event)
 }
 
 /// Does these events one after the other, each as `one` does, and puts an answer for each behind the answers that are
-/// there. Refused with `NoMemory` where there is no room for the answers: nothing is done then. There are 64 slots at most.
+/// there. Refused with `NoMemory` (1) where there is no room for the answers: nothing is done then. There are 64 slots at
+/// most.
 pub fn run<S: PageStore>(
     store: &mut S,
     slots: &mut [Option<Op>],
@@ -64,66 +63,41 @@ pub fn run<S: PageStore>(
 fn pick<S: PageStore>(store: &mut S, slots: &mut [Option<Op>], event: Event) -> Answer
     requires few { length slots.old ≤ 64 }
     ensures steps { Continues S.follows store.old store.new }
-    ensures sessions { length slots.new ≡ length slots.old }
-    ensures does { Carries S.PageStore (both store.old slots.old) (both store.new slots.new)
-        (Does S.PageStore (both store.old slots.old) (both store.new slots.new) event result) }
-    ensures less { IsLessLeft event result slots.old slots.new }
-    // ... and the slots of the other sessions stay, each kind of call has its answers, and an `End` leaves none.
-    ensures others { (session : ℕ) → IsOf session event → OthersStay session slots.old slots.new }
-    ensures kind { AnswersEvent event result slots.old }
-    ensures ended { Ends S.PageStore event (both store.old slots.old) (both store.new slots.new) }
+    ensures makes { Makes S.PageStore (kind_of event) result (both store.old slots.old) (both store.new slots.new) }
+    ensures calm { result ≡ Answer.Going → (S.state store.new).acts ≡ (S.state store.old).acts }
 {
     match event {
-        Event::Insert(session, entry) => insert(store, slots, session, entry),
-        Event::Scan(session, range) => scan(store, slots, session, range),
+        Event::Insert(session, entry) => begin(store, slots, session, Request::Insert(entry)),
+        Event::Scan(session, range) => begin(store, slots, session, Request::Scan(range)),
         Event::Step(session) => step(store, slots, session),
         Event::Next(session) => next(store, slots, session),
         Event::End(session) => end(store, slots, session),
-        Event::Force => force(store),
+        Event::Force => force(store, slots),
+        Event::Checkpoint => checkpoint(store, slots),
     }
 }
 
-fn insert<S: PageStore>(
+fn begin<S: PageStore>(
     store: &mut S,
     slots: &mut [Option<Op>],
     session: u32,
-    entry: Entry,
+    request: Request,
 ) -> Answer
     requires few { length slots.old ≤ 64 }
     ensures steps { Continues S.follows store.old store.new }
-    ensures sessions { length slots.new ≡ length slots.old }
-    ensures does { Carries S.PageStore (both store.old slots.old) (both store.new slots.new)
-        (Does S.PageStore (both store.old slots.old) (both store.new slots.new) (Event.Insert session entry) result) }
-    ensures others { OthersStay session slots.old slots.new }
+    ensures makes { Makes S.PageStore (Begins session request) result (both store.old slots.old) (both store.new slots.new) }
+    ensures calm { result ≡ Answer.Going → (S.state store.new).acts ≡ (S.state store.old).acts }
 {
-    match find(store, slots, session) {
-        Ok(known) => begin_insert(store, known, entry, &mut slots[session as usize]),
-        Err(fault) => Answer::Refused(fault),
-    }
-}
-
-fn scan<S: PageStore>(store: &mut S, slots: &mut [Option<Op>], session: u32, range: Range) -> Answer
-    requires few { length slots.old ≤ 64 }
-    ensures steps { Continues S.follows store.old store.new }
-    ensures sessions { length slots.new ≡ length slots.old }
-    ensures does { Carries S.PageStore (both store.old slots.old) (both store.new slots.new)
-        (Does S.PageStore (both store.old slots.old) (both store.new slots.new) (Event.Scan session range) result) }
-    ensures others { OthersStay session slots.old slots.new }
-{
-    match find(store, slots, session) {
-        Ok(known) => begin_scan(store, known, range, &mut slots[session as usize]),
+    match find(store.is_stopped(), slots, session) {
+        Ok(known) => session_calls::begin(store, known, request, &mut slots[session as usize]),
         Err(fault) => Answer::Refused(fault),
     }
 }
 
 fn step<S: PageStore>(store: &mut S, slots: &mut [Option<Op>], session: u32) -> Answer
     ensures steps { Continues S.follows store.old store.new }
-    ensures sessions { length slots.new ≡ length slots.old }
-    ensures does { Carries S.PageStore (both store.old slots.old) (both store.new slots.new)
-        (Does S.PageStore (both store.old slots.old) (both store.new slots.new) (Event.Step session) result) }
-    ensures less { IsLessLeft (Event.Step session) result slots.old slots.new }
-    ensures others { OthersStay session slots.old slots.new }
-    ensures kind { AnswersStep (slot_at slots.old session) result }
+    ensures makes { Makes S.PageStore (Moves session Steps) result (both store.old slots.old) (both store.new slots.new) }
+    ensures calm { result ≡ Answer.Going → (S.state store.new).acts ≡ (S.state store.old).acts }
 {
     if !is_running(slots, session) {
         return refuse_idle(store.is_stopped());
@@ -132,12 +106,7 @@ fn step<S: PageStore>(store: &mut S, slots: &mut [Option<Op>], session: u32) -> 
 }
 
 fn next<S: PageStore>(store: &S, slots: &mut [Option<Op>], session: u32) -> Answer
-    ensures sessions { length slots.new ≡ length slots.old }
-    ensures does { Carries S.PageStore (both store.now slots.old) (both store.now slots.new)
-        (Does S.PageStore (both store.now slots.old) (both store.now slots.new) (Event.Next session) result) }
-    ensures less { IsLessLeft (Event.Next session) result slots.old slots.new }
-    ensures others { OthersStay session slots.old slots.new }
-    ensures kind { AnswersNext (slot_at slots.old session) result }
+    ensures makes { Makes S.PageStore (Moves session Takes) result (both store.now slots.old) (both store.now slots.new) }
 {
     if !is_running(slots, session) {
         return refuse_idle(false);
@@ -147,12 +116,8 @@ fn next<S: PageStore>(store: &S, slots: &mut [Option<Op>], session: u32) -> Answ
 
 fn end<S: PageStore>(store: &mut S, slots: &mut [Option<Op>], session: u32) -> Answer
     ensures steps { Continues S.follows store.old store.new }
-    ensures sessions { length slots.new ≡ length slots.old }
-    ensures does { Carries S.PageStore (both store.old slots.old) (both store.new slots.new)
-        (Does S.PageStore (both store.old slots.old) (both store.new slots.new) (Event.End session) result) }
-    ensures others { OthersStay session slots.old slots.new }
-    ensures kind { AnswersEnd result }
-    ensures ended { IsEnded S.PageStore session (both store.old slots.old) (both store.new slots.new) }
+    ensures makes { Makes S.PageStore (Moves session GivesUp) result (both store.old slots.old) (both store.new slots.new) }
+    ensures calm { result ≡ Answer.Going → (S.state store.new).acts ≡ (S.state store.old).acts }
 {
     if !is_running(slots, session) {
         return refuse_idle(false);
@@ -160,27 +125,35 @@ fn end<S: PageStore>(store: &mut S, slots: &mut [Option<Op>], session: u32) -> A
     session_calls::end(store, &mut slots[session as usize])
 }
 
-fn force<S: PageStore>(store: &mut S) -> Answer
+fn force<S: PageStore>(store: &mut S, slots: &[Option<Op>]) -> Answer
     ensures steps { Continues S.follows store.old store.new }
-    ensures does { (slots : List (Option Op)) → Carries S.PageStore (both store.old slots) (both store.new slots)
-        (Does S.PageStore (both store.old slots) (both store.new slots) Event.Force result) }
+    ensures makes { Makes S.PageStore (Keeps Forces) result (both store.old slots.now) (both store.new slots.now) }
+    ensures calm { result ≡ Answer.Going → (S.state store.new).acts ≡ (S.state store.old).acts }
 {
-    if store.is_stopped() {
-        return Answer::Refused(Fault::Stopped);
-    }
     match store.force() {
         Ok(count) => Answer::Forced(count),
         Err(fault) => Answer::Refused(fault),
     }
 }
 
+fn checkpoint<S: PageStore>(store: &mut S, slots: &[Option<Op>]) -> Answer
+    ensures steps { Continues S.follows store.old store.new }
+    ensures makes { Makes S.PageStore (Keeps Checkpoints) result (both store.old slots.now) (both store.new slots.now) }
+    ensures calm { result ≡ Answer.Going → (S.state store.new).acts ≡ (S.state store.old).acts }
+{
+    match store.checkpoint() {
+        Ok(count) => Answer::Checkpointed(count),
+        Err(fault) => Answer::Refused(fault),
+    }
+}
+
 // The session that may begin a call: refused where the log failed before, then where there is none of this number,
 // then where it has a call.
-fn find<S: PageStore>(store: &S, slots: &[Option<Op>], session: u32) -> Result<Session, Fault>
+fn find(is_stopped: bool, slots: &[Option<Op>], session: u32) -> Result<Session, Fault>
     requires few { length slots.now ≤ 64 }
-    ensures { result ≡ session_to_begin (S.backing store.now).stopped (slice_get slots.now session) session }
+    ensures { result ≡ session_to_begin is_stopped (slice_get slots.now session) session }
 {
-    if store.is_stopped() {
+    if is_stopped {
         return Err(Fault::Stopped);
     }
     let at = session as usize;

@@ -1,24 +1,15 @@
-use Rattle.std.proofs.Common.{sym, ◌∙◌, subst, Option}
-use Rattle.page_action.specs.Causes.{nothing_wrong}
-use Rattle.session_calls.specs.Sessions.{SlotFits}
-use Rattle.session_calls.specs.declared.op.Op.{Op}
-use Rattle.schedule.specs.Moments.{Moment}
-use Rattle.schedule.specs.Promises.{both, moment_at}
-use Rattle.schedule.proofs.Events.{slot_of_call, moved, end_goes}
+use Rattle.std.proofs.Common.{sym, ap, ◌∙◌}
+use Rattle.page_action.specs.States.{State}
+use Rattle.schedule.proofs.Events.{slot_of_call, slot_read}
+use Rattle.schedule.proofs.Making.{end_makes}
 use Rattle.schedule.proofs.happening.end.Goals as goal
 
-pub returns-clause-does : goal.returns-clause-does
-returns-clause-does g c honest start history calls fits =
-    let old : Moment g.row.S.Denot = moment_at (both c.args.store.now c.args.slots.now) history calls in
-    let store = c.end.new.store in
-    let session = c.args.session in
-    let slot = c.end.new.slot in
-    let has = sym c.is_running.ensures.value ∙ c.if-not-is_running.false in
-    let at = slot_of_call old.slots session c.index-slots-session.result (c.is_running.ensures.within c.if-not-is_running.false) c.index-slots-session.is has in
-    let m = moved g.S.PageStore start old store session at.0 slot (λ ask t. nothing_wrong) c.end.result fits at.2
-    (λ number call before. c.end.ensures.goes start history number call (subst (λ (x : Option Op). SlotFits (g.S.PageStore.state old.store) start old.history number call x) (sym at.1) before)) in
-    record {
-      then_history = m.then_history;
-      then_calls = m.then_calls;
-      does = end_goes g.S.PageStore start old store session at.0 slot c.end.result at.2 (g.met.S.PageStore.follows_later c.args.store.now store (c.end.ensures.steps c.args.store.now (g.met.S.PageStore.follows_same c.args.store.now))) m;
-    }
+pub returns-clause-makes : goal.returns-clause-makes
+returns-clause-makes g c =
+    let laws = g.met.S.PageStore.laws in
+    let slots = c.args.slots.now in
+    let within = c.is_running.ensures.within c.if-not-is_running.false in
+    let at = slot_of_call slots c.args.session c.index-slots-session.result within c.index-slots-session.is (sym c.is_running.ensures.value ∙ c.if-not-is_running.false) in
+    end_makes g.S.PageStore laws c.args.store.now c.end.new.store (c.end.ensures.steps _ (laws.follows_same _)) slots c.args.session _ c.end.new.slot at.0 c.end.result at.1
+    (slot_read slots c.args.session c.index-slots-session.result within c.index-slots-session.is)
+    c.end.ensures.kind c.end.ensures.over c.end.ensures.backing (ap (λ (st : State). st.begun) (c.end.ensures.given_up at.0 at.1)) c.end.ensures.goes

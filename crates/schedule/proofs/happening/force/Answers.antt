@@ -1,27 +1,16 @@
-use Rattle.std.proofs.Common.{sym, ◌∙◌}
-use Rattle.schedule.specs.Moments.{Moment}
-use Rattle.schedule.specs.Promises.{both, moment_at}
-use Rattle.schedule.proofs.Events.{forced, not_forced}
+use Rattle.std.proofs.Common.{◌≡◌, true, Ok, Err, sym, ◌∙◌}
+use Rattle.schedule.specs.Events.{Forces}
+use Rattle.schedule.proofs.Making.{kept_makes, not_kept_makes}
 use Rattle.schedule.proofs.happening.force.Goals as goal
 
-pub returns-in-Ok-clause-does : goal.returns-in-Ok-clause-does
-returns-in-Ok-clause-does g c slots honest start history calls fits =
-    let old : Moment g.row.S.Denot = moment_at (both c.args.store.now slots) history calls in
-    let store = c.force.new.self in
-    let later = g.met.S.PageStore.follows_later c.args.store.now store (c.force.ensures.steps c.args.store.now (g.met.S.PageStore.follows_same c.args.store.now)) in
-    record {
-      then_history = history;
-      then_calls = calls;
-      does = forced g.S.PageStore start old store c.in-Ok.count fits c.force.ensures.state later (sym c.is_stopped.ensures ∙ c.if-is_stopped.false) c.in-Ok.ensures.number c.in-Ok.ensures.durable;
-    }
+pub returns-in-Ok-clause-makes : goal.returns-in-Ok-clause-makes
+returns-in-Ok-clause-makes g c =
+    let laws = g.met.S.PageStore.laws in
+    kept_makes g.S.PageStore laws c.args.store.now c.force.new.self (c.force.ensures.steps _ (laws.follows_same _)) c.args.slots.now Forces c.force.ensures.state c.in-Ok.count c.in-Ok.ensures.number c.in-Ok.ensures.durable
+    (λ stopped. (let e = sym c.in-Ok.is ∙ c.force.ensures.stopped stopped in cc))
 
-pub returns-in-Err-clause-does : goal.returns-in-Err-clause-does
-returns-in-Err-clause-does g c slots honest start history calls fits =
-    let old : Moment g.row.S.Denot = moment_at (both c.args.store.now slots) history calls in
-    let store = c.force.new.self in
-    let later = g.met.S.PageStore.follows_later c.args.store.now store (c.force.ensures.steps c.args.store.now (g.met.S.PageStore.follows_same c.args.store.now)) in
-    record {
-      then_history = history;
-      then_calls = calls;
-      does = not_forced g.S.PageStore start old store c.in-Err.fault fits c.force.ensures.state later (sym c.is_stopped.ensures ∙ c.if-is_stopped.false) c.in-Err.ensures.cause;
-    }
+pub returns-in-Err-clause-makes : goal.returns-in-Err-clause-makes
+returns-in-Err-clause-makes g c =
+    let laws = g.met.S.PageStore.laws in
+    not_kept_makes g.S.PageStore laws c.args.store.now c.force.new.self (c.force.ensures.steps _ (laws.follows_same _)) c.args.slots.now Forces c.force.ensures.state c.in-Err.fault
+    (λ stopped. (let e = sym c.in-Err.is ∙ c.force.ensures.stopped stopped in cc)) c.in-Err.ensures.cause

@@ -3,11 +3,9 @@ use Rattle.std.proofs.lemmas.List.{take_all, take_more, take-append-le, drop-app
 use Rattle.std.proofs.Math.ListN.{drop_of_length-le}
 use Rattle.session_calls.specs.declared.answer.Answer.{Answer}
 use Rattle.schedule.specs.declared.event.Event.{Event}
-use Rattle.schedule.specs.Moments.{Moment}
-use Rattle.schedule.specs.Runs.{Ran}
-use Rattle.schedule.specs.Promises.{both, moment_at, answers_behind}
-use Rattle.schedule.proofs.Keeping.{Laws}
-use Rattle.schedule.proofs.Events.{none_ran, ran_more}
+use Rattle.schedule.specs.Snapshots.{Snapshot, both, snapshot_of}
+use Rattle.schedule.specs.Runs.{Ran, answers_behind}
+use Rattle.schedule.proofs.Running.{none_ran, ran_more}
 use Rattle.schedule.proofs.happening.run.Goals as goal
 
 -- what was answered behind some answers, with one answer more
@@ -16,14 +14,7 @@ behind_more before answers answer le = drop-append-le (length before) answers (a
 
 pub loop-event-init : goal.loop-event-init
 loop-event-init g c =
-    let laws : Laws g.S.PageStore = record {
-      same = g.met.S.PageStore.follows_same;
-      durable_few = g.met.S.PageStore.durable_few;
-      own_stays = g.met.S.PageStore.own_stays;
-      past_now = g.met.S.PageStore.past_now;
-      past_stays = g.met.S.PageStore.past_stays;
-      leaves_first = g.met.S.PageStore.leaves_first;
-    } in
+    let laws = g.met.S.PageStore.laws in
     let before = c.reserve.new.self.items in
     record {
       room = (let same = c.reserve.new.self.ok.0 in let room = c.in-Ok.ensures.ok in omega arith);
@@ -32,7 +23,7 @@ loop-event-init g c =
       steps = λ first h. h;
       sessions = refl;
       runs = λ honest start history calls fits.
-          let now : Moment g.row.S.Denot = moment_at (both c.args.store.now c.args.slots.now) history calls in
+          let now : Snapshot g.row.S.Denot = snapshot_of (both c.args.store.now c.args.slots.now) history calls in
           record {
             then_history = history;
             then_calls = calls;
@@ -42,14 +33,7 @@ loop-event-init g c =
 
 pub loop-event-preserved : goal.loop-event-preserved
 loop-event-preserved g c =
-    let laws : Laws g.S.PageStore = record {
-      same = g.met.S.PageStore.follows_same;
-      durable_few = g.met.S.PageStore.durable_few;
-      own_stays = g.met.S.PageStore.own_stays;
-      past_now = g.met.S.PageStore.past_now;
-      past_stays = g.met.S.PageStore.past_stays;
-      leaves_first = g.met.S.PageStore.leaves_first;
-    } in
+    let laws = g.met.S.PageStore.laws in
     let before = c.reserve.new.self.items in
     let answers = c.loop-event.answers.items in
     let answer = c.one-answer.result in
@@ -68,13 +52,13 @@ loop-event-preserved g c =
       runs = λ honest start history calls fits.
           let mid = both c.loop-event.store c.loop-event.slots in
           let new = both c.one-answer.new.store c.one-answer.new.slots in
-          let later = g.met.S.PageStore.follows_later mid.store new.store (c.one-answer.ensures.steps mid.store (g.met.S.PageStore.follows_same mid.store)) in
-          let follows = c.one-answer.ensures.steps c.args.store.now (c.loop-event.invariant.steps c.args.store.now (g.met.S.PageStore.follows_same c.args.store.now)) in
+          let later = g.met.S.PageStore.laws.follows_later mid.store new.store (c.one-answer.ensures.steps mid.store (g.met.S.PageStore.laws.follows_same mid.store)) in
+          let follows = c.one-answer.ensures.steps c.args.store.now (c.loop-event.invariant.steps c.args.store.now (g.met.S.PageStore.laws.follows_same c.args.store.now)) in
           let ran = c.loop-event.invariant.runs (later.honest honest) start history calls fits in
           let one = c.one-answer.ensures.runs honest start ran.then_history ran.then_calls ran.ran.fits in
-          let first : Moment g.row.S.Denot = moment_at (both c.args.store.now c.args.slots.now) history calls in
-          let between : Moment g.row.S.Denot = moment_at mid ran.then_history ran.then_calls in
-          let last : Moment g.row.S.Denot = moment_at new one.then_history one.then_calls in
+          let first : Snapshot g.row.S.Denot = snapshot_of (both c.args.store.now c.args.slots.now) history calls in
+          let between : Snapshot g.row.S.Denot = snapshot_of mid ran.then_history ran.then_calls in
+          let last : Snapshot g.row.S.Denot = snapshot_of new one.then_history one.then_calls in
           let done : Ran g.S.PageStore start (take index events ++ event ∷ []) (answers_behind before answers ++ answer ∷ []) first last =
           ran_more g.S.PageStore laws start (take index events) (answers_behind before answers) event answer first between last follows ran.ran one.ran in
           let all : Ran g.S.PageStore start (take (index + 1) events) (answers_behind before c.push_reserved.new.self.items) first last =
@@ -88,8 +72,8 @@ loop-event-preserved g c =
 pub returns-clause-runs : goal.returns-clause-runs
 returns-clause-runs g c honest start history calls fits =
     let ran = c.loop-event.invariant.runs honest start history calls fits in
-    let first : Moment g.row.S.Denot = moment_at (both c.args.store.now c.args.slots.now) history calls in
-    let last : Moment g.row.S.Denot = moment_at (both c.loop-event.store c.loop-event.slots) ran.then_history ran.then_calls in
+    let first : Snapshot g.row.S.Denot = snapshot_of (both c.args.store.now c.args.slots.now) history calls in
+    let last : Snapshot g.row.S.Denot = snapshot_of (both c.loop-event.store c.loop-event.slots) ran.then_history ran.then_calls in
     record {
       then_history = ran.then_history;
       then_calls = ran.then_calls;

@@ -1,7 +1,8 @@
 use Rattle.std.proofs.Common.{◌≡◌, ◌+◌, ◌≤◌, length, take}
 use Rattle.std.specs.Vec.{vec_capacity}
 use Rattle.page_action.specs.States.{Continues}
-use Rattle.schedule.specs.Promises.{both, Carries, Runs, answers_behind}
+use Rattle.schedule.specs.Snapshots.{both}
+use Rattle.schedule.specs.Runs.{Carries, Runs, answers_behind}
 use Rattle.schedule.proofs.happening.run.Given as goal
 
 abbrev pub invariant-loop-event : goal.invariant-loop-event

@@ -1,0 +1,13 @@
+//! A store of pages with its sessions and sets of dead rows; and one on a device, which is opened again behind a crash.
+#![tactic(auto)]
+
+mod memory;
+mod opening;
+mod over_device;
+mod world;
+
+pub use opening::NotOpened;
+pub use world::{NotMade, World};
+
+#[cfg(test)]
+mod tests;
