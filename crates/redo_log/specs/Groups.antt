@@ -2,6 +2,7 @@
 use Rattle.std.specs.Prelude.{◌≡◌, ◌≢◌, ℕ, ◌^◌, ◌<◌, ◌≤◌, List, [], ◌∷◌, ◌++◌, length, take, drop}
 use Rattle.std.specs.Int.{w32, to_le_bytes}
 use Rattle.std.specs.List.{AllByRecursion}
+use Rattle.device_layout.specs.Layout.{log_start}
 use Rattle.index_model.specs.declared.limits.Limits.{Limits}
 use Rattle.page_codec.specs.declared.page.Page.{Page}
 use Rattle.page_codec.specs.Grammar.{IsPage}
@@ -49,4 +50,4 @@ pub record SpellsGroups (limits : Limits) (bytes : List ℕ) (groups : List (Lis
 
 -- the log's range of a device
 abbrev pub log_range : Limits → List ℕ → List ℕ
-log_range limits file = take limits.log_bytes (drop 4096 file)
+log_range limits file = take limits.log_bytes (drop log_start file)

@@ -3,6 +3,7 @@ use Rattle.std.specs.Prelude.{◌≡◌, ◌≢◌, ◌⊎◌, ℕ, suc, Result,
 use Rattle.device.specs.Disk.{Moment, Trace, MayLeave}
 use Rattle.device.specs.Moments.{Goes}
 use Rattle.device.specs.Places.{OnDisk, ChangesOnly, IsUntouched}
+use Rattle.device_layout.specs.Layout.{log_start}
 use Rattle.index_model.specs.declared.fault.Fault.{Fault}
 use Rattle.index_model.specs.declared.fault.Fault.TheVariants.{Io, Stopped}
 use Rattle.index_model.specs.declared.limits.Limits.{Limits}
@@ -73,7 +74,7 @@ pub record Waits (log : Log) (waiting : List Page) : Type 0 where
 pub record Keeps (log : Log) (m : Moment) (acts : List (List Page)) (forced : ℕ) : Type 0 where
   pub alive : log.stopped ≡ false
   pub groups : List (List Page)
-  pub settled : IsSettled log.limits 4096 log.at groups m
+  pub settled : IsSettled log.limits log_start log.at groups m
   pub waiting : List Page
   pub waits : Waits log waiting
   pub few : forced ≤ length acts
@@ -132,17 +133,13 @@ RestartsOrEmptyThroughout log old new = (acts : List (List Page)) (forced : ℕ)
     → Keeps log old.now acts forced
     → Goes (RestartsOrEmpty (limits_of log) (take forced acts)) old new
 
--- where the log's range ends on a device
-abbrev pub range_end : Limits → ℕ
-range_end limits = 4096 + limits.log_bytes
-
 -- at each moment in between nothing but the log's range has changed
 abbrev pub ChangesItsRange : Limits → Trace → Trace → Type 0
-ChangesItsRange limits old new = Goes (ChangesOnly 4096 limits.log_bytes old.now) old new
+ChangesItsRange limits old new = Goes (ChangesOnly log_start limits.log_bytes old.now) old new
 
 -- nothing in the log's range has changed, and no crash changes more of it
 abbrev pub RangeIsUntouched : Limits → Moment → Moment → Type 0
-RangeIsUntouched limits old new = IsUntouched 4096 limits.log_bytes old new
+RangeIsUntouched limits old new = IsUntouched log_start limits.log_bytes old new
 
 -- whatever actions the log keeps at one moment, it keeps at each at which its range is untouched
 abbrev pub KeepsWhileUntouched : Log → Type 0

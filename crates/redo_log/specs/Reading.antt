@@ -1,6 +1,7 @@
 -- What reading a log finds.
 use Rattle.std.specs.Prelude.{◌≡◌, ◌⊎◌, ℕ, suc, Result, MatchResult, ◌+◌, ◌*◌, ◌<◌, ◌≤◌, false, List, ◌++◌, length, drop}
 use Rattle.device.specs.Disk.{Moment}
+use Rattle.device_layout.specs.Layout.{log_start}
 use Rattle.index_model.specs.declared.fault.Fault.{Fault}
 use Rattle.index_model.specs.declared.fault.Fault.TheVariants.{Io, NoMemory, LogDamaged}
 use Rattle.index_model.specs.declared.limits.Limits.{Limits}
@@ -39,7 +40,7 @@ pub record AreAllImages (limits : Limits) (bytes : List ℕ) (images : List Page
 
 -- no crash changes the log's range
 pub record IsFirm (limits : Limits) (m : Moment) : Type 0 where
-  pub firm : (i : ℕ) → i < limits.log_bytes → m.loose (4096 + i) ≡ false
+  pub firm : (i : ℕ) → i < limits.log_bytes → m.loose (log_start + i) ≡ false
 
 -- reading found these images, which the log's range of the device stands for and no others; and if
 -- no crash changes that range, the log keeps each of its groups as a forced action

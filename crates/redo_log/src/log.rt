@@ -2,18 +2,17 @@
 
 ghost use Rattle.std.specs.Prelude.{◌⊎◌, ◌≡◌, ◌≤◌, ◌<◌, ◌+◌, ◌*◌, ◌^◌, ℕ, suc, true, Err, IsTrue, IsErrOf, OnOk, OnErr, IfOk, IfErr, is_err, length};
 ghost use Rattle.index_model.specs.Limits.{AreLimits};
+ghost use Rattle.device_layout.specs.Layout.{log_end};
 ghost use Rattle.redo_log.specs.Groups.{AreImages};
 
 use crate::lay::{lay_images, seal};
 use crate::publish::{publish, shut};
 use crate::reading::read_groups;
 use device::Device;
+use device_layout::LOG_START;
 use index_model::{Fault, Limits};
 use page_codec::Page;
 use std::alloc::Global;
-
-/// Where the log begins on a device.
-pub const LOG_START: u64 = 4096;
 
 /// A log, which lies in its range of a device. The room for the group that waits was made when it
 /// was opened.
@@ -36,7 +35,7 @@ pub struct Log {
 }
 
 impl Log {
-    ghost use Rattle.redo_log.specs.Kept.{limits_of, is_stopped, actions_of, waiting_count, groups_end, end_with, range_end, HasRoomFor, TakesNoMore};
+    ghost use Rattle.redo_log.specs.Kept.{limits_of, is_stopped, actions_of, waiting_count, groups_end, end_with, HasRoomFor, TakesNoMore};
     ghost use Rattle.redo_log.specs.Kept.{AddsAction, ForcesAll, ForgetsForced, RestartsThroughout, RestartsOrEmptyThroughout, SameLog, ChangesItsRange, KeepsWhileUntouched, WhatItKeepsRestarts, IoOrStopped};
     ghost use Rattle.redo_log.specs.Reading.{Replays, IsOpened, IsDamaged, ReplayFails};
 
@@ -109,7 +108,7 @@ impl Log {
     ///
     /// At `Io` the log is stopped; a stopped log answers `Stopped`.
     pub fn force<D: Device>(&mut self, device: &mut D) -> Result<u64, Fault>
-        requires range { range_end (limits_of self.old) ≤ length (D.trace device.old).now.seen }
+        requires range { log_end (limits_of self.old) ≤ length (D.trace device.old).now.seen }
 
         ensures keeps { OnOk result
             (ForcesAll self.old (D.trace device.old).now self.new (D.trace device.new).now) }
@@ -152,7 +151,7 @@ impl Log {
     ///
     /// At `Io` the log is stopped; a stopped log answers `Stopped`.
     pub fn reset<D: Device>(&mut self, device: &mut D) -> Result<(), Fault>
-        requires range { range_end (limits_of self.old) ≤ length (D.trace device.old).now.seen }
+        requires range { log_end (limits_of self.old) ≤ length (D.trace device.old).now.seen }
 
         ensures keeps { OnOk result
             (ForgetsForced self.old (D.trace device.old).now self.new (D.trace device.new).now) }
@@ -196,7 +195,7 @@ impl Log {
         limits: Limits,
     ) -> Result<Replayed, Fault>
         requires limits { AreLimits limits }
-        requires range { range_end limits ≤ length (D.trace device.old).now.seen }
+        requires range { log_end limits ≤ length (D.trace device.old).now.seen }
 
         ensures ok { IfOk result (λ r. IsTrue (D.is_honest device.new)
             → Replays limits (D.trace device.old).now r.log r.images.items) }

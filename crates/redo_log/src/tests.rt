@@ -1,6 +1,7 @@
 use super::*;
 use arrayvec::ArrayVec;
 use device::{CrashImage, Device, MemDevice};
+use device_layout::LOG_START;
 use index_model::{Fault, Limits};
 use page_codec::{Items, Page, PageState};
 use std::alloc::Global;
