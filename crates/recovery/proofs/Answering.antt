@@ -10,7 +10,8 @@ use Rattle.index_model.specs.Limits.{AreLimits}
 use Rattle.index_model.specs.declared.limits.Limits.{Limits}
 use Rattle.page_codec.specs.declared.page.Page.{Page}
 use Rattle.page_store.specs.Logged.{AreHome, StandsOpened}
-use Rattle.page_store.specs.Restart.{superblock, place, RestartsTo}
+use Rattle.device_layout.specs.Layout.{superblock, place}
+use Rattle.page_store.specs.Restart.{RestartsTo}
 use Rattle.page_store.proofs.Restarting.{length-superblock}
 use Rattle.page_store.specs.Rooms.{limits_of_room, pages_of_room}
 use Rattle.redo_log.specs.Reading.{IsOpened, IsDamaged}

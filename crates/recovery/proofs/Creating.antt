@@ -9,8 +9,8 @@ use Rattle.device.proofs.Standing.{only_wider, only_more, has_kept, kept, synced
 use Rattle.index_model.specs.declared.limits.Limits.{Limits}
 use Rattle.page_codec.specs.Spelling.{page_bytes}
 use Rattle.page_codec.specs.declared.page.Page.{Page}
-use Rattle.page_store.specs.Restart.{superblock, place}
-use Rattle.recovery.specs.Fresh.{IsFirstMeta, IsFirstLeaf, AreZero, HasPages, HasBody, IsFresh}
+use Rattle.device_layout.specs.Layout.{superblock, place}
+use Rattle.recovery.specs.Fresh.{IsFirstMeta, IsFirstLeaf, AreZero, HasPages, HasBody, IsEmptyIndex}
 
 -- what follows from success
 pub on_ok : {T E : Type 0} (P Q : Type 0) (r : Result T E) → (P → Q) → OnOk r P → OnOk r Q
@@ -88,6 +88,6 @@ body_stays limits a b only body = record {
   firm = λ i low. only.loose i (inr low) (body.firm i low);
 }
 
-pub fresh_made : {T E : Type 0} (limits : Limits) (r : Result T E) (bytes : List ℕ) (a b : Moment) → bytes ≡ superblock limits → HasBody limits a → ChangesOnly 0 4096 a b → OnOk r (OnDisk 0 bytes b) → OnOk r (IsFresh limits b)
+pub fresh_made : {T E : Type 0} (limits : Limits) (r : Result T E) (bytes : List ℕ) (a b : Moment) → bytes ≡ superblock limits → HasBody limits a → ChangesOnly 0 4096 a b → OnOk r (OnDisk 0 bytes b) → OnOk r (IsEmptyIndex limits b)
 fresh_made limits (Ok x) bytes a b is body only on = record { superblock = subst (λ (l : List ℕ). OnDisk 0 l b) is on; body = body_stays limits a b only body }
 fresh_made limits (Err e) bytes a b is body only on = tt

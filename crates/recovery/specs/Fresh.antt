@@ -13,11 +13,7 @@ use Rattle.page_codec.specs.declared.page.Items.TheVariants.{Meta}
 use Rattle.page_codec.specs.declared.page.Page.{Page}
 use Rattle.page_codec.specs.declared.page.PageState.TheVariants.{Live}
 use Rattle.recovery.specs.Index.{HasIndex}
-use Rattle.page_store.specs.Restart.{superblock, place}
-
--- how many bytes an index takes
-abbrev pub size_of : Limits → ℕ
-size_of limits = place limits limits.pages
+use Rattle.device_layout.specs.Layout.{superblock, log_start, place, needed_length}
 
 -- the metapage of an empty index: its root is the leaf at block 1
 pub record IsFirstMeta (p : Page) : Type 0 where
@@ -57,11 +53,11 @@ pub record HasPages (limits : Limits) (file : List ℕ) : Type 0 where
 -- these pages and a closed log, and no crash changes them
 pub record HasBody (limits : Limits) (m : Moment) : Type 0 where
   pub pages : HasPages limits m.seen
-  pub gate : OnDisk 4096 (0 ∷ []) m
-  pub firm : (i : ℕ) → 4096 ≤ i → m.loose i ≡ false
+  pub gate : OnDisk log_start (0 ∷ []) m
+  pub firm : (i : ℕ) → log_start ≤ i → m.loose i ≡ false
 
 -- an empty index, which no crash changes
-pub record IsFresh (limits : Limits) (m : Moment) : Type 0 where
+pub record IsEmptyIndex (limits : Limits) (m : Moment) : Type 0 where
   pub superblock : OnDisk 0 (superblock limits) m
   pub body : HasBody limits m
 
@@ -77,7 +73,7 @@ pub record LeavesEmpty (limits : Limits) (m : Moment) : Type 0 where
 -- else too short a device, nothing changed; or a call of the device failed once
 abbrev pub CreateEnds : {T : Type 0} → Limits → Result T Fault → Trace → Trace → ℕ → ℕ → Type 0
 CreateEnds limits result old new failed fails = MatchResult result
-    (λ _. AreLimits limits × (size_of limits ≤ length old.now.seen) × (fails ≡ failed))
+    (λ _. AreLimits limits × (needed_length limits ≤ length old.now.seen) × (fails ≡ failed))
     (λ e. ((e ≡ BadLimits) × (AreLimits limits → ⊥) × (new ≡ old) × (fails ≡ failed))
-    ⊎ ((e ≡ DeviceTooSmall) × AreLimits limits × (length old.now.seen < size_of limits) × (new ≡ old) × (fails ≡ failed))
+    ⊎ ((e ≡ DeviceTooSmall) × AreLimits limits × (length old.now.seen < needed_length limits) × (new ≡ old) × (fails ≡ failed))
     ⊎ ((e ≡ Io) × (fails ≡ suc failed)))

@@ -10,11 +10,11 @@ use Rattle.page_action.specs.States.{State}
 use Rattle.page_action.specs.Stored.{AreStored}
 use Rattle.page_codec.specs.declared.page.Page.{Page}
 use Rattle.page_store.specs.Logged.{StandsOpened}
-use Rattle.page_store.specs.Restart.{superblock, place}
+use Rattle.device_layout.specs.Layout.{superblock, place}
 use Rattle.page_store.specs.Rooms.{pages_of_room}
 use Rattle.page_store.specs.Stores.{state_of, device_of, opened_state, IsOwnStore}
 use Rattle.page_store.specs.declared.store.Store.{Store}
-use Rattle.redo_log.specs.Groups.{Spells, log_range}
+use Rattle.redo_log.specs.Groups.{SpellsGroups, log_range}
 use Rattle.redo_log.specs.Reading.{IsOpened, IsDamaged}
 use Rattle.recovery.specs.Reading.{AreInUse, IsDamagedAt, IsAllRead, greatest_cycle}
 use Rattle.recovery.specs.Superblock.{IsNoSuperblock}
@@ -42,7 +42,7 @@ IsFrontFault fault = (fault ≡ BadSuper) ⊎ (fault ≡ BadVersion) ⊎ (fault 
 
 -- the log's range is groups: each open one is whole
 abbrev pub HasGroups : Limits → List ℕ → Type 0
-HasGroups limits file = (groups : List (List Page)) × Spells limits (log_range limits file) groups
+HasGroups limits file = (groups : List (List Page)) × SpellsGroups limits (log_range limits file) groups
 
 -- refused before anything is done: frames out of their range; or else a device of less than 4,096 bytes; or else what
 -- stands in front

@@ -5,7 +5,7 @@ use Rattle.page_action.specs.Stored.{IsStored, AreStored}
 use Rattle.page_codec.specs.Grammar.{IsPage}
 use Rattle.page_codec.specs.Spelling.{page_bytes}
 use Rattle.page_codec.specs.declared.page.Page.{Page}
-use Rattle.page_store.specs.Restart.{place}
+use Rattle.device_layout.specs.Layout.{place}
 use Rattle.page_store.specs.Rooms.{limits_of_room, pages_of_room, counts_of_room}
 use Rattle.recovery.specs.declared.reading.Found.{Found}
 
@@ -50,7 +50,7 @@ greatest_cycle (page ∷ pages) = max page.cycle (greatest_cycle pages)
 
 -- what was read: pages that may be stored, no deletion number that counts, and the greatest cycle number; the pages
 -- stand on the device, if it is honest
-pub record IsRead (limits : Limits) (honest : Bool) (file : List ℕ) (found : Found) : Type 0 where
+pub record HasReadPages (limits : Limits) (honest : Bool) (file : List ℕ) (found : Found) : Type 0 where
   pub limits_are : limits_of_room found.room ≡ limits
   pub stored : AreStored limits 0 (pages_of_room found.room)
   pub counts : counts_of_room found.room ≡ replicate (length (pages_of_room found.room)) 0
@@ -59,7 +59,7 @@ pub record IsRead (limits : Limits) (honest : Bool) (file : List ℕ) (found : F
 
 -- and these are all: one page or more
 pub record IsAllRead (limits : Limits) (honest : Bool) (file : List ℕ) (found : Found) : Type 0 where
-  pub read : IsRead limits honest file found
+  pub read : HasReadPages limits honest file found
   pub some : 0 < length (pages_of_room found.room)
   pub few : length (pages_of_room found.room) ≤ limits.pages
   pub end : IsTrue honest → IsEnd limits (length (pages_of_room found.room)) file

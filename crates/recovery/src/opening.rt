@@ -8,16 +8,17 @@ ghost use Rattle.page_store.specs.Logged.{StandsOpened, backing_of};
 ghost use Rattle.page_store.specs.Rooms.{limits_of_room};
 ghost use Rattle.page_store.specs.Stores.{state_of, held_by};
 ghost use Rattle.index_model.specs.declared.limits.Limits.{Limits};
-ghost use Rattle.page_store.specs.Restart.{place, RestartsTo, LeavesPages};
+ghost use Rattle.device_layout.specs.Layout.{place};
+ghost use Rattle.page_store.specs.Restart.{RestartsTo, LeavesPages};
 ghost use Rattle.redo_log.specs.Reading.{IsOpened, IsDamaged, ReplayFails};
 ghost use Rattle.recovery.specs.Index.{HasIndex};
 ghost use Rattle.recovery.specs.Opening.{AreFrames, HasGroups, IsFront, IsFrontRefusal, IsRestoreRefusal, IsSynced, IsRestored, IsFound, IsRefusal, AreSamePages, IsNoMemoryOrIo, IsFreshlyOpened, StandsOnDevice, IsSameIndex, device_left};
 
-use crate::creation::block_at;
 use crate::homing::bring_home;
 use crate::reading::{Found, read_pages};
 use crate::superblock::read_superblock;
 use device::Device;
+use device_layout::needed_len;
 use index_model::{Fault, Limits};
 use page_store::Store;
 use redo_log::Log;
@@ -62,7 +63,7 @@ fn find_limits<D: Device>(device: &mut D, frames: u32) -> Result<Limits, Fault>
     let mut bytes = [0; 4096];
     device.read_at(0, &mut bytes)?;
     let limits = read_superblock(&bytes)?;
-    if device.len() < block_at(&limits, limits.pages) {
+    if device.len() < needed_len(&limits) {
         return Err(Fault::BadSuper);
     }
     Ok(limits)

@@ -2,16 +2,16 @@
 
 ghost use Rattle.std.specs.Prelude.{◌≡◌, ◌⊎◌, ◌+◌, ◌≤◌, ◌<◌, ℕ, suc, IsTrue, [], length, replicate, IfOk, IfErr, OnOk};
 ghost use Rattle.index_model.specs.Limits.{AreLimits};
-ghost use Rattle.page_store.specs.Restart.{place};
+ghost use Rattle.device_layout.specs.Layout.{place};
 ghost use Rattle.page_store.specs.Rooms.{limits_of_room, pages_of_room, counts_of_room};
-ghost use Rattle.recovery.specs.Reading.{block_bytes, AreBytesOf, IsEnd, IsDamagedAt, IsRead, IsAllRead};
+ghost use Rattle.recovery.specs.Reading.{block_bytes, AreBytesOf, IsEnd, IsDamagedAt, HasReadPages, IsAllRead};
 ghost use Rattle.page_action.specs.Stored.{IsStored};
 ghost use Rattle.page_codec.specs.declared.page.Page.{Page};
 ghost use Rattle.page_codec.specs.Grammar.{IsPage};
 ghost use Rattle.page_codec.specs.Spelling.{page_bytes};
 
-use crate::creation::block_at;
 use device::Device;
+use device_layout::page_place;
 use index_model::{Fault, Limits};
 use page_codec::{Page, decode, is_unused};
 use page_store::StoreRoom;
@@ -58,7 +58,7 @@ fn read_page<D: Device>(device: &mut D, limits: Limits, block: u32) -> Result<Op
     ensures done { OnOk result (D.failures device.new ≡ D.failures device.old) }
 {
     let mut bytes = [0; 4096];
-    device.read_at(block_at(&limits, block), &mut bytes)?;
+    device.read_at(page_place(&limits, block), &mut bytes)?;
     page_of(block, &bytes)
 }
 
@@ -71,7 +71,7 @@ fn add_pages<D: Device>(device: &mut D, limits: Limits, found: &mut Found) -> Re
     requires empty { pages_of_room found.old.room ≡ [] }
     requires uncounted { counts_of_room found.old.room ≡ [] }
     requires counter { found.old.counter ≡ 0 }
-    ensures read { OnOk result (IsRead limits (D.is_honest device.new) (D.trace device.old).now.seen found.new) }
+    ensures read { OnOk result (HasReadPages limits (D.is_honest device.new) (D.trace device.old).now.seen found.new) }
     ensures number { IfOk result (λ used. used ≡ length (pages_of_room found.new.room)) }
     ensures few { IfOk result (λ used. used ≤ limits.pages) }
     ensures end { IfOk result (λ used. IsTrue (D.is_honest device.new)

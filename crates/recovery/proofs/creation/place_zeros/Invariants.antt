@@ -1,6 +1,6 @@
 use Rattle.std.proofs.Common.{◌≡◌, ◌-◌, ◌*◌}
 use Rattle.device.specs.Places.{ChangesOnly}
-use Rattle.page_store.specs.Restart.{place}
+use Rattle.device_layout.specs.Layout.{place}
 use Rattle.recovery.specs.Fresh.{AreZero}
 use Rattle.recovery.proofs.creation.place_zeros.Given as goal
 

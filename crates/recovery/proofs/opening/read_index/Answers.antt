@@ -2,7 +2,8 @@ use Rattle.std.proofs.Common.{◌≤◌, ⊎_elim, inl, inr, length, sym, ap, su
 use Rattle.device.specs.Disk.{Trace}
 use Rattle.device.specs.Moments.{Goes}
 use Rattle.index_model.specs.declared.limits.Limits.{Limits}
-use Rattle.page_store.specs.Restart.{place, LeavesPages, RestartsTo}
+use Rattle.device_layout.specs.Layout.{place}
+use Rattle.page_store.specs.Restart.{LeavesPages, RestartsTo}
 use Rattle.recovery.proofs.Blocks.{given}
 use Rattle.recovery.proofs.Answering.{refused, front_of, one_front, found_same, found_index, err_map, restore_refuses}
 use Rattle.recovery.proofs.opening.read_index.Goals as goal

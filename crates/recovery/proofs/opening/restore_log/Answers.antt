@@ -58,7 +58,7 @@ returns-clause-same g c = λ honest firm pages restarts.
     let found = c.in-Ok.ensures.ok (subst IsTrue (c.reset.ensures.honest ∙ c.bring_home.ensures.honest) honest) in
     let homed = subst (λ (l : List Page). AreHomed limits l middle.now) c.deref.ensures.value c.in_ok-bring_home.ensures.home in
     closed_stands limits images pages c.in-Ok.found.log start firm restarts c.in-Ok.ensures.opened found middle (g.D.Device.trace c.reset.new.device) moments homed c.reset.ensures.moments c.reset.ensures.outside
-    c.reset.new.self c.reset.ensures.same.limits c.in_ok-reset.ensures.keeps
+    c.reset.new.self c.reset.ensures.same.limits c.reset.ensures.waiting c.in_ok-reset.ensures.keeps
 
 pub returns-clause-moments : goal.returns-clause-moments
 returns-clause-moments g c = λ honest firm pages restarts.

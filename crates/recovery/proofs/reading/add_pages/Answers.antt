@@ -5,13 +5,13 @@ use Rattle.index_model.specs.declared.limits.Limits.{Limits}
 use Rattle.page_action.specs.Stored.{IsStored}
 use Rattle.page_codec.specs.declared.page.Page.{Page}
 use Rattle.page_store.specs.Rooms.{limits_of_room, pages_of_room}
-use Rattle.recovery.specs.Reading.{block_bytes, AreBytesOf, IsRead, IsDamagedAt}
+use Rattle.recovery.specs.Reading.{block_bytes, AreBytesOf, HasReadPages, IsDamagedAt}
 use Rattle.recovery.specs.declared.reading.Found.{Found}
 use Rattle.recovery.proofs.Blocks.{read_more, damaged_here, given}
 use Rattle.recovery.proofs.reading.add_pages.Goals as goal
 
 -- the page was not taken: it isn't one that may be stored there
-not_taken : (limits : Limits) (before after : Bool) (file : List ℕ) (found : Found) (page : Page) (block fails failed : ℕ) (e : Fault) → (IsTrue after → IsTrue before) → IsRead limits before file found → length (pages_of_room found.room) ≡ block → block < limits.pages
+not_taken : (limits : Limits) (before after : Bool) (file : List ℕ) (found : Found) (page : Page) (block fails failed : ℕ) (e : Fault) → (IsTrue after → IsTrue before) → HasReadPages limits before file found → length (pages_of_room found.room) ≡ block → block < limits.pages
     → fails ≡ failed → (IsTrue after → AreBytesOf (Some page) (block_bytes limits block file))
     → ((e ≡ IndexFull) × ((limits_of_room found.room).pages ≤ length (pages_of_room found.room))) ⊎ ((e ≡ PageDamaged (length (pages_of_room found.room))) × (IsStored (limits_of_room found.room) (length (pages_of_room found.room)) page → ⊥))
     → ((e ≡ Io) × (fails ≡ suc failed)) ⊎ ((block : ℕ) × (e ≡ PageDamaged block) × (fails ≡ failed) × (IsTrue after → IsDamagedAt limits block file))
