@@ -1,13 +1,13 @@
 //! An index is made.
 
 ghost use Rattle.std.specs.Prelude.{◌≡◌, ◌+◌, ◌-◌, ◌*◌, ◌≤◌, ◌<◌, [], ◌∷◌, length, OnOk};
-ghost use Rattle.device.specs.Disk.{CountsFailures};
 ghost use Rattle.device.specs.Moments.{Goes};
 ghost use Rattle.device.specs.Places.{Has, OnDisk, ChangesOnly};
 ghost use Rattle.index_model.specs.Limits.{AreLimits};
 ghost use Rattle.page_codec.specs.Spelling.{page_bytes};
-ghost use Rattle.device_layout.specs.Layout.{place, needed_length};
-ghost use Rattle.recovery.specs.Fresh.{IsFirstMeta, IsFirstLeaf, AreZero, HasPages, HasBody, IsEmptyIndex, LeavesEmpty, CreateEnds};
+ghost use Rattle.device_layout.specs.Layout.{log_start, place, needed_length};
+ghost use Rattle.recovery.specs.Calls.{OnlyWrites};
+ghost use Rattle.recovery.specs.Fresh.{IsFirstMeta, IsFirstLeaf, AreZero, HasPages, HasBody, WritesFront, IsMaking, IsEmptyIndex, LeavesEmpty, CreateEnds};
 
 use crate::superblock::spell_superblock;
 use arrayvec::ArrayVec;
@@ -56,11 +56,9 @@ fn first_leaf() -> Page
 fn place<D: Device>(device: &mut D, at: u64, bytes: &[u8]) -> Result<(), Fault>
     requires inside { at + length bytes.now ≤ length (D.trace device.old).now.seen }
     ensures there { OnOk result (Has at bytes.now (D.trace device.new).now.seen) }
-    ensures only { ChangesOnly at (length bytes.now) (D.trace device.old).now (D.trace device.new).now }
     ensures moments { Goes (ChangesOnly at (length bytes.now) (D.trace device.old).now)
         (D.trace device.old) (D.trace device.new) }
-    ensures honest { D.is_honest device.new ≡ D.is_honest device.old }
-    ensures failures { CountsFailures result (D.failures device.old) (D.failures device.new) }
+    ensures calls { OnlyWrites D.Device result device.old device.new }
 {
     device.write_at(at, bytes)
 }
@@ -70,9 +68,9 @@ fn place_zeros<D: Device>(device: &mut D, limits: &Limits) -> Result<(), Fault>
     requires allowed { AreLimits limits.now }
     requires inside { needed_length limits.now ≤ length (D.trace device.old).now.seen }
     ensures there { OnOk result (AreZero limits.now 2 limits.now.pages (D.trace device.new).now.seen) }
-    ensures only { ChangesOnly (place limits.now 2) (4096 * (limits.now.pages - 2)) (D.trace device.old).now (D.trace device.new).now }
-    ensures honest { D.is_honest device.new ≡ D.is_honest device.old }
-    ensures failures { CountsFailures result (D.failures device.old) (D.failures device.new) }
+    ensures moments { Goes (ChangesOnly (place limits.now 2) (4096 * (limits.now.pages - 2)) (D.trace device.old).now)
+        (D.trace device.old) (D.trace device.new) }
+    ensures calls { OnlyWrites D.Device result device.old device.new }
 {
     let zeros = [0; 4096];
     for block in 2..limits.pages {
@@ -92,11 +90,9 @@ pub(crate) fn place_page<D: Device>(
     requires inside { needed_length limits.now ≤ length (D.trace device.old).now.seen }
     ensures there { OnOk result (Has (place limits.now page.now.block) (page_bytes page.now) (D.trace device.new).now.seen) }
     ensures long { length (page_bytes page.now) ≡ 4096 }
-    ensures only { ChangesOnly (place limits.now page.now.block) 4096 (D.trace device.old).now (D.trace device.new).now }
     ensures moments { Goes (ChangesOnly (place limits.now page.now.block) 4096 (D.trace device.old).now)
         (D.trace device.old) (D.trace device.new) }
-    ensures honest { D.is_honest device.new ≡ D.is_honest device.old }
-    ensures failures { CountsFailures result (D.failures device.old) (D.failures device.new) }
+    ensures calls { OnlyWrites D.Device result device.old device.new }
 {
     let mut bytes = [0; 4096];
     encode(page, &mut bytes);
@@ -108,9 +104,9 @@ fn place_pages<D: Device>(device: &mut D, limits: &Limits) -> Result<(), Fault>
     requires allowed { AreLimits limits.now }
     requires inside { needed_length limits.now ≤ length (D.trace device.old).now.seen }
     ensures there { OnOk result (HasPages limits.now (D.trace device.new).now.seen) }
-    ensures only { ChangesOnly (place limits.now 0) (4096 * limits.now.pages) (D.trace device.old).now (D.trace device.new).now }
-    ensures honest { D.is_honest device.new ≡ D.is_honest device.old }
-    ensures failures { CountsFailures result (D.failures device.old) (D.failures device.new) }
+    ensures moments { Goes (ChangesOnly (place limits.now 0) (4096 * limits.now.pages) (D.trace device.old).now)
+        (D.trace device.old) (D.trace device.new) }
+    ensures calls { OnlyWrites D.Device result device.old device.new }
 {
     place_zeros(device, limits)?;
     place_page(device, limits, &first_meta())?;
@@ -122,24 +118,23 @@ fn place_body<D: Device>(device: &mut D, limits: &Limits) -> Result<(), Fault>
     requires allowed { AreLimits limits.now }
     requires inside { needed_length limits.now ≤ length (D.trace device.old).now.seen }
     ensures there { OnOk result (HasBody limits.now (D.trace device.new).now) }
-    ensures len { length (D.trace device.new).now.seen ≡ length (D.trace device.old).now.seen }
-    ensures honest { D.is_honest device.new ≡ D.is_honest device.old }
-    ensures failures { CountsFailures result (D.failures device.old) (D.failures device.new) }
+    ensures moments { Goes (ChangesOnly log_start (limits.now.log_bytes + 4096 * limits.now.pages) (D.trace device.old).now)
+        (D.trace device.old) (D.trace device.new) }
+    ensures calls { OnlyWrites D.Device result device.old device.new }
 {
     place(device, LOG_START, &[0])?;
     place_pages(device, limits)?;
     device.sync()
 }
 
-/// Writes the first 4,096 bytes and syncs them. Nothing else changes.
+/// Writes the superblock's bytes and syncs them. Nothing else changes.
 fn place_front<D: Device>(device: &mut D, bytes: &[u8; 4096]) -> Result<(), Fault>
     requires inside { 4096 ≤ length (D.trace device.old).now.seen }
     ensures there { OnOk result (OnDisk 0 bytes.now (D.trace device.new).now) }
-    ensures only { ChangesOnly 0 4096 (D.trace device.old).now (D.trace device.new).now }
-    ensures honest { D.is_honest device.new ≡ D.is_honest device.old }
-    ensures failures { CountsFailures result (D.failures device.old) (D.failures device.new) }
+    ensures moments { Goes (WritesFront bytes.now (D.trace device.old).now) (D.trace device.old) (D.trace device.new) }
+    ensures calls { OnlyWrites D.Device result device.old device.new }
 {
-    place(device, 0, bytes)?;
+    device.write_at(0, bytes)?;
     device.sync()
 }
 
@@ -149,9 +144,8 @@ fn write_index<D: Device>(device: &mut D, limits: &Limits) -> Result<(), Fault>
     requires allowed { AreLimits limits.now }
     requires inside { needed_length limits.now ≤ length (D.trace device.old).now.seen }
     ensures made { OnOk result (IsEmptyIndex limits.now (D.trace device.new).now) }
-    ensures len { length (D.trace device.new).now.seen ≡ length (D.trace device.old).now.seen }
-    ensures honest { D.is_honest device.new ≡ D.is_honest device.old }
-    ensures failures { CountsFailures result (D.failures device.old) (D.failures device.new) }
+    ensures moments { Goes (IsMaking limits.now (D.trace device.old).now) (D.trace device.old) (D.trace device.new) }
+    ensures calls { OnlyWrites D.Device result device.old device.new }
 {
     let mut front = [0; 4096];
     place_front(device, &front)?;
@@ -170,6 +164,8 @@ pub fn create<D: Device>(device: &mut D, limits: &Limits) -> Result<(), Fault>
     ensures made { OnOk result (IsEmptyIndex limits.now (D.trace device.new).now) }
     // So it can be opened, also after a crash.
     ensures own { OnOk result (LeavesEmpty limits.now (D.trace device.new).now) }
+    // A crash at each moment since leaves what was there but for its superblock, or no index, or the new one.
+    ensures moments { Goes (IsMaking limits.now (D.trace device.old).now) (D.trace device.old) (D.trace device.new) }
     ensures ends { CreateEnds limits.now result (D.trace device.old) (D.trace device.new)
         (D.failures device.old) (D.failures device.new) }
     ensures len { length (D.trace device.new).now.seen ≡ length (D.trace device.old).now.seen }
