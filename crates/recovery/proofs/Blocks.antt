@@ -3,7 +3,7 @@ use Rattle.std.proofs.Common.{◌≡◌, ◌≢◌, inl, inr, ℕ, zero, suc, �
 use Rattle.std.proofs.lemmas.Bool.{cases_eq}
 use Rattle.std.proofs.lemmas.List.{take_at, length-replicate}
 use Rattle.std.proofs.lemmas.Option.{slice_get_within}
-use Rattle.std.specs.Prelude.{IfErr, IsErrAnd}
+use Rattle.std.specs.Prelude.{MatchResult, IsErrAnd}
 use Rattle.device.specs.Disk.{Moment}
 use Rattle.device.specs.Places.{Has}
 use Rattle.device.proofs.Standing.{has_drop}
@@ -72,9 +72,9 @@ damaged_here limits honest file found page read is within here wrong = record {
 }
 
 -- what holds of a fault holds of a result that is refused with it
-pub given : {T : Type 0} (r : Result T Fault) (e : Fault) (P : Fault → Type 0) → IsErrAnd r (λ x. x ≡ e) → P e → IfErr r P
-given (Ok x) e P is p = tt
-given (Err y) e P is p = subst P (sym is) p
+pub refused : {T : Type 0} (r : Result T Fault) (e : Fault) (A : T → Type 0) (P : Fault → Type 0) → IsErrAnd r (λ x. x ≡ e) → P e → MatchResult r A P
+refused (Ok x) e A P is p = absurd is
+refused (Err y) e A P is p = subst P (sym is) p
 
 -- block 0 is damaged where it is unused
 pub none_in_use : (limits : Limits) (file : List ℕ) → 0 < limits.pages → IsEnd limits 0 file → IsDamagedAt limits 0 file

@@ -16,6 +16,11 @@ pub record OnlyReads {D : Type 0} (g : Ghosts D) (old new : D) : Type 0 where
   pub trace : g.trace new ≡ g.trace old
   pub honest : IsTrue (g.is_honest new) → IsTrue (g.is_honest old)
 
+-- as long as before, and a read can only have broken the model
+pub record ReadsAndWrites {D : Type 0} (g : Ghosts D) (old new : D) : Type 0 where
+  pub len : length (g.trace new).now.seen ≡ length (g.trace old).now.seen
+  pub honest : IsTrue (g.is_honest new) → IsTrue (g.is_honest old)
+
 -- refused with Io where a call of the device failed, which ends it; or with no failure, for this reason
 abbrev pub IsIoOr : (Fault → Type 0) → ℕ → ℕ → Fault → Type 0
 IsIoOr reason old new fault = ((fault ≡ Io) × (new ≡ suc old)) ⊎ (reason fault × (new ≡ old))

@@ -4,7 +4,7 @@ use Rattle.device.specs.Disk.{Moment, Trace, next, synced}
 use Rattle.device.specs.declared.device.Device.{Ghosts}
 use Rattle.index_model.specs.Limits.{AreLimits}
 use Rattle.index_model.specs.declared.fault.Fault.{Fault}
-use Rattle.index_model.specs.declared.fault.Fault.TheVariants.{NoMemory, Io, BadSuper, BadVersion, BadLimits, LogDamaged, PageDamaged}
+use Rattle.index_model.specs.declared.fault.Fault.TheVariants.{NoMemory, Io, BadSuper, BadVersion, BadLimits, LogDamaged}
 use Rattle.index_model.specs.declared.limits.Limits.{Limits}
 use Rattle.page_action.specs.States.{State}
 use Rattle.page_action.specs.Stored.{AreStored}
@@ -16,7 +16,7 @@ use Rattle.page_store.specs.Stores.{state_of, device_of, opened_state, IsOwnStor
 use Rattle.page_store.specs.declared.store.Store.{Store}
 use Rattle.redo_log.specs.Groups.{SpellsGroups, log_range}
 use Rattle.redo_log.specs.Reading.{IsOpened, IsDamaged}
-use Rattle.recovery.specs.Reading.{AreInUse, IsDamagedAt, IsAllRead, greatest_cycle}
+use Rattle.recovery.specs.Reading.{AreInUse, IsDamage, IsAllRead, greatest_cycle}
 use Rattle.recovery.specs.Superblock.{IsNoSuperblock}
 use Rattle.recovery.specs.declared.opening.Parts.{Parts}
 use Rattle.recovery.specs.declared.opening.Refused.{Refused}
@@ -58,7 +58,7 @@ abbrev pub IsRestoreRefusal : Limits → Bool → Trace → Trace → Fault → 
 IsRestoreRefusal limits honest old new fault =
     (fault ≡ NoMemory)
     ⊎ ((fault ≡ LogDamaged) × (new ≡ next (synced old.now) old) × (IsTrue honest → IsDamaged limits old.now))
-    ⊎ ((block : ℕ) × (fault ≡ PageDamaged block) × (IsTrue honest → IsDamagedAt limits block new.now.seen))
+    ⊎ IsDamage limits honest new.now.seen fault
 
 -- refused for one of these
 abbrev pub IsRefusal : Bool → ℕ → Trace → Trace → Fault → Type 0

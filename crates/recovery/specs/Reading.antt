@@ -1,5 +1,7 @@
 -- Pages as they are read from a device: the blocks in use, and what damages one.
 use Rattle.std.specs.Prelude.{◌≡◌, ◌≢◌, ◌⊎◌, ℕ, ◌+◌, ◌<◌, ◌≤◌, max, Bool, IsTrue, Option, Some, None, List, [], ◌∷◌, length, replicate, slice_get, slice_range}
+use Rattle.index_model.specs.declared.fault.Fault.{Fault}
+use Rattle.index_model.specs.declared.fault.Fault.TheVariants.{PageDamaged}
 use Rattle.index_model.specs.declared.limits.Limits.{Limits}
 use Rattle.page_action.specs.Stored.{IsStored, AreStored}
 use Rattle.page_codec.specs.Grammar.{IsPage}
@@ -42,6 +44,10 @@ pub record IsDamagedAt (limits : Limits) (block : ℕ) (file : List ℕ) : Type 
   pub within : block < limits.pages
   pub no_page : (page : Page) → IsStored limits block page → block_bytes limits block file ≢ page_bytes page
   pub in_use : block_bytes limits block file ≡ replicate 4096 0 → block ≡ 0
+
+-- refused for a block that is damaged
+abbrev pub IsDamage : Limits → Bool → List ℕ → Fault → Type 0
+IsDamage limits honest file fault = (block : ℕ) × (fault ≡ PageDamaged block) × (IsTrue honest → IsDamagedAt limits block file)
 
 -- the greatest cycle number of these pages, 0 where there is none
 abbrev pub greatest_cycle : List Page → ℕ

@@ -11,6 +11,7 @@ ghost use Rattle.index_model.specs.declared.limits.Limits.{Limits};
 ghost use Rattle.device_layout.specs.Layout.{place};
 ghost use Rattle.page_store.specs.Restart.{RestartsTo, LeavesPages};
 ghost use Rattle.redo_log.specs.Reading.{IsOpened, IsDamaged, ReplayFails};
+ghost use Rattle.recovery.specs.Calls.{OnlyReads, ReadsAndWrites, IsIoOr, FailsWithIoOr};
 ghost use Rattle.recovery.specs.Index.{HasIndex};
 ghost use Rattle.recovery.specs.Opening.{AreFrames, HasGroups, IsFront, IsFrontRefusal, IsRestoreRefusal, IsSynced, IsRestored, IsFound, IsRefusal, AreSamePages, IsNoMemoryOrIo, IsFreshlyOpened, StandsOnDevice, IsSameIndex, device_left};
 
@@ -48,11 +49,9 @@ fn find_limits<D: Device>(device: &mut D, frames: u32) -> Result<Limits, Fault>
     ensures frames { OnOk result (AreFrames frames) }
     ensures only { AreFrames frames → IsTrue (D.is_honest device.new) → (limits : Limits)
         → IsFront limits (D.trace device.old).now.seen → MatchResult result (λ found. found ≡ limits) (λ e. e ≡ Fault.Io) }
-    ensures trace { D.trace device.new ≡ D.trace device.old }
-    ensures honest { IsTrue (D.is_honest device.new) → IsTrue (D.is_honest device.old) }
-    ensures cause { IfErr result (λ e. ((e ≡ Fault.Io) × (D.failures device.new ≡ suc (D.failures device.old)))
-        ⊎ (IsFrontRefusal (D.is_honest device.new) frames (D.trace device.old).now.seen e × (D.failures device.new ≡ D.failures device.old))) }
-    ensures done { OnOk result (D.failures device.new ≡ D.failures device.old) }
+    ensures calls { OnlyReads D.Device device.old device.new }
+    ensures cause { FailsWithIoOr (IsFrontRefusal (D.is_honest device.new) frames (D.trace device.old).now.seen)
+        result (D.failures device.old) (D.failures device.new) }
 {
     if frames < 16 || frames > 1024 {
         return Err(Fault::BadLimits);
@@ -84,8 +83,7 @@ fn restore_log<D: Device>(alloc: Global, device: &mut D, limits: Limits) -> Resu
         → Goes (LeavesPages limits pages) (D.trace device.old) (D.trace device.new) }
     ensures damaged { IfErr result (λ e. e ≡ Fault.LogDamaged → (D.trace device.new ≡ D.trace device.old)
         × (IsTrue (D.is_honest device.new) → IsDamaged limits (D.trace device.old).now)) }
-    ensures len { length (D.trace device.new).now.seen ≡ length (D.trace device.old).now.seen }
-    ensures honest { IsTrue (D.is_honest device.new) → IsTrue (D.is_honest device.old) }
+    ensures calls { ReadsAndWrites D.Device device.old device.new }
     ensures cause { ReplayFails result (D.failures device.old) (D.failures device.new) }
 {
     let found = match Log::replay(alloc, device, limits) {
@@ -111,12 +109,10 @@ fn restore<D: Device>(alloc: Global, device: &mut D, limits: Limits) -> Result<P
     ensures moments { IsTrue (D.is_honest device.new) → (pages : List Page)
         → RestartsTo limits (D.trace device.old).now.seen pages
         → Goes (LeavesPages limits pages) (D.trace device.old) (D.trace device.new) }
-    ensures len { length (D.trace device.new).now.seen ≡ length (D.trace device.old).now.seen }
-    ensures honest { IsTrue (D.is_honest device.new) → IsTrue (D.is_honest device.old) }
-    ensures cause { IfErr result (λ e. ((e ≡ Fault.Io) × (D.failures device.new ≡ suc (D.failures device.old)))
-        ⊎ (IsRestoreRefusal limits (D.is_honest device.new) (D.trace device.old) (D.trace device.new) e
-        × (D.failures device.new ≡ D.failures device.old))) }
-    ensures done { OnOk result (D.failures device.new ≡ D.failures device.old) }
+    ensures calls { ReadsAndWrites D.Device device.old device.new }
+    ensures cause { FailsWithIoOr
+        (IsRestoreRefusal limits (D.is_honest device.new) (D.trace device.old) (D.trace device.new))
+        result (D.failures device.old) (D.failures device.new) }
 {
     device.sync()?;
     let log = restore_log(alloc, device, limits)?;
@@ -135,12 +131,9 @@ fn read_index<D: Device>(alloc: Global, device: &mut D, frames: u32) -> Result<P
     ensures moments { IsTrue (D.is_honest device.new) → (limits : Limits) (pages : List Page)
         → HasIndex limits pages (D.trace device.old).now.seen
         → Goes (LeavesPages limits pages) (D.trace device.old) (D.trace device.new) }
-    ensures len { length (D.trace device.new).now.seen ≡ length (D.trace device.old).now.seen }
-    ensures honest { IsTrue (D.is_honest device.new) → IsTrue (D.is_honest device.old) }
-    ensures cause { IfErr result (λ e. ((e ≡ Fault.Io) × (D.failures device.new ≡ suc (D.failures device.old)))
-        ⊎ (IsRefusal (D.is_honest device.new) frames (D.trace device.old) (D.trace device.new) e
-        × (D.failures device.new ≡ D.failures device.old))) }
-    ensures done { OnOk result (D.failures device.new ≡ D.failures device.old) }
+    ensures calls { ReadsAndWrites D.Device device.old device.new }
+    ensures cause { FailsWithIoOr (IsRefusal (D.is_honest device.new) frames (D.trace device.old) (D.trace device.new))
+        result (D.failures device.old) (D.failures device.new) }
 {
     let limits = find_limits(device, frames)?;
     restore(alloc, device, limits)
@@ -175,9 +168,8 @@ pub fn open<D: Device>(alloc: Global, device: D, frames: u32) -> Result<Store<D>
         → HasIndex limits pages (D.trace device).now.seen
         → Goes (LeavesPages limits pages) (D.trace device) (D.trace (device_left D.Device result)) }
     ensures cause { IfErr result (λ refused.
-        ((refused.fault ≡ Fault.Io) × (D.failures refused.device ≡ suc (D.failures device)))
-        ⊎ (IsRefusal (D.is_honest refused.device) frames (D.trace device) (D.trace refused.device) refused.fault
-        × (D.failures refused.device ≡ D.failures device))) }
+        IsIoOr (IsRefusal (D.is_honest refused.device) frames (D.trace device) (D.trace refused.device))
+        (D.failures device) (D.failures refused.device) refused.fault) }
     ensures done { OnOk result (D.failures (device_left D.Device result) ≡ D.failures device) }
     ensures len { length (D.trace (device_left D.Device result)).now.seen ≡ length (D.trace device).now.seen }
     ensures honest { IsTrue (D.is_honest (device_left D.Device result)) → IsTrue (D.is_honest device) }

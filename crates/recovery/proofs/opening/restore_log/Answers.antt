@@ -24,9 +24,6 @@ returns-in_err-bring_home-clause-moments g c = λ honest firm pages restarts.
     let found = c.in-Ok.ensures.ok (subst IsTrue c.bring_home.ensures.calls.honest honest) in
     goes_weaker _ _ start middle (written_leaves limits images pages c.in-Ok.found.log start firm restarts c.in-Ok.ensures.opened found) moments
 
-pub returns-in_err-bring_home-clause-len : goal.returns-in_err-bring_home-clause-len
-returns-in_err-bring_home-clause-len g c = c.bring_home.ensures.calls.len ∙ ap (λ (t : Trace). length t.now.seen) c.replay.ensures.trace
-
 pub reset-requires : goal.reset-requires
 reset-requires g c =
     let is = c.in-Ok.ensures.opened.limits_are in
@@ -44,9 +41,6 @@ returns-in_err-reset-clause-moments g c = λ honest firm pages restarts.
     goes_on _ start middle (g.D.Device.trace c.reset.new.device)
     (goes_weaker _ _ start middle (written_leaves limits images pages c.in-Ok.found.log start firm restarts c.in-Ok.ensures.opened found) moments)
     (closed_goes limits images pages c.in-Ok.found.log start firm restarts c.in-Ok.ensures.opened found middle (g.D.Device.trace c.reset.new.device) moments homed c.reset.ensures.moments c.reset.ensures.outside)
-
-pub returns-in_err-reset-clause-len : goal.returns-in_err-reset-clause-len
-returns-in_err-reset-clause-len g c = c.reset.ensures.len ∙ (c.bring_home.ensures.calls.len ∙ ap (λ (t : Trace). length t.now.seen) c.replay.ensures.trace)
 
 pub returns-clause-same : goal.returns-clause-same
 returns-clause-same g c = λ honest firm pages restarts.
@@ -72,9 +66,6 @@ returns-clause-moments g c = λ honest firm pages restarts.
     goes_on _ start middle (g.D.Device.trace c.reset.new.device)
     (goes_weaker _ _ start middle (written_leaves limits images pages c.in-Ok.found.log start firm restarts c.in-Ok.ensures.opened found) moments)
     (closed_goes limits images pages c.in-Ok.found.log start firm restarts c.in-Ok.ensures.opened found middle (g.D.Device.trace c.reset.new.device) moments homed c.reset.ensures.moments c.reset.ensures.outside)
-
-pub returns-clause-len : goal.returns-clause-len
-returns-clause-len g c = c.reset.ensures.len ∙ (c.bring_home.ensures.calls.len ∙ ap (λ (t : Trace). length t.now.seen) c.replay.ensures.trace)
 
 pub returns-clause-undamaged : goal.returns-clause-undamaged
 returns-clause-undamaged g c = λ honest. (let found = c.in-Ok.ensures.ok (subst IsTrue (c.reset.ensures.honest ∙ c.bring_home.ensures.calls.honest) honest) in (found.groups, found.spells))
