@@ -3,7 +3,7 @@ use Rattle.std.proofs.Common.{inl, inr, ℕ, suc, ◌+◌, ◌<◌, ◌≤◌, L
 use Rattle.std.proofs.lemmas.Bool.{cases_lt}
 use Rattle.std.specs.Prelude.{Bool, Result, Ok, Err}
 use Rattle.index_model.specs.declared.fault.Fault.{Fault}
-use Rattle.device.specs.Disk.{Counts}
+use Rattle.device.specs.Disk.{CountsFailures}
 use Rattle.redo_log.specs.Kept.{end_with, IoOrStopped}
 use Rattle.redo_log.specs.declared.log.Log.{Log}
 use Rattle.index_model.specs.declared.limits.Limits.{Limits}
@@ -30,6 +30,6 @@ failures_rise (Ok x) stopped old new same = omega arith
 failures_rise (Err e) stopped old new (inl io) = omega (arith, io.1)
 failures_rise (Err e) stopped old new (inr other) = omega (arith, other.2)
 
-pub counts_rise : {T : Type 0} (r : Result T Fault) (old new : ℕ) → Counts r old new → old ≤ new
+pub counts_rise : {T : Type 0} (r : Result T Fault) (old new : ℕ) → CountsFailures r old new → old ≤ new
 counts_rise (Ok x) old new same = omega arith
 counts_rise (Err e) old new io = omega (arith, io.1)

@@ -20,7 +20,8 @@ use Rattle.redo_log.specs.Kept.{Keeps, RestartsOrEmpty, limits_of, is_stopped}
 use Rattle.redo_log.specs.declared.log.Log.{Log}
 use Rattle.redo_log.proofs.Keeping.{keeps_elsewhere}
 use Rattle.page_store.specs.Histories.{after_acts, pages_after, AreActs}
-use Rattle.page_store.specs.Restart.{superblock, place, RestartsToPart, LeavesPart}
+use Rattle.device_layout.specs.Layout.{superblock, place}
+use Rattle.page_store.specs.Restart.{RestartsToPart, LeavesPart}
 use Rattle.page_store.specs.Logged.{Held, AreHome, IsKept, IsOwn}
 use Rattle.page_store.specs.Following.{Follows}
 use Rattle.page_store.specs.Writing.{ChangesMarked, AreOnDisk}

@@ -14,7 +14,8 @@ use Rattle.redo_log.specs.Kept.{Keeps, Restarts, limits_of, is_stopped}
 use Rattle.redo_log.specs.declared.log.Log.{Log}
 use Rattle.redo_log.proofs.Keeping.{keeps_restarts}
 use Rattle.page_store.specs.Histories.{pages_after, AreActs}
-use Rattle.page_store.specs.Restart.{superblock, place, LeavesPart}
+use Rattle.device_layout.specs.Layout.{superblock, place}
+use Rattle.page_store.specs.Restart.{LeavesPart}
 use Rattle.page_store.specs.Logged.{Held, AreHome, IsKept, IsOwn}
 use Rattle.page_store.specs.Following.{GoesOn, Follows}
 use Rattle.page_store.specs.declared.history.History.{History}

@@ -12,7 +12,8 @@ use Rattle.redo_log.specs.Images.{last_image, images_of}
 use Rattle.redo_log.specs.Kept.{Keeps, limits_of, is_stopped}
 use Rattle.redo_log.specs.declared.log.Log.{Log}
 use Rattle.page_store.specs.Histories.{after_acts, pages_after, AreActs}
-use Rattle.page_store.specs.Restart.{superblock, place, LeavesPart}
+use Rattle.device_layout.specs.Layout.{superblock, place}
+use Rattle.page_store.specs.Restart.{LeavesPart}
 use Rattle.page_store.specs.declared.history.History.{History}
 use Rattle.page_store.specs.declared.logged_pages.LoggedPages.{LoggedPages}
 

@@ -2,6 +2,7 @@
 
 ghost use Rattle.std.specs.Prelude.{◌≡◌, ◌≤◌, ◌<◌, ◌+◌, ◌*◌, suc, false, length, vec_capacity};
 ghost use Rattle.std.specs.Coded.{Coded-set};
+ghost use Rattle.device_layout.specs.Layout.{place};
 ghost use Rattle.index_model.specs.Limits.{AreLimits};
 ghost use Rattle.page_action.specs.Stored.{AreStored};
 ghost use Rattle.page_action.specs.Props.{AreStored-prop};
@@ -34,7 +35,7 @@ pub(crate) struct LoggedPages<D: Device> {
     pub(crate) history: History,
     ghost allowed: { AreLimits limits },
     ghost log_limits: { limits_of log ≡ limits } by { Coded-set limits-code (limits_of log) limits },
-    ghost sized: { 4096 + limits.log_bytes + 4096 * limits.pages ≤ length (D.trace device).now.seen },
+    ghost sized: { place limits limits.pages ≤ length (D.trace device).now.seen },
     ghost stored: { AreStored limits 0 pages.items } by { AreStored-prop limits 0 pages.items },
     ghost marks: { length changed.items ≡ length pages.items },
     ghost few: { length pages.items ≤ limits.pages },
@@ -56,8 +57,7 @@ impl<D: Device> LoggedPages<D> {
     ghost use Rattle.redo_log.specs.Kept.{IoOrStopped};
     ghost use Rattle.page_store.specs.Following.{Follows};
     ghost use Rattle.page_store.specs.Logged.{held_of, AreHome, IsOwn, SameButDevice, StandsOpened};
-    ghost use Rattle.page_store.specs.Restart.{place};
-    ghost use Rattle.device.specs.Disk.{Counts};
+    ghost use Rattle.device.specs.Disk.{CountsFailures};
 
     /// These pages over a device and a log that was just opened and closed. None of them is marked.
     pub fn new(
@@ -162,7 +162,7 @@ impl<D: Device> LoggedPages<D> {
         ensures home { OnOk result (IsOwn (held_of D.Device self.new)
             → AreHome self.new.limits [] self.new.pages.items (D.trace self.new.device).now) }
         ensures same { SameButDevice D.Device self.old self.new }
-        ensures failures { Counts result (D.failures self.old.device) (D.failures self.new.device) }
+        ensures failures { CountsFailures result (D.failures self.old.device) (D.failures self.new.device) }
     {
         write_home(&mut self.device, self.limits, &self.pages, &self.changed)
     }
@@ -179,7 +179,7 @@ impl<D: Device> LoggedPages<D> {
         ensures durable { self.new.durable ≡ self.old.durable }
         ensures room { OnOk result (5 ≤ self.new.room) }
         ensures limits { self.new.limits ≡ self.old.limits }
-        ensures failures { Counts result (D.failures self.old.device) (D.failures self.new.device) }
+        ensures failures { CountsFailures result (D.failures self.old.device) (D.failures self.new.device) }
     {
         self.log.reset(&mut self.device)?;
         self.changed.fill(false);

@@ -38,7 +38,8 @@ impl<D: Device> Store<D> {
     ghost use Rattle.page_store.specs.Logged.{Held, IsOwn, StandsOpened, backing_of};
     ghost use Rattle.page_store.specs.Histories.{pages_after};
     ghost use Rattle.page_store.specs.Following.{Follows};
-    ghost use Rattle.page_store.specs.Restart.{place, RestartsToPart};
+    ghost use Rattle.device_layout.specs.Layout.{place};
+    ghost use Rattle.page_store.specs.Restart.{RestartsToPart};
     ghost use Rattle.page_store.specs.Rooms.{limits_of_room, pages_of_room, counts_of_room};
     ghost use Rattle.page_store.specs.Stores.{state_of, held_by, device_of, history_of, opened_state, IsOwnStore};
 

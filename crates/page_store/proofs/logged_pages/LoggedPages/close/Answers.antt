@@ -3,6 +3,7 @@ use Rattle.std.specs.Result.{is_err}
 use Rattle.std.proofs.lemmas.Bool.{cases_lt}
 use Rattle.index_model.specs.declared.limits.Limits.{Limits}
 use Rattle.redo_log.specs.Kept.{is_stopped, end_with}
+use Rattle.redo_log.proofs.Keeping.{forgets_all}
 use Rattle.page_store.specs.Logged.{held_of, AreHome}
 use Rattle.page_store.proofs.Misfits.{misfit}
 use Rattle.page_store.proofs.Acting.{failures_rise}
@@ -30,7 +31,7 @@ returns-clause-steps g c =
     (λ own. subst (λ (l : Limits). AreHome l [] held.pages.items (g.D.Device.trace held.device).now) (sym held.log_limits) (home own))
     c.reset.ensures.moments c.reset.ensures.outside c.reset.ensures.honest (failures_rise c.reset.result _ _ _ c.reset.ensures.cause)
     (λ still block. none_marked c.fill.new.self.items _ block (c.fill.ensures.items (λ y e. e)))
-    (λ still acts forced keeps. c.in_ok-reset.ensures.keeps acts forced keeps (held.forced c.requires.alive c.requires.all))
+    (λ still. forgets_all held.log _ c.reset.new.self _ c.in_ok-reset.ensures.keeps c.reset.ensures.waiting (held.forced c.requires.alive c.requires.all))
 
 pub returns-clause-room : goal.returns-clause-room
 returns-clause-room g c =
