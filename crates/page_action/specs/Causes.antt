@@ -42,16 +42,16 @@ abbrev pub count_apart : List ℕ → ℕ
 count_apart [] = 0
 count_apart (b ∷ blocks) = if has_pin blocks b then count_apart blocks else suc (count_apart blocks)
 
--- no frame is left beside the pinned pages and these
+-- these pages and the pinned ones are more than the frames
 abbrev pub are_frames_pinned : State → List ℕ → Bool
-are_frames_pinned st blocks = nat_le st.frames (count_apart (blocks ++ pinned_blocks st.table))
+are_frames_pinned st blocks = nat_lt st.frames (count_apart (blocks ++ pinned_blocks st.table))
 
 -- a page is read: it may be one not yet used, and any page where the device did not keep its model
 abbrev pub where_read : State → Backing → Backing → ℕ → Circumstances
 where_read st old new block = record nothing_wrong {
   device_failed = has_failed old new;
   is_stopped = old.stopped;
-  frames_are_pinned = are_frames_pinned st [];
+  frames_are_pinned = are_frames_pinned st (block ∷ []);
   page_is_damaged = λ b. (b == block) && (not new.honest || nat_le (length st.pages) block);
 }
 

@@ -3,6 +3,9 @@ pub mod Reuse
 pub mod Contents
 pub mod Crashes
 pub mod Causes
+pub mod Room
 pub mod Props
 pub mod Stored
+pub mod Laws
+pub mod CallTables
 pub mod MapStore

@@ -1,6 +1,6 @@
 -- What a store of pages shows: one record of plain data for its pages, its calls and who holds what, and one for the
 -- log and the device below.
-use Rattle.std.specs.Prelude.{◌≡◌, ℕ, suc, ◌≤◌, ◌==◌, Bool, true, if◌then◌else◌, nat_lt, Option, Some, None, List, [], ◌∷◌, ◌++◌, length, slice_set}
+use Rattle.std.specs.Prelude.{◌≡◌, ◌⊎◌, ℕ, suc, ◌≤◌, ◌<◌, ◌==◌, Bool, true, if◌then◌else◌, nat_lt, Option, Some, None, List, [], ◌∷◌, ◌++◌, length, slice_set}
 use Rattle.index_model.specs.declared.limits.Limits.{Limits}
 use Rattle.page_codec.specs.declared.page.Page.{Page}
 use Rattle.page_codec.specs.declared.page.PageState.{PageState}
@@ -43,11 +43,13 @@ pub record Backing : Type 0 where
   -- how many device calls have failed
   pub failures : ℕ
 
--- what never goes back: failures and durable acts don't fall, a stopped log stays so, and who is honest now was so
+-- what never goes back: failures and durable acts don't fall, a stopped log stays so, and who is honest now was so; and a
+-- log that is stopped was so before, or a device call has failed since
 pub record IsLater (old new : Backing) : Type 0 where
   pub failures : old.failures ≤ new.failures
   pub durable : old.durable ≤ new.durable
   pub stopped : old.stopped ≡ true → new.stopped ≡ true
+  pub stop_has_cause : new.stopped ≡ true → (old.stopped ≡ true) ⊎ (old.failures < new.failures)
   pub honest : new.honest ≡ true → old.honest ≡ true
 
 -- whatever the store followed before, it follows after

@@ -1,14 +1,15 @@
 //! The trait.
 
-ghost use Rattle.std.specs.Prelude.{◌≡◌, ℕ, List, suc, ◌+◌, ◌≤◌, ◌<◌, not, true, false, IfOk, IfErr, IfSome, OnOk, OnErr, Some, None, length, slice_get, slice_set, if◌then◌else◌, is_none};
+ghost use Rattle.std.specs.Prelude.{◌≡◌, ◌⊎◌, ℕ, List, Err, suc, ◌+◌, ◌≤◌, ◌<◌, not, true, false, IfOk, IfErr, IfSome, OnOk, OnErr, Some, None, length, slice_get, slice_set, if◌then◌else◌, is_none};
 ghost use Rattle.index_model.specs.Faults.{HasCause};
 ghost use Rattle.index_model.specs.Limits.{AreLimits};
 ghost use Rattle.latch_table.specs.Holdings.{HasRoom, holding_of, is_held_by_another, latched, released, pinned, unpinned, with_holding, nothing_held};
 ghost use Rattle.page_codec.specs.declared.page.Page.{Page};
 ghost use Rattle.page_action.specs.Causes.{where_read, where_acted, where_latched, where_begun, where_forced};
-ghost use Rattle.page_action.specs.Crashes.{LeavesFirstPart};
+ghost use Rattle.page_action.specs.Laws.{IsPageStore};
 ghost use Rattle.page_action.specs.Reuse.{IsFresh, IsFull, is_deleted, is_reusable_without};
-ghost use Rattle.page_action.specs.States.{State, Backing, IsLater, Continues, after_act, after_begin, after_end, after_start_cycle, after_stop_cycle, with_table};
+ghost use Rattle.page_action.specs.Room.{KeepsRoom, TakesRoom, HasWholeRoom};
+ghost use Rattle.page_action.specs.States.{State, Backing, Continues, after_act, after_begin, after_end, after_start_cycle, after_stop_cycle, with_table};
 ghost use Rattle.page_action.specs.Stored.{IsStored, AreActable};
 
 use index_model::{Fault, Limits, Session};
@@ -52,7 +53,7 @@ pub trait PageStore {
         ensures used { OnOk result (block < length (state self.old).pages) }
         ensures inside { OnOk result (length (state self.old).pages ≤ (state self.old).limits.pages) }
         ensures alive { OnOk result ((backing self.new).stopped ≡ true → (backing self.old).stopped ≡ true) }
-        ensures promised { (backing self.new).promised ≡ (backing self.old).promised }
+        ensures room { KeepsRoom (state self.old) (backing self.old) (backing self.new) }
         ensures cause { IfErr result (HasCause (where_read (state self.old) (backing self.old) (backing self.new) block)) };
 
     /// Changes one to four pages at once, or none, and answers the number of the act, counted from 1 since opening.
@@ -64,7 +65,11 @@ pub trait PageStore {
         ensures steps { Continues follows self.old self.new }
         ensures done { OnOk result (state self.new ≡ after_act pages.now (state self.old)) }
         ensures number { IfOk result (λ n. n ≡ suc (state self.old).acts) }
+        ensures room { OnOk result
+            (TakesRoom (state self.old) (length pages.now) (backing self.old) (backing self.new)) }
+        ensures stopped { (backing self.old).stopped ≡ true → result ≡ Err Fault.Stopped }
         ensures refused { OnErr result (state self.new ≡ state self.old) }
+        ensures kept { OnErr result (KeepsRoom (state self.old) (backing self.old) (backing self.new)) }
         ensures cause { IfErr result (HasCause (where_acted (state self.old) (backing self.old) (backing self.new) pages.now)) };
 
     /// The block that a new page takes: the lowest reusable one, else the next unused one. Nothing is taken before
@@ -110,6 +115,7 @@ pub trait PageStore {
         ensures backing { backing self.new ≡ backing self.old }
         ensures done { OnOk result (state self.new ≡ after_begin session (state self.old)) }
         ensures number { IfOk result (λ n. n ≡ (state self.old).begun) }
+        ensures stopped { (backing self.old).stopped ≡ true → result ≡ Err Fault.Stopped }
         ensures refused { OnErr result (state self.new ≡ state self.old) }
         ensures cause { IfErr result (HasCause (where_begun (state self.old) (backing self.old))) };
 
@@ -137,7 +143,10 @@ pub trait PageStore {
         ensures state { state self.new ≡ state self.old }
         ensures number { IfOk result (λ n. n ≡ (state self.old).acts) }
         ensures durable { OnOk result ((backing self.new).durable ≡ (state self.old).acts) }
-        ensures promised { (backing self.new).promised ≡ (backing self.old).promised }
+        ensures room { KeepsRoom (state self.old) (backing self.old) (backing self.new) }
+        ensures stopped { (backing self.old).stopped ≡ true → result ≡ Err Fault.Stopped }
+        // One that fails leaves the log stopped.
+        ensures failed { OnErr result ((backing self.new).stopped ≡ true) }
         ensures cause { IfErr result (HasCause (where_forced (backing self.old) (backing self.new))) };
 
     /// Makes all acts durable, writes each changed page to its place and closes the log, which then has its whole
@@ -147,14 +156,18 @@ pub trait PageStore {
         ensures state { state self.new ≡ state self.old }
         ensures number { IfOk result (λ n. n ≡ (state self.old).acts) }
         ensures durable { OnOk result ((backing self.new).durable ≡ (state self.old).acts) }
-        ensures room { OnOk result (5 ≤ (backing self.new).room) }
+        ensures room { OnOk result (HasWholeRoom (state self.old).limits (backing self.new)) }
+        ensures stopped { (backing self.old).stopped ≡ true → result ≡ Err Fault.Stopped }
+        // One that fails leaves the log stopped, or all acts durable.
+        ensures failed { OnErr result
+            (((backing self.new).stopped ≡ true) ⊎ ((backing self.new).durable ≡ (state self.old).acts)) }
+        ensures kept { OnErr result (KeepsRoom (state self.old) (backing self.old) (backing self.new)) }
         ensures cause { IfErr result (HasCause (where_forced (backing self.old) (backing self.new))) };
 
     /// How many images one more act could hold now. A force between now and that act may cost one image of room, yet an
     /// act of fewer images is not refused with `LogFull`.
     fn room(&self) -> u32
-        ensures value { result ≡ (backing self.now).room }
-        ensures promised { result ≤ (backing self.now).promised };
+        ensures { result ≡ (backing self.now).room };
 
     /// Whether the log has failed: every call that reads or writes is refused with `Stopped`.
     fn is_stopped(&self) -> bool
@@ -190,29 +203,6 @@ pub trait PageStore {
         ensures backing { backing self.new ≡ backing self.old }
         ensures state { state self.new ≡ after_stop_cycle (state self.old) };
 
-    /// A store follows itself.
-    ghost follows_same: { (s : Self) → follows s s };
-
-    /// What never goes back.
-    ghost follows_later: { (s t : Self) → follows s t → IsLater (backing s) (backing t) };
-
-    /// No more acts are durable than were done.
-    ghost durable_few: { (s : Self) → (backing s).durable ≤ (state s).acts };
-
-    /// What follows an own store is one.
-    ghost own_stays: { (s t : Self) → own s → follows s t → own t };
-
-    /// Acts are not undone.
-    ghost acts_later: { (s t : Self) → own s → follows s t → (state s).acts ≤ (state t).acts };
-
-    /// After all its acts its pages are those of now.
-    ghost past_now: { (s : Self) → own s → past s (state s).acts ≡ (state s).pages };
-
-    /// What its pages were after an earlier act stays so.
-    ghost past_stays: { (s t : Self) (part : ℕ) → own s → follows s t → part ≤ (state s).acts → past t part ≡ past s part };
-
-    /// What a crash leaves of an own store restarts to its pages after some first part of its acts, with all that were
-    /// durable.
-    ghost leaves_first: { (s t : Self) (image : List ℕ) → own s → follows s t → leaves s t image
-        → LeavesFirstPart (backing s).durable (state t).acts (past t) (restarts t image) };
+    /// What holds of these words in every store.
+    ghost laws: { IsPageStore state backing follows own past leaves restarts };
 }

@@ -1,5 +1,5 @@
 -- Pages after an act follow those before it.
-use Rattle.std.proofs.Common.{◌≡◌, ℕ, suc, ◌≤◌, Bool, Option, List, [], ◌∷◌, ◌++◌, length, take, drop, refl, sym, ap, subst, ◌∙◌, arith, length-append}
+use Rattle.std.proofs.Common.{◌≡◌, inl, ℕ, suc, ◌≤◌, Bool, Option, List, [], ◌∷◌, ◌++◌, length, take, drop, refl, sym, ap, subst, ◌∙◌, arith, length-append}
 use Rattle.std.proofs.lemmas.List.{take-append-le, drop-append-le}
 use Rattle.std.specs.Prelude.{is_some}
 use Rattle.device.specs.Disk.{Moment}
@@ -87,8 +87,8 @@ module _ (old : Held) (log : Log) (changed : List Page) (room promised : ℕ) (l
 
   pub follows_acted : Follows old acted_held
   follows_acted = record {
-    later = record { failures = omega arith; durable = omega arith; stopped = λ s. stopped ∙ s; honest = λ s. s };
-    extends = λ own. record {
+    later = record { failures = omega arith; durable = omega arith; stopped = λ s. stopped ∙ s; stop_has_cause = λ s. inl (sym stopped ∙ s); honest = λ s. s };
+    grows = λ own. record {
       own = own_more own;
       limits = limits;
       start = refl;
