@@ -15,6 +15,7 @@ use Rattle.page_store.specs.Rooms.{pages_of_room}
 use Rattle.page_store.specs.Stores.{state_of, device_of, opened_state, IsOwnStore}
 use Rattle.page_store.specs.declared.store.Store.{Store}
 use Rattle.redo_log.specs.Groups.{SpellsGroups, log_range}
+use Rattle.redo_log.specs.Kept.{groups_end}
 use Rattle.redo_log.specs.Reading.{IsOpened, IsDamaged}
 use Rattle.recovery.specs.Reading.{AreInUse, IsDamage, IsAllRead, greatest_cycle}
 use Rattle.recovery.specs.Superblock.{IsNoSuperblock}
@@ -70,9 +71,10 @@ IsRefusal honest frames old new fault =
 abbrev pub IsSynced : Moment → Type 0
 IsSynced m = (i : ℕ) → m.loose i ≡ false
 
--- an opened log, and what was read
+-- an opened log without open groups, and what was read
 pub record IsRestored (limits : Limits) (honest : Bool) (file : List ℕ) (parts : Parts) : Type 0 where
   pub opened : IsOpened limits parts.log
+  pub closed : groups_end parts.log ≡ 0
   pub read : IsAllRead limits honest file parts.found
 
 -- the index that was found: restored, on a device that is long enough; its superblock stood there, and an undamaged log
@@ -93,14 +95,14 @@ pub record AreSamePages (pages : List Page) (m : Moment) (parts : Parts) : Type 
 abbrev pub IsNoMemoryOrIo : Fault → Type 0
 IsNoMemoryOrIo fault = (fault ≡ NoMemory) ⊎ (fault ≡ Io)
 
--- the state as it is opened with its pages: as many as the limits allow, one or more, each one that may be stored; no
--- deletion number counts, and the last cycle number is the greatest of the pages
-pub record IsFreshlyOpened (st : State) : Type 0 where
+-- the state as it is opened with its pages, for so many frames: as many as the limits allow, one or more, each one that
+-- may be stored; no deletion number counts, and the last cycle number is the greatest of the pages
+pub record IsFreshlyOpened (frames : ℕ) (st : State) : Type 0 where
   pub allowed : AreLimits st.limits
   pub some : 0 < length st.pages
   pub few : length st.pages ≤ st.limits.pages
   pub stored : AreStored st.limits 0 st.pages
-  pub is : st ≡ opened_state st.limits st.pages (replicate (length st.pages) 0) (greatest_cycle st.pages)
+  pub is : st ≡ opened_state st.limits frames st.pages (replicate (length st.pages) 0) (greatest_cycle st.pages)
 
 -- the index of a store stands on its device: its superblock and an undamaged log stood there before, its pages stand
 -- there now

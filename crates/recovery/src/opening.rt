@@ -4,12 +4,14 @@ ghost use Rattle.std.specs.Prelude.{◌≡◌, ◌⊎◌, ◌≤◌, ◌<◌, �
 ghost use Rattle.device.specs.Moments.{Goes};
 ghost use Rattle.index_model.specs.Limits.{AreLimits};
 ghost use Rattle.page_codec.specs.declared.page.Page.{Page};
+ghost use Rattle.page_action.specs.Room.{HasWholeRoom};
 ghost use Rattle.page_store.specs.Logged.{StandsOpened, backing_of};
 ghost use Rattle.page_store.specs.Rooms.{limits_of_room};
 ghost use Rattle.page_store.specs.Stores.{state_of, held_by};
 ghost use Rattle.index_model.specs.declared.limits.Limits.{Limits};
 ghost use Rattle.device_layout.specs.Layout.{place};
 ghost use Rattle.page_store.specs.Restart.{RestartsTo, LeavesPages};
+ghost use Rattle.redo_log.specs.Kept.{groups_end};
 ghost use Rattle.redo_log.specs.Reading.{IsOpened, IsDamaged, ReplayFails};
 ghost use Rattle.recovery.specs.Calls.{OnlyReads, ReadsAndWrites, IsIoOr, FailsWithIoOr};
 ghost use Rattle.recovery.specs.Index.{HasIndex};
@@ -74,6 +76,7 @@ fn restore_log<D: Device>(alloc: Global, device: &mut D, limits: Limits) -> Resu
     requires allowed { AreLimits limits }
     requires inside { place limits limits.pages ≤ length (D.trace device.old).now.seen }
     ensures opened { IfOk result (IsOpened limits) }
+    ensures closed { IfOk result (λ log. groups_end log ≡ 0) }
     ensures undamaged { OnOk result (IsTrue (D.is_honest device.new) → HasGroups limits (D.trace device.old).now.seen) }
     ensures same { IsTrue (D.is_honest device.new) → IsSynced (D.trace device.old).now
         → (pages : List Page) → RestartsTo limits (D.trace device.old).now.seen pages
@@ -139,9 +142,10 @@ fn read_index<D: Device>(alloc: Global, device: &mut D, frames: u32) -> Result<P
     restore(alloc, device, limits)
 }
 
-/// Opens the index on the device, after any crash, for so many pages in memory at once (16 to 1,024). It reads the
-/// superblock, syncs the device, reads the log, writes each image of an open group to the place of its block, syncs
-/// them, closes the log, and reads the pages of the blocks in use. After it, nothing takes memory.
+/// Opens the index on the device, after any crash, for so many pages in memory at once (16 to 1,024), its frames. It
+/// reads the superblock, syncs the device, reads the log, writes each image of an open group to the place of its block,
+/// syncs them, closes the log, and reads the pages of the blocks in use. Its room is then that of an empty log,
+/// (`log_bytes` - 6) / 4,096 images. After it, nothing takes memory.
 ///
 /// Refused, tested in this order, with the device given back: with `BadLimits` (18) for other numbers of frames; with
 /// `BadSuper` (14) for a device of less than 4,096 bytes; with `BadSuper`, `BadVersion` (15) or `BadLimits` for what
@@ -153,9 +157,11 @@ fn read_index<D: Device>(alloc: Global, device: &mut D, frames: u32) -> Result<P
 /// It never changes which pages the bytes stand for: after a refusal, or a crash at any moment, it may be called again.
 pub fn open<D: Device>(alloc: Global, device: D, frames: u32) -> Result<Store<D>, Refused<D>>
     ensures frames { OnOk result (AreFrames frames) }
-    ensures opened { IfOk result (λ store. IsFreshlyOpened (state_of D.Device store)) }
+    ensures opened { IfOk result (λ store. IsFreshlyOpened frames (state_of D.Device store)) }
     ensures alive { IfOk result (λ store. (backing_of (held_by D.Device store)).stopped ≡ false) }
     ensures durable { IfOk result (λ store. (backing_of (held_by D.Device store)).durable ≡ 0) }
+    ensures room { IfOk result (λ store.
+        HasWholeRoom (state_of D.Device store).limits (backing_of (held_by D.Device store))) }
     // What it has is what stands on the device.
     ensures read { IsTrue (D.is_honest (device_left D.Device result)) → IfOk result (λ store.
         StandsOnDevice (state_of D.Device store) (D.trace device).now.seen (D.trace (device_left D.Device result)).now.seen) }
@@ -179,7 +185,7 @@ pub fn open<D: Device>(alloc: Global, device: D, frames: u32) -> Result<Store<D>
     match read {
         Ok(Parts { log, found }) => {
             let Found { room, counter } = found;
-            Ok(Store::new(device, log, room, counter))
+            Ok(Store::new(device, log, room, frames, counter))
         }
         Err(fault) => Err(Refused { fault, device }),
     }

@@ -156,6 +156,7 @@ impl Log {
         ensures keeps { OnOk result
             (ForgetsForced self.old (D.trace device.old).now self.new (D.trace device.new).now) }
         ensures moments { RestartsOrEmptyThroughout self.old (D.trace device.old) (D.trace device.new) }
+        ensures closed { OnOk result (groups_end self.new ≡ 0) }
         ensures waiting { waiting_count self.new ≡ waiting_count self.old }
         ensures room { OnOk result ((n : ℕ)
             → end_with self.new n ≡ 6 + 4096 * (waiting_count self.old + n)) }
