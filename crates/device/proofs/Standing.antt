@@ -4,7 +4,7 @@ use Rattle.std.proofs.lemmas.Bool.{cases_lt}
 use Rattle.std.proofs.lemmas.List.{places, drop_more, get_or-append-add, get_or_append_left}
 use Rattle.std.proofs.lemmas.Bool.Decides.{nat_tests}
 use Rattle.device.specs.Disk.{Moment, MayLeave, put, is_in, wrote, synced}
-use Rattle.device.specs.Places.{Has, OnDisk, ChangesOnly}
+use Rattle.device.specs.Places.{Has, OnDisk, ChangesOnly, IsUntouched}
 
 pub length-put : (file : List ℕ) (at : ℕ) (bytes : List ℕ) → at + length bytes ≤ length file → length (put file at bytes) ≡ length file
 length-put file at bytes fits = search (rules, places)
@@ -66,6 +66,28 @@ pub kept : (a k at : ℕ) (q : List ℕ) (old new : Moment) → ChangesOnly a k 
 kept a k at q old new f out h = record {
   has = has_kept a k at q old new f out h.has;
   firm = λ i lt. f.loose (at + i) (apart at (length q) a k i lt out) (h.firm i lt);
+}
+
+out_of_range : (at n start size i : ℕ) → start ≤ i → i < start + size → (start + size ≤ at) ⊎ (at + n ≤ start) → (i < at) ⊎ (at + n ≤ i)
+out_of_range at n start size i from to (inl above) = inl (omega arith)
+out_of_range at n start size i from to (inr below) = inr (omega arith)
+
+-- what changes only elsewhere leaves a range untouched
+pub elsewhere_untouched : (at n start size : ℕ) (a b : Moment) → ChangesOnly at n a b → (start + size ≤ at) ⊎ (at + n ≤ start) → IsUntouched start size a b
+elsewhere_untouched at n start size a b f out = record {
+  same_length = f.same_length;
+  seen = λ i from to. f.seen i (out_of_range at n start size i from to out);
+  loose = λ i from to. f.loose i (out_of_range at n start size i from to out);
+}
+
+-- and what stands in it still does
+pub untouched_on : (start size at : ℕ) (q : List ℕ) (a b : Moment) → IsUntouched start size a b → start ≤ at → at + length q ≤ start + size → OnDisk at q a → OnDisk at q b
+untouched_on start size at q a b f lo hi h = record {
+  has = record {
+    within = omega (arith, h.has.within, f.same_length);
+    each = λ i lt. f.seen (at + i) (omega arith) (omega arith) ∙ h.has.each i lt;
+  };
+  firm = λ i lt. f.loose (at + i) (omega arith) (omega arith) (h.firm i lt);
 }
 
 pub wrote_has : (at : ℕ) (bytes : List ℕ) (m : Moment) → at + length bytes ≤ length m.seen → Has at bytes (wrote at bytes m).seen

@@ -66,5 +66,5 @@ abbrev pub Syncs : {T E : Type 0} → Result T E → Trace → Trace → Type 0
 Syncs result old new = MatchResult result (λ _. new ≡ next (synced old.now) old) (λ _. new ≡ old)
 
 -- a call that failed answers Io and counts one failure; nothing else counts
-abbrev pub Counts : {T : Type 0} → Result T Fault → ℕ → ℕ → Type 0
-Counts result old new = MatchResult result (λ _. new ≡ old) (λ e. (e ≡ Io) × (new ≡ suc old))
+abbrev pub CountsFailures : {T : Type 0} → Result T Fault → ℕ → ℕ → Type 0
+CountsFailures result old new = MatchResult result (λ _. new ≡ old) (λ e. (e ≡ Io) × (new ≡ suc old))

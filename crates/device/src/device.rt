@@ -1,7 +1,7 @@
 //! What a device is.
 
 ghost use Rattle.std.specs.Prelude.{◌≡◌, ◌+◌, ◌^◌, ◌≤◌, ◌<◌, ◌↔◌, ℕ, Bool, IsTrue, length, OnOk};
-ghost use Rattle.device.specs.Disk.{Trace, Reads, Writes, Syncs, Counts};
+ghost use Rattle.device.specs.Disk.{Trace, Reads, Writes, Syncs, CountsFailures};
 
 use index_model::Fault;
 
@@ -36,7 +36,7 @@ pub trait Device {
         ensures honest { IsTrue (is_honest self.new) ↔ (IsTrue (is_honest self.old)
             × OnOk result (Reads (trace self.old) at buf.old buf.new)) }
         ensures trace { trace self.new ≡ trace self.old }
-        ensures failures { Counts result (failures self.old) (failures self.new) };
+        ensures failures { CountsFailures result (failures self.old) (failures self.new) };
 
     /// Writes the bytes from `at` on. Until the next sync a crash may leave any bytes there. At `Io`
     /// nothing was written, or the range holds any bytes from now on.
@@ -45,14 +45,14 @@ pub trait Device {
         ensures trace { Writes at bytes.now result (trace self.old) (trace self.new) }
         ensures len { length (trace self.new).now.seen ≡ length (trace self.old).now.seen }
         ensures honest { is_honest self.new ≡ is_honest self.old }
-        ensures failures { Counts result (failures self.old) (failures self.new) };
+        ensures failures { CountsFailures result (failures self.old) (failures self.new) };
 
     /// Makes all that was written stand through a crash. At `Io` the device is as it was.
     fn sync(&mut self) -> Result<(), Fault>
         ensures trace { Syncs result (trace self.old) (trace self.new) }
         ensures len { length (trace self.new).now.seen ≡ length (trace self.old).now.seen }
         ensures honest { is_honest self.new ≡ is_honest self.old }
-        ensures failures { Counts result (failures self.old) (failures self.new) };
+        ensures failures { CountsFailures result (failures self.old) (failures self.new) };
 
     /// Offsets and their sums fit into a word.
     ghost small: { (device : Self) → length (trace device).now.seen < 2 ^ 63 };

@@ -1,7 +1,7 @@
 //! A device in memory.
 
 ghost use Rattle.std.specs.Prelude.{◌≡◌, ◌⊎◌, ◌↔◌, ◌+◌, ◌<◌, ◌≤◌, ◌^◌, suc, Bool, true, IsTrue, IsOk, OnOk, OnErr, IfOk, IfErr, length, replicate};
-ghost use Rattle.device.specs.Disk.{MayLeave, first, Reads, Writes, IsKeptOrNot, Syncs, Counts};
+ghost use Rattle.device.specs.Disk.{MayLeave, first, Reads, Writes, IsKeptOrNot, Syncs, CountsFailures};
 ghost use Rattle.device.specs.Record.{done, are_inside};
 
 use crate::count::Count;
@@ -151,7 +151,7 @@ impl Device for MemDevice {
         requires range { at + length buf.old ≤ length (trace_of self.old).now.seen }
         ensures read { OnOk result (Reads (trace_of self.old) at buf.old buf.new) }
         ensures trace { trace_of self.new ≡ trace_of self.old }
-        ensures failures { Counts result (failures_of self.old) (failures_of self.new) }
+        ensures failures { CountsFailures result (failures_of self.old) (failures_of self.new) }
         ensures fate { IsOk result ↔ (fate_of (plan_of self.old) ≡ Fate.Runs) }
         ensures plan { plan_of self.new ≡ after_call (plan_of self.old) }
     {
@@ -167,7 +167,7 @@ impl Device for MemDevice {
         requires range { at + length bytes.now ≤ length (trace_of self.old).now.seen }
         ensures trace { Writes at bytes.now result (trace_of self.old) (trace_of self.new) }
         ensures len { length (trace_of self.new).now.seen ≡ length (trace_of self.old).now.seen }
-        ensures failures { Counts result (failures_of self.old) (failures_of self.new) }
+        ensures failures { CountsFailures result (failures_of self.old) (failures_of self.new) }
         ensures fate { IsOk result → fate_of (plan_of self.old) ≡ Fate.Runs }
         ensures dead { fate_of (plan_of self.old) ≡ Fate.Dead
             → trace_of self.new ≡ trace_of self.old }
@@ -191,7 +191,7 @@ impl Device for MemDevice {
     fn sync(&mut self) -> Result<(), Fault>
         ensures trace { Syncs result (trace_of self.old) (trace_of self.new) }
         ensures len { length (trace_of self.new).now.seen ≡ length (trace_of self.old).now.seen }
-        ensures failures { Counts result (failures_of self.old) (failures_of self.new) }
+        ensures failures { CountsFailures result (failures_of self.old) (failures_of self.new) }
         ensures fate { IsOk result → fate_of (plan_of self.old) ≡ Fate.Runs }
         ensures plan { plan_of self.new ≡ after_call (plan_of self.old) }
     {

@@ -7,4 +7,5 @@ pub mod Room
 pub mod Props
 pub mod Stored
 pub mod Laws
+pub mod CallTables
 pub mod MapStore

@@ -1,30 +1,19 @@
 -- What a plain map of pages shows.
-use Rattle.std.specs.Prelude.{◌≡◌, ◌⊎◌, ◌≤◌, true, false, None, [], ◌∷◌, ◌++◌, length, replicate}
+use Rattle.std.specs.Prelude.{◌≡◌, ◌⊎◌, ◌≤◌, true, false, [], ◌∷◌, ◌++◌, length}
 use Rattle.std.proofs.Common.{arith, inl}
 use Rattle.index_model.specs.declared.fault.Fault.{Fault}
 use Rattle.index_model.specs.declared.fault.Fault.TheVariants.{IndexFull, PageDamaged}
 use Rattle.index_model.specs.declared.limits.Limits.{Limits}
-use Rattle.latch_table.specs.Holdings.{nothing_held}
 use Rattle.page_codec.specs.declared.page.Page.{Page}
 use Rattle.page_action.specs.States.{State, Backing, IsLater}
+use Rattle.page_action.specs.CallTables.{opened_calls, state_with}
 use Rattle.page_action.specs.Laws.{IsPageStore}
 use Rattle.page_action.specs.Room.{whole_room}
 use Rattle.page_action.specs.Stored.{IsStored}
 use Rattle.page_action.specs.declared.map_store.MapStore.{MapStore}
 
 abbrev pub map_state : MapStore → State
-map_state store = record {
-  limits = store.limits;
-  frames = store.limits.pages;
-  pages = store.pages.items;
-  counted = store.counted.items;
-  acts = store.acts;
-  begun = store.begun;
-  running = store.running;
-  counter = store.counter;
-  cycle = store.cycle;
-  table = store.table;
-}
+map_state store = state_with store.limits store.limits.pages store.pages.items store.acts store.calls
 
 -- nothing below it fails, and its room is that of an empty log
 abbrev pub map_backing : MapStore → Backing
@@ -39,18 +28,7 @@ map_backing store = record {
 
 -- no page, no call
 abbrev pub empty : Limits → State
-empty limits = record {
-  limits = limits;
-  frames = limits.pages;
-  pages = [];
-  counted = [];
-  acts = 0;
-  begun = 0;
-  running = replicate 64 None;
-  counter = 0;
-  cycle = 0;
-  table = replicate 64 nothing_held;
-}
+empty limits = state_with limits limits.pages [] 0 (opened_calls limits.pages [] 0)
 
 -- with the next unused block in use
 abbrev pub added : Page → State → State

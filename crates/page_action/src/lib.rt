@@ -2,13 +2,16 @@
 //! index is written over, and a plain map that implements it.
 #![tactic(auto)]
 
+mod call_table;
 mod map_store;
 mod page_store;
+mod placing;
 mod reuse;
 
+pub use call_table::CallTable;
 pub use map_store::MapStore;
 pub use page_store::PageStore;
-pub use reuse::others_began_after;
+pub use placing::{is_storable, place_pages};
 
 #[cfg(test)]
 mod tests;

@@ -6,7 +6,7 @@ ghost use Rattle.page_action.specs.Reuse.{others_began_after, is_the, began_afte
 use page_codec::PageState;
 
 /// Whether each running call, but for that of one session, began after so many others.
-pub fn others_began_after(running: &[Option<u64>], number: u64, but: Option<u32>) -> bool
+pub(crate) fn others_began_after(running: &[Option<u64>], number: u64, but: Option<u32>) -> bool
     ensures { result ≡ others_began_after number 0 but running.now }
 {
     for (session, call) in running.iter().enumerate() {
@@ -42,7 +42,7 @@ fn has_begun_after(call: Option<u64>, number: u64) -> bool
 }
 
 /// Whether the page is deleted.
-pub fn is_deleted(state: PageState) -> bool
+pub(crate) fn is_deleted(state: PageState) -> bool
     ensures { result ≡ is_deleted_state state }
 {
     matches!(state, PageState::Deleted)

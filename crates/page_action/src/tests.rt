@@ -1,5 +1,5 @@
 use super::*;
-use crate::map_store::is_storable;
+use crate::reuse::others_began_after;
 use arrayvec::ArrayVec;
 use index_model::{Fault, Limits, Session};
 use latch_table::Mode;

@@ -1,5 +1,5 @@
 -- Pages after an act follow those before it.
-use Rattle.std.proofs.Common.{◌≡◌, ℕ, suc, ◌≤◌, Bool, Option, List, [], ◌∷◌, ◌++◌, length, take, drop, refl, sym, ap, subst, ◌∙◌, arith, length-append}
+use Rattle.std.proofs.Common.{◌≡◌, inl, ℕ, suc, ◌≤◌, Bool, Option, List, [], ◌∷◌, ◌++◌, length, take, drop, refl, sym, ap, subst, ◌∙◌, arith, length-append}
 use Rattle.std.proofs.lemmas.List.{take-append-le, drop-append-le}
 use Rattle.std.specs.Prelude.{is_some}
 use Rattle.device.specs.Disk.{Moment}
@@ -15,7 +15,8 @@ use Rattle.redo_log.specs.declared.log.Log.{Log}
 use Rattle.redo_log.proofs.ImageLists.{last_image-append, images_of-push}
 use Rattle.page_store.specs.Marks.{with_marks}
 use Rattle.page_store.specs.Histories.{with_act, after_acts, pages_after, AreActs}
-use Rattle.page_store.specs.Restart.{superblock, place, LeavesPart}
+use Rattle.device_layout.specs.Layout.{superblock, place}
+use Rattle.page_store.specs.Restart.{LeavesPart}
 use Rattle.page_store.specs.Logged.{Held, AreHome, IsKept, IsOwn}
 use Rattle.page_store.specs.Following.{Follows}
 use Rattle.page_store.specs.declared.history.History.{History}
@@ -86,8 +87,8 @@ module _ (old : Held) (log : Log) (changed : List Page) (room promised : ℕ) (l
 
   pub follows_acted : Follows old acted_held
   follows_acted = record {
-    later = record { failures = omega arith; durable = omega arith; stopped = λ s. stopped ∙ s; honest = λ s. s };
-    extends = λ own. record {
+    later = record { failures = omega arith; durable = omega arith; stopped = λ s. stopped ∙ s; stop_has_cause = λ s. inl (sym stopped ∙ s); honest = λ s. s };
+    grows = λ own. record {
       own = own_more own;
       limits = limits;
       start = refl;

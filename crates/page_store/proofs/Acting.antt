@@ -1,11 +1,11 @@
 -- An act and what was kept before it.
-use Rattle.std.proofs.Common.{inl, inr, ℕ, suc, ◌+◌, ◌<◌, ◌≤◌, List, [], ◌∷◌, arith}
-use Rattle.std.proofs.lemmas.Bool.{cases_lt}
+use Rattle.std.proofs.Common.{◌≡◌, inl, inr, true, false, refl, sym, ◌∙◌, ℕ, ◌<◌, ◌≤◌, List, [], ◌∷◌, arith}
 use Rattle.std.specs.Prelude.{Bool, Result, Ok, Err}
+use Rattle.std.specs.Result.{is_err}
 use Rattle.index_model.specs.declared.fault.Fault.{Fault}
-use Rattle.device.specs.Disk.{Counts}
-use Rattle.redo_log.specs.Kept.{end_with, IoOrStopped}
-use Rattle.redo_log.specs.declared.log.Log.{Log}
+use Rattle.index_model.specs.declared.fault.Fault.TheVariants.{Stopped}
+use Rattle.device.specs.Disk.{CountsFailures}
+use Rattle.redo_log.specs.Kept.{IoOrStopped}
 use Rattle.index_model.specs.declared.limits.Limits.{Limits}
 use Rattle.page_codec.specs.declared.page.Page.{Page}
 use Rattle.page_action.specs.Stored.{AreActable}
@@ -17,19 +17,23 @@ are_images limits used [] h = tt
 are_images limits used (page ∷ changed) h =
     (record { page = h.0.admitted; within = record { block = h.1.1; items = h.0.few } }, are_images limits used changed h.3)
 
--- a force costs at most one image of room
-pub promise_left : (log new : Log) (bytes room left : ℕ) → (0 < room → end_with log room ≤ bytes) → end_with new (left + 1) ≤ end_with log (suc (left + 1)) → bytes < end_with new (left + 1) → room ≤ suc left
-promise_left log new bytes room left fits cost no_more = elim (cases_lt (suc left) room) [
-  | inl above ↦ let h = fits (omega arith) in absurd (omega arith)
-  | inr below ↦ below
-]
-
 -- failures don't go back
 pub failures_rise : {T : Type 0} (r : Result T Fault) (stopped : Bool) (old new : ℕ) → IoOrStopped r stopped old new → old ≤ new
 failures_rise (Ok x) stopped old new same = omega arith
 failures_rise (Err e) stopped old new (inl io) = omega (arith, io.1)
 failures_rise (Err e) stopped old new (inr other) = omega (arith, other.2)
 
-pub counts_rise : {T : Type 0} (r : Result T Fault) (old new : ℕ) → Counts r old new → old ≤ new
+pub counts_rise : {T : Type 0} (r : Result T Fault) (old new : ℕ) → CountsFailures r old new → old ≤ new
 counts_rise (Ok x) old new same = omega arith
 counts_rise (Err e) old new io = omega (arith, io.1)
+
+-- who stops has a failure as its cause
+pub stop_fails : {T : Type 0} (r : Result T Fault) (was : Bool) (old new : ℕ) → IoOrStopped r was old new → was ≡ false → is_err r ≡ true → old < new
+stop_fails (Ok x) was old new same alive err = absurd cc
+stop_fails (Err e) was old new (inl io) alive err = omega (arith, io.1)
+stop_fails (Err e) was old new (inr other) alive err = (let both : true ≡ false = sym other.1 ∙ alive in absurd cc)
+
+-- what answers isn't stopped
+pub alive_of : {T : Type 0} (r : Result T Fault) (stopped : Bool) (x : T) → r ≡ Ok x → (stopped ≡ true → r ≡ Err Stopped) → stopped ≡ false
+alive_of r true x ok refuses = (let both : Ok x ≡ Err Stopped = sym ok ∙ refuses refl in absurd cc)
+alive_of r false x ok refuses = refl

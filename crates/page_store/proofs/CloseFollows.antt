@@ -1,5 +1,5 @@
 -- Pages whose changed ones were written to their places, and whose log was then closed, follow those before.
-use Rattle.std.proofs.Common.{◌≡◌, ◌⊎◌, ⊎_elim, ℕ, ◌+◌, ◌*◌, ◌≤◌, Bool, true, false, Option, Some, None, List, [], ◌∷◌, length, take, drop, replicate, get_or, slice_get, refl, sym, ap, subst, inl, inr, ◌∙◌, arith, length-drop}
+use Rattle.std.proofs.Common.{◌≡◌, ◌⊎◌, ⊎_elim, ℕ, ◌+◌, ◌*◌, ◌<◌, ◌≤◌, Bool, true, false, Option, Some, None, List, [], ◌∷◌, length, take, drop, replicate, get_or, slice_get, refl, sym, ap, subst, inl, inr, ◌∙◌, arith, length-drop}
 use Rattle.std.proofs.lemmas.List.{append-nil, length-replicate, get_or-replicate, get_or_past}
 use Rattle.std.proofs.lemmas.Bool.{cases_lt}
 use Rattle.std.proofs.lemmas.Option.{slice_get_past}
@@ -20,7 +20,8 @@ use Rattle.redo_log.specs.Kept.{Keeps, RestartsOrEmpty, limits_of, is_stopped}
 use Rattle.redo_log.specs.declared.log.Log.{Log}
 use Rattle.redo_log.proofs.Keeping.{keeps_elsewhere}
 use Rattle.page_store.specs.Histories.{after_acts, pages_after, AreActs}
-use Rattle.page_store.specs.Restart.{superblock, place, RestartsToPart, LeavesPart}
+use Rattle.device_layout.specs.Layout.{superblock, place}
+use Rattle.page_store.specs.Restart.{RestartsToPart, LeavesPart}
 use Rattle.page_store.specs.Logged.{Held, AreHome, IsKept, IsOwn}
 use Rattle.page_store.specs.Following.{Follows}
 use Rattle.page_store.specs.Writing.{ChangesMarked, AreOnDisk}
@@ -162,8 +163,8 @@ module _ (old : Held) (own : IsOwn old) (alive : is_stopped old.log ≡ false) (
 pub follows_written : (old : Held) (trace : Trace) (honest : Bool) (failures : ℕ) → is_stopped old.log ≡ false → old.durable ≡ old.acts → Goes (ChangesMarked (limits_of old.log) old.marks old.trace.now) old.trace trace
     → honest ≡ old.honest → old.failures ≤ failures → Follows old (record old { trace = trace; honest = honest; failures = failures })
 follows_written old trace honest failures alive all moments same more = record {
-  later = record { failures = more; durable = omega arith; stopped = λ s. s; honest = λ s. sym same ∙ s };
-  extends = λ own.
+  later = record { failures = more; durable = omega arith; stopped = λ s. s; stop_has_cause = λ s. inl s; honest = λ s. sym same ∙ s };
+  grows = λ own.
       let now = goes_now _ old.trace trace moments (same_marked (limits_of old.log) old.marks old.trace.now) in
       record {
         own = record {
@@ -188,7 +189,7 @@ follows_written old trace honest failures alive all moments same more = record {
 module _ (old : Held) (log : Log) (trace : Trace) (honest : Bool) (failures : ℕ) (marks : List Bool) (room promised : ℕ) (alive : is_stopped old.log ≡ false) (all : old.durable ≡ old.acts)
     (limits : limits_of log ≡ limits_of old.log) (home : IsOwn old → AreHome (limits_of old.log) [] old.pages old.trace.now)
     (moments : (acts : List (List Page)) (forced : ℕ) → Keeps old.log old.trace.now acts forced → Goes (RestartsOrEmpty (limits_of old.log) (take forced acts)) old.trace trace)
-    (outside : Goes (ChangesOnly 4096 (limits_of old.log).log_bytes old.trace.now) old.trace trace) (same : honest ≡ old.honest) (more : old.failures ≤ failures)
+    (outside : Goes (ChangesOnly 4096 (limits_of old.log).log_bytes old.trace.now) old.trace trace) (same : honest ≡ old.honest) (more : old.failures ≤ failures) (failed : is_stopped log ≡ true → old.failures < failures)
     (clear : is_stopped log ≡ false → (block : ℕ) → get_or marks block false ≡ false) (keeps : is_stopped log ≡ false → (acts : List (List Page)) (forced : ℕ) → Keeps old.log old.trace.now acts forced → Keeps log trace.now [] 0) where
   abbrev closed : Held
   closed = record old { log = log; trace = trace; honest = honest; failures = failures; marks = marks; room = room; promised = promised }
@@ -215,8 +216,8 @@ module _ (old : Held) (log : Log) (trace : Trace) (honest : Bool) (failures : �
 
   pub follows_closed : Follows old closed
   follows_closed = record {
-    later = record { failures = more; durable = omega arith; stopped = λ s. (let both : true ≡ false = sym s ∙ alive in absurd cc); honest = λ s. sym same ∙ s };
-    extends = λ own. record {
+    later = record { failures = more; durable = omega arith; stopped = λ s. (let both : true ≡ false = sym s ∙ alive in absurd cc); stop_has_cause = λ s. inr (failed s); honest = λ s. sym same ∙ s };
+    grows = λ own. record {
       own = own_closed own;
       limits = limits;
       start = refl;

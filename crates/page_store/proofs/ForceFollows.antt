@@ -1,5 +1,5 @@
 -- Pages after a force follow those before it, whether it succeeded or failed.
-use Rattle.std.proofs.Common.{◌≡◌, ℕ, ◌≤◌, Bool, true, false, List, [], length, take, drop, refl, sym, subst, ◌∙◌, arith, length-drop}
+use Rattle.std.proofs.Common.{◌≡◌, inr, ℕ, ◌<◌, ◌≤◌, Bool, true, false, List, [], length, take, drop, refl, sym, subst, ◌∙◌, arith, length-drop}
 use Rattle.std.proofs.lemmas.List.{append-nil}
 use Rattle.device.specs.Disk.{Moment, Trace}
 use Rattle.device.specs.Moments.{Goes}
@@ -14,9 +14,10 @@ use Rattle.redo_log.specs.Kept.{Keeps, Restarts, limits_of, is_stopped}
 use Rattle.redo_log.specs.declared.log.Log.{Log}
 use Rattle.redo_log.proofs.Keeping.{keeps_restarts}
 use Rattle.page_store.specs.Histories.{pages_after, AreActs}
-use Rattle.page_store.specs.Restart.{superblock, place, LeavesPart}
+use Rattle.device_layout.specs.Layout.{superblock, place}
+use Rattle.page_store.specs.Restart.{LeavesPart}
 use Rattle.page_store.specs.Logged.{Held, AreHome, IsKept, IsOwn}
-use Rattle.page_store.specs.Following.{GoesOn, Follows}
+use Rattle.page_store.specs.Following.{GrowsTo, Follows}
 use Rattle.page_store.specs.declared.history.History.{History}
 use Rattle.page_store.proofs.Images.{none_among_fewer}
 use Rattle.page_store.proofs.Restarting.{home_kept, superblock_kept, leaves_part}
@@ -75,7 +76,7 @@ module _ (old : Held) (log : Log) (trace : Trace) (honest : Bool) (failures : �
       kept = kept;
     }
 
-    extends_to : (durable room : ℕ) → LeavesPart l h durable trace.now → (is_stopped log ≡ false → IsKept log trace.now old.marks h durable) → GoesOn old (record old { log = log; trace = trace; honest = honest; failures = failures; durable = durable; room = room })
+    extends_to : (durable room : ℕ) → LeavesPart l h durable trace.now → (is_stopped log ≡ false → IsKept log trace.now old.marks h durable) → GrowsTo old (record old { log = log; trace = trace; honest = honest; failures = failures; durable = durable; room = room })
     extends_to durable room leaves kept = record {
       own = own_between durable room leaves kept;
       limits = limits;
@@ -86,10 +87,10 @@ module _ (old : Held) (log : Log) (trace : Trace) (honest : Bool) (failures : �
     }
 
   -- it failed
-  pub follows_failed_force : is_stopped log ≡ true → Follows old (record old { log = log; trace = trace; honest = honest; failures = failures })
-  follows_failed_force stopped = record {
-    later = record { failures = more_failures; durable = omega arith; stopped = λ s. stopped; honest = λ s. sym same_honest ∙ s };
-    extends = λ own. extends_to own old.durable old.room
+  pub follows_failed_force : is_stopped log ≡ true → old.failures < failures → Follows old (record old { log = log; trace = trace; honest = honest; failures = failures })
+  follows_failed_force stopped failed = record {
+    later = record { failures = more_failures; durable = omega arith; stopped = λ s. stopped; stop_has_cause = λ s. inr failed; honest = λ s. sym same_honest ∙ s };
+    grows = λ own. extends_to own old.durable old.room
         (goes_now _ old.trace trace (leaves_between own) own.leaves)
         (λ still. (let both : true ≡ false = sym stopped ∙ still in absurd cc));
   }
@@ -114,8 +115,8 @@ module _ (old : Held) (log : Log) (trace : Trace) (honest : Bool) (failures : �
 
     pub follows_force : is_stopped log ≡ false → Follows old (record old { log = log; trace = trace; honest = honest; failures = failures; durable = old.acts; room = room })
     follows_force living = record {
-      later = record { failures = more_failures; durable = behind; stopped = λ s. (let both : true ≡ false = sym s ∙ alive in absurd cc); honest = λ s. sym same_honest ∙ s };
-      extends = λ own. extends_to own old.acts room
+      later = record { failures = more_failures; durable = behind; stopped = λ s. (let both : true ≡ false = sym s ∙ alive in absurd cc); stop_has_cause = λ s. (let both : true ≡ false = sym s ∙ living in absurd cc); honest = λ s. sym same_honest ∙ s };
+      grows = λ own. extends_to own old.acts room
           (leaves_kept old own log trace.now old.marks old.acts limits (omega (arith, own.long, len)) (kept_all own))
           (λ still. kept_all own);
     }

@@ -1,5 +1,4 @@
 mod Steps
-pub mod Counting
 pub mod Acting
 pub mod Images
 pub mod Restarting

@@ -5,6 +5,7 @@ use Rattle.std.proofs.lemmas.List.{get_or-set_same, get_or-set_other}
 use Rattle.std.specs.Prelude.{is_some}
 use Rattle.index_model.specs.declared.limits.Limits.{Limits}
 use Rattle.page_codec.specs.declared.page.Page.{Page}
+use Rattle.page_action.specs.States.{with_page, with_pages}
 use Rattle.page_action.specs.Stored.{AreActable}
 use Rattle.redo_log.specs.Images.{if_of, later_of, last_image}
 use Rattle.page_store.specs.Marks.{with_mark, with_marks, has_mark}
@@ -36,7 +37,7 @@ mark_there marks page b ne place = elim (cases_lt page.block (length marks)) [
       rw (le-ltb page.block (length marks) ge) (more_there marks b (λ e. ne (sym end ∙ e)))
 ]
 
-with_mark-longer : (marks : List Bool) (page : Page) → length marks ≤ length (with_mark marks page)
+pub with_mark-longer : (marks : List Bool) (page : Page) → length marks ≤ length (with_mark marks page)
 with_mark-longer marks page = elim (cases_lt page.block (length marks)) [
   | inl lt ↦ rw (lt-ltb page.block (length marks) lt) (omega (arith, length-set {A = Bool} marks page.block true))
   | inr ge ↦ rw (le-ltb page.block (length marks) ge) (omega (arith, length-append marks (true ∷ [])))
@@ -72,3 +73,14 @@ none_has_mark [] block none = refl
 none_has_mark (true ∷ marks) block none = absurd cc
 none_has_mark (false ∷ marks) zero none = refl
 none_has_mark (false ∷ marks) (suc block) none = none_has_mark marks block none
+
+length-with_mark : (marks : List Bool) (pages : List Page) (page : Page) → length marks ≡ length pages → length (with_mark marks page) ≡ length (with_page pages page)
+length-with_mark marks pages page same =
+    elim (cases_lt page.block (length pages)) [
+      | inl lt ↦ rw (same, lt-ltb page.block (length pages) lt) (length-set {A = Bool} marks page.block true ∙ same ∙ sym (length-set {A = Page} pages page.block page))
+      | inr ge ↦ rw (same, le-ltb page.block (length pages) ge) (omega (arith, length-append marks (true ∷ []), length-append pages (page ∷ [])))
+    ]
+
+pub length-with_marks : (marks : List Bool) (pages changed : List Page) → length marks ≡ length pages → length (with_marks marks changed) ≡ length (with_pages pages changed)
+length-with_marks marks pages [] same = same
+length-with_marks marks pages (page ∷ changed) same = length-with_marks (with_mark marks page) (with_page pages page) changed (length-with_mark marks pages page same)

@@ -4,7 +4,7 @@ use Rattle.page_action.specs.Stored.{AreStored}
 use Rattle.redo_log.specs.Kept.{limits_of}
 use Rattle.redo_log.proofs.Keeping.{keeps_restarts}
 use Rattle.page_store.specs.Histories.{from_pages}
-use Rattle.page_store.specs.Restart.{place}
+use Rattle.device_layout.specs.Layout.{place}
 use Rattle.page_store.specs.Logged.{Held, StandsOpened, IsOwn}
 use Rattle.page_store.specs.declared.history.History.{History}
 use Rattle.page_store.proofs.Restarting.{leaves_part}

@@ -13,7 +13,7 @@ use Rattle.page_codec.specs.declared.page.Page.{Page}
 use Rattle.page_codec.proofs.Laws.{length-page}
 use Rattle.page_action.specs.Stored.{AreStored}
 use Rattle.page_action.proofs.StoredPages.{stored_page}
-use Rattle.page_store.specs.Restart.{place}
+use Rattle.device_layout.specs.Layout.{place}
 use Rattle.page_store.specs.Writing.{ChangesMarked, AreWritten}
 
 pub places_apart : (limits : Limits) (b k : ℕ) → b ≢ k → (place limits b + 4096 ≤ place limits k) ⊎ (place limits k + 4096 ≤ place limits b)

@@ -11,7 +11,8 @@ use Rattle.page_action.specs.Stored.{AreStored}
 use Rattle.redo_log.specs.Images.{last_image, later_of, images_of}
 use Rattle.redo_log.specs.Kept.{Holds, HoldsFirst, Restarts}
 use Rattle.page_store.specs.Histories.{after_acts, pages_after, AreActs}
-use Rattle.page_store.specs.Restart.{superblock, place, StandsAtHome, RestartsTo, RestartsToPart, LeavesPart}
+use Rattle.device_layout.specs.Layout.{superblock, place}
+use Rattle.page_store.specs.Restart.{StandsAtHome, RestartsTo, RestartsToPart, LeavesPart}
 use Rattle.page_store.specs.Logged.{AreHome}
 use Rattle.page_store.specs.declared.history.History.{History}
 use Rattle.page_store.proofs.Images.{get-after_acts, stored-after_acts, acts-take, acts-drop, after_both, none_among_fewer, later_is_none}

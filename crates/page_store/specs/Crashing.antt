@@ -1,14 +1,15 @@
 -- What follows for crashes: the laws of an own store.
-use Rattle.std.specs.Prelude.{◌≡◌, ℕ, ◌≤◌, List, [], ◌∷◌, ◌++◌, length, take}
+use Rattle.std.specs.Prelude.{◌≡◌, ◌⊎◌, ℕ, ◌≤◌, List, [], ◌∷◌, ◌++◌, length, take}
 use Rattle.std.proofs.Common.{inl, refl, sym, ap, subst, ◌∙◌, arith, length-append}
 use Rattle.std.proofs.lemmas.List.{take-append-le}
 use Rattle.device.specs.Disk.{MayLeave}
-use Rattle.device.specs.Moments.{MayHaveLeft}
+use Rattle.device.specs.Moments.{Goes, MayHaveLeft}
 use Rattle.device.proofs.Going.{goes_leaves}
 use Rattle.index_model.specs.declared.limits.Limits.{Limits}
 use Rattle.page_codec.specs.declared.page.Page.{Page}
 use Rattle.page_action.specs.Crashes.{LeavesFirstPart}
 use Rattle.redo_log.specs.Kept.{limits_of}
+use Rattle.page_store.specs.Between.{left_between, left_early, left_late}
 use Rattle.page_store.specs.Histories.{after_acts, pages_after}
 use Rattle.page_store.specs.Restart.{RestartsTo, RestartsToPart, LeavesPart}
 use Rattle.page_store.specs.Logged.{Held, IsOwn}
@@ -45,11 +46,11 @@ pages_now held own = ap (λ (n : ℕ). pages_after held.history n) own.counted
 
 module _ (first now : Held) (own : IsOwn first) (follows : Follows first now) where
   pub own_now : IsOwn now
-  own_now = (follows.extends own).own
+  own_now = (follows.grows own).own
 
   pub crash_restarts : (limits : Limits) (image : List ℕ) → limits_of now.log ≡ limits → MayHaveLeft first.trace now.trace image → RestartsToPart limits now.history first.durable image
   crash_restarts limits image is left =
-      let on = follows.extends own in
+      let on = follows.grows own in
       let l = limits_of first.log in
       let here = goes_leaves (LeavesPart l now.history first.durable) first.trace now.trace image on.moments
       (λ old_image may. part_of_more l first.history now.history on.more first.durable first.durable old_image on.start on.acts (omega arith) (own.leaves old_image may)) left in
@@ -64,13 +65,30 @@ module _ (first now : Held) (own : IsOwn first) (follows : Follows first now) wh
 
   pub acts_later : first.acts ≤ now.acts
   acts_later =
-      let on = follows.extends own in
+      let on = follows.grows own in
       omega (arith, own.counted, own_now.counted, ap length on.acts, length-append first.history.acts on.more)
 
   pub pages_stay : (part : ℕ) → part ≤ first.acts → pages_after now.history part ≡ pages_after first.history part
   pages_stay part le =
-      let on = follows.extends own in
+      let on = follows.grows own in
       pages_of_more first.history now.history on.more part on.start on.acts (omega (arith, own.counted, le))
 
   pub pages_were : first.pages ≡ pages_after now.history first.acts
   pages_were = sym (pages_stay first.acts (omega arith) ∙ pages_now first own)
+
+-- what a crash left since the first, it left up to the second, or since that one
+module _ (first second third : Held) (own : IsOwn first) (follows : Follows first second) (then : Follows second third) (image : List ℕ) where
+  abbrev early : Goes (LeavesPart (limits_of first.log) second.history first.durable) first.trace second.trace
+  early = (follows.grows own).moments
+
+  abbrev late : Goes (LeavesPart (limits_of second.log) third.history second.durable) second.trace third.trace
+  late = (then.grows (own_now first second own follows)).moments
+
+  pub leaves_between : MayHaveLeft first.trace third.trace image → MayHaveLeft first.trace second.trace image ⊎ MayHaveLeft second.trace third.trace image
+  leaves_between = left_between first.trace second.trace third.trace image early.since late.since early.is late.is
+
+  pub leaves_early : MayHaveLeft first.trace second.trace image → MayHaveLeft first.trace third.trace image
+  leaves_early = left_early first.trace second.trace third.trace image early.since late.since early.is late.is
+
+  pub leaves_late : MayHaveLeft second.trace third.trace image → MayHaveLeft first.trace third.trace image
+  leaves_late = left_late first.trace second.trace third.trace image early.since late.since early.is late.is

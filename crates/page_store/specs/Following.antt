@@ -1,16 +1,17 @@
 -- What follows pages over a device: later pages of the same device, with a crash in between.
 use Rattle.std.specs.Prelude.{◌≡◌, List, [], ◌++◌}
-use Rattle.std.proofs.Common.{refl, sym, arith}
+use Rattle.std.proofs.Common.{refl, sym}
 use Rattle.std.proofs.lemmas.List.{append-nil}
 use Rattle.device.specs.Moments.{Goes}
 use Rattle.page_codec.specs.declared.page.Page.{Page}
+use Rattle.page_action.specs.MapStore.{same_later}
 use Rattle.page_action.specs.States.{IsLater}
 use Rattle.redo_log.specs.Kept.{limits_of}
 use Rattle.page_store.specs.Restart.{LeavesPart}
 use Rattle.page_store.specs.Logged.{Held, backing_of, IsOwn}
 
 -- with some acts more, and at each moment in between a crash left a first part of all acts, with all that were durable
-pub record GoesOn (old new : Held) : Type 0 where
+pub record GrowsTo (old new : Held) : Type 0 where
   pub own : IsOwn new
   pub limits : limits_of new.log ≡ limits_of old.log
   pub start : new.history.start ≡ old.history.start
@@ -21,13 +22,13 @@ pub record GoesOn (old new : Held) : Type 0 where
 -- no count goes back; and if the first are an own device's, so are the second
 pub record Follows (old new : Held) : Type 0 where
   pub later : IsLater (backing_of old) (backing_of new)
-  pub extends : IsOwn old → GoesOn old new
+  pub grows : IsOwn old → GrowsTo old new
 
 -- what stays follows itself
 pub follows_same : (held : Held) → Follows held held
 follows_same held = record {
-  later = record { failures = omega arith; durable = omega arith; stopped = λ h. h; honest = λ h. h };
-  extends = λ own. record {
+  later = same_later (backing_of held);
+  grows = λ own. record {
     own = own;
     limits = refl;
     start = refl;

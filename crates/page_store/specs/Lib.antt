@@ -3,7 +3,9 @@ pub mod Histories
 pub mod Restart
 pub mod Logged
 pub mod Following
+pub mod Between
 pub mod Crashing
 pub mod Writing
 pub mod Rooms
 pub mod Stores
+pub mod StoreLaws

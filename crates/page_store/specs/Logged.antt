@@ -12,7 +12,8 @@ use Rattle.redo_log.specs.Images.{last_image, images_of}
 use Rattle.redo_log.specs.Kept.{Keeps, limits_of, is_stopped}
 use Rattle.redo_log.specs.declared.log.Log.{Log}
 use Rattle.page_store.specs.Histories.{after_acts, pages_after, AreActs}
-use Rattle.page_store.specs.Restart.{superblock, place, LeavesPart}
+use Rattle.device_layout.specs.Layout.{superblock, place}
+use Rattle.page_store.specs.Restart.{LeavesPart}
 use Rattle.page_store.specs.declared.history.History.{History}
 use Rattle.page_store.specs.declared.logged_pages.LoggedPages.{LoggedPages}
 
@@ -45,13 +46,23 @@ held_of g logged = record {
   history = logged.history;
 }
 
--- all is as it was but for the device
-pub record SameButDevice {D : Type 0} (g : Ghosts D) (old new : LoggedPages D g) : Type 0 where
-  pub log : new.log ≡ old.log
+-- the pages and their acts are as they were
+pub record SamePages {D : Type 0} (g : Ghosts D) (old new : LoggedPages D g) : Type 0 where
   pub limits : new.limits ≡ old.limits
   pub pages : new.pages ≡ old.pages
   pub acts : new.acts ≡ old.acts
+
+-- so is the room
+pub record SameRoom {D : Type 0} (g : Ghosts D) (old new : LoggedPages D g) : Type 0 where
+  pub room : new.room ≡ old.room
+  pub promised : new.promised ≡ old.promised
+
+-- all is as it was but for the device
+pub record SameButDevice {D : Type 0} (g : Ghosts D) (old new : LoggedPages D g) : Type 0 where
+  pub log : new.log ≡ old.log
+  pub pages : SamePages g old new
   pub durable : new.durable ≡ old.durable
+  pub room : SameRoom g old new
 
 -- the log and the device
 abbrev pub backing_of : Held → Backing

@@ -1,27 +1,16 @@
 -- What the bytes of a device restart to.
-use Rattle.std.specs.Prelude.{◌≡◌, ◌⊎◌, ℕ, ◌+◌, ◌*◌, ◌<◌, ◌≤◌, Some, None, List, [], ◌∷◌, ◌++◌, length, replicate, slice_get}
-use Rattle.std.specs.Int.{w32, to_le_bytes}
+use Rattle.std.specs.Prelude.{◌≡◌, ◌⊎◌, ℕ, ◌<◌, ◌≤◌, Some, None, List, length, replicate, slice_get}
 use Rattle.device.specs.Disk.{Moment, MayLeave}
 use Rattle.device.specs.Places.{Has}
+use Rattle.device_layout.specs.Layout.{superblock, place}
 use Rattle.index_model.specs.declared.limits.Limits.{Limits}
 use Rattle.page_codec.specs.Spelling.{page_bytes}
 use Rattle.page_codec.specs.declared.page.Page.{Page}
 use Rattle.page_action.specs.Stored.{AreStored}
 use Rattle.redo_log.specs.Images.{last_image, images_of}
-use Rattle.redo_log.specs.Groups.{Spells, log_range}
+use Rattle.redo_log.specs.Groups.{SpellsGroups, log_range}
 use Rattle.page_store.specs.Histories.{pages_after}
 use Rattle.page_store.specs.declared.history.History.{History}
-
--- the first 4,096 bytes of a device: `BLINKIDX`, the layout, the sizes, zeros
-unfoldable pub superblock : Limits → List ℕ
-superblock limits =
-    (66 ∷ 76 ∷ 73 ∷ 78 ∷ 75 ∷ 73 ∷ 68 ∷ 88 ∷ [])
-    ++ to_le_bytes w32 1 ++ to_le_bytes w32 limits.items ++ to_le_bytes w32 limits.pages
-    ++ to_le_bytes w32 limits.log_bytes ++ replicate 4072 0
-
--- where the page of a block lies on a device
-abbrev pub place : Limits → ℕ → ℕ
-place limits block = 4096 + limits.log_bytes + 4096 * block
 
 -- the block has no image among these, and these bytes stand at its place
 pub record StandsAtHome (limits : Limits) (images : List Page) (block : ℕ) (bytes image : List ℕ) : Type 0 where
@@ -33,7 +22,7 @@ pub record StandsAtHome (limits : Limits) (images : List Page) (block : ℕ) (by
 pub record RestartsTo (limits : Limits) (image : List ℕ) (pages : List Page) : Type 0 where
   pub superblock_is : Has 0 (superblock limits) image
   pub groups : List (List Page)
-  pub spells : Spells limits (log_range limits image) groups
+  pub spells : SpellsGroups limits (log_range limits image) groups
   pub long : place limits limits.pages ≤ length image
   pub few : length pages ≤ limits.pages
   pub stored : AreStored limits 0 pages

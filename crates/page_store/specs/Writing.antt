@@ -5,7 +5,7 @@ use Rattle.device.specs.Places.{Has, OnDisk, ChangesOnly}
 use Rattle.index_model.specs.declared.limits.Limits.{Limits}
 use Rattle.page_codec.specs.Spelling.{page_bytes}
 use Rattle.page_codec.specs.declared.page.Page.{Page}
-use Rattle.page_store.specs.Restart.{place}
+use Rattle.device_layout.specs.Layout.{place}
 
 -- nothing but places of marked blocks changed
 pub record ChangesMarked (limits : Limits) (marks : List Bool) (old m : Moment) : Type 0 where

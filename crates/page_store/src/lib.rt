@@ -2,10 +2,10 @@
 //! first part of them.
 #![tactic(auto)]
 
+mod changed;
 mod history;
 mod logged_pages;
 mod memory;
-mod placing;
 mod room;
 mod store;
 mod writing;

@@ -2,16 +2,18 @@
 
 ghost use Rattle.std.specs.Prelude.{◌≡◌, ◌≤◌, ◌<◌, ◌+◌, ◌*◌, suc, false, length, vec_capacity};
 ghost use Rattle.std.specs.Coded.{Coded-set};
+ghost use Rattle.device_layout.specs.Layout.{place};
 ghost use Rattle.index_model.specs.Limits.{AreLimits};
 ghost use Rattle.page_action.specs.Stored.{AreStored};
 ghost use Rattle.page_action.specs.Props.{AreStored-prop};
 ghost use Rattle.redo_log.specs.Kept.{limits_of, is_stopped, actions_of, waiting_count, end_with};
 
+use crate::changed::place_marks;
 use crate::history::History;
-use crate::placing::place_pages;
 use crate::writing::write_home;
 use device::Device;
 use index_model::{Fault, Limits};
+use page_action::place_pages;
 use page_codec::Page;
 use redo_log::Log;
 
@@ -34,7 +36,7 @@ pub(crate) struct LoggedPages<D: Device> {
     pub(crate) history: History,
     ghost allowed: { AreLimits limits },
     ghost log_limits: { limits_of log ≡ limits } by { Coded-set limits-code (limits_of log) limits },
-    ghost sized: { 4096 + limits.log_bytes + 4096 * limits.pages ≤ length (D.trace device).now.seen },
+    ghost sized: { place limits limits.pages ≤ length (D.trace device).now.seen },
     ghost stored: { AreStored limits 0 pages.items } by { AreStored-prop limits 0 pages.items },
     ghost marks: { length changed.items ≡ length pages.items },
     ghost few: { length pages.items ≤ limits.pages },
@@ -50,14 +52,14 @@ pub(crate) struct LoggedPages<D: Device> {
 }
 
 impl<D: Device> LoggedPages<D> {
-    ghost use Rattle.std.specs.Prelude.{◌⊎◌, ◌-◌, ◌^◌, IfOk, IfErr, OnOk, OnErr, IsTrue, [], ℕ, get_or};
+    ghost use Rattle.std.specs.Prelude.{◌⊎◌, ◌-◌, ◌^◌, Err, IfOk, IfErr, OnOk, OnErr, IsTrue, [], ℕ, true, get_or, is_err};
     ghost use Rattle.page_action.specs.Stored.{AreActable};
+    ghost use Rattle.page_action.specs.Room.{HasWholeRoom};
     ghost use Rattle.page_action.specs.States.{with_pages};
-    ghost use Rattle.redo_log.specs.Kept.{IoOrStopped};
+    ghost use Rattle.redo_log.specs.Kept.{IoOrStopped, groups_end};
     ghost use Rattle.page_store.specs.Following.{Follows};
-    ghost use Rattle.page_store.specs.Logged.{held_of, AreHome, IsOwn, SameButDevice, StandsOpened};
-    ghost use Rattle.page_store.specs.Restart.{place};
-    ghost use Rattle.device.specs.Disk.{Counts};
+    ghost use Rattle.page_store.specs.Logged.{held_of, backing_of, AreHome, IsOwn, SamePages, SameRoom, SameButDevice, StandsOpened};
+    ghost use Rattle.device.specs.Disk.{CountsFailures};
 
     /// These pages over a device and a log that was just opened and closed. None of them is marked.
     pub fn new(
@@ -85,6 +87,7 @@ impl<D: Device> LoggedPages<D> {
         ensures acts { result.acts ≡ 0 }
         ensures durable { result.durable ≡ 0 }
         ensures own { StandsOpened log (D.trace device).now pages.items → IsOwn (held_of D.Device result) }
+        ensures closed { groups_end log ≡ 0 → HasWholeRoom limits (backing_of (held_of D.Device result)) }
     {
         let mut history = History::new();
         history.begin(&pages);
@@ -112,16 +115,16 @@ impl<D: Device> LoggedPages<D> {
         ensures acts { OnOk result (self.new.acts ≡ suc self.old.acts) }
         ensures number { IfOk result (λ n. n ≡ suc self.old.acts) }
         ensures limits { self.new.limits ≡ self.old.limits }
+        ensures room { OnOk result (self.old.room ≤ length pages.now + self.new.room) }
+        ensures stopped { is_stopped self.old.log ≡ true → result ≡ Err Fault.Stopped }
         ensures refused { OnErr result (held_of D.Device self.new ≡ held_of D.Device self.old) }
         ensures cause { IfErr result (λ e.
             ((e ≡ Fault.Stopped) × (IsTrue (is_stopped self.old.log) ⊎ (self.old.acts ≡ 2 ^ 64 - 1)))
             ⊎ ((e ≡ Fault.LogFull) × (self.old.promised ≤ length pages.now))) }
     {
-        if self.log.is_stopped() {
-            return Err(Fault::Stopped);
-        }
         let number = self.log.append(pages)?;
-        place_pages(self.limits, &mut self.pages, &mut self.changed, pages);
+        place_marks(self.limits, &mut self.changed, pages);
+        place_pages(self.limits, &mut self.pages, pages);
         self.acts = number;
         self.room = self.log.room();
         self.promised = self.room;
@@ -132,13 +135,13 @@ impl<D: Device> LoggedPages<D> {
     /// Makes all acts durable. Refused with `Io` and `Stopped`.
     pub fn force(&mut self) -> Result<u64, Fault>
         ensures steps { Follows (held_of D.Device self.old) (held_of D.Device self.new) }
-        ensures pages { self.new.pages ≡ self.old.pages }
-        ensures acts { self.new.acts ≡ self.old.acts }
+        ensures pages { SamePages D.Device self.old self.new }
         ensures number { IfOk result (λ n. n ≡ self.old.acts) }
         ensures durable { OnOk result (self.new.durable ≡ self.old.acts) }
         ensures promised { self.new.promised ≡ self.old.promised }
-        ensures limits { self.new.limits ≡ self.old.limits }
-        ensures alive { OnOk result (is_stopped self.new.log ≡ false) }
+        ensures idle { self.old.durable ≡ self.old.acts → self.new.room ≡ self.old.room }
+        ensures stopped { is_stopped self.old.log ≡ true → result ≡ Err Fault.Stopped }
+        ensures failed { is_stopped self.new.log ≡ is_err result }
         ensures cause { IoOrStopped result (is_stopped self.old.log)
             (D.failures self.old.device) (D.failures self.new.device) }
     {
@@ -162,7 +165,7 @@ impl<D: Device> LoggedPages<D> {
         ensures home { OnOk result (IsOwn (held_of D.Device self.new)
             → AreHome self.new.limits [] self.new.pages.items (D.trace self.new.device).now) }
         ensures same { SameButDevice D.Device self.old self.new }
-        ensures failures { Counts result (D.failures self.old.device) (D.failures self.new.device) }
+        ensures failures { CountsFailures result (D.failures self.old.device) (D.failures self.new.device) }
     {
         write_home(&mut self.device, self.limits, &self.pages, &self.changed)
     }
@@ -174,12 +177,11 @@ impl<D: Device> LoggedPages<D> {
         ensures steps { (IsOwn (held_of D.Device self.old)
             → AreHome self.old.limits [] self.old.pages.items (D.trace self.old.device).now)
             → Follows (held_of D.Device self.old) (held_of D.Device self.new) }
-        ensures pages { self.new.pages ≡ self.old.pages }
-        ensures acts { self.new.acts ≡ self.old.acts }
+        ensures pages { SamePages D.Device self.old self.new }
         ensures durable { self.new.durable ≡ self.old.durable }
-        ensures room { OnOk result (5 ≤ self.new.room) }
-        ensures limits { self.new.limits ≡ self.old.limits }
-        ensures failures { Counts result (D.failures self.old.device) (D.failures self.new.device) }
+        ensures room { OnOk result (HasWholeRoom self.old.limits (backing_of (held_of D.Device self.new))) }
+        ensures kept { OnErr result (SameRoom D.Device self.old self.new) }
+        ensures failures { CountsFailures result (D.failures self.old.device) (D.failures self.new.device) }
     {
         self.log.reset(&mut self.device)?;
         self.changed.fill(false);
@@ -192,12 +194,15 @@ impl<D: Device> LoggedPages<D> {
     /// `Stopped`; where a page could not be written or synced, the log stays as it was.
     pub fn checkpoint(&mut self) -> Result<u64, Fault>
         ensures steps { Follows (held_of D.Device self.old) (held_of D.Device self.new) }
-        ensures pages { self.new.pages ≡ self.old.pages }
-        ensures acts { self.new.acts ≡ self.old.acts }
+        ensures pages { SamePages D.Device self.old self.new }
         ensures number { IfOk result (λ n. n ≡ self.old.acts) }
         ensures durable { OnOk result (self.new.durable ≡ self.old.acts) }
-        ensures room { OnOk result (5 ≤ self.new.room) }
-        ensures limits { self.new.limits ≡ self.old.limits }
+        ensures room { OnOk result (HasWholeRoom self.old.limits (backing_of (held_of D.Device self.new))) }
+        ensures stopped { is_stopped self.old.log ≡ true → result ≡ Err Fault.Stopped }
+        ensures failed { OnErr result
+            ((is_stopped self.new.log ≡ true) ⊎ (self.new.durable ≡ self.old.acts)) }
+        ensures promised { OnErr result (self.new.promised ≡ self.old.promised) }
+        ensures idle { OnErr result (self.old.durable ≡ self.old.acts → self.new.room ≡ self.old.room) }
         ensures cause { IoOrStopped result (is_stopped self.old.log)
             (D.failures self.old.device) (D.failures self.new.device) }
     {

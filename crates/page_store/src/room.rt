@@ -1,14 +1,14 @@
 //! The pages of a store, as they are read, with the room for all that an index may have.
 
-ghost use Rattle.std.specs.Prelude.{◌≡◌, ◌≤◌, ◌<◌, false, length, vec_capacity, IsTrue, ◌↔◌};
+ghost use Rattle.std.specs.Prelude.{◌≡◌, ◌≤◌, ◌<◌, false, length, vec_capacity};
 ghost use Rattle.index_model.specs.Limits.{AreLimits};
-ghost use Rattle.page_action.specs.Stored.{IsStorable, AreStored};
-ghost use Rattle.page_codec.specs.Spelling.{count_of};
+ghost use Rattle.page_action.specs.Stored.{AreStored};
 ghost use Rattle.page_action.specs.Props.{AreStored-prop};
 ghost use Rattle.page_store.specs.Marks.{has_mark};
 
 use index_model::{Fault, Limits};
-use page_codec::{Items, Page, is_page};
+use page_action::is_storable;
+use page_codec::Page;
 use std::alloc::Global;
 
 /// Pages in order, and the room for all pages of an index.
@@ -89,23 +89,5 @@ impl StoreRoom {
         self.marks.push_reserved(false);
         self.counted.push_reserved(0);
         Ok(())
-    }
-}
-
-/// Whether the page may be stored under these limits.
-fn is_storable(page: &Page, limits: Limits) -> bool
-    ensures { IsTrue result ↔ IsStorable limits page.now }
-{
-    is_page(page) && count(&page.items) <= limits.items as usize
-}
-
-/// How many items there are.
-fn count(items: &Items) -> usize
-    ensures { result ≡ count_of items.now }
-{
-    match items {
-        Items::Meta => 0,
-        Items::Entries(entries) => entries.len(),
-        Items::Downlinks(links) => links.len(),
     }
 }

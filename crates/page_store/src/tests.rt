@@ -4,7 +4,7 @@ ghost use Rattle.device.specs.Memory.{trace_of};
 use super::*;
 use arrayvec::ArrayVec;
 use device::{CrashImage, Device, MemDevice};
-use index_model::{Fault, Limits};
+use index_model::{Fault, Limits, Session};
 use page_action::PageStore;
 use page_codec::{Items, Page, PageState, decode, is_unused};
 use redo_log::{Log, are_images};
@@ -62,7 +62,7 @@ fn store(alloc: Global, fail_at: u64) -> Result<Store<MemDevice>, Fault> {
     room.add(meta())?;
     room.add(leaf(1, 0))?;
     device.fail_at(fail_at);
-    Ok(Store::new(device, found.log, room, 0))
+    Ok(Store::new(device, found.log, room, 8, 0))
 }
 
 fn act(store: &mut Store<MemDevice>, page: Page) -> Result<u64, Fault> {
@@ -149,6 +149,8 @@ fn each_call_of_a_checkpoint_fails(rt: HostRuntime) -> Result<(), Fail> {
         if stopped {
             assert_eq!(rt; act(&mut store, leaf(1, 8)), Err(Fault::Stopped));
             assert_eq!(rt; store.checkpoint(), Err(Fault::Stopped));
+            assert_eq!(rt; store.force(), Err(Fault::Stopped));
+            assert_eq!(rt; store.begin(Session::new(0)?), Err(Fault::Stopped));
         } else {
             assert_eq!(rt; store.checkpoint(), Ok(1));
         }

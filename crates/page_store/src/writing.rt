@@ -1,16 +1,17 @@
 //! Changed pages are written to their places.
 
 ghost use Rattle.std.specs.Prelude.{◌≡◌, ◌+◌, ◌*◌, ◌≤◌, ◌<◌, ℕ, Some, true, false, length, slice_get, get_or, OnOk};
-ghost use Rattle.device.specs.Disk.{Counts, Writes};
+ghost use Rattle.device.specs.Disk.{CountsFailures, Writes};
 ghost use Rattle.device.specs.Moments.{Goes};
 ghost use Rattle.device.specs.Places.{Has, ChangesOnly};
 ghost use Rattle.page_action.specs.Stored.{AreStored};
 ghost use Rattle.page_codec.specs.Spelling.{page_bytes};
 ghost use Rattle.page_codec.specs.declared.page.Page.{Page};
-ghost use Rattle.page_store.specs.Restart.{place};
+ghost use Rattle.device_layout.specs.Layout.{place};
 ghost use Rattle.page_store.specs.Writing.{ChangesMarked, AreWritten, AreOnDisk};
 
 use device::Device;
+use device_layout::page_place;
 use index_model::{Fault, Limits};
 use page_codec::{Page, encode};
 
@@ -21,7 +22,7 @@ fn write_page<D: Device>(device: &mut D, at: u64, page: &Page) -> Result<(), Fau
     ensures whole { length (page_bytes page.now) ≡ 4096 }
     ensures len { length (D.trace device.new).now.seen ≡ length (D.trace device.old).now.seen }
     ensures honest { D.is_honest device.new ≡ D.is_honest device.old }
-    ensures failures { Counts result (D.failures device.old) (D.failures device.new) }
+    ensures failures { CountsFailures result (D.failures device.old) (D.failures device.new) }
 {
     let mut bytes = [0; 4096];
     encode(page, &mut bytes);
@@ -47,12 +48,12 @@ fn write_block<D: Device>(
         → get_or marks.now block false ≡ true
         → Has (place limits block) (page_bytes page) (D.trace device.new).now.seen) }
     ensures honest { D.is_honest device.new ≡ D.is_honest device.old }
-    ensures failures { Counts result (D.failures device.old) (D.failures device.new) }
+    ensures failures { CountsFailures result (D.failures device.old) (D.failures device.new) }
 {
     if !marks[block] {
         return Ok(());
     }
-    let at = 4096 + limits.log_bytes as u64 + 4096 * block as u64;
+    let at = page_place(&limits, block as u32);
     write_page(device, at, &pages[block])
 }
 
@@ -71,7 +72,7 @@ fn write_blocks<D: Device>(
         (D.trace device.old) (D.trace device.new) }
     ensures written { OnOk result (AreWritten limits marks.now pages.now (length pages.now) (D.trace device.new).now) }
     ensures honest { D.is_honest device.new ≡ D.is_honest device.old }
-    ensures failures { Counts result (D.failures device.old) (D.failures device.new) }
+    ensures failures { CountsFailures result (D.failures device.old) (D.failures device.new) }
 {
     for block in 0..pages.len() {
         write_block(device, limits, pages, marks, block)?;
@@ -94,7 +95,7 @@ pub(crate) fn write_home<D: Device>(
         (D.trace device.old) (D.trace device.new) }
     ensures written { OnOk result (AreOnDisk limits marks.now pages.now (D.trace device.new).now) }
     ensures honest { D.is_honest device.new ≡ D.is_honest device.old }
-    ensures failures { Counts result (D.failures device.old) (D.failures device.new) }
+    ensures failures { CountsFailures result (D.failures device.old) (D.failures device.new) }
 {
     write_blocks(device, limits, pages, marks)?;
     device.sync()

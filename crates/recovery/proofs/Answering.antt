@@ -1,33 +1,30 @@
 -- An index is restored: its log first, then its pages.
 use Rattle.std.proofs.Common.{◌≡◌, ◌≤◌, ◌⊎◌, ⊎_elim, inl, inr, ℕ, suc, ◌+◌, ◌<◌, Bool, IsTrue, Result, Ok, Err, List, [], length, take, drop, refl, sym, ◌∙◌, ap, subst}
-use Rattle.std.specs.Prelude.{MatchResult, IfOk, IfErr, OnOk, IsErrAnd}
+use Rattle.std.specs.Prelude.{MatchResult, IfOk, OnOk}
 use Rattle.std.proofs.lemmas.List.{take_at}
 use Rattle.device.proofs.Standing.{has_drop}
 use Rattle.device.specs.Disk.{Moment, Trace, next, synced}
 use Rattle.index_model.specs.declared.fault.Fault.{Fault}
-use Rattle.index_model.specs.declared.fault.Fault.TheVariants.{NoMemory, Io, LogDamaged, PageDamaged}
+use Rattle.index_model.specs.declared.fault.Fault.TheVariants.{NoMemory, Io, LogDamaged}
 use Rattle.index_model.specs.Limits.{AreLimits}
 use Rattle.index_model.specs.declared.limits.Limits.{Limits}
 use Rattle.page_codec.specs.declared.page.Page.{Page}
 use Rattle.page_store.specs.Logged.{AreHome, StandsOpened}
-use Rattle.page_store.specs.Restart.{superblock, place, RestartsTo}
+use Rattle.device_layout.specs.Layout.{superblock, place}
+use Rattle.page_store.specs.Restart.{RestartsTo}
 use Rattle.page_store.proofs.Restarting.{length-superblock}
 use Rattle.page_store.specs.Rooms.{limits_of_room, pages_of_room}
 use Rattle.redo_log.specs.Reading.{IsOpened, IsDamaged}
 use Rattle.redo_log.specs.declared.log.Log.{Log}
+use Rattle.recovery.specs.Calls.{IsIoOr, FailsWithIoOr}
 use Rattle.recovery.specs.Index.{HasIndex}
 use Rattle.recovery.specs.Opening.{AreFrames, HasGroups, IsFound, IsFront, IsRestored, IsRefusal, IsSynced, IsRestoreRefusal, IsNoMemoryOrIo, AreSamePages}
-use Rattle.recovery.specs.Reading.{AreInUse, IsDamagedAt, IsAllRead}
+use Rattle.recovery.specs.Reading.{AreInUse, IsDamage, IsAllRead}
 use Rattle.recovery.specs.declared.opening.Parts.{Parts}
 use Rattle.recovery.specs.declared.reading.Found.{Found}
 use Rattle.recovery.specs.Superblock.{sizes_in}
 use Rattle.recovery.proofs.Spelling.{sizes_spelled}
 use Rattle.recovery.proofs.Blocks.{home_in_use, one_reading, not_damaged}
-
--- what holds of a fault holds of a result that is refused with it
-pub refused : {T : Type 0} (r : Result T Fault) (e : Fault) (A : T → Type 0) (P : Fault → Type 0) → IsErrAnd r (λ x. x ≡ e) → P e → MatchResult r A P
-refused (Ok x) e A P is p = absurd is
-refused (Err y) e A P is p = subst P (sym is) p
 
 -- after a sync
 module _ (limits : Limits) (t u : Trace) (is : u ≡ next (synced t.now) t) where
@@ -39,7 +36,7 @@ module _ (limits : Limits) (t u : Trace) (is : u ≡ next (synced t.now) t) wher
 
   -- why the log is not restored then
   pub log_refuses : (honest : Bool) (v : Trace) (e : Fault) (fails middle failed : ℕ) → middle ≡ failed → ((e ≡ Io) × (fails ≡ suc middle)) ⊎ (((e ≡ NoMemory) ⊎ (e ≡ LogDamaged)) × (fails ≡ middle))
-      → (e ≡ LogDamaged → (v ≡ u) × (IsTrue honest → IsDamaged limits u.now)) → ((e ≡ Io) × (fails ≡ suc failed)) ⊎ (IsRestoreRefusal limits honest t v e × (fails ≡ failed))
+      → (e ≡ LogDamaged → (v ≡ u) × (IsTrue honest → IsDamaged limits u.now)) → IsIoOr (IsRestoreRefusal limits honest t v) failed fails e
   log_refuses honest v e fails middle failed same (inl io) damaged = inl (io.0, io.1 ∙ ap suc same)
   log_refuses honest v e fails middle failed same (inr other) damaged = inr (
     ⊎_elim
@@ -58,11 +55,11 @@ pub all_in_use : (limits : Limits) (honest : Bool) (file : List ℕ) (found : Fo
 all_in_use limits honest file found is all = record { stored = all.read.stored; few = all.few; stand = all.read.stand is; end = all.end is }
 
 -- why the pages of an index are not read
-pub pages_refuse : (limits : Limits) (pages : List Page) (file : List ℕ) (e : Fault) (fails failed : ℕ) → AreInUse limits pages file → 0 < length pages
-    → ((e ≡ Io) × (fails ≡ suc failed)) ⊎ (((e ≡ NoMemory) × (fails ≡ failed)) ⊎ ((block : ℕ) × (e ≡ PageDamaged block) × (fails ≡ failed) × IsDamagedAt limits block file)) → IsNoMemoryOrIo e
-pages_refuse limits pages file e fails failed in_use some (inl io) = inr io.0
-pages_refuse limits pages file e fails failed in_use some (inr (inl memory)) = inl memory.0
-pages_refuse limits pages file e fails failed in_use some (inr (inr damaged)) = absurd (not_damaged limits pages file damaged.0 in_use some damaged.3)
+pub pages_refuse : (limits : Limits) (pages : List Page) (honest : Bool) (file : List ℕ) (e : Fault) (fails failed : ℕ) → IsTrue honest → AreInUse limits pages file → 0 < length pages
+    → IsIoOr (λ e. (e ≡ NoMemory) ⊎ IsDamage limits honest file e) failed fails e → IsNoMemoryOrIo e
+pages_refuse limits pages honest file e fails failed is in_use some (inl io) = inr io.0
+pages_refuse limits pages honest file e fails failed is in_use some (inr other) =
+    ⊎_elim (λ memory. inl memory) (λ damaged. absurd (not_damaged limits pages file damaged.0 in_use some (damaged.2 is))) other.0
 
 -- the pages that are read are those of the index
 pub same_pages : (limits : Limits) (honest : Bool) (pages : List Page) (m n : Moment) (file : List ℕ) (parts : Parts) → IsTrue honest → n ≡ m → IsOpened limits parts.log → RestartsTo limits file pages → StandsOpened parts.log m pages
@@ -89,13 +86,13 @@ pub found_same : (r : Result Parts Fault) (found limits : Limits) (pages : List 
 found_same (Ok parts) found limits pages honest file m is restored same = (restored.read.read.limits_are ∙ is, same)
 found_same (Err e) found limits pages honest file m is restored same = same
 
--- what follows for a refusal
-pub err_map : {T : Type 0} (r : Result T Fault) (P Q : Fault → Type 0) → ((e : Fault) → P e → Q e) → IfErr r P → IfErr r Q
-err_map (Ok x) P Q f p = tt
-err_map (Err e) P Q f p = f e p
+-- a call that came behind one that didn't fail
+pub fails_behind : {T : Type 0} (r : Result T Fault) (P Q : Fault → Type 0) (fails middle failed : ℕ) → middle ≡ failed → ((e : Fault) → IsIoOr P middle fails e → IsIoOr Q failed fails e) → FailsWithIoOr P r middle fails → FailsWithIoOr Q r failed fails
+fails_behind (Ok x) P Q fails middle failed same f p = p ∙ same
+fails_behind (Err e) P Q fails middle failed same f p = f e p
 
 pub restore_refuses : (limits : Limits) (honest before : Bool) (frames : ℕ) (t u v : Trace) (e : Fault) (fails middle failed : ℕ) → AreFrames frames → (IsTrue honest → IsTrue before) → (IsTrue before → IsFront limits t.now.seen) → u ≡ t → middle ≡ failed
-    → ((e ≡ Io) × (fails ≡ suc middle)) ⊎ (IsRestoreRefusal limits honest u v e × (fails ≡ middle)) → ((e ≡ Io) × (fails ≡ suc failed)) ⊎ (IsRefusal honest frames t v e × (fails ≡ failed))
+    → IsIoOr (IsRestoreRefusal limits honest u v) middle fails e → IsIoOr (IsRefusal honest frames t v) failed fails e
 restore_refuses limits honest before frames t u v e fails middle failed may earlier front same count (inl io) = inl (io.0, io.1 ∙ ap suc count)
 restore_refuses limits honest before frames t u v e fails middle failed may earlier front same count (inr other) =
     inr (inr (limits, may, (λ h. front (earlier h)), subst (λ (w : Trace). IsRestoreRefusal limits honest w v e) same other.0), other.1 ∙ count)

@@ -3,7 +3,7 @@ use Rattle.std.proofs.Common.{◌≡◌, ◌≢◌, inl, inr, ℕ, zero, suc, �
 use Rattle.std.proofs.lemmas.Bool.{cases_eq}
 use Rattle.std.proofs.lemmas.List.{take_at, length-replicate}
 use Rattle.std.proofs.lemmas.Option.{slice_get_within}
-use Rattle.std.specs.Prelude.{IfErr, IsErrAnd}
+use Rattle.std.specs.Prelude.{MatchResult, IsErrAnd}
 use Rattle.device.specs.Disk.{Moment}
 use Rattle.device.specs.Places.{Has}
 use Rattle.device.proofs.Standing.{has_drop}
@@ -15,11 +15,11 @@ use Rattle.page_codec.specs.Spelling.{page_bytes, used_bytes, head_bytes}
 use Rattle.page_codec.proofs.Laws.{one_page, length-page}
 use Rattle.page_codec.specs.declared.page.Page.{Page}
 use Rattle.page_store.specs.Rooms.{limits_of_room, pages_of_room, counts_of_room}
-use Rattle.page_store.specs.Restart.{place}
+use Rattle.device_layout.specs.Layout.{place}
 use Rattle.page_store.specs.Logged.{AreHome}
 use Rattle.page_store.proofs.Restarting.{past_of_none}
 use Rattle.page_store.proofs.Images.{more_same, more_other}
-use Rattle.recovery.specs.Reading.{block_bytes, AreBytesOf, StandFirst, IsEnd, IsDamagedAt, AreInUse, greatest_cycle, IsRead}
+use Rattle.recovery.specs.Reading.{block_bytes, AreBytesOf, StandFirst, IsEnd, IsDamagedAt, AreInUse, greatest_cycle, HasReadPages}
 use Rattle.recovery.specs.declared.reading.Found.{Found}
 
 cycle-more : (pages : List Page) (page : Page) → greatest_cycle (pages ++ page ∷ []) ≡ max (greatest_cycle pages) page.cycle
@@ -40,9 +40,9 @@ stand-more limits pages page file stand here block p found = elim (cases_eq (len
 ]
 
 -- one page more is read
-pub read_more : (limits : Limits) (before after : Bool) (file : List ℕ) (old new : Found) (page : Page) → (IsTrue after → IsTrue before) → IsRead limits before file old → limits_of_room new.room ≡ limits_of_room old.room
+pub read_more : (limits : Limits) (before after : Bool) (file : List ℕ) (old new : Found) (page : Page) → (IsTrue after → IsTrue before) → HasReadPages limits before file old → limits_of_room new.room ≡ limits_of_room old.room
     → pages_of_room new.room ≡ pages_of_room old.room ++ page ∷ [] → counts_of_room new.room ≡ counts_of_room old.room ++ 0 ∷ [] → IsStored limits (length (pages_of_room old.room)) page → new.counter ≡ max old.counter page.cycle
-    → (IsTrue after → block_bytes limits (length (pages_of_room old.room)) file ≡ page_bytes page) → IsRead limits after file new
+    → (IsTrue after → block_bytes limits (length (pages_of_room old.room)) file ≡ page_bytes page) → HasReadPages limits after file new
 read_more limits before after file old new page earlier read same pages counts stored counter here =
     let count : length (pages_of_room new.room) ≡ suc (length (pages_of_room old.room)) = omega (arith, ap length pages, length-append (pages_of_room old.room) (page ∷ [])) in
     record {
@@ -59,7 +59,7 @@ unfolding page_bytes used_bytes head_bytes
 page_is_not_zeros page is = (let first : 66 ≡ 0 = ap (λ (l : List ℕ). slice_index l 0) is in absurd (omega (arith, first)))
 
 -- the block whose page was not taken is damaged
-pub damaged_here : (limits : Limits) (honest : Bool) (file : List ℕ) (found : Found) (page : Page) → IsRead limits honest file found → IsTrue honest → length (pages_of_room found.room) < limits.pages
+pub damaged_here : (limits : Limits) (honest : Bool) (file : List ℕ) (found : Found) (page : Page) → HasReadPages limits honest file found → IsTrue honest → length (pages_of_room found.room) < limits.pages
     → AreBytesOf (Some page) (block_bytes limits (length (pages_of_room found.room)) file) → (IsStored limits (length (pages_of_room found.room)) page → ⊥) → IsDamagedAt limits (length (pages_of_room found.room)) file
 damaged_here limits honest file found page read is within here wrong = record {
   before = pages_of_room found.room;
@@ -72,9 +72,9 @@ damaged_here limits honest file found page read is within here wrong = record {
 }
 
 -- what holds of a fault holds of a result that is refused with it
-pub given : {T : Type 0} (r : Result T Fault) (e : Fault) (P : Fault → Type 0) → IsErrAnd r (λ x. x ≡ e) → P e → IfErr r P
-given (Ok x) e P is p = tt
-given (Err y) e P is p = subst P (sym is) p
+pub refused : {T : Type 0} (r : Result T Fault) (e : Fault) (A : T → Type 0) (P : Fault → Type 0) → IsErrAnd r (λ x. x ≡ e) → P e → MatchResult r A P
+refused (Ok x) e A P is p = absurd is
+refused (Err y) e A P is p = subst P (sym is) p
 
 -- block 0 is damaged where it is unused
 pub none_in_use : (limits : Limits) (file : List ℕ) → 0 < limits.pages → IsEnd limits 0 file → IsDamagedAt limits 0 file

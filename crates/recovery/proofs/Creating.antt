@@ -1,16 +1,19 @@
 -- What each write of a new index leaves of the others.
-use Rattle.std.proofs.Common.{◌≡◌, ◌⊎◌, inl, inr, ⊎_elim, ℕ, ◌+◌, ◌-◌, ◌*◌, ◌<◌, ◌≤◌, Result, Ok, Err, List, [], ◌∷◌, length, replicate, refl, sym, subst, arith}
-use Rattle.std.proofs.lemmas.List.{length-replicate}
-use Rattle.std.specs.Prelude.{OnOk}
+use Rattle.std.proofs.Common.{◌≡◌, ◌⊎◌, inl, inr, ⊎_elim, ℕ, ◌+◌, ◌*◌, ◌<◌, ◌≤◌, true, Result, Ok, Err, List, [], ◌∷◌, length, get_or, replicate, refl, sym, ◌∙◌, ap, subst, arith}
+use Rattle.std.proofs.lemmas.List.{length-replicate, get_or-take}
+use Rattle.std.proofs.lemmas.Bool.Decides.{nat_tests}
+use Rattle.std.specs.Prelude.{OnOk, ◌||◌}
 use Rattle.std.proofs.lemmas.Bool.{cases_lt}
-use Rattle.device.specs.Disk.{Moment, Trace, Syncs}
+use Rattle.device.specs.Disk.{Moment, Trace, Writes, Syncs, next, wrote, synced, is_in}
+use Rattle.device.specs.Moments.{Goes}
 use Rattle.device.specs.Places.{Has, OnDisk, ChangesOnly}
-use Rattle.device.proofs.Standing.{only_wider, only_more, has_kept, kept, synced_on}
+use Rattle.device.proofs.Going.{steps, goes_on, goes_weaker, goes_now, writes_goes, syncs_goes}
+use Rattle.device.proofs.Standing.{only_wider, only_more, same_only, has_kept, kept, on_image, wrote_only, wrote_has, synced_only, synced_on}
 use Rattle.index_model.specs.declared.limits.Limits.{Limits}
 use Rattle.page_codec.specs.Spelling.{page_bytes}
 use Rattle.page_codec.specs.declared.page.Page.{Page}
-use Rattle.page_store.specs.Restart.{superblock, place}
-use Rattle.recovery.specs.Fresh.{IsFirstMeta, IsFirstLeaf, AreZero, HasPages, HasBody, IsFresh}
+use Rattle.device_layout.specs.Layout.{superblock, place}
+use Rattle.recovery.specs.Fresh.{IsFirstMeta, IsFirstLeaf, AreZero, HasPages, HasBody, WritesFront, LeavesNoMagic, IsMaking, IsEmptyIndex}
 
 -- what follows from success
 pub on_ok : {T E : Type 0} (P Q : Type 0) (r : Result T E) → (P → Q) → OnOk r P → OnOk r Q
@@ -33,12 +36,6 @@ pub zeros_more : (limits : Limits) (block : ℕ) (old new : Moment) → AreZero 
 zeros_more limits block old new zero has only =
     let stay = zeros_stay limits 2 block (place limits block) 4096 old new only (inl (omega arith)) zero in
     λ b low high. ⊎_elim (λ lt. stay b low lt) (λ ge. let e : block ≡ b = omega arith in subst (λ (n : ℕ). Has (place limits n) (replicate 4096 0) new.seen) e has) (cases_lt b block)
-
--- a block from there on changes nothing outside of them
-pub only_blocks : (limits : Limits) (from block : ℕ) (a b c : Moment) → from ≤ block → block < limits.pages → ChangesOnly (place limits from) (4096 * (limits.pages - from)) a b → ChangesOnly (place limits block) 4096 b c
-    → ChangesOnly (place limits from) (4096 * (limits.pages - from)) a c
-only_blocks limits from block a b c low high f g =
-    only_more (place limits from) (4096 * (limits.pages - from)) a b c f (only_wider (place limits block) 4096 (place limits from) (4096 * (limits.pages - from)) b c (omega arith) (omega arith) g)
 
 -- the pages stand, once each was written
 pub pages_made : (limits : Limits) (meta leaf : Page) (a b c : Moment) → IsFirstMeta meta → IsFirstLeaf leaf → length (page_bytes meta) ≡ 4096 → AreZero limits 2 limits.pages a.seen
@@ -88,6 +85,74 @@ body_stays limits a b only body = record {
   firm = λ i low. only.loose i (inr low) (body.firm i low);
 }
 
-pub fresh_made : {T E : Type 0} (limits : Limits) (r : Result T E) (bytes : List ℕ) (a b : Moment) → bytes ≡ superblock limits → HasBody limits a → ChangesOnly 0 4096 a b → OnOk r (OnDisk 0 bytes b) → OnOk r (IsFresh limits b)
-fresh_made limits (Ok x) bytes a b is body only on = record { superblock = subst (λ (l : List ℕ). OnDisk 0 l b) is on; body = body_stays limits a b only body }
-fresh_made limits (Err e) bytes a b is body only on = tt
+-- at the end nothing else has changed
+pub only_now : (at n : ℕ) (t u : Trace) → Goes (ChangesOnly at n t.now) t u → ChangesOnly at n t.now u.now
+only_now at n t u moments = goes_now _ t u moments (same_only at n t.now)
+
+pub wider_goes : (at n start size : ℕ) (t u : Trace) → start ≤ at → at + n ≤ start + size → Goes (ChangesOnly at n t.now) t u → Goes (ChangesOnly start size t.now) t u
+wider_goes at n start size t u lo hi moments = goes_weaker _ _ t u (λ m only. only_wider at n start size t.now m lo hi only) moments
+
+-- nor does it while more is written there
+pub more_goes : (at n start size : ℕ) (t u v : Trace) → start ≤ at → at + n ≤ start + size → Goes (ChangesOnly start size t.now) t u → Goes (ChangesOnly at n u.now) u v → Goes (ChangesOnly start size t.now) t v
+more_goes at n start size t u v lo hi first second = goes_on _ t u v first
+    (goes_weaker _ _ u v (λ m only. only_more start size t.now u.now m (only_now start size t u first) (only_wider at n start size u.now m lo hi only)) second)
+
+pub synced_goes : {T E : Type 0} (at n : ℕ) (r : Result T E) (t u v : Trace) → Goes (ChangesOnly at n t.now) t u → Syncs r u v → Goes (ChangesOnly at n t.now) t v
+synced_goes at n r t u v first s = goes_on _ t u v first (syncs_goes _ r u v s (only_more at n t.now u.now (synced u.now) (only_now at n t u first) (synced_only at n u.now)))
+
+-- the superblock's bytes are written and synced
+module _ (bytes : List ℕ) (t : Trace) (long : length bytes ≡ 4096) (inside : 4096 ≤ length t.now.seen) where
+  is_loose : (b : List ℕ) → length b ≡ 4096 → (i : ℕ) → i < 4096 → (t.now.loose i || is_in 0 (length b) i) ≡ true
+  is_loose b n i lt = grind (arith, nat_tests)
+
+  front_wrote : (b : List ℕ) → length b ≡ length bytes → WritesFront bytes t.now (wrote 0 b t.now)
+  front_wrote b n = record {
+    only = subst (λ (k : ℕ). ChangesOnly 0 k t.now (wrote 0 b t.now)) (n ∙ long) (wrote_only 0 b t.now (omega (arith, n, long)));
+    either = inl (λ i lt. is_loose b (n ∙ long) i lt);
+  }
+
+  pub front_written : {T E : Type 0} (r : Result T E) (u : Trace) → Writes 0 bytes r t u → Goes (WritesFront bytes t.now) t u
+  front_written r u w = writes_goes _ 0 bytes r t u w (λ b n. front_wrote b n)
+
+  pub front_synced : {T E : Type 0} (r : Result T E) (u v : Trace) → u ≡ next (wrote 0 bytes t.now) t → Syncs r u v → Goes (WritesFront bytes t.now) t v
+  front_synced r u v is s =
+      let now : u.now ≡ wrote 0 bytes t.now = ap (λ (x : Trace). x.now) is in
+      let only : ChangesOnly 0 4096 t.now u.now = subst (ChangesOnly 0 4096 t.now) (sym now) (front_wrote bytes refl).only in
+      goes_on _ t u v (steps _ t u _ is (front_wrote bytes refl))
+      (syncs_goes _ r u v s (record {
+        only = only_more 0 4096 t.now u.now (synced u.now) only (synced_only 0 4096 u.now);
+        either = inr (synced_on 0 bytes u.now (subst (λ (m : Moment). Has 0 bytes m.seen) (sym now) (wrote_has 0 bytes t.now (omega (arith, long, inside)))));
+      }))
+
+-- zeros don't begin as an index does
+pub no_magic : (m : Moment) → OnDisk 0 (replicate 4096 0) m → LeavesNoMagic m
+no_magic m on image left is =
+    let zero = (on_image 0 (replicate 4096 0) m image on left).each 0 (omega (arith, length-replicate {A = ℕ} 4096 0)) in
+    let first : get_or image 0 0 ≡ 66 = sym (get_or-take 8 image 0 0 (omega arith)) ∙ ap (λ (l : List ℕ). get_or l 0 0) is in
+    absurd (omega (arith, first, zero))
+
+-- while an index is made
+module _ (limits : Limits) (t u : Trace) (clearing : Goes (WritesFront (replicate 4096 0) t.now) t u) where
+  pub clearing_goes : Goes (IsMaking limits t.now) t u
+  clearing_goes = goes_weaker _ _ t u (λ m w. ⊎_elim (λ loose. inl (record { front = loose; only = w.only })) (λ on. inr (inl (no_magic m on))) w.either) clearing
+
+  module _ (v : Trace) (n : ℕ) (cleared : OnDisk 0 (replicate 4096 0) u.now) (placing : Goes (ChangesOnly 4096 n u.now) u v) where
+    pub placing_goes : Goes (IsMaking limits t.now) t v
+    placing_goes = goes_on _ t u v clearing_goes
+        (goes_weaker _ _ u v (λ m only. inr (inl (no_magic m (kept 4096 n 0 (replicate 4096 0) u.now m only (inl (omega (arith, length-replicate {A = ℕ} 4096 0))) cleared)))) placing)
+
+    pub finishing_goes : (w : Trace) (bytes : List ℕ) → bytes ≡ superblock limits → HasBody limits v.now → Goes (WritesFront bytes v.now) v w → Goes (IsMaking limits t.now) t w
+    finishing_goes w bytes is body finishing = goes_on _ t v w placing_goes
+        (goes_weaker _ _ v w (λ m f. inr (inr (record {
+          body = body_stays limits v.now m f.only body;
+          either = ⊎_elim (λ loose. inl loose) (λ on. inr (subst (λ (l : List ℕ). OnDisk 0 l m) is on)) f.either;
+        }))) finishing)
+
+-- the index is made, once its superblock stands
+pub fresh_made : {T E : Type 0} (limits : Limits) (r : Result T E) (bytes : List ℕ) (t u : Trace) → bytes ≡ superblock limits → HasBody limits t.now → Goes (WritesFront bytes t.now) t u → OnOk r (OnDisk 0 bytes u.now)
+    → OnOk r (IsEmptyIndex limits u.now)
+fresh_made limits (Ok x) bytes t u is body moments on = record {
+  superblock = subst (λ (l : List ℕ). OnDisk 0 l u.now) is on;
+  body = body_stays limits t.now u.now (only_now 0 4096 t u (goes_weaker _ _ t u (λ m w. w.only) moments)) body;
+}
+fresh_made limits (Err e) bytes t u is body moments on = tt

@@ -12,9 +12,10 @@ use Rattle.page_codec.specs.Spelling.{count_of, page_bytes}
 use Rattle.page_codec.specs.declared.page.Items.{Items}
 use Rattle.page_codec.specs.declared.page.Items.TheVariants.{Meta, Entries, Downlinks}
 use Rattle.page_codec.specs.declared.page.Page.{Page}
-use Rattle.page_store.specs.Restart.{superblock, place, StandsAtHome, RestartsTo}
+use Rattle.device_layout.specs.Layout.{superblock, place}
+use Rattle.page_store.specs.Restart.{StandsAtHome, RestartsTo}
 use Rattle.redo_log.proofs.Leaving.{shut_stands}
-use Rattle.recovery.specs.Fresh.{IsFirstMeta, IsFirstLeaf, HasBody, IsFresh, LeavesEmpty}
+use Rattle.recovery.specs.Fresh.{IsFirstMeta, IsFirstLeaf, HasBody, IsEmptyIndex, LeavesEmpty}
 
 no_entries : (items : Items) → HasEntries items → entries_of items ≡ [] → count_of items ≡ 0
 no_entries Meta h e = refl
@@ -27,7 +28,7 @@ meta_stored limits meta is = record { storable = record { admitted = is.page; fe
 leaf_stored : (limits : Limits) (leaf : Page) → IsFirstLeaf leaf → IsStored limits 1 leaf
 leaf_stored limits leaf is = record { storable = record { admitted = is.page; few = omega (arith, no_entries leaf.items is.kind is.empty) }; block_is = is.block }
 
-module _ (limits : Limits) (allowed : AreLimits limits) (m : Moment) (fresh : IsFresh limits m) (image : List ℕ) (left : MayLeave m image) where
+module _ (limits : Limits) (allowed : AreLimits limits) (m : Moment) (fresh : IsEmptyIndex limits m) (image : List ℕ) (left : MayLeave m image) where
   abbrev body : HasBody limits m
   body = fresh.body
 
@@ -57,7 +58,7 @@ module _ (limits : Limits) (allowed : AreLimits limits) (m : Moment) (fresh : Is
     unused = λ block past small. record { unnamed = refl; has = stays (place limits block) (replicate 4096 0) (omega arith) (body.pages.unused block past small) };
   }
 
-pub fresh_leaves : (limits : Limits) → AreLimits limits → (m : Moment) → IsFresh limits m → LeavesEmpty limits m
+pub fresh_leaves : (limits : Limits) → AreLimits limits → (m : Moment) → IsEmptyIndex limits m → LeavesEmpty limits m
 fresh_leaves limits allowed m fresh = record {
   meta = fresh.body.pages.meta;
   is_meta = fresh.body.pages.is_meta;

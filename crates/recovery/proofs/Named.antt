@@ -11,7 +11,7 @@ use Rattle.index_model.specs.declared.limits.Limits.{Limits}
 use Rattle.page_codec.specs.Spelling.{page_bytes}
 use Rattle.page_codec.specs.declared.page.Page.{Page}
 use Rattle.page_codec.proofs.Laws.{length-page}
-use Rattle.page_store.specs.Restart.{place}
+use Rattle.device_layout.specs.Layout.{place}
 use Rattle.page_store.proofs.Images.{if_same, if_other, later_is_none}
 use Rattle.page_store.proofs.Places.{apart_long}
 use Rattle.redo_log.specs.Groups.{IsImage, AreImages}

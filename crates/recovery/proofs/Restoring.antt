@@ -16,14 +16,15 @@ use Rattle.page_codec.specs.Spelling.{page_bytes}
 use Rattle.page_codec.specs.declared.page.Page.{Page}
 use Rattle.page_codec.proofs.Laws.{length-page}
 use Rattle.page_store.specs.Logged.{AreHome, StandsOpened}
-use Rattle.page_store.specs.Restart.{superblock, place, RestartsTo, LeavesPages}
+use Rattle.device_layout.specs.Layout.{superblock, place}
+use Rattle.page_store.specs.Restart.{RestartsTo, LeavesPages}
 use Rattle.page_store.proofs.Restarting.{superblock_kept}
-use Rattle.redo_log.specs.Groups.{Spells, log_range}
+use Rattle.redo_log.specs.Groups.{SpellsGroups, log_range}
 use Rattle.redo_log.specs.Images.{last_image, images_of, SameImages}
-use Rattle.redo_log.specs.Kept.{Keeps, Restarts, RestartsOrEmpty, RestartsOrEmptyThroughout, ChangesItsRange, ForgetsAll, limits_of}
+use Rattle.redo_log.specs.Kept.{Keeps, Restarts, RestartsOrEmpty, RestartsOrEmptyThroughout, ChangesItsRange, ForgetsForced, limits_of, waiting_count}
 use Rattle.redo_log.specs.Reading.{Replays, IsOpened, IsDamaged}
 use Rattle.redo_log.specs.declared.log.Log.{Log}
-use Rattle.redo_log.proofs.Keeping.{keeps_restarts, keeps_elsewhere}
+use Rattle.redo_log.proofs.Keeping.{keeps_restarts, keeps_elsewhere, forgets_all}
 use Rattle.recovery.specs.Homing.{ChangesNamed, AreHomed}
 use Rattle.recovery.specs.Opening.{IsSynced, IsNoMemoryOrIo}
 use Rattle.recovery.proofs.Named.{same_named}
@@ -52,7 +53,7 @@ stands_at limits pages m firm r = record {
 }
 
 -- a crash leaves it, where the log's range that it leaves has these images
-pub stands_leaves : (limits : Limits) (images pages : List Page) (m : Moment) → Stands limits images pages m → (image : List ℕ) → MayLeave m image → (groups : List (List Page)) → Spells limits (log_range limits image) groups
+pub stands_leaves : (limits : Limits) (images pages : List Page) (m : Moment) → Stands limits images pages m → (image : List ℕ) → MayLeave m image → (groups : List (List Page)) → SpellsGroups limits (log_range limits image) groups
     → ((block : ℕ) → last_image (images_of groups) block ≡ last_image images block) → RestartsTo limits image pages
 stands_leaves limits images pages m s image left groups spells same = record {
   superblock_is = on_image 0 (superblock limits) m image s.superblock_on left;
@@ -172,12 +173,12 @@ module _ (limits : Limits) (images pages : List Page) (log : Log) (t : Trace) (f
           let holds = subst (λ (l : Limits). Goes (RestartsOrEmpty l (take (length gs) gs)) u v) opened.limits_are (closing gs (length gs) (keeps_written u.now now_named)) in
           goes_weaker _ _ u v (λ m two. closing_leaves m two.0 two.1) (goes_both _ _ u v holds outside_here)
 
-      pub closed_stands : (after : Log) → limits_of after ≡ limits_of log → ForgetsAll log u.now after v.now → StandsOpened after v.now pages
-      closed_stands after same forgets =
+      pub closed_stands : (after : Log) → limits_of after ≡ limits_of log → waiting_count after ≡ waiting_count log → ForgetsForced log u.now after v.now → StandsOpened after v.now pages
+      closed_stands after same waits forgets =
           let l = same ∙ opened.limits_are in
           let s = stands_logged limits [] pages u.now v.now (goes_now _ u v outside_here (same_only 4096 limits.log_bytes u.now)) at_home in
           record {
-            log_keeps = forgets gs (length gs) (keeps_written u.now now_named) opened.waiting;
+            log_keeps = forgets_all log u.now after v.now forgets waits opened.waiting gs (length gs) (keeps_written u.now now_named);
             home = subst (λ (x : Limits). AreHome x [] pages v.now) (sym l) (home_of limits pages v.now s);
             superblock_on = subst (λ (x : Limits). OnDisk 0 (superblock x) v.now) (sym l) s.superblock_on;
           }

@@ -4,8 +4,8 @@ use Rattle.std.proofs.lemmas.Nat.{from_le_bytes-to_le_bytes_4}
 use Rattle.std.specs.Int.{w32, to_le_bytes}
 use Rattle.index_model.specs.Limits.{AreLimits}
 use Rattle.index_model.specs.declared.limits.Limits.{Limits}
-use Rattle.recovery.specs.Superblock.{magic, number_at, sizes_in}
-use Rattle.page_store.specs.Restart.{superblock}
+use Rattle.recovery.specs.Superblock.{number_at, sizes_in}
+use Rattle.device_layout.specs.Layout.{magic, superblock}
 
 -- the pieces of a superblock, one behind the other
 pub spelled : (limits : Limits) (whole out b1 b2 b3 b4 b5 : List ℕ) (at : ℕ) → b1 ≡ 66 ∷ 76 ∷ 73 ∷ 78 ∷ 75 ∷ 73 ∷ 68 ∷ 88 ∷ [] → b2 ≡ b1 ++ to_le_bytes w32 1 → b3 ≡ b2 ++ to_le_bytes w32 limits.items → b4 ≡ b3 ++ to_le_bytes w32 limits.pages

@@ -1,7 +1,7 @@
 -- A device with an empty index on it.
-use Rattle.std.specs.Prelude.{◌≡◌, ◌⊎◌, ℕ, suc, ◌<◌, ◌≤◌, false, Some, None, List, [], ◌∷◌, length, replicate, Result, MatchResult}
+use Rattle.std.specs.Prelude.{◌≡◌, ◌≢◌, ◌⊎◌, ℕ, suc, ◌<◌, ◌≤◌, true, false, take, Some, None, List, [], ◌∷◌, length, replicate, Result, MatchResult}
 use Rattle.device.specs.Disk.{Moment, Trace, MayLeave}
-use Rattle.device.specs.Places.{Has, OnDisk}
+use Rattle.device.specs.Places.{Has, OnDisk, ChangesOnly}
 use Rattle.index_model.specs.Limits.{AreLimits}
 use Rattle.index_model.specs.declared.fault.Fault.{Fault}
 use Rattle.index_model.specs.declared.fault.Fault.TheVariants.{Io, BadLimits, DeviceTooSmall}
@@ -13,11 +13,7 @@ use Rattle.page_codec.specs.declared.page.Items.TheVariants.{Meta}
 use Rattle.page_codec.specs.declared.page.Page.{Page}
 use Rattle.page_codec.specs.declared.page.PageState.TheVariants.{Live}
 use Rattle.recovery.specs.Index.{HasIndex}
-use Rattle.page_store.specs.Restart.{superblock, place}
-
--- how many bytes an index takes
-abbrev pub size_of : Limits → ℕ
-size_of limits = place limits limits.pages
+use Rattle.device_layout.specs.Layout.{magic, superblock, log_start, place, needed_length}
 
 -- the metapage of an empty index: its root is the leaf at block 1
 pub record IsFirstMeta (p : Page) : Type 0 where
@@ -57,11 +53,39 @@ pub record HasPages (limits : Limits) (file : List ℕ) : Type 0 where
 -- these pages and a closed log, and no crash changes them
 pub record HasBody (limits : Limits) (m : Moment) : Type 0 where
   pub pages : HasPages limits m.seen
-  pub gate : OnDisk 4096 (0 ∷ []) m
-  pub firm : (i : ℕ) → 4096 ≤ i → m.loose i ≡ false
+  pub gate : OnDisk log_start (0 ∷ []) m
+  pub firm : (i : ℕ) → log_start ≤ i → m.loose i ≡ false
+
+-- a crash may leave any bytes in place of the superblock
+abbrev pub IsFrontLoose : Moment → Type 0
+IsFrontLoose m = (i : ℕ) → i < log_start → m.loose i ≡ true
+
+-- nothing but the superblock's bytes has changed: they are being written, or these stand there
+pub record WritesFront (bytes : List ℕ) (old m : Moment) : Type 0 where
+  pub only : ChangesOnly 0 log_start old m
+  pub either : IsFrontLoose m ⊎ OnDisk 0 bytes m
+
+-- the superblock that was there is being written over, and nothing else has changed
+pub record IsClearing (old m : Moment) : Type 0 where
+  pub front : IsFrontLoose m
+  pub only : ChangesOnly 0 log_start old m
+
+-- no image that a crash leaves begins as an index does
+abbrev pub LeavesNoMagic : Moment → Type 0
+LeavesNoMagic m = (image : List ℕ) → MayLeave m image → take 8 image ≢ magic
+
+-- all of the new index stands but for its superblock, which is being written, or stands too
+pub record IsFinishing (limits : Limits) (m : Moment) : Type 0 where
+  pub body : HasBody limits m
+  pub either : IsFrontLoose m ⊎ OnDisk 0 (superblock limits) m
+
+-- a moment while an index is made: what was there loses its superblock, alone; or no crash leaves an index; or the new
+-- one gets its superblock, last
+abbrev pub IsMaking : Limits → Moment → Moment → Type 0
+IsMaking limits old m = IsClearing old m ⊎ LeavesNoMagic m ⊎ IsFinishing limits m
 
 -- an empty index, which no crash changes
-pub record IsFresh (limits : Limits) (m : Moment) : Type 0 where
+pub record IsEmptyIndex (limits : Limits) (m : Moment) : Type 0 where
   pub superblock : OnDisk 0 (superblock limits) m
   pub body : HasBody limits m
 
@@ -77,7 +101,7 @@ pub record LeavesEmpty (limits : Limits) (m : Moment) : Type 0 where
 -- else too short a device, nothing changed; or a call of the device failed once
 abbrev pub CreateEnds : {T : Type 0} → Limits → Result T Fault → Trace → Trace → ℕ → ℕ → Type 0
 CreateEnds limits result old new failed fails = MatchResult result
-    (λ _. AreLimits limits × (size_of limits ≤ length old.now.seen) × (fails ≡ failed))
+    (λ _. AreLimits limits × (needed_length limits ≤ length old.now.seen) × (fails ≡ failed))
     (λ e. ((e ≡ BadLimits) × (AreLimits limits → ⊥) × (new ≡ old) × (fails ≡ failed))
-    ⊎ ((e ≡ DeviceTooSmall) × AreLimits limits × (length old.now.seen < size_of limits) × (new ≡ old) × (fails ≡ failed))
+    ⊎ ((e ≡ DeviceTooSmall) × AreLimits limits × (length old.now.seen < needed_length limits) × (new ≡ old) × (fails ≡ failed))
     ⊎ ((e ≡ Io) × (fails ≡ suc failed)))

@@ -5,7 +5,7 @@ use Rattle.device.specs.Places.{Has, OnDisk, ChangesOnly}
 use Rattle.index_model.specs.declared.limits.Limits.{Limits}
 use Rattle.page_codec.specs.Spelling.{page_bytes}
 use Rattle.page_codec.specs.declared.page.Page.{Page}
-use Rattle.page_store.specs.Restart.{place}
+use Rattle.device_layout.specs.Layout.{place}
 use Rattle.redo_log.specs.Images.{last_image}
 
 -- nothing but places of blocks that have an image among these changed

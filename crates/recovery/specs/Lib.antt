@@ -1,3 +1,4 @@
+pub mod Calls
 pub mod Superblock
 pub mod Index
 pub mod Fresh

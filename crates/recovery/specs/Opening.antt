@@ -4,19 +4,20 @@ use Rattle.device.specs.Disk.{Moment, Trace, next, synced}
 use Rattle.device.specs.declared.device.Device.{Ghosts}
 use Rattle.index_model.specs.Limits.{AreLimits}
 use Rattle.index_model.specs.declared.fault.Fault.{Fault}
-use Rattle.index_model.specs.declared.fault.Fault.TheVariants.{NoMemory, Io, BadSuper, BadVersion, BadLimits, LogDamaged, PageDamaged}
+use Rattle.index_model.specs.declared.fault.Fault.TheVariants.{NoMemory, Io, BadSuper, BadVersion, BadLimits, LogDamaged}
 use Rattle.index_model.specs.declared.limits.Limits.{Limits}
 use Rattle.page_action.specs.States.{State}
 use Rattle.page_action.specs.Stored.{AreStored}
 use Rattle.page_codec.specs.declared.page.Page.{Page}
 use Rattle.page_store.specs.Logged.{StandsOpened}
-use Rattle.page_store.specs.Restart.{superblock, place}
+use Rattle.device_layout.specs.Layout.{superblock, place}
 use Rattle.page_store.specs.Rooms.{pages_of_room}
 use Rattle.page_store.specs.Stores.{state_of, device_of, opened_state, IsOwnStore}
 use Rattle.page_store.specs.declared.store.Store.{Store}
-use Rattle.redo_log.specs.Groups.{Spells, log_range}
+use Rattle.redo_log.specs.Groups.{SpellsGroups, log_range}
+use Rattle.redo_log.specs.Kept.{groups_end}
 use Rattle.redo_log.specs.Reading.{IsOpened, IsDamaged}
-use Rattle.recovery.specs.Reading.{AreInUse, IsDamagedAt, IsAllRead, greatest_cycle}
+use Rattle.recovery.specs.Reading.{AreInUse, IsDamage, IsAllRead, greatest_cycle}
 use Rattle.recovery.specs.Superblock.{IsNoSuperblock}
 use Rattle.recovery.specs.declared.opening.Parts.{Parts}
 use Rattle.recovery.specs.declared.opening.Refused.{Refused}
@@ -42,7 +43,7 @@ IsFrontFault fault = (fault ≡ BadSuper) ⊎ (fault ≡ BadVersion) ⊎ (fault 
 
 -- the log's range is groups: each open one is whole
 abbrev pub HasGroups : Limits → List ℕ → Type 0
-HasGroups limits file = (groups : List (List Page)) × Spells limits (log_range limits file) groups
+HasGroups limits file = (groups : List (List Page)) × SpellsGroups limits (log_range limits file) groups
 
 -- refused before anything is done: frames out of their range; or else a device of less than 4,096 bytes; or else what
 -- stands in front
@@ -58,7 +59,7 @@ abbrev pub IsRestoreRefusal : Limits → Bool → Trace → Trace → Fault → 
 IsRestoreRefusal limits honest old new fault =
     (fault ≡ NoMemory)
     ⊎ ((fault ≡ LogDamaged) × (new ≡ next (synced old.now) old) × (IsTrue honest → IsDamaged limits old.now))
-    ⊎ ((block : ℕ) × (fault ≡ PageDamaged block) × (IsTrue honest → IsDamagedAt limits block new.now.seen))
+    ⊎ IsDamage limits honest new.now.seen fault
 
 -- refused for one of these
 abbrev pub IsRefusal : Bool → ℕ → Trace → Trace → Fault → Type 0
@@ -70,9 +71,10 @@ IsRefusal honest frames old new fault =
 abbrev pub IsSynced : Moment → Type 0
 IsSynced m = (i : ℕ) → m.loose i ≡ false
 
--- an opened log, and what was read
+-- an opened log without open groups, and what was read
 pub record IsRestored (limits : Limits) (honest : Bool) (file : List ℕ) (parts : Parts) : Type 0 where
   pub opened : IsOpened limits parts.log
+  pub closed : groups_end parts.log ≡ 0
   pub read : IsAllRead limits honest file parts.found
 
 -- the index that was found: restored, on a device that is long enough; its superblock stood there, and an undamaged log
@@ -93,14 +95,14 @@ pub record AreSamePages (pages : List Page) (m : Moment) (parts : Parts) : Type 
 abbrev pub IsNoMemoryOrIo : Fault → Type 0
 IsNoMemoryOrIo fault = (fault ≡ NoMemory) ⊎ (fault ≡ Io)
 
--- the state as it is opened with its pages: as many as the limits allow, one or more, each one that may be stored; no
--- deletion number counts, and the last cycle number is the greatest of the pages
-pub record IsFreshlyOpened (st : State) : Type 0 where
+-- the state as it is opened with its pages, for so many frames: as many as the limits allow, one or more, each one that
+-- may be stored; no deletion number counts, and the last cycle number is the greatest of the pages
+pub record IsFreshlyOpened (frames : ℕ) (st : State) : Type 0 where
   pub allowed : AreLimits st.limits
   pub some : 0 < length st.pages
   pub few : length st.pages ≤ st.limits.pages
   pub stored : AreStored st.limits 0 st.pages
-  pub is : st ≡ opened_state st.limits st.pages (replicate (length st.pages) 0) (greatest_cycle st.pages)
+  pub is : st ≡ opened_state st.limits frames st.pages (replicate (length st.pages) 0) (greatest_cycle st.pages)
 
 -- the index of a store stands on its device: its superblock and an undamaged log stood there before, its pages stand
 -- there now

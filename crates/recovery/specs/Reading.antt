@@ -1,11 +1,13 @@
 -- Pages as they are read from a device: the blocks in use, and what damages one.
 use Rattle.std.specs.Prelude.{◌≡◌, ◌≢◌, ◌⊎◌, ℕ, ◌+◌, ◌<◌, ◌≤◌, max, Bool, IsTrue, Option, Some, None, List, [], ◌∷◌, length, replicate, slice_get, slice_range}
+use Rattle.index_model.specs.declared.fault.Fault.{Fault}
+use Rattle.index_model.specs.declared.fault.Fault.TheVariants.{PageDamaged}
 use Rattle.index_model.specs.declared.limits.Limits.{Limits}
 use Rattle.page_action.specs.Stored.{IsStored, AreStored}
 use Rattle.page_codec.specs.Grammar.{IsPage}
 use Rattle.page_codec.specs.Spelling.{page_bytes}
 use Rattle.page_codec.specs.declared.page.Page.{Page}
-use Rattle.page_store.specs.Restart.{place}
+use Rattle.device_layout.specs.Layout.{place}
 use Rattle.page_store.specs.Rooms.{limits_of_room, pages_of_room, counts_of_room}
 use Rattle.recovery.specs.declared.reading.Found.{Found}
 
@@ -43,6 +45,10 @@ pub record IsDamagedAt (limits : Limits) (block : ℕ) (file : List ℕ) : Type 
   pub no_page : (page : Page) → IsStored limits block page → block_bytes limits block file ≢ page_bytes page
   pub in_use : block_bytes limits block file ≡ replicate 4096 0 → block ≡ 0
 
+-- refused for a block that is damaged
+abbrev pub IsDamage : Limits → Bool → List ℕ → Fault → Type 0
+IsDamage limits honest file fault = (block : ℕ) × (fault ≡ PageDamaged block) × (IsTrue honest → IsDamagedAt limits block file)
+
 -- the greatest cycle number of these pages, 0 where there is none
 abbrev pub greatest_cycle : List Page → ℕ
 greatest_cycle [] = 0
@@ -50,7 +56,7 @@ greatest_cycle (page ∷ pages) = max page.cycle (greatest_cycle pages)
 
 -- what was read: pages that may be stored, no deletion number that counts, and the greatest cycle number; the pages
 -- stand on the device, if it is honest
-pub record IsRead (limits : Limits) (honest : Bool) (file : List ℕ) (found : Found) : Type 0 where
+pub record HasReadPages (limits : Limits) (honest : Bool) (file : List ℕ) (found : Found) : Type 0 where
   pub limits_are : limits_of_room found.room ≡ limits
   pub stored : AreStored limits 0 (pages_of_room found.room)
   pub counts : counts_of_room found.room ≡ replicate (length (pages_of_room found.room)) 0
@@ -59,7 +65,7 @@ pub record IsRead (limits : Limits) (honest : Bool) (file : List ℕ) (found : F
 
 -- and these are all: one page or more
 pub record IsAllRead (limits : Limits) (honest : Bool) (file : List ℕ) (found : Found) : Type 0 where
-  pub read : IsRead limits honest file found
+  pub read : HasReadPages limits honest file found
   pub some : 0 < length (pages_of_room found.room)
   pub few : length (pages_of_room found.room) ≤ limits.pages
   pub end : IsTrue honest → IsEnd limits (length (pages_of_room found.room)) file

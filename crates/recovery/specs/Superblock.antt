@@ -1,15 +1,11 @@
 -- The superblock of an index.
-use Rattle.std.specs.Prelude.{◌≡◌, ◌≢◌, ◌⊎◌, ℕ, List, [], ◌∷◌, take, drop}
+use Rattle.std.specs.Prelude.{◌≡◌, ◌≢◌, ◌⊎◌, ℕ, List, take, drop}
 use Rattle.std.specs.Int.{w32, from_le_bytes}
 use Rattle.index_model.specs.Limits.{AreLimits}
 use Rattle.index_model.specs.declared.fault.Fault.{Fault}
 use Rattle.index_model.specs.declared.fault.Fault.TheVariants.{BadSuper, BadVersion, BadLimits}
 use Rattle.index_model.specs.declared.limits.Limits.{Limits}
-use Rattle.page_store.specs.Restart.{superblock}
-
--- the bytes that an index begins with: `BLINKIDX`
-abbrev pub magic : List ℕ
-magic = 66 ∷ 76 ∷ 73 ∷ 78 ∷ 75 ∷ 73 ∷ 68 ∷ 88 ∷ []
+use Rattle.device_layout.specs.Layout.{magic, superblock}
 
 -- the number that stands there
 abbrev pub number_at : ℕ → List ℕ → ℕ

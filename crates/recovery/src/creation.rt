@@ -1,31 +1,20 @@
 //! An index is made.
 
 ghost use Rattle.std.specs.Prelude.{◌≡◌, ◌+◌, ◌-◌, ◌*◌, ◌≤◌, ◌<◌, [], ◌∷◌, length, OnOk};
-ghost use Rattle.device.specs.Disk.{Counts};
 ghost use Rattle.device.specs.Moments.{Goes};
 ghost use Rattle.device.specs.Places.{Has, OnDisk, ChangesOnly};
 ghost use Rattle.index_model.specs.Limits.{AreLimits};
 ghost use Rattle.page_codec.specs.Spelling.{page_bytes};
-ghost use Rattle.page_store.specs.Restart.{place};
-ghost use Rattle.recovery.specs.Fresh.{size_of, IsFirstMeta, IsFirstLeaf, AreZero, HasPages, HasBody, IsFresh, LeavesEmpty, CreateEnds};
+ghost use Rattle.device_layout.specs.Layout.{log_start, place, needed_length};
+ghost use Rattle.recovery.specs.Calls.{OnlyWrites};
+ghost use Rattle.recovery.specs.Fresh.{IsFirstMeta, IsFirstLeaf, AreZero, HasPages, HasBody, WritesFront, IsMaking, IsEmptyIndex, LeavesEmpty, CreateEnds};
 
 use crate::superblock::spell_superblock;
 use arrayvec::ArrayVec;
 use device::Device;
+use device_layout::{LOG_START, needed_len, page_place};
 use index_model::{Fault, Limits};
 use page_codec::{Items, Page, PageState, encode};
-
-/// Where the log begins.
-const LOG_START: u64 = 4096;
-
-/// Where the block begins.
-pub(crate) fn block_at(limits: &Limits, block: u32) -> u64
-    requires allowed { AreLimits limits.now }
-    requires within { block ≤ limits.now.pages }
-    ensures { result ≡ place limits.now block }
-{
-    LOG_START + limits.log_bytes as u64 + 4096 * block as u64
-}
 
 /// The metapage of an empty index, whose root is the leaf at block 1.
 fn first_meta() -> Page
@@ -67,11 +56,9 @@ fn first_leaf() -> Page
 fn place<D: Device>(device: &mut D, at: u64, bytes: &[u8]) -> Result<(), Fault>
     requires inside { at + length bytes.now ≤ length (D.trace device.old).now.seen }
     ensures there { OnOk result (Has at bytes.now (D.trace device.new).now.seen) }
-    ensures only { ChangesOnly at (length bytes.now) (D.trace device.old).now (D.trace device.new).now }
     ensures moments { Goes (ChangesOnly at (length bytes.now) (D.trace device.old).now)
         (D.trace device.old) (D.trace device.new) }
-    ensures honest { D.is_honest device.new ≡ D.is_honest device.old }
-    ensures failures { Counts result (D.failures device.old) (D.failures device.new) }
+    ensures calls { OnlyWrites D.Device result device.old device.new }
 {
     device.write_at(at, bytes)
 }
@@ -79,15 +66,15 @@ fn place<D: Device>(device: &mut D, at: u64, bytes: &[u8]) -> Result<(), Fault>
 /// Writes zeros over each block from the third on.
 fn place_zeros<D: Device>(device: &mut D, limits: &Limits) -> Result<(), Fault>
     requires allowed { AreLimits limits.now }
-    requires inside { size_of limits.now ≤ length (D.trace device.old).now.seen }
+    requires inside { needed_length limits.now ≤ length (D.trace device.old).now.seen }
     ensures there { OnOk result (AreZero limits.now 2 limits.now.pages (D.trace device.new).now.seen) }
-    ensures only { ChangesOnly (place limits.now 2) (4096 * (limits.now.pages - 2)) (D.trace device.old).now (D.trace device.new).now }
-    ensures honest { D.is_honest device.new ≡ D.is_honest device.old }
-    ensures failures { Counts result (D.failures device.old) (D.failures device.new) }
+    ensures moments { Goes (ChangesOnly (place limits.now 2) (4096 * (limits.now.pages - 2)) (D.trace device.old).now)
+        (D.trace device.old) (D.trace device.new) }
+    ensures calls { OnlyWrites D.Device result device.old device.new }
 {
     let zeros = [0; 4096];
     for block in 2..limits.pages {
-        place(device, block_at(limits, block), &zeros)?;
+        place(device, page_place(limits, block), &zeros)?;
     }
     Ok(())
 }
@@ -100,28 +87,26 @@ pub(crate) fn place_page<D: Device>(
 ) -> Result<(), Fault>
     requires allowed { AreLimits limits.now }
     requires below { page.now.block < limits.now.pages }
-    requires inside { size_of limits.now ≤ length (D.trace device.old).now.seen }
+    requires inside { needed_length limits.now ≤ length (D.trace device.old).now.seen }
     ensures there { OnOk result (Has (place limits.now page.now.block) (page_bytes page.now) (D.trace device.new).now.seen) }
     ensures long { length (page_bytes page.now) ≡ 4096 }
-    ensures only { ChangesOnly (place limits.now page.now.block) 4096 (D.trace device.old).now (D.trace device.new).now }
     ensures moments { Goes (ChangesOnly (place limits.now page.now.block) 4096 (D.trace device.old).now)
         (D.trace device.old) (D.trace device.new) }
-    ensures honest { D.is_honest device.new ≡ D.is_honest device.old }
-    ensures failures { Counts result (D.failures device.old) (D.failures device.new) }
+    ensures calls { OnlyWrites D.Device result device.old device.new }
 {
     let mut bytes = [0; 4096];
     encode(page, &mut bytes);
-    place(device, block_at(limits, page.block), &bytes)
+    place(device, page_place(limits, page.block), &bytes)
 }
 
 /// Writes the pages of an empty index, and zeros behind them.
 fn place_pages<D: Device>(device: &mut D, limits: &Limits) -> Result<(), Fault>
     requires allowed { AreLimits limits.now }
-    requires inside { size_of limits.now ≤ length (D.trace device.old).now.seen }
+    requires inside { needed_length limits.now ≤ length (D.trace device.old).now.seen }
     ensures there { OnOk result (HasPages limits.now (D.trace device.new).now.seen) }
-    ensures only { ChangesOnly (place limits.now 0) (4096 * limits.now.pages) (D.trace device.old).now (D.trace device.new).now }
-    ensures honest { D.is_honest device.new ≡ D.is_honest device.old }
-    ensures failures { Counts result (D.failures device.old) (D.failures device.new) }
+    ensures moments { Goes (ChangesOnly (place limits.now 0) (4096 * limits.now.pages) (D.trace device.old).now)
+        (D.trace device.old) (D.trace device.new) }
+    ensures calls { OnlyWrites D.Device result device.old device.new }
 {
     place_zeros(device, limits)?;
     place_page(device, limits, &first_meta())?;
@@ -131,26 +116,25 @@ fn place_pages<D: Device>(device: &mut D, limits: &Limits) -> Result<(), Fault>
 /// Writes all but the superblock, a closed gate at the beginning of the log, and syncs it.
 fn place_body<D: Device>(device: &mut D, limits: &Limits) -> Result<(), Fault>
     requires allowed { AreLimits limits.now }
-    requires inside { size_of limits.now ≤ length (D.trace device.old).now.seen }
+    requires inside { needed_length limits.now ≤ length (D.trace device.old).now.seen }
     ensures there { OnOk result (HasBody limits.now (D.trace device.new).now) }
-    ensures len { length (D.trace device.new).now.seen ≡ length (D.trace device.old).now.seen }
-    ensures honest { D.is_honest device.new ≡ D.is_honest device.old }
-    ensures failures { Counts result (D.failures device.old) (D.failures device.new) }
+    ensures moments { Goes (ChangesOnly log_start (limits.now.log_bytes + 4096 * limits.now.pages) (D.trace device.old).now)
+        (D.trace device.old) (D.trace device.new) }
+    ensures calls { OnlyWrites D.Device result device.old device.new }
 {
     place(device, LOG_START, &[0])?;
     place_pages(device, limits)?;
     device.sync()
 }
 
-/// Writes the first 4,096 bytes and syncs them. Nothing else changes.
+/// Writes the superblock's bytes and syncs them. Nothing else changes.
 fn place_front<D: Device>(device: &mut D, bytes: &[u8; 4096]) -> Result<(), Fault>
     requires inside { 4096 ≤ length (D.trace device.old).now.seen }
     ensures there { OnOk result (OnDisk 0 bytes.now (D.trace device.new).now) }
-    ensures only { ChangesOnly 0 4096 (D.trace device.old).now (D.trace device.new).now }
-    ensures honest { D.is_honest device.new ≡ D.is_honest device.old }
-    ensures failures { Counts result (D.failures device.old) (D.failures device.new) }
+    ensures moments { Goes (WritesFront bytes.now (D.trace device.old).now) (D.trace device.old) (D.trace device.new) }
+    ensures calls { OnlyWrites D.Device result device.old device.new }
 {
-    place(device, 0, bytes)?;
+    device.write_at(0, bytes)?;
     device.sync()
 }
 
@@ -158,11 +142,10 @@ fn place_front<D: Device>(device: &mut D, bytes: &[u8; 4096]) -> Result<(), Faul
 /// pages and a closed log; then the superblock. If it is stopped in between, it may be called again.
 fn write_index<D: Device>(device: &mut D, limits: &Limits) -> Result<(), Fault>
     requires allowed { AreLimits limits.now }
-    requires inside { size_of limits.now ≤ length (D.trace device.old).now.seen }
-    ensures made { OnOk result (IsFresh limits.now (D.trace device.new).now) }
-    ensures len { length (D.trace device.new).now.seen ≡ length (D.trace device.old).now.seen }
-    ensures honest { D.is_honest device.new ≡ D.is_honest device.old }
-    ensures failures { Counts result (D.failures device.old) (D.failures device.new) }
+    requires inside { needed_length limits.now ≤ length (D.trace device.old).now.seen }
+    ensures made { OnOk result (IsEmptyIndex limits.now (D.trace device.new).now) }
+    ensures moments { Goes (IsMaking limits.now (D.trace device.old).now) (D.trace device.old) (D.trace device.new) }
+    ensures calls { OnlyWrites D.Device result device.old device.new }
 {
     let mut front = [0; 4096];
     place_front(device, &front)?;
@@ -178,9 +161,11 @@ fn write_index<D: Device>(device: &mut D, limits: &Limits) -> Result<(), Fault>
 /// 4,096 + `log_bytes` + 4,096 * `pages` bytes (`DeviceTooSmall`). A failed device call answers `Io`; then, and after a
 /// crash inside of it, the device is to be made anew, by this call, which takes any bytes. It takes no memory.
 pub fn create<D: Device>(device: &mut D, limits: &Limits) -> Result<(), Fault>
-    ensures made { OnOk result (IsFresh limits.now (D.trace device.new).now) }
+    ensures made { OnOk result (IsEmptyIndex limits.now (D.trace device.new).now) }
     // So it can be opened, also after a crash.
     ensures own { OnOk result (LeavesEmpty limits.now (D.trace device.new).now) }
+    // A crash at each moment since leaves what was there but for its superblock, or no index, or the new one.
+    ensures moments { Goes (IsMaking limits.now (D.trace device.old).now) (D.trace device.old) (D.trace device.new) }
     ensures ends { CreateEnds limits.now result (D.trace device.old) (D.trace device.new)
         (D.failures device.old) (D.failures device.new) }
     ensures len { length (D.trace device.new).now.seen ≡ length (D.trace device.old).now.seen }
@@ -189,7 +174,7 @@ pub fn create<D: Device>(device: &mut D, limits: &Limits) -> Result<(), Fault>
     if !limits.are_valid() {
         return Err(Fault::BadLimits);
     }
-    if device.len() < block_at(limits, limits.pages) {
+    if device.len() < needed_len(limits) {
         return Err(Fault::DeviceTooSmall);
     }
     write_index(device, limits)

@@ -1,11 +1,11 @@
 //! The images of a log are written to the places of their blocks.
 
 ghost use Rattle.std.specs.Prelude.{◌≡◌, ◌≤◌, length, OnOk};
-ghost use Rattle.device.specs.Disk.{Counts};
 ghost use Rattle.device.specs.Moments.{Goes};
 ghost use Rattle.index_model.specs.Limits.{AreLimits};
-ghost use Rattle.page_store.specs.Restart.{place};
+ghost use Rattle.device_layout.specs.Layout.{place};
 ghost use Rattle.redo_log.specs.Groups.{AreImages};
+ghost use Rattle.recovery.specs.Calls.{OnlyWrites};
 ghost use Rattle.recovery.specs.Homing.{ChangesNamed, HasImages, AreHomed};
 
 use crate::creation::place_page;
@@ -21,8 +21,7 @@ fn write_images<D: Device>(device: &mut D, limits: Limits, images: &[Page]) -> R
     ensures moments { Goes (ChangesNamed limits images.now (D.trace device.old).now)
         (D.trace device.old) (D.trace device.new) }
     ensures written { OnOk result (HasImages limits images.now (D.trace device.new).now.seen) }
-    ensures honest { D.is_honest device.new ≡ D.is_honest device.old }
-    ensures failures { Counts result (D.failures device.old) (D.failures device.new) }
+    ensures calls { OnlyWrites D.Device result device.old device.new }
 {
     for image in images {
         place_page(device, &limits, image)?;
@@ -43,9 +42,7 @@ pub(crate) fn bring_home<D: Device>(
     ensures moments { Goes (ChangesNamed limits images.now (D.trace device.old).now)
         (D.trace device.old) (D.trace device.new) }
     ensures home { OnOk result (AreHomed limits images.now (D.trace device.new).now) }
-    ensures len { length (D.trace device.new).now.seen ≡ length (D.trace device.old).now.seen }
-    ensures honest { D.is_honest device.new ≡ D.is_honest device.old }
-    ensures failures { Counts result (D.failures device.old) (D.failures device.new) }
+    ensures calls { OnlyWrites D.Device result device.old device.new }
 {
     write_images(device, limits, images)?;
     device.sync()

@@ -4,20 +4,24 @@ ghost use Rattle.std.specs.Prelude.{◌≡◌, ◌⊎◌, ◌≤◌, ◌<◌, �
 ghost use Rattle.device.specs.Moments.{Goes};
 ghost use Rattle.index_model.specs.Limits.{AreLimits};
 ghost use Rattle.page_codec.specs.declared.page.Page.{Page};
+ghost use Rattle.page_action.specs.Room.{HasWholeRoom};
 ghost use Rattle.page_store.specs.Logged.{StandsOpened, backing_of};
 ghost use Rattle.page_store.specs.Rooms.{limits_of_room};
 ghost use Rattle.page_store.specs.Stores.{state_of, held_by};
 ghost use Rattle.index_model.specs.declared.limits.Limits.{Limits};
-ghost use Rattle.page_store.specs.Restart.{place, RestartsTo, LeavesPages};
+ghost use Rattle.device_layout.specs.Layout.{place};
+ghost use Rattle.page_store.specs.Restart.{RestartsTo, LeavesPages};
+ghost use Rattle.redo_log.specs.Kept.{groups_end};
 ghost use Rattle.redo_log.specs.Reading.{IsOpened, IsDamaged, ReplayFails};
+ghost use Rattle.recovery.specs.Calls.{OnlyReads, ReadsAndWrites, IsIoOr, FailsWithIoOr};
 ghost use Rattle.recovery.specs.Index.{HasIndex};
 ghost use Rattle.recovery.specs.Opening.{AreFrames, HasGroups, IsFront, IsFrontRefusal, IsRestoreRefusal, IsSynced, IsRestored, IsFound, IsRefusal, AreSamePages, IsNoMemoryOrIo, IsFreshlyOpened, StandsOnDevice, IsSameIndex, device_left};
 
-use crate::creation::block_at;
 use crate::homing::bring_home;
 use crate::reading::{Found, read_pages};
 use crate::superblock::read_superblock;
 use device::Device;
+use device_layout::needed_len;
 use index_model::{Fault, Limits};
 use page_store::Store;
 use redo_log::Log;
@@ -47,11 +51,9 @@ fn find_limits<D: Device>(device: &mut D, frames: u32) -> Result<Limits, Fault>
     ensures frames { OnOk result (AreFrames frames) }
     ensures only { AreFrames frames → IsTrue (D.is_honest device.new) → (limits : Limits)
         → IsFront limits (D.trace device.old).now.seen → MatchResult result (λ found. found ≡ limits) (λ e. e ≡ Fault.Io) }
-    ensures trace { D.trace device.new ≡ D.trace device.old }
-    ensures honest { IsTrue (D.is_honest device.new) → IsTrue (D.is_honest device.old) }
-    ensures cause { IfErr result (λ e. ((e ≡ Fault.Io) × (D.failures device.new ≡ suc (D.failures device.old)))
-        ⊎ (IsFrontRefusal (D.is_honest device.new) frames (D.trace device.old).now.seen e × (D.failures device.new ≡ D.failures device.old))) }
-    ensures done { OnOk result (D.failures device.new ≡ D.failures device.old) }
+    ensures calls { OnlyReads D.Device device.old device.new }
+    ensures cause { FailsWithIoOr (IsFrontRefusal (D.is_honest device.new) frames (D.trace device.old).now.seen)
+        result (D.failures device.old) (D.failures device.new) }
 {
     if frames < 16 || frames > 1024 {
         return Err(Fault::BadLimits);
@@ -62,7 +64,7 @@ fn find_limits<D: Device>(device: &mut D, frames: u32) -> Result<Limits, Fault>
     let mut bytes = [0; 4096];
     device.read_at(0, &mut bytes)?;
     let limits = read_superblock(&bytes)?;
-    if device.len() < block_at(&limits, limits.pages) {
+    if device.len() < needed_len(&limits) {
         return Err(Fault::BadSuper);
     }
     Ok(limits)
@@ -74,6 +76,7 @@ fn restore_log<D: Device>(alloc: Global, device: &mut D, limits: Limits) -> Resu
     requires allowed { AreLimits limits }
     requires inside { place limits limits.pages ≤ length (D.trace device.old).now.seen }
     ensures opened { IfOk result (IsOpened limits) }
+    ensures closed { IfOk result (λ log. groups_end log ≡ 0) }
     ensures undamaged { OnOk result (IsTrue (D.is_honest device.new) → HasGroups limits (D.trace device.old).now.seen) }
     ensures same { IsTrue (D.is_honest device.new) → IsSynced (D.trace device.old).now
         → (pages : List Page) → RestartsTo limits (D.trace device.old).now.seen pages
@@ -83,8 +86,7 @@ fn restore_log<D: Device>(alloc: Global, device: &mut D, limits: Limits) -> Resu
         → Goes (LeavesPages limits pages) (D.trace device.old) (D.trace device.new) }
     ensures damaged { IfErr result (λ e. e ≡ Fault.LogDamaged → (D.trace device.new ≡ D.trace device.old)
         × (IsTrue (D.is_honest device.new) → IsDamaged limits (D.trace device.old).now)) }
-    ensures len { length (D.trace device.new).now.seen ≡ length (D.trace device.old).now.seen }
-    ensures honest { IsTrue (D.is_honest device.new) → IsTrue (D.is_honest device.old) }
+    ensures calls { ReadsAndWrites D.Device device.old device.new }
     ensures cause { ReplayFails result (D.failures device.old) (D.failures device.new) }
 {
     let found = match Log::replay(alloc, device, limits) {
@@ -110,12 +112,10 @@ fn restore<D: Device>(alloc: Global, device: &mut D, limits: Limits) -> Result<P
     ensures moments { IsTrue (D.is_honest device.new) → (pages : List Page)
         → RestartsTo limits (D.trace device.old).now.seen pages
         → Goes (LeavesPages limits pages) (D.trace device.old) (D.trace device.new) }
-    ensures len { length (D.trace device.new).now.seen ≡ length (D.trace device.old).now.seen }
-    ensures honest { IsTrue (D.is_honest device.new) → IsTrue (D.is_honest device.old) }
-    ensures cause { IfErr result (λ e. ((e ≡ Fault.Io) × (D.failures device.new ≡ suc (D.failures device.old)))
-        ⊎ (IsRestoreRefusal limits (D.is_honest device.new) (D.trace device.old) (D.trace device.new) e
-        × (D.failures device.new ≡ D.failures device.old))) }
-    ensures done { OnOk result (D.failures device.new ≡ D.failures device.old) }
+    ensures calls { ReadsAndWrites D.Device device.old device.new }
+    ensures cause { FailsWithIoOr
+        (IsRestoreRefusal limits (D.is_honest device.new) (D.trace device.old) (D.trace device.new))
+        result (D.failures device.old) (D.failures device.new) }
 {
     device.sync()?;
     let log = restore_log(alloc, device, limits)?;
@@ -134,20 +134,18 @@ fn read_index<D: Device>(alloc: Global, device: &mut D, frames: u32) -> Result<P
     ensures moments { IsTrue (D.is_honest device.new) → (limits : Limits) (pages : List Page)
         → HasIndex limits pages (D.trace device.old).now.seen
         → Goes (LeavesPages limits pages) (D.trace device.old) (D.trace device.new) }
-    ensures len { length (D.trace device.new).now.seen ≡ length (D.trace device.old).now.seen }
-    ensures honest { IsTrue (D.is_honest device.new) → IsTrue (D.is_honest device.old) }
-    ensures cause { IfErr result (λ e. ((e ≡ Fault.Io) × (D.failures device.new ≡ suc (D.failures device.old)))
-        ⊎ (IsRefusal (D.is_honest device.new) frames (D.trace device.old) (D.trace device.new) e
-        × (D.failures device.new ≡ D.failures device.old))) }
-    ensures done { OnOk result (D.failures device.new ≡ D.failures device.old) }
+    ensures calls { ReadsAndWrites D.Device device.old device.new }
+    ensures cause { FailsWithIoOr (IsRefusal (D.is_honest device.new) frames (D.trace device.old) (D.trace device.new))
+        result (D.failures device.old) (D.failures device.new) }
 {
     let limits = find_limits(device, frames)?;
     restore(alloc, device, limits)
 }
 
-/// Opens the index on the device, after any crash, for so many pages in memory at once (16 to 1,024). It reads the
-/// superblock, syncs the device, reads the log, writes each image of an open group to the place of its block, syncs
-/// them, closes the log, and reads the pages of the blocks in use. After it, nothing takes memory.
+/// Opens the index on the device, after any crash, for so many pages in memory at once (16 to 1,024), its frames. It
+/// reads the superblock, syncs the device, reads the log, writes each image of an open group to the place of its block,
+/// syncs them, closes the log, and reads the pages of the blocks in use. Its room is then that of an empty log,
+/// (`log_bytes` - 6) / 4,096 images. After it, nothing takes memory.
 ///
 /// Refused, tested in this order, with the device given back: with `BadLimits` (18) for other numbers of frames; with
 /// `BadSuper` (14) for a device of less than 4,096 bytes; with `BadSuper`, `BadVersion` (15) or `BadLimits` for what
@@ -159,9 +157,11 @@ fn read_index<D: Device>(alloc: Global, device: &mut D, frames: u32) -> Result<P
 /// It never changes which pages the bytes stand for: after a refusal, or a crash at any moment, it may be called again.
 pub fn open<D: Device>(alloc: Global, device: D, frames: u32) -> Result<Store<D>, Refused<D>>
     ensures frames { OnOk result (AreFrames frames) }
-    ensures opened { IfOk result (λ store. IsFreshlyOpened (state_of D.Device store)) }
+    ensures opened { IfOk result (λ store. IsFreshlyOpened frames (state_of D.Device store)) }
     ensures alive { IfOk result (λ store. (backing_of (held_by D.Device store)).stopped ≡ false) }
     ensures durable { IfOk result (λ store. (backing_of (held_by D.Device store)).durable ≡ 0) }
+    ensures room { IfOk result (λ store.
+        HasWholeRoom (state_of D.Device store).limits (backing_of (held_by D.Device store))) }
     // What it has is what stands on the device.
     ensures read { IsTrue (D.is_honest (device_left D.Device result)) → IfOk result (λ store.
         StandsOnDevice (state_of D.Device store) (D.trace device).now.seen (D.trace (device_left D.Device result)).now.seen) }
@@ -174,9 +174,8 @@ pub fn open<D: Device>(alloc: Global, device: D, frames: u32) -> Result<Store<D>
         → HasIndex limits pages (D.trace device).now.seen
         → Goes (LeavesPages limits pages) (D.trace device) (D.trace (device_left D.Device result)) }
     ensures cause { IfErr result (λ refused.
-        ((refused.fault ≡ Fault.Io) × (D.failures refused.device ≡ suc (D.failures device)))
-        ⊎ (IsRefusal (D.is_honest refused.device) frames (D.trace device) (D.trace refused.device) refused.fault
-        × (D.failures refused.device ≡ D.failures device))) }
+        IsIoOr (IsRefusal (D.is_honest refused.device) frames (D.trace device) (D.trace refused.device))
+        (D.failures device) (D.failures refused.device) refused.fault) }
     ensures done { OnOk result (D.failures (device_left D.Device result) ≡ D.failures device) }
     ensures len { length (D.trace (device_left D.Device result)).now.seen ≡ length (D.trace device).now.seen }
     ensures honest { IsTrue (D.is_honest (device_left D.Device result)) → IsTrue (D.is_honest device) }
@@ -186,7 +185,7 @@ pub fn open<D: Device>(alloc: Global, device: D, frames: u32) -> Result<Store<D>
     match read {
         Ok(Parts { log, found }) => {
             let Found { room, counter } = found;
-            Ok(Store::new(device, log, room, counter))
+            Ok(Store::new(device, log, room, frames, counter))
         }
         Err(fault) => Err(Refused { fault, device }),
     }

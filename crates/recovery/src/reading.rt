@@ -2,16 +2,17 @@
 
 ghost use Rattle.std.specs.Prelude.{◌≡◌, ◌⊎◌, ◌+◌, ◌≤◌, ◌<◌, ℕ, suc, IsTrue, [], length, replicate, IfOk, IfErr, OnOk};
 ghost use Rattle.index_model.specs.Limits.{AreLimits};
-ghost use Rattle.page_store.specs.Restart.{place};
+ghost use Rattle.device_layout.specs.Layout.{place};
 ghost use Rattle.page_store.specs.Rooms.{limits_of_room, pages_of_room, counts_of_room};
-ghost use Rattle.recovery.specs.Reading.{block_bytes, AreBytesOf, IsEnd, IsDamagedAt, IsRead, IsAllRead};
+ghost use Rattle.recovery.specs.Calls.{OnlyReads, FailsWithIoOr};
+ghost use Rattle.recovery.specs.Reading.{block_bytes, AreBytesOf, IsEnd, IsDamage, HasReadPages, IsAllRead};
 ghost use Rattle.page_action.specs.Stored.{IsStored};
 ghost use Rattle.page_codec.specs.declared.page.Page.{Page};
 ghost use Rattle.page_codec.specs.Grammar.{IsPage};
 ghost use Rattle.page_codec.specs.Spelling.{page_bytes};
 
-use crate::creation::block_at;
 use device::Device;
+use device_layout::page_place;
 use index_model::{Fault, Limits};
 use page_codec::{Page, decode, is_unused};
 use page_store::StoreRoom;
@@ -51,14 +52,11 @@ fn read_page<D: Device>(device: &mut D, limits: Limits, block: u32) -> Result<Op
         → (page : Page) → IsPage page → block_bytes limits block (D.trace device.old).now.seen ≡ page_bytes page → ⊥) }
     ensures in_use { IfErr result (λ e. e ≡ Fault.PageDamaged block → IsTrue (D.is_honest device.new)
         → block_bytes limits block (D.trace device.old).now.seen ≡ replicate 4096 0 → ⊥) }
-    ensures trace { D.trace device.new ≡ D.trace device.old }
-    ensures honest { IsTrue (D.is_honest device.new) → IsTrue (D.is_honest device.old) }
-    ensures cause { IfErr result (λ e. ((e ≡ Fault.Io) × (D.failures device.new ≡ suc (D.failures device.old)))
-        ⊎ ((e ≡ Fault.PageDamaged block) × (D.failures device.new ≡ D.failures device.old))) }
-    ensures done { OnOk result (D.failures device.new ≡ D.failures device.old) }
+    ensures calls { OnlyReads D.Device device.old device.new }
+    ensures cause { FailsWithIoOr (λ e. e ≡ Fault.PageDamaged block) result (D.failures device.old) (D.failures device.new) }
 {
     let mut bytes = [0; 4096];
-    device.read_at(block_at(&limits, block), &mut bytes)?;
+    device.read_at(page_place(&limits, block), &mut bytes)?;
     page_of(block, &bytes)
 }
 
@@ -71,17 +69,14 @@ fn add_pages<D: Device>(device: &mut D, limits: Limits, found: &mut Found) -> Re
     requires empty { pages_of_room found.old.room ≡ [] }
     requires uncounted { counts_of_room found.old.room ≡ [] }
     requires counter { found.old.counter ≡ 0 }
-    ensures read { OnOk result (IsRead limits (D.is_honest device.new) (D.trace device.old).now.seen found.new) }
+    ensures read { OnOk result (HasReadPages limits (D.is_honest device.new) (D.trace device.old).now.seen found.new) }
     ensures number { IfOk result (λ used. used ≡ length (pages_of_room found.new.room)) }
     ensures few { IfOk result (λ used. used ≤ limits.pages) }
     ensures end { IfOk result (λ used. IsTrue (D.is_honest device.new)
         → IsEnd limits used (D.trace device.old).now.seen) }
-    ensures trace { D.trace device.new ≡ D.trace device.old }
-    ensures honest { IsTrue (D.is_honest device.new) → IsTrue (D.is_honest device.old) }
-    ensures cause { IfErr result (λ e. ((e ≡ Fault.Io) × (D.failures device.new ≡ suc (D.failures device.old)))
-        ⊎ ((block : ℕ) × (e ≡ Fault.PageDamaged block) × (D.failures device.new ≡ D.failures device.old)
-        × (IsTrue (D.is_honest device.new) → IsDamagedAt limits block (D.trace device.old).now.seen))) }
-    ensures done { OnOk result (D.failures device.new ≡ D.failures device.old) }
+    ensures calls { OnlyReads D.Device device.old device.new }
+    ensures cause { FailsWithIoOr (IsDamage limits (D.is_honest device.new) (D.trace device.old).now.seen)
+        result (D.failures device.old) (D.failures device.new) }
 {
     for block in 0..limits.pages {
         let Some(page) = read_page(device, limits, block)? else {
@@ -104,13 +99,10 @@ pub(crate) fn read_pages<D: Device>(
     requires allowed { AreLimits limits }
     requires inside { place limits limits.pages ≤ length (D.trace device.old).now.seen }
     ensures read { IfOk result (IsAllRead limits (D.is_honest device.new) (D.trace device.old).now.seen) }
-    ensures trace { D.trace device.new ≡ D.trace device.old }
-    ensures honest { IsTrue (D.is_honest device.new) → IsTrue (D.is_honest device.old) }
-    ensures cause { IfErr result (λ e. ((e ≡ Fault.Io) × (D.failures device.new ≡ suc (D.failures device.old)))
-        ⊎ ((e ≡ Fault.NoMemory) × (D.failures device.new ≡ D.failures device.old))
-        ⊎ ((block : ℕ) × (e ≡ Fault.PageDamaged block) × (D.failures device.new ≡ D.failures device.old)
-        × (IsTrue (D.is_honest device.new) → IsDamagedAt limits block (D.trace device.old).now.seen))) }
-    ensures done { OnOk result (D.failures device.new ≡ D.failures device.old) }
+    ensures calls { OnlyReads D.Device device.old device.new }
+    ensures cause { FailsWithIoOr
+        (λ e. (e ≡ Fault.NoMemory) ⊎ IsDamage limits (D.is_honest device.new) (D.trace device.old).now.seen e)
+        result (D.failures device.old) (D.failures device.new) }
 {
     let mut found = Found {
         room: StoreRoom::new(alloc, limits)?,

@@ -5,7 +5,7 @@ ghost use Rattle.std.specs.Int.{w32, to_le_bytes};
 ghost use Rattle.index_model.specs.Limits.{AreLimits};
 ghost use Rattle.index_model.specs.declared.limits.Limits.{Limits};
 ghost use Rattle.recovery.specs.Superblock.{number_at, IsNoSuperblock};
-ghost use Rattle.page_store.specs.Restart.{superblock};
+ghost use Rattle.device_layout.specs.Layout.{superblock};
 
 use index_model::{Fault, Limits};
 

@@ -245,3 +245,35 @@ fn each_call_of_an_open_stops(rt: HostRuntime) -> Result<(), Fail> {
     assert_eq!(rt; stopped, 36);
     Ok(())
 }
+
+/// What an open finds: how many pages are in use, and 0 where it is refused.
+fn used(alloc: Global, device: MemDevice) -> u32 {
+    match open(alloc, device, 16) {
+        Ok(store) => store.used(),
+        Err(_) => 0,
+    }
+}
+
+// Zeros over the superblock, sync, gate, 6 blocks, two pages, sync, superblock, sync: a crash leaves the index of three
+// pages that was there, none, or the new one of two.
+#[test]
+fn each_call_of_a_create_stops(rt: HostRuntime) -> Result<(), Fail> {
+    let device = busy_device(&rt)?;
+    for image in IMAGES {
+        for n in 1..15 {
+            let mut left = device.crash(rt.alloc(), image)?;
+            left.stop_at(n);
+            assert_eq!(rt; create(&mut left, &SMALL), Err(Fault::Io));
+            for again in IMAGES {
+                let found = used(rt.alloc(), left.crash(rt.alloc(), again)?);
+                let expected = match n {
+                    1..3 => found == 0 || found == 3,
+                    3..13 => found == 0,
+                    _ => found == 0 || found == 2,
+                };
+                assert!(rt; expected, "call {n}, found {found}");
+            }
+        }
+    }
+    Ok(())
+}

@@ -1,6 +1,6 @@
 -- One action more waits.
-use Rattle.std.proofs.Common.{◌≡◌, ℕ, zero, suc, ◌+◌, ◌*◌, ◌<◌, ◌≤◌, List, [], ◌∷◌, ◌++◌, length, take, drop, sym, ◌∙◌, ap, subst, arith, append_assoc, length-append}
-use Rattle.std.proofs.lemmas.List.{take-append-le}
+use Rattle.std.proofs.Common.{◌≡◌, ℕ, zero, suc, ◌+◌, ◌*◌, ◌<◌, ◌≤◌, List, [], ◌∷◌, ◌++◌, length, take, drop, sym, ◌∙◌, ap, subst, arith, length-append}
+use Rattle.std.proofs.lemmas.List.{take-append-le, drop-append-le}
 use Rattle.device.specs.Disk.{Moment}
 use Rattle.page_codec.specs.declared.page.Page.{Page}
 use Rattle.redo_log.specs.Images.{SameImages, images_bytes, images_of}
@@ -34,11 +34,9 @@ module _ (old new : Log) (images : List Page) (limits : new.limits ≡ old.limit
         waits = waits_more k.waiting k.waits;
         few = omega (arith, length-append acts (images ∷ []), k.few);
         durable = subst (λ (l : List (List Page)). SameImages (images_of k.groups) (images_of l)) (sym (take-append-le forced acts (images ∷ []) k.few)) k.durable;
-        all = same_trans (images_of k.groups ++ (k.waiting ++ images)) (images_of acts ++ images) (images_of (acts ++ images ∷ []))
-            (same_trans (images_of k.groups ++ (k.waiting ++ images)) ((images_of k.groups ++ k.waiting) ++ images) (images_of acts ++ images)
-            (same_eq _ _ (sym (append_assoc (images_of k.groups) k.waiting images)))
-            (same_append (images_of k.groups ++ k.waiting) (images_of acts) images k.all))
-            (same_eq _ _ (sym (images_of-push acts images)));
+        unforced = same_trans (k.waiting ++ images) (images_of (drop forced acts) ++ images) (images_of (drop forced (acts ++ images ∷ [])))
+            (same_append k.waiting (images_of (drop forced acts)) images k.unforced)
+            (same_eq _ _ (sym (ap images_of (drop-append-le forced acts (images ∷ []) k.few) ∙ images_of-push (drop forced acts) images)));
       }
 
 -- what waits fits into the buffer

@@ -1,5 +1,6 @@
 -- From a publication to the actions that a log keeps.
 use Rattle.std.proofs.Common.{◌≡◌, inl, ⊎_elim, ℕ, ◌+◌, ◌*◌, ◌<◌, ◌≤◌, List, [], ◌∷◌, ◌++◌, length, take, drop, Vec, false, refl, sym, ◌∙◌, ap, subst, arith}
+use Rattle.std.proofs.Math.Seq.{drop-length}
 use Rattle.std.proofs.lemmas.List.{with_items_is, append-nil}
 use Rattle.std.specs.declared.alloc.Global.{Global}
 use Rattle.std.specs.Vec.{with_items}
@@ -17,12 +18,8 @@ use Rattle.redo_log.specs.Publish.{IsShutOrWhole}
 use Rattle.redo_log.specs.Kept.{Keeps, IsSettled, Restarts}
 use Rattle.redo_log.specs.declared.log.Log.{Log}
 use Rattle.redo_log.proofs.Leaving.{publishing, published}
-use Rattle.redo_log.proofs.ImageLists.{same_eq, same_trans, images_of-push}
-
--- no list of no length has elements
-pub none : {A : Type 0} (xs : List A) → length xs ≡ 0 → xs ≡ []
-none [] e = refl
-none (x ∷ xs) e = absurd (omega arith)
+use Rattle.redo_log.proofs.ImageLists.{none, same_eq, same_trans, images_of-push}
+use Rattle.redo_log.proofs.Keeping.{keeps_all}
 
 pub whole_list : {A : Type 0} (xs : List A) → take (length xs) xs ≡ xs
 whole_list [] = refl
@@ -52,8 +49,8 @@ all_forced log m acts forced k idle =
       few = omega arith;
       durable = same_trans (images_of k.groups) (images_of k.groups ++ k.waiting) (images_of (take (length acts) acts))
           (same_eq _ _ (sym (ap (λ (l : List Page). images_of k.groups ++ l) no_more ∙ append-nil (images_of k.groups))))
-          (same_trans (images_of k.groups ++ k.waiting) (images_of acts) (images_of (take (length acts) acts)) k.all (same_eq _ _ (ap images_of (sym (whole_list acts)))));
-      all = k.all;
+          (same_trans (images_of k.groups ++ k.waiting) (images_of acts) (images_of (take (length acts) acts)) (keeps_all log m acts forced k) (same_eq _ _ (ap images_of (sym (whole_list acts)))));
+      unforced = same_eq k.waiting _ (no_more ∙ sym (ap images_of (drop-length acts)));
     }
 
 module _ (log : Log) (b : List ℕ) (old new : Trace) (acts : List (List Page)) (forced : ℕ) (k : Keeps log old.now acts forced) (some : 0 < log.count)
@@ -71,7 +68,7 @@ module _ (log : Log) (b : List ℕ) (old new : Trace) (acts : List (List Page)) 
   all_there : SameImages (images_of (k.groups ++ k.waiting ∷ [])) (images_of (take (length acts) acts))
   all_there =
       same_trans _ (images_of k.groups ++ k.waiting) _ (same_eq _ _ (images_of-push k.groups k.waiting))
-      (same_trans (images_of k.groups ++ k.waiting) (images_of acts) _ k.all (same_eq _ _ (ap images_of (sym (whole_list acts)))))
+      (same_trans (images_of k.groups ++ k.waiting) (images_of acts) _ (keeps_all log old.now acts forced k) (same_eq _ _ (ap images_of (sym (whole_list acts)))))
 
   pub forced_goes : Goes (Restarts log.limits acts forced) old new
   forced_goes = goes_weaker _ _ old new (λ n p image left. ⊎_elim
@@ -102,8 +99,7 @@ module _ (log : Log) (b : List ℕ) (old new : Trace) (acts : List (List Page)) 
         };
         few = omega arith;
         durable = all_there;
-        all = same_trans _ _ _ (same_eq _ _ (append-nil (images_of (k.groups ++ k.waiting ∷ []))))
-            (same_trans _ _ _ all_there (same_eq _ _ (ap images_of (whole_list acts))));
+        unforced = same_eq [] _ (sym (ap images_of (drop-length acts)));
       }
 
 -- a publication changes the log's range alone

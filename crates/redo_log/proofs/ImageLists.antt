@@ -9,6 +9,11 @@ use Rattle.page_codec.proofs.Laws.{length-page}
 use Rattle.redo_log.specs.Images.{if_of, later_of, last_image, SameImages, images_bytes, images_of}
 use Rattle.redo_log.specs.Groups.{AreImages}
 
+-- no list of no length has elements
+pub none : {A : Type 0} (xs : List A) → length xs ≡ 0 → xs ≡ []
+none [] e = refl
+none (x ∷ xs) e = absurd (omega arith)
+
 pub images_bytes-append : (xs ys : List Page) → images_bytes (xs ++ ys) ≡ images_bytes xs ++ images_bytes ys
 images_bytes-append [] ys = refl
 images_bytes-append (x ∷ xs) ys = ap (λ (l : List ℕ). page_bytes x ++ l) (images_bytes-append xs ys) ∙ sym (append_assoc (page_bytes x) (images_bytes xs) (images_bytes ys))
@@ -56,6 +61,12 @@ pub same_append : (xs ys zs : List Page) → SameImages xs ys → SameImages (xs
 same_append xs ys zs s = record {
   each = λ block.
       last_image-append xs zs block ∙ (ap (λ (o : Option Page). later_of o (last_image zs block)) (s.each block) ∙ sym (last_image-append ys zs block));
+}
+
+pub same_behind : (xs ys zs : List Page) → SameImages ys zs → SameImages (xs ++ ys) (xs ++ zs)
+same_behind xs ys zs s = record {
+  each = λ block.
+      last_image-append xs ys block ∙ (ap (λ (o : Option Page). later_of (last_image xs block) o) (s.each block) ∙ sym (last_image-append xs zs block));
 }
 
 pub images_of-append : (xs ys : List (List Page)) → images_of (xs ++ ys) ≡ images_of xs ++ images_of ys

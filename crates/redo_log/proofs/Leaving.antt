@@ -9,7 +9,7 @@ use Rattle.device.proofs.Standing.{kept, on_image, on_front, on_back, on_both, h
 use Rattle.index_model.specs.declared.limits.Limits.{Limits}
 use Rattle.page_codec.specs.declared.page.Page.{Page}
 use Rattle.redo_log.specs.Images.{images_bytes}
-use Rattle.redo_log.specs.Groups.{AreGroups, IsGroup, spelled, body, Spells}
+use Rattle.redo_log.specs.Groups.{AreGroups, IsGroup, spelled, body, SpellsGroups}
 use Rattle.redo_log.specs.Publish.{IsShut, IsShutOrWhole}
 use Rattle.redo_log.specs.Kept.{IsSettled}
 use Rattle.redo_log.proofs.ImageLists.{length-images_bytes, all-append}
@@ -33,7 +33,7 @@ range_is start size q c h le = ap (λ (l : List ℕ). take size l) (has_drop sta
 
 -- open groups and a gate that isn't open
 pub shut_stands : (limits : Limits) (start size : ℕ) (gs : List (List Page)) (gate : ℕ) (c : List ℕ) → AreGroups limits gs → gate ≢ 1 → length (spelled gs) + 1 ≤ size → Has start (spelled gs ++ gate ∷ []) c
-    → Spells limits (take size (drop start c)) gs
+    → SpellsGroups limits (take size (drop start c)) gs
 shut_stands limits start size gs gate c good shut fits h =
     let q = spelled gs ++ gate ∷ [] in
     let rest = take (size - length q) (drop (start + length q) c) in
@@ -67,7 +67,7 @@ module _ (limits : Limits) (start size at : ℕ) (gs : List (List Page)) (m : Mo
     on_disk = subst (λ (n : ℕ). OnDisk (start + n) (s.gate ∷ []) m) (sym s.end) (on_back start (spelled gs) (s.gate ∷ []) m s.on_disk);
   }
 
-  pub settled_leaves : (c : List ℕ) → MayLeave m c → Spells limits (take size (drop start c)) gs
+  pub settled_leaves : (c : List ℕ) → MayLeave m c → SpellsGroups limits (take size (drop start c)) gs
   settled_leaves c left = shut_stands limits start size gs s.gate c s.good s.closed (omega (arith, s.end)) (on_image start _ m c s.on_disk left)
 
   module _ (g : List Page) (is : IsGroup limits g) (room : at + (6 + 4096 * length g) ≤ size) where
@@ -99,7 +99,7 @@ module _ (limits : Limits) (start size at : ℕ) (gs : List (List Page)) (m : Mo
     good_pushed = all-append (IsGroup limits) gs (g ∷ []) s.good (is, tt)
 
     -- where the piece stands, a crash leaves the group or not
-    whole : (c : List ℕ) → Has start (spelled gs) c → Has (start + at + 1) piece c → Spells limits (take size (drop start c)) gs ⊎ Spells limits (take size (drop start c)) (gs ++ g ∷ [])
+    whole : (c : List ℕ) → Has start (spelled gs) c → Has (start + at + 1) piece c → SpellsGroups limits (take size (drop start c)) gs ⊎ SpellsGroups limits (take size (drop start c)) (gs ++ g ∷ [])
     whole c front back =
         let x = get_or c (start + at) 0 in
         let gate : Has (start + at) (x ∷ []) c = some_byte (start + at) c (omega (arith, back.within)) in
@@ -114,7 +114,7 @@ module _ (limits : Limits) (start size at : ℕ) (gs : List (List Page)) (m : Mo
     fronts n p = kept (start + at) (length piece + 1) start (spelled gs) m n p.only (inl (omega (arith, s.end))) (on_front start (spelled gs) (s.gate ∷ []) m s.on_disk)
 
     pub publishing : (n : Moment) → IsShutOrWhole (start + at) piece m n → (c : List ℕ) → MayLeave n c
-        → Spells limits (take size (drop start c)) gs ⊎ Spells limits (take size (drop start c)) (gs ++ g ∷ [])
+        → SpellsGroups limits (take size (drop start c)) gs ⊎ SpellsGroups limits (take size (drop start c)) (gs ++ g ∷ [])
     publishing n p c left = elim (p.either shut_at) [
       | inl shut ↦ inl (shut_stands limits start size gs shut.gate c s.good shut.closed (omega (arith, s.end))
           (with_gate shut.gate c (on_image start (spelled gs) n c (fronts n p) left) (on_image (start + at) (shut.gate ∷ []) n c shut.on_disk left)))
@@ -132,7 +132,7 @@ module _ (limits : Limits) (start size at : ℕ) (gs : List (List Page)) (m : Mo
 
 -- while the first gate is closed, a crash leaves what there was or nothing
 pub resetting : (limits : Limits) (start size : ℕ) (gs : List (List Page)) (gate : ℕ) (m n : Moment) → AreGroups limits gs → gate ≢ 1 → OnDisk start (spelled gs ++ gate ∷ []) m → 0 < length (spelled gs) → length (spelled gs) + 1 ≤ size
-    → ChangesOnly start 1 m n → (c : List ℕ) → MayLeave n c → Spells limits (take size (drop start c)) gs ⊎ Spells limits (take size (drop start c)) []
+    → ChangesOnly start 1 m n → (c : List ℕ) → MayLeave n c → SpellsGroups limits (take size (drop start c)) gs ⊎ SpellsGroups limits (take size (drop start c)) []
 resetting limits start size [] gate m n good shut on some fits only c left = absurd (omega arith)
 resetting limits start size (g ∷ gs) gate m n good shut on some fits only c left =
     let rest = body g ++ spelled gs ++ gate ∷ [] in

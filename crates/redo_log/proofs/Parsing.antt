@@ -10,8 +10,8 @@ use Rattle.page_codec.specs.declared.page.Page.{Page}
 use Rattle.page_codec.specs.Spelling.{page_bytes}
 use Rattle.page_codec.proofs.Laws.{length-page, one_page}
 use Rattle.redo_log.specs.Images.{images_bytes, images_of}
-use Rattle.redo_log.specs.Groups.{IsImage, AreImages, IsGroup, AreGroups, body, spelled, Spells}
-use Rattle.redo_log.specs.Reading.{AddsImages, AddsGroup, IsRead}
+use Rattle.redo_log.specs.Groups.{IsImage, AreImages, IsGroup, AreGroups, body, spelled, SpellsGroups}
+use Rattle.redo_log.specs.Reading.{AddsImages, AddsGroup, AreAllImages}
 use Rattle.redo_log.proofs.ImageLists.{images_bytes-append, length-images_bytes, all-append, images_of-push}
 use Rattle.redo_log.proofs.Leaving.{spelled-push}
 
@@ -147,7 +147,7 @@ pub record GroupsSoFar (limits : Limits) (bytes rest : List ℕ) (now : List Pag
   pub is : bytes ≡ spelled groups ++ rest
   pub images_are : now ≡ images_of groups
   pub some : 0 < length rest
-  pub only : (others : List (List Page)) → Spells limits bytes others → (t : List (List Page)) × (others ≡ groups ++ t) × Spells limits rest t
+  pub only : (others : List (List Page)) → SpellsGroups limits bytes others → (t : List (List Page)) × (others ≡ groups ++ t) × SpellsGroups limits rest t
 
 pub groups_start : (limits : Limits) (bytes : List ℕ) (now : List Page) → now ≡ [] → 0 < length bytes → GroupsSoFar limits bytes bytes now
 groups_start limits bytes now none some = record {
@@ -188,14 +188,14 @@ record NextGroup (limits : Limits) (rest : List ℕ) (t : List (List Page)) : Ty
   pub are : t ≡ group ∷ others
   pub good : IsGroup limits group
   pub is : drop 1 rest ≡ body group ++ behind
-  pub spells : Spells limits behind others
+  pub spells : SpellsGroups limits behind others
   pub more : 0 < length behind
 
 open_gate : (r : List ℕ) → 0 < length r → get_or r 0 0 ≡ 1 → r ≡ 1 ∷ drop 1 r
 open_gate [] some e = absurd (omega arith)
 open_gate (x ∷ xs) some e = ap (λ (y : ℕ). y ∷ xs) e
 
-next_group : (limits : Limits) (rest : List ℕ) (t : List (List Page)) → get_or rest 0 0 ≡ 1 → Spells limits rest t → NextGroup limits rest t
+next_group : (limits : Limits) (rest : List ℕ) (t : List (List Page)) → get_or rest 0 0 ≡ 1 → SpellsGroups limits rest t → NextGroup limits rest t
 next_group limits rest [] is_open s = absurd (s.closed (sym (ap (λ (l : List ℕ). get_or l 0 0) s.is) ∙ is_open))
 next_group limits rest (g ∷ q) is_open s = record {
   group = g;
@@ -227,18 +227,18 @@ module _ (limits : Limits) (bytes rest : List ℕ) (now : List Page) (s : Groups
             let same = same_group limits (drop 1 rest) n.behind left n.group a.group n.good a.good n.is a.is in (
               n.others,
               t.1 ∙ (ap (λ (l : List (List Page)). s.groups ++ l) (n.are ∙ ap (λ (g : List Page). g ∷ n.others) same.0) ∙ sym (append_assoc s.groups (a.group ∷ []) n.others)),
-              subst (λ (l : List ℕ). Spells limits l n.others) same.1 n.spells,
+              subst (λ (l : List ℕ). SpellsGroups limits l n.others) same.1 n.spells,
             );
       })
 
-  pub no_group : ((group : List Page) (behind : List ℕ) → IsGroup limits group → 0 < length behind → drop 1 rest ≡ body group ++ behind → ⊥) → (others : List (List Page)) → Spells limits bytes others → ⊥
+  pub no_group : ((group : List Page) (behind : List ℕ) → IsGroup limits group → 0 < length behind → drop 1 rest ≡ body group ++ behind → ⊥) → (others : List (List Page)) → SpellsGroups limits bytes others → ⊥
   no_group refused others is =
       let t = s.only others is in
       let n = next_group limits rest t.0 is_open t.2 in
       refused n.group n.behind n.good n.more n.is
 
 -- at a gate that isn't open all is read
-pub groups_end : (limits : Limits) (bytes rest : List ℕ) (now : List Page) → GroupsSoFar limits bytes rest now → get_or rest 0 0 ≢ 1 → IsRead limits bytes now (length bytes - length rest)
+pub groups_end : (limits : Limits) (bytes rest : List ℕ) (now : List Page) → GroupsSoFar limits bytes rest now → get_or rest 0 0 ≢ 1 → AreAllImages limits bytes now (length bytes - length rest)
 groups_end limits bytes rest now s shut = record {
   groups = s.groups;
   spells = record { good = s.good; gate = get_or rest 0 0; closed = shut; rest = drop 1 rest; is = s.is ∙ ap (λ (l : List ℕ). spelled s.groups ++ l) (gate_and_rest rest s.some) };
@@ -254,7 +254,7 @@ groups_end limits bytes rest now s shut = record {
     gate_and_rest [] some = absurd (omega arith)
     gate_and_rest (x ∷ xs) some = refl
 
-    none_left : (t : List (List Page)) → Spells limits rest t → t ≡ []
+    none_left : (t : List (List Page)) → SpellsGroups limits rest t → t ≡ []
     none_left [] is = refl
     none_left (g ∷ t) is = absurd (shut (ap (λ (l : List ℕ). get_or l 0 0) is.is))
 

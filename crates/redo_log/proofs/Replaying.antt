@@ -1,15 +1,16 @@
 -- From what was read to a log that keeps it.
 use Rattle.std.proofs.Common.{◌≡◌, ℕ, ◌+◌, ◌-◌, ◌*◌, ◌≤◌, List, [], ◌∷◌, ◌++◌, length, take, drop, get_or, false, sym, ◌∙◌, ap, subst, arith, append_assoc, length-append, length-drop, length-take-le}
-use Rattle.std.proofs.lemmas.List.{append-nil, get_or-drop, get_or-take, get_or_append_left}
+use Rattle.std.proofs.Math.Seq.{drop-length}
+use Rattle.std.proofs.lemmas.List.{get_or-drop, get_or-take, get_or_append_left}
 use Rattle.std.specs.Prelude.{slice_range}
 use Rattle.device.specs.Disk.{Moment}
 use Rattle.device.specs.Places.{Has}
 use Rattle.index_model.specs.declared.limits.Limits.{Limits}
 use Rattle.page_codec.specs.declared.page.Page.{Page}
 use Rattle.redo_log.specs.Images.{images_of}
-use Rattle.redo_log.specs.Groups.{IsImage, AreImages, AreGroups, spelled, Spells, log_range}
+use Rattle.redo_log.specs.Groups.{IsImage, AreImages, AreGroups, spelled, SpellsGroups, log_range}
 use Rattle.redo_log.specs.Kept.{IsSettled}
-use Rattle.redo_log.specs.Reading.{IsRead, Replays}
+use Rattle.redo_log.specs.Reading.{AreAllImages, Replays}
 use Rattle.redo_log.specs.declared.log.Log.{Log}
 use Rattle.redo_log.proofs.ImageLists.{same_eq, all-append}
 use Rattle.redo_log.proofs.Forcing.{whole_list}
@@ -33,7 +34,7 @@ has_range start size file q rest is fits =
           ∙ (ap (λ (l : List ℕ). get_or l i 0) is ∙ get_or_append_left q rest 0 i lt));
     }
 
-pub replayed : (limits : Limits) (m : Moment) (log : Log) (bytes : List ℕ) (images : List Page) (at : ℕ) → bytes ≡ log_range limits m.seen → 4096 + limits.log_bytes ≤ length m.seen → IsRead limits bytes images at
+pub replayed : (limits : Limits) (m : Moment) (log : Log) (bytes : List ℕ) (images : List Page) (at : ℕ) → bytes ≡ log_range limits m.seen → 4096 + limits.log_bytes ≤ length m.seen → AreAllImages limits bytes images at
     → log.limits ≡ limits → log.at ≡ at → log.count ≡ 0 → log.stopped ≡ false → Replays limits m log images
 replayed limits m log bytes images at are fits r limits_are at_is idle alive =
     let s = r.spells in
@@ -49,9 +50,9 @@ replayed limits m log bytes images at are fits r limits_are at_is idle alive =
     ) in
     record {
       groups = r.groups;
-      spells = subst (λ (l : List ℕ). Spells limits l r.groups) are s;
+      spells = subst (λ (l : List ℕ). SpellsGroups limits l r.groups) are s;
       images_are = r.images_are;
-      only = λ others is. r.only others (subst (λ (l : List ℕ). Spells limits l others) (sym are) is);
+      only = λ others is. r.only others (subst (λ (l : List ℕ). SpellsGroups limits l others) (sym are) is);
       keeps = λ firm. record {
         alive = alive;
         groups = r.groups;
@@ -66,7 +67,7 @@ replayed limits m log bytes images at are fits r limits_are at_is idle alive =
         waits = record { counted = sym idle; images = tt; buffered = ap (λ (n : ℕ). take (4096 * n) (drop 4 log.buffer.items)) idle };
         few = omega arith;
         durable = same_eq _ _ (ap images_of (sym (whole_list r.groups)));
-        all = same_eq _ _ (append-nil (images_of r.groups));
+        unforced = same_eq [] _ (sym (ap images_of (drop-length r.groups)));
       };
     }
 

@@ -1,5 +1,5 @@
 -- What the closing of a log leaves.
-use Rattle.std.proofs.Common.{◌≡◌, inl, inr, ⊎_elim, ℕ, ◌+◌, ◌*◌, ◌<◌, ◌≤◌, List, [], ◌∷◌, ◌++◌, length, take, drop, false, Result, Ok, Err, refl, sym, ◌∙◌, ap, subst, arith}
+use Rattle.std.proofs.Common.{◌≡◌, inl, inr, ⊎_elim, ℕ, ◌+◌, ◌<◌, ◌≤◌, List, [], ◌∷◌, length, take, drop, false, Result, Ok, Err, refl, sym, ap, subst, arith}
 use Rattle.std.specs.Prelude.{OnOk}
 use Rattle.device.specs.Disk.{Moment, Trace, Writes, Syncs, next, wrote}
 use Rattle.device.specs.Moments.{Goes}
@@ -9,9 +9,8 @@ use Rattle.device.proofs.Standing.{only_wider, only_more, wrote_only, wrote_has,
 use Rattle.page_codec.specs.declared.page.Page.{Page}
 use Rattle.redo_log.specs.Images.{images_of}
 use Rattle.redo_log.specs.Groups.{spelled}
-use Rattle.redo_log.specs.Kept.{Keeps, RestartsOrEmpty}
+use Rattle.redo_log.specs.Kept.{Keeps, Waits, RestartsOrEmpty}
 use Rattle.redo_log.specs.declared.log.Log.{Log}
-use Rattle.redo_log.proofs.Forcing.{none}
 use Rattle.redo_log.proofs.Leaving.{resetting}
 use Rattle.redo_log.proofs.ImageLists.{same_refl, same_eq}
 
@@ -51,14 +50,13 @@ reset_goes log old new acts forced k some gone = goes_weaker _ _ old new (λ n o
 pub in_range : (log : Log) (old new : Trace) → Goes (ChangesOnly 4096 1 old.now) old new → Goes (ChangesOnly 4096 log.limits.log_bytes old.now) old new
 in_range log old new gone = goes_weaker _ _ old new (λ n only. only_wider 4096 1 4096 log.limits.log_bytes old.now n (omega arith) (omega (arith, log.least)) only) gone
 
--- with no group on the disk and no image waiting there are no actions
+-- with no group on the disk what is kept waits
 no_groups : (gs : List (List Page)) → length (spelled gs) ≡ 0 → gs ≡ []
 no_groups [] e = refl
 no_groups (g ∷ gs) e = absurd (omega arith)
 
-pub empty_keeps : (log : Log) (m : Moment) (acts : List (List Page)) (forced : ℕ) → Keeps log m acts forced → log.at ≡ 0 → log.count ≡ 0 → Keeps log m [] 0
-empty_keeps log m acts forced k start idle =
-    let no_more : k.waiting ≡ [] = none k.waiting (omega (arith, k.waits.counted, idle)) in
+pub empty_keeps : (log : Log) (m : Moment) (acts : List (List Page)) (forced : ℕ) → Keeps log m acts forced → log.at ≡ 0 → Keeps log m (drop forced acts) 0
+empty_keeps log m acts forced k start =
     let nothing : k.groups ≡ [] = no_groups k.groups (omega (arith, k.settled.end, start)) in
     record {
       alive = k.alive;
@@ -68,17 +66,19 @@ empty_keeps log m acts forced k start idle =
       waits = k.waits;
       few = omega arith;
       durable = same_eq _ _ (ap images_of nothing);
-      all = same_eq _ _ (ap (λ (l : List Page). images_of k.groups ++ l) no_more ∙ ap (λ (l : List (List Page)). images_of l ++ []) nothing);
+      unforced = k.unforced;
     }
 
-pub reset_keeps : (log : Log) (m : Moment) → log.at ≡ 0 → log.count ≡ 0 → log.stopped ≡ false → OnDisk 4096 (0 ∷ []) m → Keeps log m [] 0
-reset_keeps log m start idle alive on = record {
+-- and so it does once the first gate is closed
+pub reset_keeps : (old : Log) (before : Moment) (acts : List (List Page)) (forced : ℕ) → (k : Keeps old before acts forced)
+    → (log : Log) (m : Moment) → log.at ≡ 0 → log.stopped ≡ false → Waits log k.waiting → OnDisk 4096 (0 ∷ []) m → Keeps log m (drop forced acts) 0
+reset_keeps old before acts forced k log m start alive waits on = record {
   alive = alive;
   groups = [];
   settled = record { good = tt; end = start; gate = 0; closed = λ (e : 0 ≡ 1). absurd (omega arith); on_disk = on };
-  waiting = [];
-  waits = record { counted = sym idle; images = tt; buffered = ap (λ (n : ℕ). take (4096 * n) (drop 4 log.buffer.items)) idle };
+  waiting = k.waiting;
+  waits = waits;
   few = omega arith;
   durable = same_refl [];
-  all = same_refl [];
+  unforced = k.unforced;
 }

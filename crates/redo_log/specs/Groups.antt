@@ -2,6 +2,7 @@
 use Rattle.std.specs.Prelude.{◌≡◌, ◌≢◌, ℕ, ◌^◌, ◌<◌, ◌≤◌, List, [], ◌∷◌, ◌++◌, length, take, drop}
 use Rattle.std.specs.Int.{w32, to_le_bytes}
 use Rattle.std.specs.List.{AllByRecursion}
+use Rattle.device_layout.specs.Layout.{log_start}
 use Rattle.index_model.specs.declared.limits.Limits.{Limits}
 use Rattle.page_codec.specs.declared.page.Page.{Page}
 use Rattle.page_codec.specs.Grammar.{IsPage}
@@ -40,7 +41,7 @@ spelled [] = []
 spelled (group ∷ groups) = 1 ∷ body group ++ spelled groups
 
 -- the bytes are these groups, open, then a gate that isn't 1, and anything
-pub record Spells (limits : Limits) (bytes : List ℕ) (groups : List (List Page)) : Type 0 where
+pub record SpellsGroups (limits : Limits) (bytes : List ℕ) (groups : List (List Page)) : Type 0 where
   pub good : AreGroups limits groups
   pub gate : ℕ
   pub closed : gate ≢ 1
@@ -49,4 +50,4 @@ pub record Spells (limits : Limits) (bytes : List ℕ) (groups : List (List Page
 
 -- the log's range of a device
 abbrev pub log_range : Limits → List ℕ → List ℕ
-log_range limits file = take limits.log_bytes (drop 4096 file)
+log_range limits file = take limits.log_bytes (drop log_start file)

@@ -2,13 +2,14 @@
 use Rattle.std.specs.Prelude.{◌≡◌, ◌≢◌, ◌⊎◌, ℕ, suc, Result, MatchResult, ◌+◌, ◌-◌, ◌*◌, ◌^◌, ◌≤◌, Bool, false, true, List, [], ◌∷◌, ◌++◌, length, take, drop}
 use Rattle.device.specs.Disk.{Moment, Trace, MayLeave}
 use Rattle.device.specs.Moments.{Goes}
-use Rattle.device.specs.Places.{OnDisk, ChangesOnly}
+use Rattle.device.specs.Places.{OnDisk, ChangesOnly, IsUntouched}
+use Rattle.device_layout.specs.Layout.{log_start}
 use Rattle.index_model.specs.declared.fault.Fault.{Fault}
 use Rattle.index_model.specs.declared.fault.Fault.TheVariants.{Io, Stopped}
 use Rattle.index_model.specs.declared.limits.Limits.{Limits}
 use Rattle.page_codec.specs.declared.page.Page.{Page}
 use Rattle.redo_log.specs.Images.{SameImages, images_bytes, images_of}
-use Rattle.redo_log.specs.Groups.{AreImages, AreGroups, spelled, Spells, log_range}
+use Rattle.redo_log.specs.Groups.{AreImages, AreGroups, spelled, SpellsGroups, log_range}
 use Rattle.redo_log.specs.declared.log.Log.{Log}
 
 -- the sizes that it was made with
@@ -28,16 +29,16 @@ abbrev pub waiting_count : Log → ℕ
 waiting_count log = log.count
 
 -- where its open groups end, in its range
-abbrev pub end_of : Log → ℕ
-end_of log = log.at
+abbrev pub groups_end : Log → ℕ
+groups_end log = log.at
 
 -- where the group that waits would end with n images more, the closed gate behind it among them
 abbrev pub end_with : Log → ℕ → ℕ
 end_with log n = log.at + (6 + 4096 * (log.count + n))
 
 -- n images more would fit
-abbrev pub Fits : Log → ℕ → Type 0
-Fits log n = end_with log n ≤ log.limits.log_bytes
+abbrev pub HasRoomFor : Log → ℕ → Type 0
+HasRoomFor log n = end_with log n ≤ log.limits.log_bytes
 
 -- it is stopped, or the greatest number was given
 abbrev pub TakesNoMore : Log → Type 0
@@ -69,22 +70,22 @@ pub record Waits (log : Log) (waiting : List Page) : Type 0 where
   pub buffered : take (4096 * log.count) (drop 4 log.buffer.items) ≡ images_bytes waiting
 
 -- the log keeps these actions, of which the first so many are forced: on the disk stand the last
--- images of the forced ones, and with those that wait the last images of all
+-- images of these, and the last images of the others wait
 pub record Keeps (log : Log) (m : Moment) (acts : List (List Page)) (forced : ℕ) : Type 0 where
   pub alive : log.stopped ≡ false
   pub groups : List (List Page)
-  pub settled : IsSettled log.limits 4096 log.at groups m
+  pub settled : IsSettled log.limits log_start log.at groups m
   pub waiting : List Page
   pub waits : Waits log waiting
   pub few : forced ≤ length acts
   pub durable : SameImages (images_of groups) (images_of (take forced acts))
-  pub all : SameImages (images_of groups ++ waiting) (images_of acts)
+  pub unforced : SameImages waiting (images_of (drop forced acts))
 
 -- what replay gives of these bytes, applied in order, is for each block the last image that these
 -- actions have of it, and nothing for a block that they don't name
 pub record Holds (limits : Limits) (image : List ℕ) (acts : List (List Page)) : Type 0 where
   pub groups : List (List Page)
-  pub spells : Spells limits (log_range limits image) groups
+  pub spells : SpellsGroups limits (log_range limits image) groups
   pub same : SameImages (images_of groups) (images_of acts)
 
 -- the bytes hold some first part of the actions with every forced one
@@ -115,10 +116,10 @@ abbrev pub ForcesAll : Log → Moment → Log → Moment → Type 0
 ForcesAll old before new after = (acts : List (List Page)) (forced : ℕ)
     → Keeps old before acts forced → Keeps new after acts (length acts)
 
--- whatever actions the log kept, if none of their images waited, it keeps none now
-abbrev pub ForgetsAll : Log → Moment → Log → Moment → Type 0
-ForgetsAll old before new after = (acts : List (List Page)) (forced : ℕ)
-    → Keeps old before acts forced → waiting_count old ≡ 0 → Keeps new after [] 0
+-- whatever actions the log kept, it keeps those that weren't forced, and none of them is forced now
+abbrev pub ForgetsForced : Log → Moment → Log → Moment → Type 0
+ForgetsForced old before new after = (acts : List (List Page)) (forced : ℕ)
+    → Keeps old before acts forced → Keeps new after (drop forced acts) 0
 
 -- a crash at each moment in between leaves a first part of the actions that the log kept, which has
 -- every one that was forced at the beginning
@@ -132,10 +133,20 @@ RestartsOrEmptyThroughout log old new = (acts : List (List Page)) (forced : ℕ)
     → Keeps log old.now acts forced
     → Goes (RestartsOrEmpty (limits_of log) (take forced acts)) old new
 
--- where the log's range ends on a device
-abbrev pub range_end : Limits → ℕ
-range_end limits = 4096 + limits.log_bytes
-
 -- at each moment in between nothing but the log's range has changed
 abbrev pub ChangesItsRange : Limits → Trace → Trace → Type 0
-ChangesItsRange limits old new = Goes (ChangesOnly 4096 limits.log_bytes old.now) old new
+ChangesItsRange limits old new = Goes (ChangesOnly log_start limits.log_bytes old.now) old new
+
+-- nothing in the log's range has changed, and no crash changes more of it
+abbrev pub RangeIsUntouched : Limits → Moment → Moment → Type 0
+RangeIsUntouched limits old new = IsUntouched log_start limits.log_bytes old new
+
+-- whatever actions the log keeps at one moment, it keeps at each at which its range is untouched
+abbrev pub KeepsWhileUntouched : Log → Type 0
+KeepsWhileUntouched log = (old new : Moment) (acts : List (List Page)) (forced : ℕ)
+    → RangeIsUntouched (limits_of log) old new → Keeps log old acts forced → Keeps log new acts forced
+
+-- whatever actions the log keeps, a crash leaves a first part of them with every forced one
+abbrev pub WhatItKeepsRestarts : Log → Type 0
+WhatItKeepsRestarts log = (m : Moment) (acts : List (List Page)) (forced : ℕ)
+    → Keeps log m acts forced → Restarts (limits_of log) acts forced m

@@ -1,12 +1,13 @@
 -- What reading a log finds.
 use Rattle.std.specs.Prelude.{◌≡◌, ◌⊎◌, ℕ, suc, Result, MatchResult, ◌+◌, ◌*◌, ◌<◌, ◌≤◌, false, List, ◌++◌, length, drop}
 use Rattle.device.specs.Disk.{Moment}
+use Rattle.device_layout.specs.Layout.{log_start}
 use Rattle.index_model.specs.declared.fault.Fault.{Fault}
 use Rattle.index_model.specs.declared.fault.Fault.TheVariants.{Io, NoMemory, LogDamaged}
 use Rattle.index_model.specs.declared.limits.Limits.{Limits}
 use Rattle.page_codec.specs.declared.page.Page.{Page}
 use Rattle.redo_log.specs.Images.{images_bytes, images_of}
-use Rattle.redo_log.specs.Groups.{AreImages, IsGroup, body, spelled, Spells, log_range}
+use Rattle.redo_log.specs.Groups.{AreImages, IsGroup, body, spelled, SpellsGroups, log_range}
 use Rattle.redo_log.specs.Kept.{Keeps, limits_of, actions_of, waiting_count, is_stopped}
 use Rattle.redo_log.specs.declared.log.Log.{Log}
 
@@ -28,26 +29,26 @@ pub record AddsGroup (limits : Limits) (bytes : List ℕ) (count : ℕ) (old new
   pub added : new ≡ old ++ group
 
 -- these are all images that the bytes stand for, and the open groups end there
-pub record IsRead (limits : Limits) (bytes : List ℕ) (images : List Page) (end : ℕ) : Type 0 where
+pub record AreAllImages (limits : Limits) (bytes : List ℕ) (images : List Page) (end : ℕ) : Type 0 where
   pub groups : List (List Page)
-  pub spells : Spells limits bytes groups
+  pub spells : SpellsGroups limits bytes groups
   pub images_are : images ≡ images_of groups
   pub end_is : end ≡ length (spelled groups)
   pub within : end + 1 ≤ length bytes
   -- the bytes are no other groups
-  pub only : (others : List (List Page)) → Spells limits bytes others → others ≡ groups
+  pub only : (others : List (List Page)) → SpellsGroups limits bytes others → others ≡ groups
 
 -- no crash changes the log's range
 pub record IsFirm (limits : Limits) (m : Moment) : Type 0 where
-  pub firm : (i : ℕ) → i < limits.log_bytes → m.loose (4096 + i) ≡ false
+  pub firm : (i : ℕ) → i < limits.log_bytes → m.loose (log_start + i) ≡ false
 
 -- reading found these images, which the log's range of the device stands for and no others; and if
 -- no crash changes that range, the log keeps each of its groups as a forced action
 pub record Replays (limits : Limits) (m : Moment) (log : Log) (images : List Page) : Type 0 where
   pub groups : List (List Page)
-  pub spells : Spells limits (log_range limits m.seen) groups
+  pub spells : SpellsGroups limits (log_range limits m.seen) groups
   pub images_are : images ≡ images_of groups
-  pub only : (others : List (List Page)) → Spells limits (log_range limits m.seen) others
+  pub only : (others : List (List Page)) → SpellsGroups limits (log_range limits m.seen) others
       → others ≡ groups
   pub keeps : IsFirm limits m → Keeps log m groups (length groups)
 
@@ -66,4 +67,4 @@ ReplayFails result old new = MatchResult result (λ _. new ≡ old)
 
 -- no groups are spelled in the log's range: an open group there is none
 abbrev pub IsDamaged : Limits → Moment → Type 0
-IsDamaged limits m = (groups : List (List Page)) → Spells limits (log_range limits m.seen) groups → ⊥
+IsDamaged limits m = (groups : List (List Page)) → SpellsGroups limits (log_range limits m.seen) groups → ⊥

@@ -9,7 +9,7 @@ mod publish;
 mod reading;
 
 pub use image::are_images;
-pub use log::{LOG_START, Log, Replayed};
+pub use log::{Log, Replayed};
 
 #[cfg(test)]
 mod tests;

@@ -1,19 +1,18 @@
 //! The log.
 
-ghost use Rattle.std.specs.Prelude.{◌⊎◌, ◌≡◌, ◌≤◌, ◌<◌, ◌+◌, ◌*◌, ◌^◌, ℕ, suc, IsTrue, IsErrOf, OnOk, OnErr, IfOk, IfErr, is_err, length};
+ghost use Rattle.std.specs.Prelude.{◌⊎◌, ◌≡◌, ◌≤◌, ◌<◌, ◌+◌, ◌*◌, ◌^◌, ℕ, suc, true, Err, IsTrue, IsErrOf, OnOk, OnErr, IfOk, IfErr, is_err, length};
 ghost use Rattle.index_model.specs.Limits.{AreLimits};
+ghost use Rattle.device_layout.specs.Layout.{log_end};
 ghost use Rattle.redo_log.specs.Groups.{AreImages};
 
 use crate::lay::{lay_images, seal};
 use crate::publish::{publish, shut};
 use crate::reading::read_groups;
 use device::Device;
+use device_layout::LOG_START;
 use index_model::{Fault, Limits};
 use page_codec::Page;
 use std::alloc::Global;
-
-/// Where the log begins on a device.
-pub const LOG_START: u64 = 4096;
 
 /// A log, which lies in its range of a device. The room for the group that waits was made when it
 /// was opened.
@@ -36,8 +35,8 @@ pub struct Log {
 }
 
 impl Log {
-    ghost use Rattle.redo_log.specs.Kept.{limits_of, is_stopped, actions_of, waiting_count, end_of, end_with, range_end, Fits, TakesNoMore};
-    ghost use Rattle.redo_log.specs.Kept.{AddsAction, ForcesAll, ForgetsAll, RestartsThroughout, RestartsOrEmptyThroughout, SameLog, ChangesItsRange, IoOrStopped};
+    ghost use Rattle.redo_log.specs.Kept.{limits_of, is_stopped, actions_of, waiting_count, groups_end, end_with, HasRoomFor, TakesNoMore};
+    ghost use Rattle.redo_log.specs.Kept.{AddsAction, ForcesAll, ForgetsForced, RestartsThroughout, RestartsOrEmptyThroughout, SameLog, ChangesItsRange, KeepsWhileUntouched, WhatItKeepsRestarts, IoOrStopped};
     ghost use Rattle.redo_log.specs.Reading.{Replays, IsOpened, IsDamaged, ReplayFails};
 
     /// The sizes that it was opened with.
@@ -56,8 +55,8 @@ impl Log {
 
     /// How many images one more action could hold now.
     pub fn room(&self) -> u32
-        ensures fit { (n : ℕ) → 0 < n → n ≤ result → Fits self.now n }
-        ensures no_more { (n : ℕ) → result < n → ¬ Fits self.now n }
+        ensures fit { (n : ℕ) → 0 < n → n ≤ result → HasRoomFor self.now n }
+        ensures no_more { (n : ℕ) → result < n → ¬ HasRoomFor self.now n }
     {
         let left = self.limits.log_bytes - self.at as u32;
         left.saturating_sub(6) / 4096 - self.count
@@ -81,8 +80,9 @@ impl Log {
         ensures stopped { is_stopped self.new ≡ is_stopped self.old }
 
         ensures err { OnErr result (self.new ≡ self.old) }
+        ensures stopped_first { is_stopped self.old ≡ true → result ≡ Err Fault.Stopped }
         ensures cause { IfErr result (λ e. ((e ≡ Fault.Stopped) × TakesNoMore self.old)
-            ⊎ ((e ≡ Fault.LogFull) × (¬ Fits self.old (length images.now)))) }
+            ⊎ ((e ≡ Fault.LogFull) × (¬ HasRoomFor self.old (length images.now)))) }
     {
         if self.stopped || self.actions == u64::MAX {
             return Err(Fault::Stopped);
@@ -96,12 +96,19 @@ impl Log {
         Ok(self.actions)
     }
 
+    /// Does nothing: whatever changes outside of the log's range, the log keeps what it kept, and a
+    /// crash leaves a first part of it that has all that was forced.
+    pub fn keeping_law(&self)
+        ensures keeps { KeepsWhileUntouched self.now }
+        ensures restarts { WhatItKeepsRestarts self.now }
+    {}
+
     /// Makes every action durable that was appended, and answers how many were since the log was
     /// opened. With nothing to write the device isn't called.
     ///
     /// At `Io` the log is stopped; a stopped log answers `Stopped`.
     pub fn force<D: Device>(&mut self, device: &mut D) -> Result<u64, Fault>
-        requires range { range_end (limits_of self.old) ≤ length (D.trace device.old).now.seen }
+        requires range { log_end (limits_of self.old) ≤ length (D.trace device.old).now.seen }
 
         ensures keeps { OnOk result
             (ForcesAll self.old (D.trace device.old).now self.new (D.trace device.new).now) }
@@ -118,6 +125,7 @@ impl Log {
         ensures honest { D.is_honest device.new ≡ D.is_honest device.old }
         ensures idle { IsTrue (is_stopped self.old) ⊎ (waiting_count self.old ≡ 0)
             → device.new ≡ device.old }
+        ensures stopped_first { is_stopped self.old ≡ true → result ≡ Err Fault.Stopped }
         ensures cause { IoOrStopped result (is_stopped self.old)
             (D.failures device.old) (D.failures device.new) }
     {
@@ -137,16 +145,18 @@ impl Log {
         Ok(self.actions)
     }
 
-    /// Closes the log: its groups no longer count. Where no group is open the device isn't called,
-    /// since a crash could leave a gate that is written as an open one, in front of old bytes.
+    /// Closes the log: its groups no longer count, and what waits still waits. Where no group is open
+    /// the device isn't called, since a crash could leave a gate that is written as an open one, in
+    /// front of old bytes.
     ///
     /// At `Io` the log is stopped; a stopped log answers `Stopped`.
     pub fn reset<D: Device>(&mut self, device: &mut D) -> Result<(), Fault>
-        requires range { range_end (limits_of self.old) ≤ length (D.trace device.old).now.seen }
+        requires range { log_end (limits_of self.old) ≤ length (D.trace device.old).now.seen }
 
         ensures keeps { OnOk result
-            (ForgetsAll self.old (D.trace device.old).now self.new (D.trace device.new).now) }
+            (ForgetsForced self.old (D.trace device.old).now self.new (D.trace device.new).now) }
         ensures moments { RestartsOrEmptyThroughout self.old (D.trace device.old) (D.trace device.new) }
+        ensures closed { OnOk result (groups_end self.new ≡ 0) }
         ensures waiting { waiting_count self.new ≡ waiting_count self.old }
         ensures room { OnOk result ((n : ℕ)
             → end_with self.new n ≡ 6 + 4096 * (waiting_count self.old + n)) }
@@ -156,8 +166,9 @@ impl Log {
         ensures outside { ChangesItsRange (limits_of self.old) (D.trace device.old) (D.trace device.new) }
         ensures len { length (D.trace device.new).now.seen ≡ length (D.trace device.old).now.seen }
         ensures honest { D.is_honest device.new ≡ D.is_honest device.old }
-        ensures idle { IsTrue (is_stopped self.old) ⊎ (end_of self.old ≡ 0)
+        ensures idle { IsTrue (is_stopped self.old) ⊎ (groups_end self.old ≡ 0)
             → device.new ≡ device.old }
+        ensures stopped_first { is_stopped self.old ≡ true → result ≡ Err Fault.Stopped }
         ensures cause { IoOrStopped result (is_stopped self.old)
             (D.failures device.old) (D.failures device.new) }
     {
@@ -185,7 +196,7 @@ impl Log {
         limits: Limits,
     ) -> Result<Replayed, Fault>
         requires limits { AreLimits limits }
-        requires range { range_end limits ≤ length (D.trace device.old).now.seen }
+        requires range { log_end limits ≤ length (D.trace device.old).now.seen }
 
         ensures ok { IfOk result (λ r. IsTrue (D.is_honest device.new)
             → Replays limits (D.trace device.old).now r.log r.images.items) }

@@ -1,7 +1,7 @@
 //! A piece is written and synced behind a closed gate, which is then opened.
 
 ghost use Rattle.std.specs.Prelude.{◌≡◌, ◌+◌, ◌<◌, ◌≤◌, ◌^◌, [], ◌∷◌, length, OnOk};
-ghost use Rattle.device.specs.Disk.{Counts};
+ghost use Rattle.device.specs.Disk.{CountsFailures};
 ghost use Rattle.device.specs.Moments.{Goes};
 ghost use Rattle.device.specs.Places.{ChangesOnly, OnDisk};
 ghost use Rattle.redo_log.specs.Publish.{IsShut, IsShutOrWhole};
@@ -18,7 +18,7 @@ pub(crate) fn publish<D: Device>(device: &mut D, gate: u64, body: &[u8]) -> Resu
         (D.trace device.old) (D.trace device.new) }
     ensures len { length (D.trace device.new).now.seen ≡ length (D.trace device.old).now.seen }
     ensures honest { D.is_honest device.new ≡ D.is_honest device.old }
-    ensures failures { Counts result (D.failures device.old) (D.failures device.new) }
+    ensures failures { CountsFailures result (D.failures device.old) (D.failures device.new) }
 {
     device.write_at(gate + 1, body)?;
     device.sync()?;
@@ -34,7 +34,7 @@ pub(crate) fn shut<D: Device>(device: &mut D, gate: u64) -> Result<(), Fault>
         (D.trace device.old) (D.trace device.new) }
     ensures len { length (D.trace device.new).now.seen ≡ length (D.trace device.old).now.seen }
     ensures honest { D.is_honest device.new ≡ D.is_honest device.old }
-    ensures failures { Counts result (D.failures device.old) (D.failures device.new) }
+    ensures failures { CountsFailures result (D.failures device.old) (D.failures device.new) }
 {
     device.write_at(gate, &[0])?;
     device.sync()

@@ -5,8 +5,8 @@ ghost use Rattle.page_codec.specs.declared.page.Page.{Page};
 ghost use Rattle.page_codec.specs.Spelling.{page_bytes};
 ghost use Rattle.page_codec.specs.Grammar.{IsPage};
 ghost use Rattle.redo_log.specs.Images.{images_bytes};
-ghost use Rattle.redo_log.specs.Groups.{IsImage, AreImages, IsGroup, body, Spells};
-ghost use Rattle.redo_log.specs.Reading.{AddsImages, AddsGroup, IsRead};
+ghost use Rattle.redo_log.specs.Groups.{IsImage, AreImages, IsGroup, body, SpellsGroups};
+ghost use Rattle.redo_log.specs.Reading.{AddsImages, AddsGroup, AreAllImages};
 
 use crate::image::is_within;
 use index_model::{Fault, Limits};
@@ -103,9 +103,9 @@ pub(crate) fn read_groups(
     bytes: &[u8],
 ) -> Result<(Vec<Page>, usize), Fault>
     requires { 0 < length bytes.now }
-    ensures ok { IfOk result (λ r. IsRead limits.now bytes.now r.0.items r.1) }
+    ensures ok { IfOk result (λ r. AreAllImages limits.now bytes.now r.0.items r.1) }
     ensures damaged { IsErrOf result Fault.LogDamaged
-        → (groups : List (List Page)) → Spells limits.now bytes.now groups → ⊥ }
+        → (groups : List (List Page)) → SpellsGroups limits.now bytes.now groups → ⊥ }
     ensures fault { IfErr result (λ e. (e ≡ Fault.NoMemory) ⊎ (e ≡ Fault.LogDamaged)) }
 {
     let mut images = Vec::new(alloc);

@@ -1,6 +1,7 @@
 use super::*;
 use arrayvec::ArrayVec;
 use device::{CrashImage, Device, MemDevice};
+use device_layout::LOG_START;
 use index_model::{Fault, Limits};
 use page_codec::{Items, Page, PageState};
 use std::alloc::Global;
@@ -205,6 +206,35 @@ fn a_fresh_log_holds_fifteen_images(rt: HostRuntime) -> Result<(), Fail> {
     assert_eq!(rt; replay(rt.alloc(), &mut device)?.images.len(), 15);
     assert_eq!(rt; reset(&mut log, &mut device), Ok(()));
     assert_eq!(rt; log.room(), 15);
+    Ok(())
+}
+
+// A reset forgets what was forced, and what waits still waits.
+#[test]
+fn a_reset_keeps_what_waits(rt: HostRuntime) -> Result<(), Fail> {
+    let mut device = MemDevice::new(rt.alloc(), LEN)?;
+    let mut log = replay(rt.alloc(), &mut device)?.log;
+    assert_eq!(rt; act(&mut log, 1), Ok(1));
+    assert_eq!(rt; force(&mut log, &mut device), Ok(1));
+    assert_eq!(rt; act(&mut log, 2), Ok(2));
+    assert_eq!(rt; reset(&mut log, &mut device), Ok(()));
+    assert_eq!(rt; replay(rt.alloc(), &mut device)?.images.len(), 0);
+    assert_eq!(rt; force(&mut log, &mut device), Ok(2));
+    let replayed = replay(rt.alloc(), &mut device)?;
+    assert_eq!(rt; found(&replayed.images), after(2, 3));
+    Ok(())
+}
+
+#[test]
+fn a_stopped_log_answers_stopped(rt: HostRuntime) -> Result<(), Fail> {
+    let mut device = MemDevice::new(rt.alloc(), LEN)?;
+    let mut log = replay(rt.alloc(), &mut device)?.log;
+    assert_eq!(rt; act(&mut log, 1), Ok(1));
+    device.fail_at(1);
+    assert_eq!(rt; force(&mut log, &mut device), Err(Fault::Io));
+    assert_eq!(rt; act(&mut log, 2), Err(Fault::Stopped));
+    assert_eq!(rt; force(&mut log, &mut device), Err(Fault::Stopped));
+    assert_eq!(rt; reset(&mut log, &mut device), Err(Fault::Stopped));
     Ok(())
 }
 

@@ -1,5 +1,20 @@
-use Rattle.recovery.proofs.Creating.{fresh_made}
+use Rattle.std.proofs.Common.{◌+◌, ◌*◌}
+use Rattle.recovery.proofs.Creating.{fresh_made, clearing_goes, placing_goes, finishing_goes}
 use Rattle.recovery.proofs.creation.write_index.Goals as goal
 
+pub returns-in_err-place_front-clause-moments : goal.returns-in_err-place_front-clause-moments
+returns-in_err-place_front-clause-moments g c = clearing_goes c.args.limits.now _ _ c.place_front.ensures.moments
+
+pub returns-in_err-place_body-clause-moments : goal.returns-in_err-place_body-clause-moments
+returns-in_err-place_body-clause-moments g c =
+    let limits = c.args.limits.now in
+    placing_goes limits _ _ c.place_front.ensures.moments _ (limits.log_bytes + 4096 * limits.pages) c.in_ok-place_front.ensures.there c.place_body.ensures.moments
+
 pub returns-clause-made : goal.returns-clause-made
-returns-clause-made g c = fresh_made c.args.limits.now c.place_front-2.result _ _ _ c.spell_superblock.ensures c.in_ok-place_body.ensures.there c.place_front-2.ensures.only c.place_front-2.ensures.there
+returns-clause-made g c = fresh_made c.args.limits.now c.place_front-2.result _ _ _ c.spell_superblock.ensures c.in_ok-place_body.ensures.there c.place_front-2.ensures.moments c.place_front-2.ensures.there
+
+pub returns-clause-moments : goal.returns-clause-moments
+returns-clause-moments g c =
+    let limits = c.args.limits.now in
+    finishing_goes limits _ _ c.place_front.ensures.moments _ (limits.log_bytes + 4096 * limits.pages) c.in_ok-place_front.ensures.there c.place_body.ensures.moments
+    _ _ c.spell_superblock.ensures c.in_ok-place_body.ensures.there c.place_front-2.ensures.moments

@@ -1,4 +1,3 @@
-use Rattle.std.proofs.Common.{◌∙◌}
 use Rattle.device.proofs.Going.{goes_on, goes_now, syncs_goes}
 use Rattle.recovery.proofs.Named.{same_named, named_synced}
 use Rattle.recovery.proofs.homing.bring_home.Goals as goal
@@ -11,11 +10,3 @@ returns-clause-moments g c =
     let now = goes_now _ start middle c.write_images.ensures.moments (same_named c.args.limits c.args.images.now start.now) in
     goes_on _ start middle (trace c.sync.new.self) c.write_images.ensures.moments
     (syncs_goes _ c.sync.result middle (trace c.sync.new.self) c.sync.ensures.trace (named_synced c.args.limits c.args.images.now start.now middle.now now))
-
-pub returns-in_err-write_images-clause-len : goal.returns-in_err-write_images-clause-len
-returns-in_err-write_images-clause-len g c =
-    (goes_now _ (g.D.Device.trace c.args.device.now) (g.D.Device.trace c.write_images.new.device) c.write_images.ensures.moments (same_named c.args.limits c.args.images.now (g.D.Device.trace c.args.device.now).now)).only.same_length
-
-pub returns-clause-len : goal.returns-clause-len
-returns-clause-len g c =
-    c.sync.ensures.len ∙ (goes_now _ (g.D.Device.trace c.args.device.now) (g.D.Device.trace c.write_images.new.device) c.write_images.ensures.moments (same_named c.args.limits c.args.images.now (g.D.Device.trace c.args.device.now).now)).only.same_length

@@ -3,6 +3,7 @@ use Rattle.std.proofs.lemmas.List.{take_all}
 use Rattle.device.proofs.Going.{goes_on, goes_now}
 use Rattle.page_codec.specs.declared.page.Page.{Page}
 use Rattle.recovery.specs.Homing.{HasImages}
+use Rattle.recovery.proofs.Creating.{only_now}
 use Rattle.recovery.proofs.Named.{named_goes, image_at, more_images}
 use Rattle.recovery.proofs.homing.write_images.Goals as goal
 
@@ -24,9 +25,10 @@ loop-image-preserved g c =
     record {
       moments = goes_on _ _ before after i.moments on;
       now = goes_now _ before after on i.now;
-      written = more_images c.args.limits c.args.images.now c.loop-image.image-index c.image-item.result before.now after.now c.loop-image-test.true c.image-item.is c.place_page.ensures.only c.in_ok-place_page.ensures.there c.requires.images i.written;
-      honest = c.place_page.ensures.honest ∙ i.honest;
-      failures = c.in_ok-place_page.ensures.failures ∙ i.failures;
+      written = more_images c.args.limits c.args.images.now c.loop-image.image-index c.image-item.result before.now after.now c.loop-image-test.true c.image-item.is (only_now _ 4096 before after c.place_page.ensures.moments) c.in_ok-place_page.ensures.there c.requires.images i.written;
+      len = c.place_page.ensures.calls.len ∙ i.len;
+      honest = c.place_page.ensures.calls.honest ∙ i.honest;
+      failures = c.in_ok-place_page.ensures.calls.failures ∙ i.failures;
     }
 
 pub returns-clause-written : goal.returns-clause-written

@@ -1,4 +1,4 @@
-use Rattle.std.proofs.Common.{◌≡◌, take}
+use Rattle.std.proofs.Common.{◌≡◌, length, take}
 use Rattle.device.specs.Moments.{Goes}
 use Rattle.recovery.specs.Homing.{ChangesNamed, HasImages}
 use Rattle.recovery.proofs.homing.write_images.Given as goal
@@ -10,6 +10,7 @@ invariant-loop-image g l =
       moments : Goes (ChangesNamed l.limits l.images (trace l.fn.device).now) (trace l.fn.device) (trace l.device);
       now : ChangesNamed l.limits l.images (trace l.fn.device).now (trace l.device).now;
       written : HasImages l.limits (take l.image-index l.images) (trace l.device).now.seen;
+      len : length (trace l.device).now.seen ≡ length (trace l.fn.device).now.seen;
       honest : g.D.Device.is_honest l.device ≡ g.D.Device.is_honest l.fn.device;
       failures : g.D.Device.failures l.device ≡ g.D.Device.failures l.fn.device;
     }

@@ -21,16 +21,13 @@ returns-in_err-bring_home-clause-moments g c = λ honest firm pages restarts.
     let images = c.in-Ok.found.images.items in
     let middle = g.D.Device.trace c.bring_home.new.device in
     let moments = named_from limits images c.deref.result.now start (g.D.Device.trace c.replay.new.device) middle c.replay.ensures.trace c.deref.ensures.value c.bring_home.ensures.moments in
-    let found = c.in-Ok.ensures.ok (subst IsTrue c.bring_home.ensures.honest honest) in
+    let found = c.in-Ok.ensures.ok (subst IsTrue c.bring_home.ensures.calls.honest honest) in
     goes_weaker _ _ start middle (written_leaves limits images pages c.in-Ok.found.log start firm restarts c.in-Ok.ensures.opened found) moments
-
-pub returns-in_err-bring_home-clause-len : goal.returns-in_err-bring_home-clause-len
-returns-in_err-bring_home-clause-len g c = c.bring_home.ensures.len ∙ ap (λ (t : Trace). length t.now.seen) c.replay.ensures.trace
 
 pub reset-requires : goal.reset-requires
 reset-requires g c =
     let is = c.in-Ok.ensures.opened.limits_are in
-    record { range = omega (arith, ap (λ (l : Limits). l.log_bytes) is, c.bring_home.ensures.len, ap (λ (t : Trace). length t.now.seen) c.replay.ensures.trace, c.requires.inside) }
+    record { range = omega (arith, ap (λ (l : Limits). l.log_bytes) is, c.bring_home.ensures.calls.len, ap (λ (t : Trace). length t.now.seen) c.replay.ensures.trace, c.requires.inside) }
 
 pub returns-in_err-reset-clause-moments : goal.returns-in_err-reset-clause-moments
 returns-in_err-reset-clause-moments g c = λ honest firm pages restarts.
@@ -39,14 +36,11 @@ returns-in_err-reset-clause-moments g c = λ honest firm pages restarts.
     let images = c.in-Ok.found.images.items in
     let middle = g.D.Device.trace c.bring_home.new.device in
     let moments = named_from limits images c.deref.result.now start (g.D.Device.trace c.replay.new.device) middle c.replay.ensures.trace c.deref.ensures.value c.bring_home.ensures.moments in
-    let found = c.in-Ok.ensures.ok (subst IsTrue (c.reset.ensures.honest ∙ c.bring_home.ensures.honest) honest) in
+    let found = c.in-Ok.ensures.ok (subst IsTrue (c.reset.ensures.honest ∙ c.bring_home.ensures.calls.honest) honest) in
     let homed = subst (λ (l : List Page). AreHomed limits l middle.now) c.deref.ensures.value c.in_ok-bring_home.ensures.home in
     goes_on _ start middle (g.D.Device.trace c.reset.new.device)
     (goes_weaker _ _ start middle (written_leaves limits images pages c.in-Ok.found.log start firm restarts c.in-Ok.ensures.opened found) moments)
     (closed_goes limits images pages c.in-Ok.found.log start firm restarts c.in-Ok.ensures.opened found middle (g.D.Device.trace c.reset.new.device) moments homed c.reset.ensures.moments c.reset.ensures.outside)
-
-pub returns-in_err-reset-clause-len : goal.returns-in_err-reset-clause-len
-returns-in_err-reset-clause-len g c = c.reset.ensures.len ∙ (c.bring_home.ensures.len ∙ ap (λ (t : Trace). length t.now.seen) c.replay.ensures.trace)
 
 pub returns-clause-same : goal.returns-clause-same
 returns-clause-same g c = λ honest firm pages restarts.
@@ -55,10 +49,10 @@ returns-clause-same g c = λ honest firm pages restarts.
     let images = c.in-Ok.found.images.items in
     let middle = g.D.Device.trace c.bring_home.new.device in
     let moments = named_from limits images c.deref.result.now start (g.D.Device.trace c.replay.new.device) middle c.replay.ensures.trace c.deref.ensures.value c.bring_home.ensures.moments in
-    let found = c.in-Ok.ensures.ok (subst IsTrue (c.reset.ensures.honest ∙ c.bring_home.ensures.honest) honest) in
+    let found = c.in-Ok.ensures.ok (subst IsTrue (c.reset.ensures.honest ∙ c.bring_home.ensures.calls.honest) honest) in
     let homed = subst (λ (l : List Page). AreHomed limits l middle.now) c.deref.ensures.value c.in_ok-bring_home.ensures.home in
     closed_stands limits images pages c.in-Ok.found.log start firm restarts c.in-Ok.ensures.opened found middle (g.D.Device.trace c.reset.new.device) moments homed c.reset.ensures.moments c.reset.ensures.outside
-    c.reset.new.self c.reset.ensures.same.limits c.in_ok-reset.ensures.keeps
+    c.reset.new.self c.reset.ensures.same.limits c.reset.ensures.waiting c.in_ok-reset.ensures.keeps
 
 pub returns-clause-moments : goal.returns-clause-moments
 returns-clause-moments g c = λ honest firm pages restarts.
@@ -67,14 +61,11 @@ returns-clause-moments g c = λ honest firm pages restarts.
     let images = c.in-Ok.found.images.items in
     let middle = g.D.Device.trace c.bring_home.new.device in
     let moments = named_from limits images c.deref.result.now start (g.D.Device.trace c.replay.new.device) middle c.replay.ensures.trace c.deref.ensures.value c.bring_home.ensures.moments in
-    let found = c.in-Ok.ensures.ok (subst IsTrue (c.reset.ensures.honest ∙ c.bring_home.ensures.honest) honest) in
+    let found = c.in-Ok.ensures.ok (subst IsTrue (c.reset.ensures.honest ∙ c.bring_home.ensures.calls.honest) honest) in
     let homed = subst (λ (l : List Page). AreHomed limits l middle.now) c.deref.ensures.value c.in_ok-bring_home.ensures.home in
     goes_on _ start middle (g.D.Device.trace c.reset.new.device)
     (goes_weaker _ _ start middle (written_leaves limits images pages c.in-Ok.found.log start firm restarts c.in-Ok.ensures.opened found) moments)
     (closed_goes limits images pages c.in-Ok.found.log start firm restarts c.in-Ok.ensures.opened found middle (g.D.Device.trace c.reset.new.device) moments homed c.reset.ensures.moments c.reset.ensures.outside)
 
-pub returns-clause-len : goal.returns-clause-len
-returns-clause-len g c = c.reset.ensures.len ∙ (c.bring_home.ensures.len ∙ ap (λ (t : Trace). length t.now.seen) c.replay.ensures.trace)
-
 pub returns-clause-undamaged : goal.returns-clause-undamaged
-returns-clause-undamaged g c = λ honest. (let found = c.in-Ok.ensures.ok (subst IsTrue (c.reset.ensures.honest ∙ c.bring_home.ensures.honest) honest) in (found.groups, found.spells))
+returns-clause-undamaged g c = λ honest. (let found = c.in-Ok.ensures.ok (subst IsTrue (c.reset.ensures.honest ∙ c.bring_home.ensures.calls.honest) honest) in (found.groups, found.spells))

@@ -1,31 +1,34 @@
-use Rattle.std.proofs.Common.{◌≡◌, ◌⊎◌, ◌<◌, ◌≤◌, ◌∙◌, ℕ, suc, Bool, IsTrue, List, Some, length, inl, inr, sym, ap, subst, arith, length-append, [], ◌∷◌}
+use Rattle.std.proofs.Common.{◌≡◌, ◌⊎◌, ◌<◌, ◌≤◌, ◌∙◌, ℕ, Bool, IsTrue, List, Some, length, inl, inr, sym, ap, subst, arith, length-append, [], ◌∷◌}
 use Rattle.index_model.specs.declared.fault.Fault.{Fault}
-use Rattle.index_model.specs.declared.fault.Fault.TheVariants.{Io, IndexFull, PageDamaged}
+use Rattle.index_model.specs.declared.fault.Fault.TheVariants.{IndexFull, PageDamaged}
 use Rattle.index_model.specs.declared.limits.Limits.{Limits}
 use Rattle.page_action.specs.Stored.{IsStored}
 use Rattle.page_codec.specs.declared.page.Page.{Page}
 use Rattle.page_store.specs.Rooms.{limits_of_room, pages_of_room}
-use Rattle.recovery.specs.Reading.{block_bytes, AreBytesOf, IsRead, IsDamagedAt}
+use Rattle.recovery.specs.Calls.{IsIoOr}
+use Rattle.recovery.specs.Reading.{block_bytes, AreBytesOf, HasReadPages, IsDamage}
 use Rattle.recovery.specs.declared.reading.Found.{Found}
-use Rattle.recovery.proofs.Blocks.{read_more, damaged_here, given}
+use Rattle.recovery.proofs.Blocks.{read_more, damaged_here, refused}
 use Rattle.recovery.proofs.reading.add_pages.Goals as goal
 
 -- the page was not taken: it isn't one that may be stored there
-not_taken : (limits : Limits) (before after : Bool) (file : List ℕ) (found : Found) (page : Page) (block fails failed : ℕ) (e : Fault) → (IsTrue after → IsTrue before) → IsRead limits before file found → length (pages_of_room found.room) ≡ block → block < limits.pages
+not_taken : (limits : Limits) (before after : Bool) (file : List ℕ) (found : Found) (page : Page) (block fails failed : ℕ) (e : Fault) → (IsTrue after → IsTrue before) → HasReadPages limits before file found → length (pages_of_room found.room) ≡ block → block < limits.pages
     → fails ≡ failed → (IsTrue after → AreBytesOf (Some page) (block_bytes limits block file))
     → ((e ≡ IndexFull) × ((limits_of_room found.room).pages ≤ length (pages_of_room found.room))) ⊎ ((e ≡ PageDamaged (length (pages_of_room found.room))) × (IsStored (limits_of_room found.room) (length (pages_of_room found.room)) page → ⊥))
-    → ((e ≡ Io) × (fails ≡ suc failed)) ⊎ ((block : ℕ) × (e ≡ PageDamaged block) × (fails ≡ failed) × (IsTrue after → IsDamagedAt limits block file))
+    → IsIoOr (IsDamage limits after file) failed fails e
 not_taken limits before after file found page block fails failed e earlier read count within same here (inl full) =
     absurd (omega (arith, full.1, ap (λ (l : Limits). l.pages) read.limits_are, count, within))
 not_taken limits before after file found page block fails failed e earlier read count within same here (inr wrong) =
     let used = length (pages_of_room found.room) in
     inr (
-      used,
-      wrong.0,
+      (
+        used,
+        wrong.0,
+        λ honest. damaged_here limits before file found page read (earlier honest) (omega (arith, count, within))
+            (subst (λ (b : ℕ). AreBytesOf (Some page) (block_bytes limits b file)) (sym count) (here honest))
+            (subst (λ (l : Limits). IsStored l used page → ⊥) read.limits_are wrong.1),
+      ),
       same,
-      λ honest. damaged_here limits before file found page read (earlier honest) (omega (arith, count, within))
-          (subst (λ (b : ℕ). AreBytesOf (Some page) (block_bytes limits b file)) (sym count) (here honest))
-          (subst (λ (l : Limits). IsStored l used page → ⊥) read.limits_are wrong.1),
     )
 
 pub returns-in_err-add-clause-cause : goal.returns-in_err-add-clause-cause
@@ -36,9 +39,9 @@ returns-in_err-add-clause-cause g c =
     let here : IsTrue (g.D.Device.is_honest c.read_page.new.device) → AreBytesOf (Some c.in-Some.page) (block_bytes limits c.loop-block.block file)
     = λ honest. subst (λ found. AreBytesOf found (block_bytes limits c.loop-block.block file)) c.in-Some.is
     (subst (λ t. AreBytesOf c.in_ok-page.field-0 (block_bytes limits c.loop-block.block t.now.seen)) i.trace (c.in_ok-page.ensures.found honest)) in
-    given c.from_residual-in_err-add.result c.in_err-add.field-0.0 _ c.from_residual-in_err-add.ensures.1
-    (not_taken limits (g.D.Device.is_honest c.loop-block.device) (g.D.Device.is_honest c.read_page.new.device) file c.loop-block.found c.in-Some.page c.loop-block.block _ _ _ c.read_page.ensures.honest i.read i.count c.loop-block-test.true
-    (c.in_ok-page.ensures.done ∙ i.failures) here c.in_err-add.ensures.cause)
+    refused c.from_residual-in_err-add.result c.in_err-add.field-0.0 _ (IsIoOr (IsDamage limits (g.D.Device.is_honest c.read_page.new.device) file) (g.D.Device.failures c.args.device.now) (g.D.Device.failures c.read_page.new.device)) c.from_residual-in_err-add.ensures.1
+    (not_taken limits (g.D.Device.is_honest c.loop-block.device) (g.D.Device.is_honest c.read_page.new.device) file c.loop-block.found c.in-Some.page c.loop-block.block _ _ _ c.read_page.ensures.calls.honest i.read i.count c.loop-block-test.true
+    (c.in_ok-page.ensures.cause ∙ i.failures) here c.in_err-add.ensures.cause)
 
 pub loop-block-preserved : goal.loop-block-preserved
 loop-block-preserved g c =
@@ -50,11 +53,11 @@ loop-block-preserved g c =
     (subst (λ t. AreBytesOf c.in_ok-page.field-0 (block_bytes limits c.loop-block.block t.now.seen)) i.trace (c.in_ok-page.ensures.found honest)) in
     let stored = subst (λ (l : Limits). IsStored l (length (pages_of_room c.loop-block.found.room)) c.in-Some.page) i.read.limits_are c.in_ok-add.ensures.stored in
     record {
-      read = read_more limits (g.D.Device.is_honest c.loop-block.device) (g.D.Device.is_honest c.read_page.new.device) file c.loop-block.found _ c.in-Some.page c.read_page.ensures.honest i.read c.add.ensures.limits
+      read = read_more limits (g.D.Device.is_honest c.loop-block.device) (g.D.Device.is_honest c.read_page.new.device) file c.loop-block.found _ c.in-Some.page c.read_page.ensures.calls.honest i.read c.add.ensures.limits
           c.in_ok-add.ensures.done c.in_ok-add.ensures.counts stored c.max-found.ensures
           (λ honest. ap (λ (b : ℕ). block_bytes limits b file) i.count ∙ (here honest).1);
       count = omega (arith, ap length c.in_ok-add.ensures.done, length-append (pages_of_room c.loop-block.found.room) (c.in-Some.page ∷ []), i.count);
-      trace = c.read_page.ensures.trace ∙ i.trace;
-      honest = λ honest. i.honest (c.read_page.ensures.honest honest);
-      failures = c.in_ok-page.ensures.done ∙ i.failures;
+      trace = c.read_page.ensures.calls.trace ∙ i.trace;
+      honest = λ honest. i.honest (c.read_page.ensures.calls.honest honest);
+      failures = c.in_ok-page.ensures.cause ∙ i.failures;
     }

@@ -1,13 +1,13 @@
 use Rattle.std.proofs.Common.{◌≡◌, IsTrue, length}
 use Rattle.page_store.specs.Rooms.{pages_of_room}
-use Rattle.recovery.specs.Reading.{IsRead}
+use Rattle.recovery.specs.Reading.{HasReadPages}
 use Rattle.recovery.proofs.reading.add_pages.Given as goal
 
 abbrev pub invariant-loop-block : goal.invariant-loop-block
 invariant-loop-block g l =
     let trace = g.D.Device.trace in
     record {
-      read : IsRead l.limits (g.D.Device.is_honest l.device) (trace l.fn.device).now.seen l.found;
+      read : HasReadPages l.limits (g.D.Device.is_honest l.device) (trace l.fn.device).now.seen l.found;
       count : length (pages_of_room l.found.room) ≡ l.block;
       trace : trace l.device ≡ trace l.fn.device;
       honest : IsTrue (g.D.Device.is_honest l.device) → IsTrue (g.D.Device.is_honest l.fn.device);

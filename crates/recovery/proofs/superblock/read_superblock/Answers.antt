@@ -1,7 +1,7 @@
 use Rattle.std.proofs.Common.{rules, ◌≡◌, ◌∙◌, take, sym, ap, subst, Ok}
 use Rattle.index_model.specs.Limits.{AreLimits}
-use Rattle.recovery.specs.Superblock.{magic, number_at}
-use Rattle.page_store.specs.Restart.{superblock}
+use Rattle.recovery.specs.Superblock.{number_at}
+use Rattle.device_layout.specs.Layout.{magic, superblock}
 use Rattle.recovery.proofs.Spelling.{layout_spelled, sizes_read, magic_spelled}
 use Rattle.recovery.proofs.superblock.read_superblock.Goals as goal
 

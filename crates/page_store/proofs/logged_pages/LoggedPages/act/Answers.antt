@@ -1,10 +1,13 @@
-use Rattle.std.proofs.Common.{◌∙◌, ap, suc, subst, sym, length}
+use Rattle.std.proofs.Common.{◌≤◌, ◌∙◌, ap, suc, subst, sym, length}
 use Rattle.index_model.specs.declared.limits.Limits.{Limits}
 use Rattle.page_action.specs.Stored.{AreActable}
 use Rattle.redo_log.specs.Groups.{AreImages}
+use Rattle.redo_log.specs.Kept.{end_with}
 use Rattle.page_store.specs.Logged.{held_of}
-use Rattle.page_store.proofs.Acting.{are_images}
+use Rattle.page_store.proofs.Acting.{are_images, alive_of}
 use Rattle.page_store.proofs.ActFollows.{follows_act}
+use Rattle.page_store.proofs.Marking.{length-with_marks}
+use Rattle.page_store.proofs.Misfits.{room_left}
 use Rattle.page_store.proofs.FollowLaws.{follows_log}
 use Rattle.page_store.proofs.logged_pages.LoggedPages.act.Goals as goal
 
@@ -25,5 +28,18 @@ returns-clause-steps g c =
     follows_act (held_of g.D.Device held) c.append.new.self c.args.pages.now c.room-self.result c.room-self.result c.append.ensures.limits c.append.ensures.stopped
     (λ m acts forced k. c.in_ok-number.ensures.keeps m acts forced k)
     (subst (λ (l : Limits). AreActable l (length held.pages.items) c.args.pages.now) (sym held.log_limits) c.requires.actable)
-    held.marks c.place_pages.new.pages.items c.place_pages.new.marks.items c.in_ok-number.number c.note.new.self
-    c.place_pages.ensures.pages c.place_pages.ensures.marks (c.in_ok-number.ensures.number ∙ ap suc (sym held.counted)) c.note.ensures
+    held.marks c.place_pages.new.pages.items c.place_marks.new.marks.items c.in_ok-number.number c.note.new.self
+    c.place_pages.ensures.pages c.place_marks.ensures.marks (c.in_ok-number.ensures.number ∙ ap suc (sym held.counted)) c.note.ensures
+
+pub invariant_of-self-2-clause-marks : goal.invariant_of-self-2-clause-marks
+invariant_of-self-2-clause-marks g c =
+    let held = c.args.self.now in
+    ap length c.place_marks.ensures.marks ∙ (length-with_marks held.changed.items held.pages.items c.args.pages.now held.marks ∙ sym (ap length c.place_pages.ensures.pages))
+
+pub returns-clause-room : goal.returns-clause-room
+returns-clause-room g c =
+    let held = c.args.self.now in
+    let limits = sym (c.append.ensures.limits ∙ held.log_limits) in
+    room_left held.log c.append.new.self (length c.args.pages.now) held.room c.room-self.result
+    (λ some. subst (λ (l : Limits). end_with held.log held.room ≤ l.log_bytes) limits (held.fits (alive_of c.append.result _ _ c.in_ok-number.was c.append.ensures.stopped_first) some))
+    c.in_ok-number.ensures.room c.room-self.ensures.no_more

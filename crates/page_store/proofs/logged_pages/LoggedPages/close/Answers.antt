@@ -1,11 +1,12 @@
-use Rattle.std.proofs.Common.{◌≡◌, ◌<◌, ◌∙◌, inl, inr, true, false, [], subst, sym, ap, arith}
+use Rattle.std.proofs.Common.{◌≡◌, ◌≤◌, ◌∙◌, true, false, [], subst, sym, ap, arith}
 use Rattle.std.specs.Result.{is_err}
-use Rattle.std.proofs.lemmas.Bool.{cases_lt}
 use Rattle.index_model.specs.declared.limits.Limits.{Limits}
-use Rattle.redo_log.specs.Kept.{is_stopped, end_with}
+use Rattle.page_action.specs.Room.{whole_room}
+use Rattle.redo_log.specs.Kept.{is_stopped, limits_of}
+use Rattle.redo_log.proofs.Keeping.{forgets_all}
 use Rattle.page_store.specs.Logged.{held_of, AreHome}
-use Rattle.page_store.proofs.Misfits.{misfit}
-use Rattle.page_store.proofs.Acting.{failures_rise}
+use Rattle.page_store.proofs.Misfits.{whole_left}
+use Rattle.page_store.proofs.Acting.{failures_rise, stop_fails}
 use Rattle.page_store.proofs.CloseFollows.{follows_closed, none_marked}
 use Rattle.page_store.proofs.logged_pages.LoggedPages.close.Goals as goal
 
@@ -17,6 +18,7 @@ returns-in_err-reset-clause-steps g c =
     held.changed.items held.room held.promised c.requires.alive c.requires.all c.reset.ensures.same.limits
     (λ own. subst (λ (l : Limits). AreHome l [] held.pages.items (g.D.Device.trace held.device).now) (sym held.log_limits) (home own))
     c.reset.ensures.moments c.reset.ensures.outside c.reset.ensures.honest (failures_rise c.reset.result _ _ _ c.reset.ensures.cause)
+    (λ s. stop_fails c.reset.result _ _ _ c.reset.ensures.cause c.requires.alive (sym c.reset.ensures.stopped ∙ s))
     (λ still. (let both : true ≡ false = sym stopped ∙ still in absurd cc)) (λ still. (let both : true ≡ false = sym stopped ∙ still in absurd cc))
 
 pub invariant_of-self-2-clause-log_limits : goal.invariant_of-self-2-clause-log_limits
@@ -29,14 +31,16 @@ returns-clause-steps g c =
     c.fill.new.self.items c.room-self.result c.room-self.result c.requires.alive c.requires.all c.reset.ensures.same.limits
     (λ own. subst (λ (l : Limits). AreHome l [] held.pages.items (g.D.Device.trace held.device).now) (sym held.log_limits) (home own))
     c.reset.ensures.moments c.reset.ensures.outside c.reset.ensures.honest (failures_rise c.reset.result _ _ _ c.reset.ensures.cause)
+    (λ s. stop_fails c.reset.result _ _ _ c.reset.ensures.cause c.requires.alive (sym c.reset.ensures.stopped ∙ s))
     (λ still block. none_marked c.fill.new.self.items _ block (c.fill.ensures.items (λ y e. e)))
-    (λ still acts forced keeps. c.in_ok-reset.ensures.keeps acts forced keeps (held.forced c.requires.alive c.requires.all))
+    (λ still. forgets_all held.log _ c.reset.new.self _ c.in_ok-reset.ensures.keeps c.reset.ensures.waiting (held.forced c.requires.alive c.requires.all))
 
 pub returns-clause-room : goal.returns-clause-room
 returns-clause-room g c =
     let held = c.args.self.now in
-    elim (cases_lt c.room-self.result 5) [
-      | inl below ↦ (let none = subst (λ (l : Limits). l.log_bytes < end_with c.reset.new.self 5) (c.reset.ensures.same.limits ∙ held.log_limits) (misfit c.reset.new.self 5 (c.room-self.ensures.no_more 5 below)) in
-          absurd (omega (arith, none, c.in_ok-reset.ensures.room 5, held.forced c.requires.alive c.requires.all, held.allowed.log_from)))
-      | inr enough ↦ enough
-    ]
+    let limits = c.reset.ensures.same.limits ∙ held.log_limits in
+    let bytes : 6 ≤ (limits_of c.reset.new.self).log_bytes = subst (λ (l : Limits). 6 ≤ l.log_bytes) (sym limits) (omega (arith, held.allowed.log_from)) in
+    let whole : c.room-self.result ≡ whole_room held.limits =
+    whole_left c.reset.new.self c.room-self.result (λ n. omega (arith, c.in_ok-reset.ensures.room n, held.forced c.requires.alive c.requires.all)) c.room-self.ensures.fit c.room-self.ensures.no_more bytes
+    ∙ ap whole_room limits in
+    record { room = whole; promised = whole }

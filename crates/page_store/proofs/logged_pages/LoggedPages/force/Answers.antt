@@ -4,8 +4,8 @@ use Rattle.index_model.specs.declared.limits.Limits.{Limits}
 use Rattle.redo_log.specs.Kept.{end_with}
 use Rattle.page_store.specs.Logged.{held_of}
 use Rattle.page_store.specs.Following.{Follows, follows_same}
-use Rattle.page_store.proofs.Misfits.{misfit}
-use Rattle.page_store.proofs.Acting.{promise_left, failures_rise}
+use Rattle.page_store.proofs.Misfits.{misfit, promise_left}
+use Rattle.page_store.proofs.Acting.{failures_rise, stop_fails}
 use Rattle.page_store.proofs.ForceFollows.{follows_failed_force, follows_force}
 use Rattle.page_store.proofs.logged_pages.LoggedPages.force.Goals.{then-self+in_ok-force, else-self}
 use Rattle.page_store.proofs.logged_pages.LoggedPages.force.Goals as goal
@@ -15,6 +15,7 @@ returns-in_err-force-clause-steps g c =
     follows_failed_force (held_of g.D.Device c.args.self.now) c.force.new.self (g.D.Device.trace c.force.new.device) (g.D.Device.is_honest c.force.new.device) (g.D.Device.failures c.force.new.device)
     c.force.ensures.same.limits (sym c.is_stopped.ensures ∙ c.if-is_stopped.false) c.force.ensures.moments c.force.ensures.outside c.force.ensures.len c.force.ensures.honest
     (failures_rise c.force.result _ _ _ c.force.ensures.cause) (c.force.ensures.stopped ∙ ap is_err c.in_err-force.was)
+    (stop_fails c.force.result _ _ _ c.force.ensures.cause (sym c.is_stopped.ensures ∙ c.if-is_stopped.false) (ap is_err c.in_err-force.was))
 
 pub invariant_of-self-then-self-clause-log_limits : goal.invariant_of-self-then-self-clause-log_limits
 invariant_of-self-then-self-clause-log_limits g c = c.force.ensures.same.limits ∙ c.args.self.now.log_limits

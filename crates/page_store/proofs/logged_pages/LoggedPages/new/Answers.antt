@@ -4,7 +4,7 @@ use Rattle.index_model.specs.declared.limits.Limits.{Limits}
 use Rattle.page_codec.specs.declared.page.Page.{Page}
 use Rattle.page_action.specs.Stored.{AreStored}
 use Rattle.page_store.specs.Histories.{from_pages}
-use Rattle.page_store.specs.Restart.{place}
+use Rattle.device_layout.specs.Layout.{place}
 use Rattle.page_store.proofs.Opened.{is_own}
 use Rattle.page_store.proofs.logged_pages.LoggedPages.new.Goals as goal
 

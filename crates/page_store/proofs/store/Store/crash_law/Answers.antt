@@ -9,7 +9,7 @@ pub returns-clause-pages : goal.returns-clause-pages
 returns-clause-pages g c = λ first own follows. pages_were first (held_by g.D.Device c.args.self.now) own follows
 
 pub returns-clause-own : goal.returns-clause-own
-returns-clause-own g c = λ first own follows. (follows.extends own).own
+returns-clause-own g c = λ first own follows. (follows.grows own).own
 
 pub returns-clause-now : goal.returns-clause-now
 returns-clause-now g c = λ image may. left_now (held_by g.D.Device c.args.self.now) image may

@@ -1,6 +1,9 @@
 use Rattle.std.proofs.Common.{◌+◌, ◌*◌, ◌<◌, refl, ◌∙◌, arith, length-take-le}
-use Rattle.redo_log.proofs.Forcing.{sealed_piece, forced_goes, forced_keeps, publish_only}
+use Rattle.redo_log.proofs.Forcing.{all_forced, sealed_piece, forced_goes, forced_keeps, publish_only}
 use Rattle.redo_log.proofs.log.Log.force.Goals as goal
+
+pub returns-then-self-eq0-clause-keeps : goal.returns-then-self-eq0-clause-keeps
+returns-then-self-eq0-clause-keeps g c = λ acts forced k. all_forced c.args.self.now _ acts forced k c.if-self-eq0.true
 
 pub returns-in_err-publish-clause-moments : goal.returns-in_err-publish-clause-moments
 returns-in_err-publish-clause-moments g c = λ acts forced k.

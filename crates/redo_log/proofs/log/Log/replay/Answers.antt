@@ -1,7 +1,7 @@
 use Rattle.std.proofs.Common.{◌≡◌, ◌∙◌, List, ℕ, length, refl, sym, subst, ap, arith, Err}
 use Rattle.std.proofs.lemmas.List.{with_items_is}
 use Rattle.index_model.specs.declared.fault.Fault.TheVariants.{LogDamaged}
-use Rattle.redo_log.specs.Groups.{AreImages, Spells}
+use Rattle.redo_log.specs.Groups.{AreImages, SpellsGroups}
 use Rattle.redo_log.proofs.Parsing.{same_err}
 use Rattle.redo_log.proofs.Replaying.{range_read, replayed, images_good}
 use Rattle.redo_log.proofs.log.Log.replay.Goals as goal
@@ -17,7 +17,7 @@ returns-in-Err-clause-damaged g c = λ damaged honest groups spells.
     let is = c.deref.ensures.value ∙ with_items_is c.in-Ok.buffer c.read_at.new.buf (c.read_at.auto.buf ∙ c.deref_mut.ensures.len) in
     let bytes = range_read (g.D.Device.trace c.args.device.now).now.seen c.read_at.new.buf c.deref.result.now (length c.deref_mut.result.now) c.args.limits.log_bytes is (c.in-Ok-read_at.ensures.read honest) (omega (arith, c.in-Ok.ensures.len)) in
     let told : c.in-Err.fault ≡ LogDamaged = same_err c.in-Err.fault LogDamaged _ refl damaged in
-    c.read_groups.ensures.damaged (c.in-Err.is ∙ ap Err told) groups (subst (λ (l : List ℕ). Spells c.args.limits l groups) (sym bytes) spells)
+    c.read_groups.ensures.damaged (c.in-Err.is ∙ ap Err told) groups (subst (λ (l : List ℕ). SpellsGroups c.args.limits l groups) (sym bytes) spells)
 
 pub returns-in-Ok-read_groups-clause-images : goal.returns-in-Ok-read_groups-clause-images
 returns-in-Ok-read_groups-clause-images g c =

@@ -3,7 +3,7 @@ use Rattle.redo_log.proofs.Resetting.{reset_goes, in_range, empty_keeps, reset_k
 use Rattle.redo_log.proofs.log.Log.reset.Goals as goal
 
 pub returns-then-self-eq0-clause-keeps : goal.returns-then-self-eq0-clause-keeps
-returns-then-self-eq0-clause-keeps g c = λ acts forced k idle. empty_keeps c.args.self.now _ acts forced k c.if-self-eq0.true idle
+returns-then-self-eq0-clause-keeps g c = λ acts forced k. empty_keeps c.args.self.now _ acts forced k c.if-self-eq0.true
 
 pub returns-in_err-shut-clause-moments : goal.returns-in_err-shut-clause-moments
 returns-in_err-shut-clause-moments g c = λ acts forced k. reset_goes c.args.self.now _ _ acts forced k (omega arith) c.shut.ensures.moments
@@ -12,7 +12,8 @@ pub returns-in_err-shut-clause-outside : goal.returns-in_err-shut-clause-outside
 returns-in_err-shut-clause-outside g c = in_range c.args.self.now _ _ c.shut.ensures.moments
 
 pub returns-clause-keeps : goal.returns-clause-keeps
-returns-clause-keeps g c = λ acts forced k idle. reset_keeps _ _ refl idle refl c.in_ok-shut.ensures.ok
+returns-clause-keeps g c = λ acts forced k.
+    reset_keeps c.args.self.now _ acts forced k _ _ refl refl (record { counted = k.waits.counted; images = k.waits.images; buffered = k.waits.buffered }) c.in_ok-shut.ensures.ok
 
 pub returns-clause-moments : goal.returns-clause-moments
 returns-clause-moments g c = λ acts forced k. reset_goes c.args.self.now _ _ acts forced k (omega arith) c.shut.ensures.moments

@@ -1,0 +1,270 @@
+//! The calls of a store.
+
+ghost use Rattle.std.specs.Prelude.{◌≡◌, ◌≤◌, ◌<◌, length, vec_len, vec_capacity};
+ghost use Rattle.page_action.specs.Stored.{AreActable};
+ghost use Rattle.page_action.specs.States.{with_count, with_counts, number_to_count, next_cycle};
+
+use crate::reuse::{is_deleted, others_began_after};
+use index_model::{Fault, Limits, Session};
+use latch_table::{LatchTable, Mode};
+use page_codec::{Page, PageState};
+use std::marker::Model;
+
+/// What a store keeps beside its pages: which calls run, what each deleted page waits for before it is reused, the
+/// cycle numbers of bulk deletes, and who holds what. It never allocates.
+#[derive(Drop)]
+pub struct CallTable {
+    /// Of each page the deletion number that counts.
+    counted: Vec<u64>,
+    begun: u64,
+    /// Of each session the start number of its running call.
+    running: [Option<u64>; 64],
+    /// The last cycle number that was given.
+    counter: u32,
+    cycle: u32,
+    table: LatchTable,
+}
+
+impl Model for CallTable {
+    ghost use Rattle.std.specs.Prelude.{vec_capacity};
+    ghost use Rattle.page_action.specs.CallTables.{TableOfCalls};
+
+    ghost Value = { TableOfCalls };
+
+    ghost view = { λ t. record {
+      room = vec_capacity t.counted;
+      counted = t.counted.items;
+      begun = t.begun;
+      running = t.running;
+      counter = t.counter;
+      cycle = t.cycle;
+      table = t.table;
+    } };
+}
+
+impl CallTable {
+    ghost use Rattle.std.specs.Prelude.{ℕ, suc, ◌∷◌, ◌++◌, [], ◌^◌, ◌-◌, ◌&&◌, not, true, false, Some, None, IfOk, IfErr, IfSome, OnOk, OnErr, is_none, slice_set, slice_index};
+    ghost use Rattle.latch_table.specs.Holdings.{HasRoom, is_held_by_another, latched, released, pinned, unpinned, with_holding, nothing_held};
+    ghost use Rattle.page_action.specs.Reuse.{IsFresh, IsFull, is_deleted, others_began_after};
+    ghost use Rattle.page_action.specs.CallTables.{opened_calls, state_with};
+
+    /// No call, over pages of which these deletion numbers count, with the room for those of all pages. `counter` is
+    /// the last cycle number that was given.
+    pub fn new(counted: Vec<u64>, counter: u32) -> CallTable
+        ensures { result ≡ opened_calls (vec_capacity counted) counted.items counter }
+    {
+        CallTable {
+            counted,
+            begun: 0,
+            running: [None; 64],
+            counter,
+            cycle: 0,
+            table: LatchTable::new(),
+        }
+    }
+
+    /// One page more is in use. No deletion number of it counts.
+    pub fn add(&mut self)
+        requires room { length self.old.counted < self.old.room }
+        ensures { self.new ≡ record self.old { counted = self.old.counted ++ 0 ∷ [] } }
+    {
+        self.counted.push_reserved(0);
+    }
+
+    /// These pages are written: the deletion number of a deleted page counts, that of another is 0.
+    pub fn note(&mut self, limits: Limits, changed: &[Page])
+        requires actable { AreActable limits (length self.old.counted) changed.now }
+        requires room { limits.pages ≤ self.old.room }
+        ensures { self.new ≡ record self.old { counted = with_counts self.old.counted changed.now } }
+    {
+        place_counts(limits, &mut self.counted, changed);
+    }
+
+    /// How many calls have begun since opening.
+    pub fn begun(&self) -> u64
+        ensures { result ≡ self.now.begun }
+    {
+        self.begun
+    }
+
+    /// Begins a call of the session and answers its start number: the count of calls begun before it. Refused with
+    /// `Stopped`, and nothing is changed, where 2^64 - 1 calls have begun.
+    pub fn begin(&mut self, session: Session) -> Result<u64, Fault>
+        ensures done { OnOk result (self.new ≡ record self.old {
+          begun = suc self.old.begun;
+          running = slice_set self.old.running session (Some self.old.begun);
+        }) }
+        ensures number { IfOk result (λ n. n ≡ self.old.begun) }
+        ensures refused { OnErr result (self.new ≡ self.old) }
+        ensures cause { IfErr result (λ f. (f ≡ Fault.Stopped) × (self.old.begun ≡ 2 ^ 64 - 1)) }
+    {
+        if self.begun == u64::MAX {
+            return Err(Fault::Stopped);
+        }
+        let number = self.begun;
+        self.running[session.number() as usize] = Some(number);
+        self.begun += 1;
+        Ok(number)
+    }
+
+    /// Ends the call of the session: its start number no longer counts, and all that the session holds is let go.
+    pub fn end(&mut self, session: Session)
+        ensures { self.new ≡ record self.old {
+          running = slice_set self.old.running session None;
+          table = with_holding self.old.table session nothing_held;
+        } }
+    {
+        self.running[session.number() as usize] = None;
+        self.table.let_go(session);
+    }
+
+    /// Latches a page for a session. Refused with `Blocked`, and nothing is changed, where another session's hold
+    /// conflicts, or the session has eight latches.
+    pub fn latch(&mut self, session: Session, block: u32, mode: Mode) -> Result<(), Fault>
+        ensures done { OnOk result
+            (self.new ≡ record self.old { table = latched self.old.table session block mode }) }
+        ensures free { OnOk result (is_held_by_another self.old.table session block mode ≡ false) }
+        ensures refused { OnErr result (self.new ≡ self.old) }
+        ensures fault { IfErr result (λ f. f ≡ Fault.Blocked block) }
+        ensures only { OnErr result
+            (HasRoom self.old.table session → is_held_by_another self.old.table session block mode ≡ true) }
+    {
+        self.table.latch(session, block, mode)
+    }
+
+    /// Lets go the newest latch of the page that the session has, if there is one.
+    pub fn release(&mut self, session: Session, block: u32)
+        ensures { self.new ≡ record self.old { table = released self.old.table session block } }
+    {
+        self.table.release(session, block);
+    }
+
+    /// Pins a page for a session, which has two pins at most.
+    pub fn pin(&mut self, session: Session, block: u32)
+        ensures { self.new ≡ record self.old { table = pinned self.old.table session block } }
+    {
+        self.table.pin(session, block);
+    }
+
+    /// Lets go the newest pin of the page that the session has, if there is one.
+    pub fn unpin(&mut self, session: Session, block: u32)
+        ensures { self.new ≡ record self.old { table = unpinned self.old.table session block } }
+    {
+        self.table.unpin(session, block);
+    }
+
+    fn is_reusable(&self, pages: &[Page], block: usize) -> bool
+        requires block { block < length pages.now }
+        requires counts { length self.now.counted ≡ length pages.now }
+        ensures { result ≡ (is_deleted pages.now block
+            && others_began_after (slice_index self.now.counted block) 0 None self.now.running) }
+    {
+        is_deleted(pages[block].state)
+            && others_began_after(&self.running, self.counted[block], None)
+    }
+
+    /// The block that a new page takes beside these: the lowest reusable one, else the next unused one. Refused with
+    /// `IndexFull` where there is neither.
+    pub fn fresh(&self, pages: &[Page], limits: Limits) -> Result<u32, Fault>
+        requires counts { length self.now.counted ≡ length pages.now }
+        requires few { length pages.now ≤ limits.pages }
+        ensures fresh { (frames acts : ℕ)
+            → IfOk result (IsFresh (state_with limits frames pages.now acts self.now)) }
+        ensures full { (frames acts : ℕ)
+            → OnErr result (IsFull (state_with limits frames pages.now acts self.now)) }
+        ensures fault { IfErr result (λ f. f ≡ Fault.IndexFull) }
+    {
+        for block in 0..pages.len() {
+            if self.is_reusable(pages, block) {
+                return Ok(block as u32);
+            }
+        }
+        if pages.len() < limits.pages as usize {
+            Ok(pages.len() as u32)
+        } else {
+            Err(Fault::IndexFull)
+        }
+    }
+
+    /// None for a block that is not deleted, else whether it would be reusable if that session's call were not running.
+    pub fn free_for(&self, pages: &[Page], session: Session, block: u32) -> Option<bool>
+        requires counts { length self.now.counted ≡ length pages.now }
+        ensures deleted { is_none result ≡ not (is_deleted pages.now block) }
+        ensures free { IfSome result (λ free. free
+            ≡ others_began_after (slice_index self.now.counted block) 0 (Some session) self.now.running) }
+    {
+        let at = block as usize;
+        if at >= pages.len() || !is_deleted(pages[at].state) {
+            return None;
+        }
+        Some(others_began_after(&self.running, self.counted[at], Some(session.number())))
+    }
+
+    /// The cycle number of the running bulk delete, 0 where none runs.
+    pub fn cycle(&self) -> u32
+        ensures { result ≡ self.now.cycle }
+    {
+        self.cycle
+    }
+
+    /// A bulk delete begins: it gets the next cycle number.
+    pub fn start_cycle(&mut self)
+        ensures { self.new ≡ record self.old {
+          counter = next_cycle self.old.counter;
+          cycle = next_cycle self.old.counter;
+        } }
+    {
+        self.counter = next_cycle(self.counter);
+        self.cycle = self.counter;
+    }
+
+    /// The bulk delete has ended.
+    pub fn stop_cycle(&mut self)
+        ensures { self.new ≡ record self.old { cycle = 0 } }
+    {
+        self.cycle = 0;
+    }
+}
+
+fn next_cycle(counter: u32) -> u32
+    ensures { result ≡ next_cycle counter }
+{
+    if counter == u32::MAX { 1 } else { counter + 1 }
+}
+
+fn number_to_count(page: &Page) -> u64
+    ensures { result ≡ number_to_count page.now.state page.now.deletion }
+{
+    match page.state {
+        PageState::Live | PageState::HalfDead => 0,
+        PageState::Deleted => page.deletion,
+    }
+}
+
+// Puts the deletion number that counts for the page at its block.
+fn place_count(counted: &mut Vec<u64>, page: &Page)
+    requires place { page.now.block ≤ vec_len counted.old }
+    requires room { page.now.block < vec_capacity counted.old }
+    ensures items { counted.new.items ≡ with_count counted.old.items page.now }
+    ensures capacity { vec_capacity counted.new ≡ vec_capacity counted.old }
+{
+    let block = page.block as usize;
+    let number = number_to_count(page);
+    if block < counted.len() {
+        counted[block] = number;
+    } else {
+        counted.push_reserved(number);
+    }
+}
+
+// Puts the deletion numbers that count for these pages at their blocks.
+fn place_counts(limits: Limits, counted: &mut Vec<u64>, changed: &[Page])
+    requires actable { AreActable limits (vec_len counted.old) changed.now }
+    requires room { limits.pages ≤ vec_capacity counted.old }
+    ensures counted { counted.new.items ≡ with_counts counted.old.items changed.now }
+    ensures capacity { vec_capacity counted.new ≡ vec_capacity counted.old }
+{
+    for page in changed {
+        place_count(counted, page);
+    }
+}

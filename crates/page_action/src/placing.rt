@@ -1,0 +1,57 @@
+//! Pages that may be stored, and where they are put.
+
+ghost use Rattle.std.specs.Prelude.{◌≡◌, ◌≤◌, ◌<◌, vec_len, vec_capacity, IsTrue, ◌↔◌};
+ghost use Rattle.page_codec.specs.Spelling.{count_of};
+ghost use Rattle.page_action.specs.Stored.{AreStored, IsStorable, AreActable};
+ghost use Rattle.page_action.specs.States.{with_page, with_pages};
+
+use index_model::Limits;
+use page_codec::{Items, Page, is_page};
+
+/// Whether the page may be stored under these limits.
+pub fn is_storable(page: &Page, limits: Limits) -> bool
+    ensures { IsTrue result ↔ IsStorable limits page.now }
+{
+    is_page(page) && count(&page.items) <= limits.items as usize
+}
+
+fn count(items: &Items) -> usize
+    ensures { result ≡ count_of items.now }
+{
+    match items {
+        Items::Meta => 0,
+        Items::Entries(entries) => entries.len(),
+        Items::Downlinks(links) => links.len(),
+    }
+}
+
+// Puts a copy of the page at its block, which is in use or the next unused one.
+fn place_page(pages: &mut Vec<Page>, page: &Page)
+    requires place { page.now.block ≤ vec_len pages.old }
+    requires room { page.now.block < vec_capacity pages.old }
+    ensures items { pages.new.items ≡ with_page pages.old.items page.now }
+    ensures capacity { vec_capacity pages.new ≡ vec_capacity pages.old }
+{
+    let block = page.block as usize;
+    if block < pages.len() {
+        pages[block] = page.copy();
+    } else {
+        pages.push_reserved(page.copy());
+    }
+}
+
+/// Puts copies of these pages at their blocks. It takes no memory.
+pub fn place_pages(limits: Limits, pages: &mut Vec<Page>, changed: &[Page])
+    requires actable { AreActable limits (vec_len pages.old) changed.now }
+    requires few { vec_len pages.old ≤ limits.pages }
+    requires stored { AreStored limits 0 pages.old.items }
+    requires room { limits.pages ≤ vec_capacity pages.old }
+    ensures pages { pages.new.items ≡ with_pages pages.old.items changed.now }
+    ensures few { vec_len pages.new ≤ limits.pages }
+    ensures stored { AreStored limits 0 pages.new.items }
+    ensures room { vec_capacity pages.new ≡ vec_capacity pages.old }
+{
+    for page in changed {
+        place_page(pages, page);
+    }
+}
