@@ -8,8 +8,9 @@ use page_action::MapStore;
 use page_codec::{Items, Page, PageState};
 use page_store::Store;
 use recovery::create;
-use schedule::World;
-use std::alloc::Global;
+use schedule::{Event, World};
+use session_calls::Answer;
+use std::alloc::{AllocError, Global};
 use std::test::{Fail, *};
 
 fn limits(items: u32) -> Limits {
@@ -83,30 +84,51 @@ fn opened(
     }
 }
 
-/// The same over a device, which crashes every 200 events: what is opened again has the contents after some first part
-/// of the actions that holds every forced one.
+/// An empty index on a device in memory.
+fn on_a_device(alloc: Global) -> Result<World<Store<MemDevice>, NoRows>, Fault> {
+    let mut device = MemDevice::new(alloc, 4_096 + 1_048_576 + 8 * 4_096)?;
+    create(&mut device, &limits(50))?;
+    opened(alloc, device, 3)
+}
+
+/// A last force, whose device stops at one of its first calls or not at all: whether its answer is right.
+fn forces_at_last(
+    world: &mut World<Store<MemDevice>, NoRows>,
+    judge: &mut Judge,
+    dice: &mut Dice,
+) -> Result<bool, AllocError> {
+    world.stop_at(u64::from(dice.roll(6)));
+    match world.one(Event::Force) {
+        Answer::Refused(Fault::Io) => Ok(true),
+        answer => judge.hears(&Event::Force, &answer),
+    }
+}
+
+/// The same over a device, which crashes after every 100 events, inside of a force or behind it: what is opened again
+/// has the contents after some first part of the actions that holds every forced one.
 #[test]
 fn runs_over_a_device(rt: HostRuntime) -> Result<(), Fail> {
     let alloc = rt.alloc();
-    let limits = limits(50);
-    let mut device = MemDevice::new(alloc, 4_096 + 1_048_576 + 8 * 4_096)?;
-    create(&mut device, &limits)?;
-    let mut dice = Dice::new(8);
-    let mut world = opened(alloc, device, 3)?;
-    let mut judge = Judge::new(alloc, Vec::new(alloc), 3)?;
-    for image in [
-        CrashImage::Keep,
-        CrashImage::Drop,
-        CrashImage::Tear,
-        CrashImage::Drop,
-    ] {
-        assert!(rt; are_right(&mut world, &mut judge, &mut dice, 3, 200)?);
-        let left = world.crash(alloc, image)?;
-        world = opened(alloc, left, 3)?;
-        let found = contents(alloc, &mut world)?;
-        assert!(rt; judge.is_first_part(found.as_slice()));
-        judge = Judge::new(alloc, found, 3)?;
-        assert!(rt; ends_right(&mut world, &mut judge, 3)?);
+    for seed in 8..14 {
+        let mut dice = Dice::new(seed);
+        let mut world = on_a_device(alloc)?;
+        let mut judge = Judge::new(alloc, Vec::new(alloc), 3)?;
+        for image in [CrashImage::Keep, CrashImage::Drop, CrashImage::Tear] {
+            assert!(rt;
+                are_right(&mut world, &mut judge, &mut dice, 3, 100)?,
+                "{seed}"
+            );
+            assert!(rt;
+                forces_at_last(&mut world, &mut judge, &mut dice)?,
+                "{seed}"
+            );
+            let left = world.crash(alloc, image)?;
+            world = opened(alloc, left, 3)?;
+            let found = contents(alloc, &mut world)?;
+            assert!(rt; judge.is_first_part(found.as_slice()), "{seed}");
+            judge = Judge::new(alloc, found, 3)?;
+        }
+        assert!(rt; ends_right(&mut world, &mut judge, 3)?, "{seed}");
     }
     Ok(())
 }
