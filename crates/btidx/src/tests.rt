@@ -396,7 +396,7 @@ fn output_fails(rt: HostRuntime) -> Result<(), Fail> {
     Ok(())
 }
 
-/// More lines than the buffer of the output holds come out whole, and in front of what is said of a line.
+/// More lines than the buffer of the output holds come out whole, also where a line is no event.
 #[test]
 fn long_output(rt: HostRuntime) -> Result<(), Fail> {
     let mut script = String::new(rt.alloc());
