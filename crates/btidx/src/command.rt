@@ -5,6 +5,31 @@ use clap::{Arg, ArgMatches, Command, value_parser};
 use index_model::Limits;
 use std::alloc::{AllocError, Global};
 
+/// The lines of a script, as the help shows them.
+const LINES: &str = "Lines of a script:           What they do:                           Answers:
+  insert S KEY ROW           begin an insert in session S            begun
+  scan S FROM BELOW          begin a scan in session S               begun
+  step S                     one step of the session's call          going, added N, ready N, done
+  run S                      steps, until one isn't `going`          added N, ready N, done
+  next S                     take an entry that a scan has ready     entry KEY ROW, none
+  end S                      give the session's call up              ended
+  put S KEY ROW              an insert, run to its end               added N
+  list S FROM BELOW          a scan, run to its end                  entry KEY ROW .., done N
+  force                      make each action so far durable         forced N
+  fail N                     the Nth device call from now fails      set
+  stop N                     that one and each later one fail        set
+  crash keep|drop|tear       a crash, and the index opened again     opened
+  dump                       each page, with its items               the pages
+  # WORDS, or nothing        nothing                                 none
+
+S: a session, counted from 0.  N: a number without sign or zeros in front; `fail` and `stop` count from 1.
+KEY: 0 to 64 bytes as lower-case hex, `-` for none.  ROW: (BLOCK,OFFSET).
+FROM, BELOW: a key, or `*` for an open end; what is below BELOW is given.
+`added N` is the Nth action, `forced N`: the first N are durable, `ready N`: `next` can take N entries.
+A crash keeps all that wasn't synced, drops it, or tears it: half of each write stays.
+A line may also answer `refused N` with the number of a fault; `refused 4 BLOCK`: that page is latched, step again.
+Any other line ends the script with status 2.";
+
 /// The whole command line.
 pub fn program<'a>(alloc: Global) -> Result<Command<'a>, AllocError> {
     Command::new(alloc, "btidx")
@@ -18,6 +43,7 @@ pub fn program<'a>(alloc: Global) -> Result<Command<'a>, AllocError> {
 fn play<'a>(alloc: Global) -> Result<Command<'a>, AllocError> {
     Command::new(alloc, "play")
         .about("Run a script from standard input over an index in memory")
+        .after_help(LINES)
         .arg(size(
             alloc,
             "items",

@@ -9,7 +9,7 @@ use clap::{ArgMatches, Error};
 use index_model::Fault;
 use std::alloc::Global;
 use std::convert::AsStr;
-use std::io::{self, Read, Write};
+use std::io::{self, BufWriter, Read, Write};
 
 /// Runs the command of these words, the program's own name first, and answers its status: 0 where all was done, 2
 /// where it was refused. `input` is read by `play`. A refusal is printed on `err`.
@@ -22,7 +22,7 @@ pub fn execute<'a, S: AsStr, R: Read, W: Write, E: Write>(
 ) -> u8
     ensures { result ≤ 2 }
 {
-    match flushed(command(alloc, words, input, out, err), out) {
+    match buffered(alloc, words, input, out, err) {
         Ok(End::Done) => 0,
         Ok(End::Said) => 2,
         Ok(End::Refused(fault)) => refuse(err, fault),
@@ -30,8 +30,16 @@ pub fn execute<'a, S: AsStr, R: Read, W: Write, E: Write>(
     }
 }
 
-/// The same end, unless what was printed can't be handed on.
-fn flushed<W: Write>(end: io::Result<End>, out: &mut W) -> io::Result<End> {
+/// The command, with what it prints on `out` gathered in a buffer, which is handed on at its end at the latest.
+fn buffered<'a, S: AsStr, R: Read, W: Write, E: Write>(
+    alloc: Global,
+    words: &'a [S],
+    input: &mut R,
+    out: &mut W,
+    err: &mut E,
+) -> io::Result<End> {
+    let mut out = BufWriter::new(alloc, out)?;
+    let end = command(alloc, words, input, &mut out, err);
     out.flush()?;
     end
 }

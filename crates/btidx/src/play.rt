@@ -73,6 +73,7 @@ fn run<W: Write, E: Write>(
         match play_line(engine, &rest[..end], out)? {
             Played::Answered => {}
             Played::NoEvent => {
+                out.flush()?;
                 print_no_event(err, number)?;
                 return Ok(End::Said);
             }

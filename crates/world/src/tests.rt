@@ -1,14 +1,11 @@
-ghost use Rattle.std.specs.Prelude.{◌≡◌, ◌+◌, ◌*◌, ◌≤◌, length};
-ghost use Rattle.device.specs.Memory.{trace_of};
-
 use super::*;
 use arrayvec::ArrayVec;
 use device::{CrashImage, Device, MemDevice};
 use index_model::{DeadRows, Entry, Fault, Key, Limits, Range, RowAddr};
 use page_action::{MapStore, PageStore};
 use page_codec::{Items, Page, PageState};
-use page_store::{Store, StoreRoom};
-use redo_log::Log;
+use page_store::Store;
+use recovery::create;
 use session_calls::Answer;
 use std::alloc::Global;
 use std::test::{Fail, *};
@@ -249,45 +246,19 @@ fn one_to_64_sessions(rt: HostRuntime) {
     }
 }
 
-// Zeros with a metapage and an empty leaf, which stand in memory alone.
-fn over_device(alloc: Global) -> Result<World<Store<MemDevice>, NoRows>, Fault> {
-    let mut device = MemDevice::new(alloc, LEN)?;
-    if device.len() != LEN || !LIMITS.are_valid() {
-        return Err(Fault::DeviceTooSmall);
-    }
-    let found = Log::replay(alloc, &mut device, LIMITS)?;
-    let mut room = StoreRoom::new(alloc, LIMITS)?;
-    room.add(page(0, Some(1), Items::Meta))?;
-    room.add(page(1, None, Items::Entries(ArrayVec::new())))?;
-    match World::new(
-        alloc,
-        Store::new(device, found.log, room, 0),
-        2,
-        Vec::new(alloc),
-    ) {
+// The index that a device holds.
+fn opened(alloc: Global, device: MemDevice) -> Result<World<Store<MemDevice>, NoRows>, Fault> {
+    match World::open(alloc, device, 16, 2, Vec::new(alloc)) {
         Ok(world) => Ok(world),
-        Err(not_made) => Err(not_made.fault),
-    }
-}
-
-// How many entries the last image in the log has, or None where it has no image.
-fn logged(alloc: Global, device: &mut MemDevice) -> Result<Option<usize>, Fault> {
-    if device.len() != LEN || !LIMITS.are_valid() {
-        return Err(Fault::DeviceTooSmall);
-    }
-    let found = Log::replay(alloc, device, LIMITS)?;
-    match found.images.last() {
-        Some(image) => match &image.items {
-            Items::Entries(entries) => Ok(Some(entries.len())),
-            _ => Ok(None),
-        },
-        None => Ok(None),
+        Err(not_opened) => Err(not_opened.fault),
     }
 }
 
 #[test]
 fn forced_actions_are_left(rt: HostRuntime) -> Result<(), Fail> {
-    let mut world = over_device(rt.alloc())?;
+    let mut device = MemDevice::new(rt.alloc(), LEN)?;
+    create(&mut device, &LIMITS)?;
+    let mut world = opened(rt.alloc(), device)?;
     let mut answers = Vec::new(rt.alloc());
     let events = [
         Event::Insert(0, entry(0x61, 1)),
@@ -301,15 +272,27 @@ fn forced_actions_are_left(rt: HostRuntime) -> Result<(), Fail> {
         Event::Step(1),
     ];
     assert!(rt; world.run(&events, &mut answers).is_ok());
-    assert_eq!(rt; told(&answers[4]), ("forced", 1));
-    assert_eq!(rt; told(&answers[8]), ("added", 2));
+    let expected = [
+        ("begun", 0),
+        ("going", 0),
+        ("going", 0),
+        ("added", 1),
+        ("forced", 1),
+        ("begun", 0),
+        ("going", 0),
+        ("going", 0),
+        ("added", 2),
+    ];
+    assert!(rt; are_told(answers.as_slice(), &expected));
     assert_eq!(rt; world.actions(), 2);
     world.crash_law();
-    let device = world.into_store().into_device();
     for image in [CrashImage::Drop, CrashImage::Keep, CrashImage::Tear] {
-        let mut left = device.crash(rt.alloc(), image)?;
-        assert_eq!(rt; logged(rt.alloc(), &mut left)?, Some(1));
+        let left = world.crash(rt.alloc(), image)?;
+        let leaf = opened(rt.alloc(), left)?.page(1)?;
+        assert!(rt; matches!(&leaf.items, Items::Entries(entries) if entries.len() == 1));
     }
+    let device = world.into_store().into_device();
+    assert_eq!(rt; device.len(), LEN);
     Ok(())
 }
 
