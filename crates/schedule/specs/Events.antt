@@ -2,7 +2,7 @@
 use Rattle.std.specs.Prelude.{◌≡◌, ◌≢◌, ◌⊎◌, ℕ, suc, ◌≤◌, Bool, true, false, Option, Some, None, Result, Ok, Err, List, [], ◌∷◌, ◌++◌, length, slice_get, slice_set}
 use Rattle.index_model.specs.Actions.{Effect, Action, contents_after}
 use Rattle.index_model.specs.Calls.{Ask, Call}
-use Rattle.index_model.specs.Faults.{Circumstances}
+use Rattle.index_model.specs.Faults.{Circumstances, HasCause}
 use Rattle.index_model.specs.declared.entry.Entry.{Entry}
 use Rattle.index_model.specs.declared.fault.Fault.{Fault}
 use Rattle.index_model.specs.declared.fault.Fault.TheVariants.{Stopped, NoSession, SessionBusy}
@@ -107,6 +107,14 @@ pub record IsKept {S : Type 0} (g : Ghosts S) (upkeep : Upkeep) (answer : Answer
   pub told : answer ≡ kept_answer upkeep (length old.history)
   pub durable : (g.backing new.store).durable ≡ length old.history
   pub still : IsStill g old new
+
+-- What was done for the store, whatever the pages are: these are as they were; where it is told as done, so many acts were
+-- done, and all are durable; a refusal has its cause.
+pub record StoreIsKept {S : Type 0} (g : Ghosts S) (upkeep : Upkeep) (answer : Answer) (old new : S) : Type 0 where
+  pub state_is : g.state new ≡ g.state old
+  pub number : (count : ℕ) → answer ≡ kept_answer upkeep count → count ≡ (g.state old).acts
+  pub durable : (count : ℕ) → answer ≡ kept_answer upkeep count → (g.backing new).durable ≡ (g.state old).acts
+  pub caused : (fault : Fault) → answer ≡ Refused fault → HasCause (where_forced (g.backing old) (g.backing new)) fault
 
 -- a session's running call goes on; without one the event is refused
 abbrev pub MovesOn : {S : Type 0} → Ghosts S → (Entry → Bool) → Bool → ℕ → Answer → Snapshot S → Snapshot S → Type 0

@@ -1,11 +1,12 @@
 //! One event of a store with its sessions.
 
-ghost use Rattle.std.specs.Prelude.{◌≡◌, ◌<◌, ◌≤◌, ◌+◌, ◌∷◌, [], true, List, Option, IfErr, IsOk, OnOk, OnErr, length, slice_get, take, vec_len, vec_capacity};
+ghost use Rattle.std.specs.Prelude.{◌≡◌, ◌<◌, ◌≤◌, ◌+◌, ◌∷◌, [], true, List, Option, ℕ, IfErr, IsOk, OnOk, OnErr, length, slice_get, take, vec_len, vec_capacity};
+ghost use Rattle.page_action.specs.Room.{HasWholeRoom};
 ghost use Rattle.page_action.specs.States.{Continues};
 ghost use Rattle.session_calls.specs.Sessions.{no_call};
 ghost use Rattle.session_calls.specs.declared.op.Op.{Op};
 ghost use Rattle.schedule.specs.Snapshots.{both, has_call};
-ghost use Rattle.schedule.specs.Events.{Begins, Moves, Steps, Takes, GivesUp, Keeps, Forces, Checkpoints, kind_of, session_to_begin, EventAlways};
+ghost use Rattle.schedule.specs.Events.{Begins, Moves, Steps, Takes, GivesUp, Keeps, Forces, Checkpoints, kind_of, session_to_begin, AnswersUpkeep, StoreIsKept, EventAlways};
 ghost use Rattle.schedule.specs.Runs.{Carries, Runs, Makes, answers_behind};
 
 use crate::event::Event;
@@ -72,8 +73,8 @@ fn pick<S: PageStore>(store: &mut S, slots: &mut [Option<Op>], event: Event) -> 
         Event::Step(session) => step(store, slots, session),
         Event::Next(session) => next(store, slots, session),
         Event::End(session) => end(store, slots, session),
-        Event::Force => force(store, slots),
-        Event::Checkpoint => checkpoint(store, slots),
+        Event::Force => make_force(store, slots),
+        Event::Checkpoint => make_checkpoint(store, slots),
     }
 }
 
@@ -125,9 +126,37 @@ fn end<S: PageStore>(store: &mut S, slots: &mut [Option<Op>], session: u32) -> A
     session_calls::end(store, &mut slots[session as usize])
 }
 
-fn force<S: PageStore>(store: &mut S, slots: &[Option<Op>]) -> Answer
+/// Makes all actions durable, as the event `Force` does, and answers `Forced` with their number. Refused with `Stopped` (3)
+/// and `Io` (2). The slots are those of the store's sessions.
+pub fn force<S: PageStore>(store: &mut S, slots: &[Option<Op>]) -> Answer
+    ensures steps { Continues S.follows store.old store.new }
+    ensures answers { AnswersUpkeep Forces result }
+    ensures kept { StoreIsKept S.PageStore Forces result store.old store.new }
+    ensures runs { Carries S.PageStore (both store.old slots.now) (both store.new slots.now)
+        (Runs S.PageStore (both store.old slots.now) (both store.new slots.now) (Event.Force ∷ []) (result ∷ [])) }
+{
+    make_force(store, slots)
+}
+
+/// Makes all actions durable, writes each changed page to its place and closes the log, as the event `Checkpoint` does, and
+/// answers `Checkpointed` with the number of actions. Refused with `Stopped` (3) and `Io` (2). The slots are those of the
+/// store's sessions.
+pub fn checkpoint<S: PageStore>(store: &mut S, slots: &[Option<Op>]) -> Answer
+    ensures steps { Continues S.follows store.old store.new }
+    ensures answers { AnswersUpkeep Checkpoints result }
+    ensures kept { StoreIsKept S.PageStore Checkpoints result store.old store.new }
+    ensures room { (count : ℕ) → result ≡ Answer.Checkpointed count → HasWholeRoom (S.state store.old).limits (S.backing store.new) }
+    ensures runs { Carries S.PageStore (both store.old slots.now) (both store.new slots.now)
+        (Runs S.PageStore (both store.old slots.now) (both store.new slots.now) (Event.Checkpoint ∷ []) (result ∷ [])) }
+{
+    make_checkpoint(store, slots)
+}
+
+fn make_force<S: PageStore>(store: &mut S, slots: &[Option<Op>]) -> Answer
     ensures steps { Continues S.follows store.old store.new }
     ensures makes { Makes S.PageStore (Keeps Forces) result (both store.old slots.now) (both store.new slots.now) }
+    ensures kept { StoreIsKept S.PageStore Forces result store.old store.new }
+    ensures answers { AnswersUpkeep Forces result }
     ensures calm { result ≡ Answer.Going → (S.state store.new).acts ≡ (S.state store.old).acts }
 {
     match store.force() {
@@ -136,9 +165,12 @@ fn force<S: PageStore>(store: &mut S, slots: &[Option<Op>]) -> Answer
     }
 }
 
-fn checkpoint<S: PageStore>(store: &mut S, slots: &[Option<Op>]) -> Answer
+fn make_checkpoint<S: PageStore>(store: &mut S, slots: &[Option<Op>]) -> Answer
     ensures steps { Continues S.follows store.old store.new }
     ensures makes { Makes S.PageStore (Keeps Checkpoints) result (both store.old slots.now) (both store.new slots.now) }
+    ensures kept { StoreIsKept S.PageStore Checkpoints result store.old store.new }
+    ensures answers { AnswersUpkeep Checkpoints result }
+    ensures room { (count : ℕ) → result ≡ Answer.Checkpointed count → HasWholeRoom (S.state store.old).limits (S.backing store.new) }
     ensures calm { result ≡ Answer.Going → (S.state store.new).acts ≡ (S.state store.old).acts }
 {
     match store.checkpoint() {

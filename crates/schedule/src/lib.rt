@@ -5,4 +5,4 @@ mod event;
 mod happening;
 
 pub use event::Event;
-pub use happening::{is_running, one, run};
+pub use happening::{checkpoint, force, is_running, one, run};
