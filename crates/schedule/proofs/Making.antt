@@ -61,7 +61,7 @@ module _ {S : Type 0} (g : Ghosts S) (laws : Laws g) (old new : S) (follows : g.
         stopped = λ h. subst (λ (x : Option Op). AnswersStopped (slot_add x) answer) (sym slot_was) (stopped h);
         less = at_slots slots session before slot (λ x y. LeavesLess (g.state old) (g.state new) x y answer) found_at less;
         others = others_stay_set slots session slot;
-        ends = tt;
+        left = tt;
       }
 
   pub end_makes : AnswersEnd before answer → slot ≡ None → g.backing new ≡ g.backing old → (g.state new).begun ≡ (g.state old).begun
@@ -86,7 +86,7 @@ module _ {S : Type 0} (g : Ghosts S) (laws : Laws g) (old new : S) (follows : g.
         stopped = tt;
         less = tt;
         others = others_stay_set slots session slot;
-        ends = record { over = at_slots slots session before slot (λ x y. y ≡ None) found_at over; backing = backing; begun = begun };
+        left = record { over = at_slots slots session before slot (λ x y. y ≡ None) found_at over; backing = backing; begun = begun };
       }
 
 -- a `next` of a session's running call, which changes nothing of the store
@@ -130,7 +130,7 @@ module _ {S : Type 0} (g : Ghosts S) (laws : Laws g) (store : S) (slots : List (
         stopped = tt;
         less = at_slots slots session before slot (λ x y. GivesLess x y answer) found_at less;
         others = others_stay_set slots session slot;
-        ends = tt;
+        left = refl;
       }
 
 -- what is done for the store
@@ -163,7 +163,7 @@ module _ {S : Type 0} (g : Ghosts S) (laws : Laws g) (old new : S) (follows : g.
         stopped = λ h. absurd (alive h);
         less = tt;
         others = λ s of other apart. refl;
-        ends = tt;
+        left = tt;
       }
 
   pub not_kept_makes : (fault : Fault) → ((g.backing old).stopped ≡ true → fault ≡ Stopped) → HasCause (where_forced (g.backing old) (g.backing new)) fault
@@ -184,7 +184,7 @@ module _ {S : Type 0} (g : Ghosts S) (laws : Laws g) (old new : S) (follows : g.
         stopped = λ h. ap Refused (stopped h);
         less = tt;
         others = λ s of other apart. refl;
-        ends = tt;
+        left = tt;
       }
 
 -- a beginning in a session that was found
@@ -200,7 +200,7 @@ module _ {S : Type 0} (g : Ghosts S) (laws : Laws g) (old new : S) (follows : g.
     stopped = λ is. absurd (true_false (sym is ∙ alive));
     less = tt;
     others = others_stay_set slots session slot;
-    ends = tt;
+    left = tt;
   }
   always_of (Refused fault) h = record {
     answers = tt;
@@ -208,7 +208,7 @@ module _ {S : Type 0} (g : Ghosts S) (laws : Laws g) (old new : S) (follows : g.
     stopped = λ is. absurd (true_false (sym is ∙ alive));
     less = tt;
     others = others_stay_set slots session slot;
-    ends = tt;
+    left = tt;
   }
   always_of Going h = absurd h
   always_of (Added x u) h = absurd h
@@ -291,5 +291,5 @@ not_found_makes g laws store slots session request fault none = record {
       stopped = not_found_first (g.backing store).stopped (slice_get slots session) session fault none;
       less = tt;
       others = λ s of other apart. refl;
-      ends = tt;
+      left = tt;
     }

@@ -230,9 +230,12 @@ pub record IsEnded {S : Type 0} (g : Ghosts S) (session : ℕ) (old new : StoreA
   pub backing : g.backing new.store ≡ g.backing old.store
   pub begun : (g.state new.store).begun ≡ (g.state old.store).begun
 
-abbrev pub Ends : {S : Type 0} → Ghosts S → Kind → StoreAndSlots S → StoreAndSlots S → Type 0
-Ends g (Moves session GivesUp) old new = IsEnded g session old new
-Ends g kind old new = Unit {0}
+-- what is so behind an event: an end leaves its session nothing to run; asking for the next entry leaves the pages, calls and
+-- holdings of the store as they were
+abbrev pub IsLeft : {S : Type 0} → Ghosts S → Kind → StoreAndSlots S → StoreAndSlots S → Type 0
+IsLeft g (Moves session GivesUp) old new = IsEnded g session old new
+IsLeft g (Moves session Takes) old new = g.state new.store ≡ g.state old.store
+IsLeft g kind old new = Unit {0}
 
 -- what the other sessions run is as it was
 abbrev pub OthersStay : ℕ → List (Option Op) → List (Option Op) → Type 0
@@ -245,14 +248,14 @@ session_at (Moves session move) = session
 session_at (Keeps upkeep) = 0
 
 -- What holds of an event whatever the pages are: what it may answer; that a refusal changes nothing; that a stopped log
--- refuses it first; what is left to do for its call; that no other session's slot is changed; and what is so behind an end.
+-- refuses it first; what is left to do for its call; that no other session's slot is changed; and what it leaves.
 pub record EventAlways {S : Type 0} (g : Ghosts S) (kind : Kind) (answer : Answer) (old new : StoreAndSlots S) : Type 0 where
   pub answers : AnswersEvent kind answer old.slots new.slots
   pub refused : RefusalKeeps g kind answer old new
   pub stopped : StopsFirst kind (g.backing old.store).stopped answer old.slots
   pub less : IsLessLeft kind answer (g.state old.store) (g.state new.store) (slot_of old.slots (session_at kind)) (slot_of new.slots (session_at kind))
   pub others : (session : ℕ) → IsOfKind session kind → OthersStay session old.slots new.slots
-  pub ends : Ends g kind old new
+  pub left : IsLeft g kind old new
 
 -- A step: a call that was due comes to what is awaited at its last step, and each step before leaves one fewer. While no
 -- action is logged, no more is left to do than before, whether it was due or not.

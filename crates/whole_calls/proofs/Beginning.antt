@@ -1,0 +1,45 @@
+-- Beginnings as runs of one event.
+use Rattle.std.proofs.Common.{◌≡◌, ℕ, Bool, Result, Ok, Err, Option, Some, List, [], ◌∷◌, refl, sym, ap, subst}
+use Rattle.index_model.specs.declared.entry.Entry.{Entry}
+use Rattle.index_model.specs.declared.fault.Fault.{Fault}
+use Rattle.page_action.specs.declared.page_store.PageStore.{Ghosts}
+use Rattle.session_calls.specs.declared.answer.Answer.{Answer}
+use Rattle.session_calls.specs.declared.answer.Answer.TheVariants.{Begun, Going, Added, Ready, Done, Finished, Gave, Ended, Forced, Flushed, Checkpointed, Refused}
+use Rattle.session_calls.specs.declared.request.Request.{Request}
+use Rattle.schedule.specs.Snapshots.{StoreAndSlots}
+use Rattle.schedule.specs.Events.{Kind, Begins, kind_of, IsOf, IsOfKind, AnswersBeginning, EventDoes}
+use Rattle.schedule.specs.Runs.{Carries, Runs}
+use Rattle.schedule.specs.declared.event.Event.{Event}
+use Rattle.schedule.proofs.Keeping.{Laws}
+use Rattle.whole_calls.specs.Going.{CameBy, CallGoes}
+use Rattle.whole_calls.specs.Telling.{BeginTold, begun_of, begin_came}
+use Rattle.whole_calls.proofs.Composing.{goes_by, goes_told}
+use Rattle.whole_calls.proofs.Tellings.{begins_told}
+
+-- what was answered is what the beginning came to
+begun_by : (answer : Answer) (answers : List Answer) → AnswersBeginning answer → CameBy answers (Some answer) → CameBy answers (begin_came (begun_of answer))
+begun_by Begun answers kind h = h
+begun_by (Refused fault) answers kind h = h
+begun_by Going answers kind h = absurd kind
+begun_by (Added a u) answers kind h = absurd kind
+begun_by (Ready r) answers kind h = absurd kind
+begun_by Done answers kind h = absurd kind
+begun_by (Finished s) answers kind h = absurd kind
+begun_by (Gave e) answers kind h = absurd kind
+begun_by Ended answers kind h = absurd kind
+begun_by (Forced n) answers kind h = absurd kind
+begun_by (Flushed b) answers kind h = absurd kind
+begun_by (Checkpointed n) answers kind h = absurd kind
+
+pub goes_begun : {S : Type 0} (g : Ghosts S) (laws : Laws g) (session : ℕ) (request : Request) (event : Event) (answer : Answer) (result : Result (Unit {0}) Fault) (a b : StoreAndSlots S)
+    → kind_of event ≡ Begins session request → result ≡ begun_of answer → AnswersBeginning answer → Carries g a b (Runs g a b (event ∷ []) (answer ∷ []))
+    → CallGoes g session (BeginTold session request result) (begin_came result) a b
+goes_begun {S} g laws session request event answer result a b kind is answers runs =
+    subst (λ (r : Result (Unit {0}) Fault). CallGoes g session (BeginTold session request r) (begin_came r) a b) (sym is)
+    (goes_told g session (BeginTold session request (begun_of answer)) (BeginTold session request (begun_of answer)) (Some answer) (begin_came (begun_of answer)) a b
+    (λ start given x y at fits came told. (begun_by answer given answers came, told))
+    (goes_by g laws session (BeginTold session request (begun_of answer)) event answer a b (of_session kind) runs
+    (λ start x y from to fits does. begins_told g start session request answer x y (subst (λ (k : Kind). EventDoes g start k answer x y) kind does))))
+  where
+    of_session : kind_of event ≡ Begins session request → IsOf session event
+    of_session k = subst (λ (x : Kind). IsOfKind session x) (sym k) refl

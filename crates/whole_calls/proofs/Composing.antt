@@ -1,0 +1,122 @@
+-- Runs of one session's events, one behind the other.
+use Rattle.std.proofs.Common.{◌≡◌, ℕ, Bool, true, Option, Some, None, List, [], ◌∷◌, ◌++◌, refl, sym, subst, inl, inr}
+use Rattle.index_model.specs.Actions.{Action}
+use Rattle.index_model.specs.Calls.{Call}
+use Rattle.index_model.specs.declared.entry.Entry.{Entry}
+use Rattle.page_action.specs.States.{IsLater, Continues}
+use Rattle.page_action.specs.declared.page_store.PageStore.{Ghosts}
+use Rattle.session_calls.specs.declared.answer.Answer.{Answer}
+use Rattle.schedule.specs.Snapshots.{StoreAndSlots, Snapshot, snapshot_of, here_at, Fits}
+use Rattle.schedule.specs.Events.{kind_of, IsOf, EventDoes}
+use Rattle.schedule.specs.Runs.{EventGoes, Carries, Runs}
+use Rattle.schedule.specs.declared.event.Event.{Event}
+use Rattle.schedule.proofs.Joining.{ran_then, are_of_both}
+use Rattle.schedule.proofs.Keeping.{Laws}
+use Rattle.schedule.proofs.Running.{none_ran}
+use Rattle.whole_calls.specs.Going.{IsAmong, CameBy, CallRuns, CallGoes}
+
+among_left : (xs ys : List Answer) (answer : Answer) → IsAmong xs answer → IsAmong (xs ++ ys) answer
+among_left [] ys answer h = absurd h
+among_left (x ∷ xs) ys answer (inl h) = inl h
+among_left (x ∷ xs) ys answer (inr h) = inr (among_left xs ys answer h)
+
+among_right : (xs ys : List Answer) (answer : Answer) → IsAmong ys answer → IsAmong (xs ++ ys) answer
+among_right [] ys answer h = h
+among_right (x ∷ xs) ys answer h = inr (among_right xs ys answer h)
+
+came_left : (xs ys : List Answer) (came : Option Answer) → CameBy xs came → CameBy (xs ++ ys) came
+came_left xs ys None h = tt
+came_left xs ys (Some answer) h = among_left xs ys answer h
+
+came_right : (xs ys : List Answer) (came : Option Answer) → CameBy ys came → CameBy (xs ++ ys) came
+came_right xs ys None h = tt
+came_right xs ys (Some answer) h = among_right xs ys answer h
+
+-- the same run, told otherwise
+pub goes_told : {S : Type 0} (g : Ghosts S) (session : ℕ) (Tells Also : Snapshot S → Snapshot S → Type 0) (came also : Option Answer) (a b : StoreAndSlots S)
+    → ((start : Entry → Bool) (answers : List Answer) (x y : Snapshot S) → x.slots ≡ a.slots → Fits g start x → CameBy answers came → Tells x y → CameBy answers also × Also x y) → CallGoes g session Tells came a b → CallGoes g session Also also a b
+goes_told g session Tells Also came also a b tells goes honest start history calls fits =
+    let r : CallRuns g session Tells came a b start history calls = goes honest start history calls fits in
+    let t = tells start r.answers (snapshot_of a history calls) (snapshot_of b r.then_history r.then_calls) refl fits r.came_by r.tells in
+    record {
+      then_history = r.then_history;
+      then_calls = r.then_calls;
+      events = r.events;
+      answers = r.answers;
+      own = r.own;
+      ran = r.ran;
+      came_by = t.0;
+      tells = t.1;
+    }
+
+module _ {S : Type 0} (g : Ghosts S) (laws : Laws g) (session : ℕ) where
+  -- one call behind the other, which comes to what the one or the other came to
+  joined : (One Two Both : Snapshot S → Snapshot S → Type 0) (first second came : Option Answer) (a b c : StoreAndSlots S)
+      → Continues g.follows a.store b.store → Continues g.follows b.store c.store
+      → CallGoes g session One first a b → CallGoes g session Two second b c
+      → ((xs ys : List Answer) → CameBy xs first → CameBy ys second → CameBy (xs ++ ys) came)
+      → ((start : Entry → Bool) (x y z : Snapshot S) → x.slots ≡ a.slots → Fits g start x → Fits g start y → Fits g start z → One x y → Two y z → Both x z)
+      → CallGoes g session Both came a c
+  joined One Two Both first second came a b c step then_step one two comes joins honest start history calls fits =
+      let later : IsLater (g.backing b.store) (g.backing c.store) = laws.follows_later b.store c.store (then_step b.store (laws.follows_same b.store)) in
+      let r : CallRuns g session One first a b start history calls = one (later.honest honest) start history calls fits in
+      let t : CallRuns g session Two second b c start r.then_history r.then_calls = two honest start r.then_history r.then_calls r.ran.fits in
+      record {
+        then_history = t.then_history;
+        then_calls = t.then_calls;
+        events = r.events ++ t.events;
+        answers = r.answers ++ t.answers;
+        own = are_of_both session r.events t.events r.own t.own;
+        ran = ran_then g laws start r.events t.events r.answers t.answers (snapshot_of a history calls) (snapshot_of b r.then_history r.then_calls) (snapshot_of c t.then_history t.then_calls)
+            (then_step a.store (step a.store (laws.follows_same a.store))) r.ran t.ran;
+        came_by = comes r.answers t.answers r.came_by t.came_by;
+        tells = joins start (snapshot_of a history calls) (snapshot_of b r.then_history r.then_calls) (snapshot_of c t.then_history t.then_calls) refl fits r.ran.fits t.ran.fits r.tells t.tells;
+      }
+
+  -- ... to what the second came to
+  pub goes_then : (One Two Both : Snapshot S → Snapshot S → Type 0) (first came : Option Answer) (a b c : StoreAndSlots S)
+      → Continues g.follows a.store b.store → Continues g.follows b.store c.store → CallGoes g session One first a b → CallGoes g session Two came b c
+      → ((start : Entry → Bool) (x y z : Snapshot S) → x.slots ≡ a.slots → Fits g start x → Fits g start y → Fits g start z → One x y → Two y z → Both x z)
+      → CallGoes g session Both came a c
+  goes_then One Two Both first came a b c step then_step one two joins = joined One Two Both first came came a b c step then_step one two (λ xs ys h k. came_right xs ys came k) joins
+
+  -- ... to what the first came to
+  pub goes_first : (One Two Both : Snapshot S → Snapshot S → Type 0) (came second : Option Answer) (a b c : StoreAndSlots S)
+      → Continues g.follows a.store b.store → Continues g.follows b.store c.store → CallGoes g session One came a b → CallGoes g session Two second b c
+      → ((start : Entry → Bool) (x y z : Snapshot S) → x.slots ≡ a.slots → Fits g start x → Fits g start y → Fits g start z → One x y → Two y z → Both x z)
+      → CallGoes g session Both came a c
+  goes_first One Two Both came second a b c step then_step one two joins = joined One Two Both came second came a b c step then_step one two (λ xs ys h k. came_left xs ys came h) joins
+
+  -- no event
+  pub goes_nowhere : (Tells : Snapshot S → Snapshot S → Type 0) (a : StoreAndSlots S) → ((x : Snapshot S) → Tells x x) → CallGoes g session Tells None a a
+  goes_nowhere Tells a same honest start history calls fits = record {
+    then_history = history;
+    then_calls = calls;
+    events = [];
+    answers = [];
+    own = tt;
+    ran = none_ran g laws start (snapshot_of a history calls) fits;
+    came_by = tt;
+    tells = same (snapshot_of a history calls);
+  }
+
+  -- one event
+  pub goes_by : (Tells : Snapshot S → Snapshot S → Type 0) (event : Event) (answer : Answer) (a b : StoreAndSlots S) → IsOf session event
+      → Carries g a b (Runs g a b (event ∷ []) (answer ∷ []))
+      → ((start : Entry → Bool) (x y : Snapshot S) → here_at x ≡ a → here_at y ≡ b → Fits g start x → EventDoes g start (kind_of event) answer x y → Tells x y)
+      → CallGoes g session Tells (Some answer) a b
+  goes_by Tells event answer a b of runs tells honest start history calls fits =
+      let r : Runs g a b (event ∷ []) (answer ∷ []) start history calls = runs honest start history calls fits in
+      let first = snapshot_of a history calls in
+      let last = snapshot_of b r.then_history r.then_calls in
+      let goes : EventGoes g start event answer first last = subst (λ (m : Snapshot S). EventGoes g start event answer first m) r.ran.run.1.2 r.ran.run.1.1 in
+      record {
+        then_history = r.then_history;
+        then_calls = r.then_calls;
+        events = event ∷ [];
+        answers = answer ∷ [];
+        own = (of, tt);
+        ran = r.ran;
+        came_by = inl refl;
+        tells = tells start first last refl refl fits goes.does;
+      }

@@ -1,0 +1,260 @@
+-- What a scan gives tells.
+use Rattle.std.proofs.Common.{◌≡◌, ℕ, ◌<◌, Bool, Option, Some, None, Result, Ok, Err, List, ◌++◌, length, slice_get, slice_set, refl, sym, ap, subst, inl, inr, ◌∙◌}
+use Rattle.std.specs.Prelude.{IfOk}
+use Rattle.std.proofs.lemmas.Bool.{cases_eq}
+use Rattle.index_model.specs.Actions.{Effect, Action}
+use Rattle.index_model.specs.Calls.{Ask, AskInsert, AskScan, Running, Finished as EndsFinished, Call}
+use Rattle.index_model.specs.declared.entry.Entry.{Entry}
+use Rattle.index_model.specs.declared.fault.Fault.{Fault}
+use Rattle.index_model.specs.declared.range.Range.{Range}
+use Rattle.page_action.specs.States.{State}
+use Rattle.page_action.specs.declared.page_store.PageStore.{Ghosts}
+use Rattle.session_calls.specs.Sessions.{IsDrained, LeavesLess, GivesLess, AnswersStep, AnswersNext, work_left, given_one, ended}
+use Rattle.session_calls.specs.declared.answer.Answer.{Answer}
+use Rattle.session_calls.specs.declared.answer.Answer.TheVariants.{Begun, Going, Added, Ready, Done, Finished, Gave, Ended, Forced, Flushed, Checkpointed, Refused}
+use Rattle.session_calls.specs.declared.op.Op.{Op}
+use Rattle.session_calls.specs.declared.op.Op.TheVariants.{Insert as Inserts, Scan as Scans}
+use Rattle.schedule.specs.Snapshots.{Snapshot, IsRunningCall, Fits}
+use Rattle.schedule.proofs.Lists.{get_set_same, get_set_other, get_within}
+use Rattle.whole_calls.specs.Going.{CameBy}
+use Rattle.whole_calls.specs.Giving.{GoesDown, GoesDownBy, AnswerLeavesLess, StepLeavesLess, AnswersAdvance, AnswersSeek, given_of, give_came, Becomes, GivenTold, TellsGiven}
+use Rattle.whole_calls.specs.Telling.{IsTold, StepTold, TellsStep, HasNone, TellsEnd, step_came}
+use Rattle.whole_calls.proofs.Tellings.{one_runs, same_history}
+
+-- a step that was made leaves less to do
+pub made_less : (old new : State) (before after : Option Op) (answer : Answer) → LeavesLess old new before after answer → (answer ≡ Going → new.acts ≡ old.acts) → AnswerLeavesLess old new before after answer
+made_less old new before after Begun h calm = tt
+made_less old new before after Going h calm = h (calm refl)
+made_less old new before after (Added a u) h calm = tt
+made_less old new before after (Ready r) h calm = h
+made_less old new before after Done h calm = tt
+made_less old new before after (Finished s) h calm = tt
+made_less old new before after (Gave e) h calm = tt
+made_less old new before after Ended h calm = tt
+made_less old new before after (Forced n) h calm = tt
+made_less old new before after (Flushed b) h calm = tt
+made_less old new before after (Checkpointed n) h calm = tt
+made_less old new before after (Refused f) h calm = tt
+
+-- behind a `next` that gave none, a step leaves less to do
+pub step_down : (old new : State) (before mid after : Option Op) (result : Result Answer Fault) → GivesLess before mid (Gave None) → StepLeavesLess old new mid after result → GoesDownBy old new before after result
+step_down old new before mid after (Err fault) gives less = tt
+step_down old new before mid after (Ok answer) gives less = of answer less
+  where
+    of : (a : Answer) → AnswerLeavesLess old new mid after a → GoesDown old new before after a
+    of Begun h = tt
+    of Going h = subst (λ (o : Option Op). work_left new.pages after < work_left old.pages o) gives.0 h
+    of (Added a u) h = tt
+    of (Ready r) h = subst (λ (o : Option Op). work_left new.pages after < work_left old.pages o) gives.0 (h (subst IsDrained (sym gives.0) gives.1))
+    of Done h = tt
+    of (Finished s) h = tt
+    of (Gave e) h = tt
+    of Ended h = tt
+    of (Forced n) h = tt
+    of (Flushed b) h = tt
+    of (Checkpointed n) h = tt
+    of (Refused f) h = tt
+
+-- what a `next` answers leaves nothing to go on with, and is what a scan may answer, or a refusal
+pub next_down : (old new : State) (before after : Option Op) (answer : Answer) → AnswersNext before answer → GoesDown old new before after answer
+next_down old new None after (Refused f) h = tt
+next_down old new None after Begun h = absurd h
+next_down old new None after Going h = absurd h
+next_down old new None after (Added a u) h = absurd h
+next_down old new None after (Ready r) h = absurd h
+next_down old new None after Done h = absurd h
+next_down old new None after (Finished s) h = absurd h
+next_down old new None after (Gave e) h = absurd h
+next_down old new None after Ended h = absurd h
+next_down old new None after (Forced n) h = absurd h
+next_down old new None after (Flushed b) h = absurd h
+next_down old new None after (Checkpointed n) h = absurd h
+next_down old new (Some (Inserts op)) after (Refused f) h = tt
+next_down old new (Some (Inserts op)) after Begun h = absurd h
+next_down old new (Some (Inserts op)) after Going h = absurd h
+next_down old new (Some (Inserts op)) after (Added a u) h = absurd h
+next_down old new (Some (Inserts op)) after (Ready r) h = absurd h
+next_down old new (Some (Inserts op)) after Done h = absurd h
+next_down old new (Some (Inserts op)) after (Finished s) h = absurd h
+next_down old new (Some (Inserts op)) after (Gave e) h = absurd h
+next_down old new (Some (Inserts op)) after Ended h = absurd h
+next_down old new (Some (Inserts op)) after (Forced n) h = absurd h
+next_down old new (Some (Inserts op)) after (Flushed b) h = absurd h
+next_down old new (Some (Inserts op)) after (Checkpointed n) h = absurd h
+next_down old new (Some (Scans op)) after (Gave e) h = tt
+next_down old new (Some (Scans op)) after Begun h = absurd h
+next_down old new (Some (Scans op)) after Going h = absurd h
+next_down old new (Some (Scans op)) after (Added a u) h = absurd h
+next_down old new (Some (Scans op)) after (Ready r) h = absurd h
+next_down old new (Some (Scans op)) after Done h = absurd h
+next_down old new (Some (Scans op)) after (Finished s) h = absurd h
+next_down old new (Some (Scans op)) after (Refused f) h = absurd h
+next_down old new (Some (Scans op)) after Ended h = absurd h
+next_down old new (Some (Scans op)) after (Forced n) h = absurd h
+next_down old new (Some (Scans op)) after (Flushed b) h = absurd h
+next_down old new (Some (Scans op)) after (Checkpointed n) h = absurd h
+
+-- a `next` that isn't without an entry is one of the answers
+pub next_kind : (before : Option Op) (answer : Answer) → AnswersNext before answer → (answer ≡ Gave None → ⊥) → AnswersAdvance (Ok answer)
+next_kind None (Refused f) h none = tt
+next_kind None Begun h none = absurd h
+next_kind None Going h none = tt
+next_kind None (Added a u) h none = absurd h
+next_kind None (Ready r) h none = tt
+next_kind None Done h none = tt
+next_kind None (Finished s) h none = absurd h
+next_kind None (Gave None) h none = absurd h
+next_kind None (Gave (Some e)) h none = tt
+next_kind None Ended h none = absurd h
+next_kind None (Forced n) h none = absurd h
+next_kind None (Flushed b) h none = absurd h
+next_kind None (Checkpointed n) h none = absurd h
+next_kind (Some (Inserts op)) (Refused f) h none = tt
+next_kind (Some (Inserts op)) Begun h none = absurd h
+next_kind (Some (Inserts op)) Going h none = tt
+next_kind (Some (Inserts op)) (Added a u) h none = absurd h
+next_kind (Some (Inserts op)) (Ready r) h none = tt
+next_kind (Some (Inserts op)) Done h none = tt
+next_kind (Some (Inserts op)) (Finished s) h none = absurd h
+next_kind (Some (Inserts op)) (Gave None) h none = absurd h
+next_kind (Some (Inserts op)) (Gave (Some e)) h none = tt
+next_kind (Some (Inserts op)) Ended h none = absurd h
+next_kind (Some (Inserts op)) (Forced n) h none = absurd h
+next_kind (Some (Inserts op)) (Flushed b) h none = absurd h
+next_kind (Some (Inserts op)) (Checkpointed n) h none = absurd h
+next_kind (Some (Scans op)) (Gave None) h none = absurd (none refl)
+next_kind (Some (Scans op)) (Gave (Some e)) h none = tt
+next_kind (Some (Scans op)) Begun h none = absurd h
+next_kind (Some (Scans op)) Going h none = tt
+next_kind (Some (Scans op)) (Added a u) h none = absurd h
+next_kind (Some (Scans op)) (Ready r) h none = tt
+next_kind (Some (Scans op)) Done h none = tt
+next_kind (Some (Scans op)) (Finished s) h none = absurd h
+next_kind (Some (Scans op)) (Refused f) h none = tt
+next_kind (Some (Scans op)) Ended h none = absurd h
+next_kind (Some (Scans op)) (Forced n) h none = absurd h
+next_kind (Some (Scans op)) (Flushed b) h none = absurd h
+next_kind (Some (Scans op)) (Checkpointed n) h none = absurd h
+
+-- only a scan gives none, so the step behind it is a scan's
+pub scan_steps : (before mid after : Option Op) (answer : Answer) → AnswersNext before (Gave None) → mid ≡ before → AnswersStep mid after answer → AnswersAdvance (Ok answer)
+scan_steps before mid after answer gave same h = of before gave answer (subst (λ (o : Option Op). AnswersStep o after answer) same h)
+  where
+    of : (b : Option Op) → AnswersNext b (Gave None) → (a : Answer) → AnswersStep b after a → AnswersAdvance (Ok a)
+    of None gave a h = absurd gave
+    of (Some (Inserts op)) gave a h = absurd gave
+    of (Some (Scans op)) gave Going h = tt
+    of (Some (Scans op)) gave (Ready r) h = tt
+    of (Some (Scans op)) gave Done h = tt
+    of (Some (Scans op)) gave (Refused f) h = tt
+    of (Some (Scans op)) gave Begun h = absurd h
+    of (Some (Scans op)) gave (Added a u) h = absurd h
+    of (Some (Scans op)) gave (Finished s) h = absurd h
+    of (Some (Scans op)) gave (Gave e) h = absurd h
+    of (Some (Scans op)) gave Ended h = absurd h
+    of (Some (Scans op)) gave (Forced n) h = absurd h
+    of (Some (Scans op)) gave (Flushed b) h = absurd h
+    of (Some (Scans op)) gave (Checkpointed n) h = absurd h
+
+pub step_kind : (before mid after : Option Op) (result : Result Answer Fault) → AnswersNext before (Gave None) → mid ≡ before → IfOk result (AnswersStep mid after) → AnswersAdvance result
+step_kind before mid after (Ok answer) gave same h = scan_steps before mid after answer gave same h
+step_kind before mid after (Err fault) gave same h = tt
+
+-- an answer that needn't go on is what the scan has come to
+pub sought : (answer : Answer) → AnswersAdvance (Ok answer) → (answer ≡ Going → ⊥) → ((count : ℕ) → answer ≡ Ready count → ⊥) → AnswersSeek (Ok answer)
+sought Going h going ready = absurd (going refl)
+sought (Ready r) h going ready = absurd (ready r refl)
+sought (Gave (Some e)) h going ready = tt
+sought (Gave None) h going ready = absurd h
+sought Done h going ready = tt
+sought (Refused f) h going ready = tt
+sought Begun h going ready = absurd h
+sought (Added a u) h going ready = absurd h
+sought (Finished s) h going ready = absurd h
+sought Ended h going ready = absurd h
+sought (Forced n) h going ready = absurd h
+sought (Flushed b) h going ready = absurd h
+sought (Checkpointed n) h going ready = absurd h
+
+-- what a scan gives is what it came to
+pub give_comes : (came : Result Answer Fault) (answers : List Answer) → AnswersSeek came → CameBy answers (step_came came) → CameBy answers (give_came (given_of came))
+give_comes (Ok (Gave (Some e))) answers kind h = h
+give_comes (Ok Done) answers kind h = h
+give_comes (Ok (Refused f)) answers kind h = h
+give_comes (Ok (Gave None)) answers kind h = absurd kind
+give_comes (Ok Begun) answers kind h = absurd kind
+give_comes (Ok Going) answers kind h = absurd kind
+give_comes (Ok (Added a u)) answers kind h = absurd kind
+give_comes (Ok (Ready r)) answers kind h = absurd kind
+give_comes (Ok (Finished s)) answers kind h = absurd kind
+give_comes (Ok Ended) answers kind h = absurd kind
+give_comes (Ok (Forced n)) answers kind h = absurd kind
+give_comes (Ok (Flushed b)) answers kind h = absurd kind
+give_comes (Ok (Checkpointed n)) answers kind h = absurd kind
+give_comes (Err f) answers kind h = h
+
+-- an entry that is given
+pub some_given : {S : Type 0} (session : ℕ) (came : Result Answer Fault) (entry : Entry) (x y : Snapshot S) → AnswersSeek came → given_of came ≡ Ok (Some entry) → TellsStep session came x y → TellsGiven session (Ok (Some entry)) x y
+some_given {S} session came entry x y kind is tells number call range running ask = of came kind is (tells number call running)
+  where
+    of : (r : Result Answer Fault) → AnswersSeek r → given_of r ≡ Ok (Some entry) → StepTold number call r x y → Becomes number (given_one call entry) x y
+    of (Ok (Gave (Some e))) kind is t =
+        let same : e ≡ entry = cc in
+        record {
+          history_is = same_history number call (Gave (Some e)) x y t t.told.none;
+          calls_is = t.calls_is ∙ ap (λ (c : Call). slice_set x.calls number c) (t.told.after_is ∙ ap (λ (g : Entry). given_one call g) same);
+        }
+    of (Ok (Gave None)) kind is t = absurd kind
+    of (Ok Begun) kind is t = absurd kind
+    of (Ok Going) kind is t = absurd kind
+    of (Ok (Added a u)) kind is t = absurd kind
+    of (Ok (Ready r)) kind is t = absurd kind
+    of (Ok Done) kind is t = absurd cc
+    of (Ok (Finished s)) kind is t = absurd kind
+    of (Ok Ended) kind is t = absurd kind
+    of (Ok (Forced n)) kind is t = absurd kind
+    of (Ok (Flushed b)) kind is t = absurd kind
+    of (Ok (Checkpointed n)) kind is t = absurd kind
+    of (Ok (Refused f)) kind is t = absurd cc
+    of (Err f) kind is t = absurd cc
+
+-- a call that was changed so runs no more
+none_after : {S : Type 0} (g : Ghosts S) (start : Entry → Bool) (x y : Snapshot S) (session number : ℕ) (call after : Call) → Fits g start x → IsRunningCall x.calls session number call
+    → y.calls ≡ slice_set x.calls number after → (after.ending ≡ Running → ⊥) → HasNone session y
+none_after g start x y session number call after fits running calls over other c is =
+    elim (cases_eq other number) [
+      | inl same ↦ (
+          let found : slice_get y.calls number ≡ Some after = ap (λ (l : List Call). slice_get l number) calls ∙ get_set_same x.calls number after (get_within x.calls number call running.found) in
+          let also : slice_get y.calls number ≡ Some c = subst (λ (n : ℕ). slice_get y.calls n ≡ Some c) same is.found in
+          let e : c ≡ after = cc in
+          over (ap (λ (k : Call). k.ending) (sym e) ∙ is.running))
+      | inr apart ↦ (
+          let old : slice_get x.calls other ≡ Some c = sym (get_set_other x.calls number other after apart) ∙ ap (λ (l : List Call). slice_get l other) (sym calls) ∙ is.found in
+          apart (one_runs g start x fits session number other call c running (record { found = old; session_is = is.session_is; running = is.running })).0)
+    ]
+
+-- what is given at the end, and then an end
+pub end_given : {S : Type 0} (g : Ghosts S) (start : Entry → Bool) (session : ℕ) (came : Result Answer Fault) (x y z : Snapshot S) → Fits g start x → AnswersSeek came → ((entry : Entry) → given_of came ≡ Ok (Some entry) → ⊥)
+    → TellsStep session came x y → TellsEnd session y z → TellsGiven session (given_of came) x z
+end_given {S} g start session came x y z fits kind no_entry tells end number call range running ask = of came kind no_entry (tells number call running)
+  where
+    of : (r : Result Answer Fault) → AnswersSeek r → ((entry : Entry) → given_of r ≡ Ok (Some entry) → ⊥) → StepTold number call r x y → GivenTold number call (given_of r) x z
+    of (Ok (Gave (Some e))) kind some t = absurd (some e refl)
+    of (Ok Done) kind some t =
+        let calls : y.calls ≡ slice_set x.calls number (ended call EndsFinished (length x.history)) = t.calls_is ∙ ap (λ (c : Call). slice_set x.calls number c) t.told.after_is in
+        record {
+          history_is = end.history_is ∙ same_history number call Done x y t t.told.none;
+          calls_is = end.calls_is (none_after g start x y session number call (ended call EndsFinished (length x.history)) fits running calls (λ e. cc)) ∙ calls;
+        }
+    of (Ok (Refused f)) kind some t = end.history_is ∙ same_history number call (Refused f) x y t t.told.0
+    of (Ok (Gave None)) kind some t = absurd kind
+    of (Ok Begun) kind some t = absurd kind
+    of (Ok Going) kind some t = absurd kind
+    of (Ok (Added a u)) kind some t = absurd kind
+    of (Ok (Ready r)) kind some t = absurd kind
+    of (Ok (Finished s)) kind some t = absurd kind
+    of (Ok Ended) kind some t = absurd kind
+    of (Ok (Forced n)) kind some t = absurd kind
+    of (Ok (Flushed b)) kind some t = absurd kind
+    of (Ok (Checkpointed n)) kind some t = absurd kind
+    of (Err f) kind some t = end.history_is ∙ t.silent.history_is

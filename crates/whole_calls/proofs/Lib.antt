@@ -1,0 +1,4 @@
+pub mod Composing
+pub mod Tellings
+pub mod Given
+pub mod Beginning

@@ -1,0 +1,63 @@
+use Rattle.std.proofs.Common.{rules, ◌≡◌, Result, Ok, Err, Option, Some, None, refl, sym, ap, subst, ◌∙◌}
+use Rattle.page_action.specs.States.{State}
+use Rattle.session_calls.specs.Sessions.{AnswersNext, GivesLess}
+use Rattle.session_calls.specs.declared.answer.Answer.{Answer}
+use Rattle.session_calls.specs.declared.answer.Answer.TheVariants.{Gave, Going}
+use Rattle.session_calls.specs.declared.op.Op.{Op}
+use Rattle.schedule.specs.Events.{Takes}
+use Rattle.schedule.specs.Snapshots.{both, slot_of}
+use Rattle.schedule.specs.declared.event.Event.TheVariants.{Next}
+use Rattle.whole_calls.specs.Telling.{TellsStep, step_came}
+use Rattle.whole_calls.specs.Giving.{GoesDownBy}
+use Rattle.whole_calls.proofs.Composing.{goes_then, goes_by}
+use Rattle.whole_calls.proofs.Given.{next_down, next_kind, step_down, step_kind}
+use Rattle.whole_calls.proofs.Tellings.{acts_at, moves_tells, none_stays, silent_then}
+use Rattle.whole_calls.proofs.giving.advance.Goals as goal
+
+pub returns-in_default-clause-goes : goal.returns-in_default-clause-goes
+returns-in_default-clause-goes g c =
+    let session = c.args.session in
+    let answer = c.one-answer.result in
+    let here = both c.args.store.now c.args.slots.now in
+    let there = both c.one-answer.new.store c.one-answer.new.slots in
+    goes_by g.S.PageStore g.met.S.PageStore.laws session (TellsStep session (Ok answer)) (Next session) answer here there refl c.one-answer.ensures.runs
+    (λ start x y from to fits does. moves_tells g.S.PageStore start x y session Takes answer tt fits does
+    (λ going. acts_at g.S.PageStore y there to ∙ c.one-answer.ensures.calm going ∙ sym (acts_at g.S.PageStore x here from)))
+
+pub returns-in_default-clause-less : goal.returns-in_default-clause-less
+returns-in_default-clause-less g c = next_down (g.S.PageStore.state c.args.store.now) (g.S.PageStore.state c.one-answer.new.store) _ _ c.one-answer.result c.one-answer.ensures.always.answers
+
+pub returns-in_default-clause-kind : goal.returns-in_default-clause-kind
+returns-in_default-clause-kind g c = next_kind _ c.one-answer.result c.one-answer.ensures.always.answers (search rules)
+
+pub returns-clause-goes : goal.returns-clause-goes
+returns-clause-goes g c =
+    let session = c.args.session in
+    let answer = c.one-answer.result in
+    let result = c.step.result in
+    let start = both c.args.store.now c.args.slots.now in
+    let here = both c.one-answer.new.store c.one-answer.new.slots in
+    let there = both c.step.new.store c.step.new.slots in
+    let whole : c.one-answer.result ≡ Gave None = search rules in
+    goes_then g.S.PageStore g.met.S.PageStore.laws session (TellsStep session (Ok answer)) (TellsStep session result) (TellsStep session result) (Some answer) (step_came result) start here there c.one-answer.ensures.steps c.step.ensures.steps
+    (goes_by g.S.PageStore g.met.S.PageStore.laws session (TellsStep session (Ok answer)) (Next session) answer start here refl c.one-answer.ensures.runs
+    (λ s x y from to fits does. moves_tells g.S.PageStore s x y session Takes answer tt fits does
+    (λ going. acts_at g.S.PageStore y here to ∙ c.one-answer.ensures.calm going ∙ sym (acts_at g.S.PageStore x start from))))
+    c.step.ensures.goes
+    (λ s x y z at fx fy fz one two. silent_then session result x y z (none_stays session x y (subst (λ (a : Answer). TellsStep session (Ok a) x y) whole one)) two)
+
+pub returns-clause-less : goal.returns-clause-less
+returns-clause-less g c =
+    let session = c.args.session in
+    let whole : c.one-answer.result ≡ Gave None = search rules in
+    let gives = subst (λ (a : Answer). GivesLess (slot_of c.args.slots.now session) (slot_of c.one-answer.new.slots session) a) whole c.one-answer.ensures.always.less in
+    subst (λ (st : State). GoesDownBy st (g.S.PageStore.state c.step.new.store) (slot_of c.args.slots.now session) (slot_of c.step.new.slots session) c.step.result) c.one-answer.ensures.always.left
+    (step_down (g.S.PageStore.state c.one-answer.new.store) (g.S.PageStore.state c.step.new.store) (slot_of c.args.slots.now session) (slot_of c.one-answer.new.slots session) (slot_of c.step.new.slots session) c.step.result gives c.step.ensures.less)
+
+pub returns-clause-kind : goal.returns-clause-kind
+returns-clause-kind g c =
+    let session = c.args.session in
+    let whole : c.one-answer.result ≡ Gave None = search rules in
+    let gives = subst (λ (a : Answer). GivesLess (slot_of c.args.slots.now session) (slot_of c.one-answer.new.slots session) a) whole c.one-answer.ensures.always.less in
+    let gave = subst (λ (a : Answer). AnswersNext (slot_of c.args.slots.now session) a) whole c.one-answer.ensures.always.answers in
+    step_kind (slot_of c.args.slots.now session) (slot_of c.one-answer.new.slots session) (slot_of c.step.new.slots session) c.step.result gave gives.0 c.step.ensures.kind

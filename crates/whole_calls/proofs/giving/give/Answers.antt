@@ -1,0 +1,49 @@
+use Rattle.std.proofs.Common.{◌≡◌, Result, Ok, Err, Option, None, Some, List, sym, subst, ap, ◌∙◌}
+use Rattle.index_model.specs.declared.entry.Entry.{Entry}
+use Rattle.index_model.specs.declared.fault.Fault.{Fault}
+use Rattle.schedule.specs.Snapshots.{both}
+use Rattle.whole_calls.specs.Telling.{TellsStep, TellsEnd, step_came}
+use Rattle.whole_calls.specs.Giving.{TellsGiven, given_of, give_came}
+use Rattle.whole_calls.proofs.Composing.{goes_first, goes_told}
+use Rattle.whole_calls.proofs.Given.{some_given, end_given, give_comes}
+use Rattle.whole_calls.proofs.giving.give.Goals as goal
+
+pub returns-in-Ok-Some-clause-goes : goal.returns-in-Ok-Some-clause-goes
+returns-in-Ok-Some-clause-goes g c =
+    let session = c.args.session in
+    let came = c.seek-came.result in
+    let entry = c.in-Ok-Some.entry in
+    let is : given_of came ≡ Ok (Some entry) = sym c.given.ensures ∙ c.in-Ok-Some.is ∙ ap (λ (o : Option Entry). Ok o) c.in-Ok-Some.field-0-is in
+    goes_told g.S.PageStore session (TellsStep session came) (TellsGiven session (Ok (Some entry))) (step_came came) (give_came (Ok (Some entry))) _ _
+    (λ start answers x z at fits by t. (rw is at (give_comes came answers c.seek-came.ensures.kind by), some_given session came entry x z c.seek-came.ensures.kind is t)) c.seek-came.ensures.goes
+
+pub returns-in-Ok-None-clause-goes : goal.returns-in-Ok-None-clause-goes
+returns-in-Ok-None-clause-goes g c =
+    let session = c.args.session in
+    let came = c.seek-came.result in
+    let start = both c.args.store.now c.args.slots.now in
+    let here = both c.seek-came.new.store c.seek-came.new.slots in
+    let is : given_of came ≡ Ok None = sym c.given.ensures ∙ c.in-Ok-None.is ∙ ap (λ (o : Option Entry). Ok o) c.in-Ok-None.field-0-is in
+    goes_first g.S.PageStore g.met.S.PageStore.laws session (TellsStep session came) (TellsEnd session) (TellsGiven session (Ok None)) (give_came (Ok None)) None start here (both c.give_up.new.store c.give_up.new.slots)
+    c.seek-came.ensures.steps c.give_up.ensures.steps
+    (goes_told g.S.PageStore session (TellsStep session came) (TellsStep session came) (step_came came) (give_came (Ok None)) start here
+    (λ s answers x z at fits by t. (rw is at (give_comes came answers c.seek-came.ensures.kind by), t)) c.seek-came.ensures.goes)
+    c.give_up.ensures.goes
+    (λ s x y z at fx fy fz one two. subst (λ (r : Result (Option Entry) Fault). TellsGiven session r x z) is
+    (end_given g.S.PageStore s session came x y z fx c.seek-came.ensures.kind (λ e some. (let f : given_of came ≡ Ok None = is in absurd cc)) one two))
+
+pub returns-in-Err-clause-goes : goal.returns-in-Err-clause-goes
+returns-in-Err-clause-goes g c =
+    let session = c.args.session in
+    let came = c.seek-came.result in
+    let start = both c.args.store.now c.args.slots.now in
+    let here = both c.seek-came.new.store c.seek-came.new.slots in
+    let fault = c.in-Err.fault in
+    let is : given_of came ≡ Err fault = sym c.given.ensures ∙ c.in-Err.is in
+    goes_first g.S.PageStore g.met.S.PageStore.laws session (TellsStep session came) (TellsEnd session) (TellsGiven session (Err fault)) (give_came (Err fault)) None start here (both c.give_up-in-Err.new.store c.give_up-in-Err.new.slots)
+    c.seek-came.ensures.steps c.give_up-in-Err.ensures.steps
+    (goes_told g.S.PageStore session (TellsStep session came) (TellsStep session came) (step_came came) (give_came (Err fault)) start here
+    (λ s answers x z at fits by t. (rw is at (give_comes came answers c.seek-came.ensures.kind by), t)) c.seek-came.ensures.goes)
+    c.give_up-in-Err.ensures.goes
+    (λ s x y z at fx fy fz one two. subst (λ (r : Result (Option Entry) Fault). TellsGiven session r x z) is
+    (end_given g.S.PageStore s session came x y z fx c.seek-came.ensures.kind (λ e some. (let f : given_of came ≡ Err fault = is in absurd cc)) one two))

@@ -1,0 +1,78 @@
+use Rattle.std.proofs.Common.{◌≡◌, Result, Ok, Err, None, Option, refl, subst, ap, ◌∙◌}
+use Rattle.index_model.specs.declared.fault.Fault.{Fault}
+use Rattle.session_calls.specs.declared.answer.Answer.{Answer}
+use Rattle.schedule.specs.Snapshots.{both}
+use Rattle.whole_calls.specs.Telling.{TellsStep, StaysRunning, step_came}
+use Rattle.whole_calls.proofs.Composing.{goes_then, goes_nowhere, goes_told}
+use Rattle.whole_calls.proofs.Tellings.{silent_then, going_stays, ready_stays, stays_then}
+use Rattle.std.proofs.Common.{inl, inr, rules}
+use Rattle.whole_calls.proofs.Given.{sought}
+use Rattle.whole_calls.specs.Giving.{AnswersAdvance}
+use Rattle.whole_calls.proofs.giving.seek.Goals as goal
+use Rattle.whole_calls.specs.Going.{CallGoes}
+use Rattle.whole_calls.proofs.giving.seek.Given.{Over}
+use Rattle.whole_calls.proofs.giving.seek.Goals.{After-advance}
+
+pub loop-answer-init : goal.loop-answer-init
+loop-answer-init g c =
+    let laws = g.met.S.PageStore.laws in
+    record {
+      steps = λ f h. h;
+      sessions = refl;
+      others = λ o ne. refl;
+      goes = goes_nowhere g.S.PageStore laws c.args.session (StaysRunning c.args.session) (both c.args.store.now c.args.slots.now) (λ x number call is. record { history_is = refl; calls_is = refl });
+    }
+
+-- behind the steps so far, what the last one tells
+last : (g : Over) (c : After-advance g)
+    → CallGoes g.S.PageStore c.args.session (TellsStep c.args.session c.advance.result) (step_came c.advance.result) (both c.args.store.now c.args.slots.now) (both c.advance.new.store c.advance.new.slots)
+last g c =
+    let laws = g.met.S.PageStore.laws in
+    let session = c.args.session in
+    let result = c.advance.result in
+    goes_then g.S.PageStore laws session (StaysRunning session) (TellsStep session result) (TellsStep session result) None (step_came result)
+    (both c.args.store.now c.args.slots.now) (both c.loop-answer.store c.loop-answer.slots) (both c.advance.new.store c.advance.new.slots)
+    c.loop-answer.invariant.steps c.advance.ensures.steps c.loop-answer.invariant.goes c.advance.ensures.goes
+    (λ start x y z at fx fy fz one two. silent_then session result x y z one two)
+
+-- ... as it is answered
+answered : (g : Over) (c : After-advance g) (r : Result Answer Fault) → c.advance.result ≡ r
+    → CallGoes g.S.PageStore c.args.session (TellsStep c.args.session r) (step_came r) (both c.args.store.now c.args.slots.now) (both c.advance.new.store c.advance.new.slots)
+answered g c r is = subst (λ (s : Result Answer Fault). CallGoes g.S.PageStore c.args.session (TellsStep c.args.session s) (step_came s) (both c.args.store.now c.args.slots.now) (both c.advance.new.store c.advance.new.slots)) is (last g c)
+
+pub returns-in_default : goal.returns-in_default
+returns-in_default g c = record {
+  steps = λ f h. c.advance.ensures.steps f (c.loop-answer.invariant.steps f h);
+  sessions = c.advance.ensures.sessions ∙ c.loop-answer.invariant.sessions;
+  others = λ o ne. c.advance.ensures.others o ne ∙ c.loop-answer.invariant.others o ne;
+  goes = answered g ((goal.at.returns-in_default g c).After-advance) (Ok c.in-Ok.answer) c.in-Ok.is;
+  kind = sought c.in-Ok.answer (subst AnswersAdvance c.in-Ok.is c.advance.ensures.kind) (λ is. search rules) (λ count is. search rules);
+}
+
+pub returns-in-Err : goal.returns-in-Err
+returns-in-Err g c = record {
+  steps = λ f h. c.advance.ensures.steps f (c.loop-answer.invariant.steps f h);
+  sessions = c.advance.ensures.sessions ∙ c.loop-answer.invariant.sessions;
+  others = λ o ne. c.advance.ensures.others o ne ∙ c.loop-answer.invariant.others o ne;
+  goes = answered g ((goal.at.returns-in-Err g c).After-advance) (Err c.in-Err.fault) c.in-Err.is;
+  kind = tt;
+}
+
+pub loop-answer-preserved : goal.loop-answer-preserved
+loop-answer-preserved g c =
+    let laws = g.met.S.PageStore.laws in
+    let session = c.args.session in
+    let result = c.advance.result in
+    record {
+      steps = λ f h. c.advance.ensures.steps f (c.loop-answer.invariant.steps f h);
+      sessions = c.advance.ensures.sessions ∙ c.loop-answer.invariant.sessions;
+      others = λ o ne. c.advance.ensures.others o ne ∙ c.loop-answer.invariant.others o ne;
+      goes = goes_told g.S.PageStore session (StaysRunning session) (StaysRunning session) (step_came result) None _ _ (λ start answers x y at fits came told. (tt, told))
+          (goes_then g.S.PageStore laws session (StaysRunning session) (TellsStep session result) (StaysRunning session) None (step_came result)
+          (both c.args.store.now c.args.slots.now) (both c.loop-answer.store c.loop-answer.slots) (both c.advance.new.store c.advance.new.slots)
+          c.loop-answer.invariant.steps c.advance.ensures.steps c.loop-answer.invariant.goes c.advance.ensures.goes
+          (λ start x y z at fx fy fz one two. stays_then session x y z one (elim c.in-Going.is [
+            | inl going ↦ going_stays session y z (subst (λ (r : Result Answer Fault). TellsStep session r y z) (c.in-Ok.is ∙ ap (λ (a : Answer). Ok a) going) two)
+            | inr ready ↦ ready_stays session ready.0 y z (subst (λ (r : Result Answer Fault). TellsStep session r y z) (c.in-Ok.is ∙ ap (λ (a : Answer). Ok a) ready.1) two)
+          ])));
+    }

@@ -1,0 +1,87 @@
+-- What a scan gives, and what is told of it then.
+use Rattle.std.specs.Prelude.{◌≡◌, ℕ, ◌<◌, Option, Some, None, Result, Ok, Err, length, slice_set}
+use Rattle.index_model.specs.Calls.{AskScan, Call, Finished as EndsFinished}
+use Rattle.index_model.specs.declared.entry.Entry.{Entry}
+use Rattle.index_model.specs.declared.fault.Fault.{Fault}
+use Rattle.index_model.specs.declared.range.Range.{Range}
+use Rattle.index_model.specs.declared.fault.Fault.TheVariants.{NoSession}
+use Rattle.page_action.specs.States.{State}
+use Rattle.session_calls.specs.Sessions.{work_left, IsDrained, given_one, ended}
+use Rattle.session_calls.specs.declared.answer.Answer.{Answer}
+use Rattle.session_calls.specs.declared.answer.Answer.TheVariants.{Going, Ready, Done, Gave, Refused}
+use Rattle.session_calls.specs.declared.op.Op.{Op}
+use Rattle.schedule.specs.Snapshots.{Snapshot, IsRunningCall}
+
+-- where the scan is to go on, less is left to do
+abbrev pub GoesDown : State → State → Option Op → Option Op → Answer → Type 0
+GoesDown old new before after Going = work_left new.pages after < work_left old.pages before
+GoesDown old new before after (Ready count) = work_left new.pages after < work_left old.pages before
+GoesDown old new before after answer = Unit {0}
+
+-- ... by whether it was refused before its step
+abbrev pub GoesDownBy : State → State → Option Op → Option Op → Result Answer Fault → Type 0
+GoesDownBy old new before after (Ok answer) = GoesDown old new before after answer
+GoesDownBy old new before after (Err fault) = Unit {0}
+
+-- a step that was made leaves less to do, where it goes on, or finds entries where none was ready
+abbrev pub AnswerLeavesLess : State → State → Option Op → Option Op → Answer → Type 0
+AnswerLeavesLess old new before after Going = work_left new.pages after < work_left old.pages before
+AnswerLeavesLess old new before after (Ready count) = IsDrained before → work_left new.pages after < work_left old.pages before
+AnswerLeavesLess old new before after answer = Unit {0}
+
+abbrev pub StepLeavesLess : State → State → Option Op → Option Op → Result Answer Fault → Type 0
+StepLeavesLess old new before after (Ok answer) = AnswerLeavesLess old new before after answer
+StepLeavesLess old new before after (Err fault) = Unit {0}
+
+-- what asking a scan for its next entry, or else a step of it, may answer
+abbrev pub AnswersAdvance : Result Answer Fault → Type 0
+AnswersAdvance (Ok Going) = Unit {0}
+AnswersAdvance (Ok (Ready count)) = Unit {0}
+AnswersAdvance (Ok (Gave (Some entry))) = Unit {0}
+AnswersAdvance (Ok Done) = Unit {0}
+AnswersAdvance (Ok (Refused fault)) = Unit {0}
+AnswersAdvance (Ok answer) = ⊥
+AnswersAdvance (Err fault) = Unit {0}
+
+-- ... when it has come to an entry or to its end
+abbrev pub AnswersSeek : Result Answer Fault → Type 0
+AnswersSeek (Ok (Gave (Some entry))) = Unit {0}
+AnswersSeek (Ok Done) = Unit {0}
+AnswersSeek (Ok (Refused fault)) = Unit {0}
+AnswersSeek (Ok answer) = ⊥
+AnswersSeek (Err fault) = Unit {0}
+
+-- what a scan gives that came to this: an entry, none where it has given all, or a refusal
+abbrev pub given_of : Result Answer Fault → Result (Option Entry) Fault
+given_of (Ok (Gave (Some entry))) = Ok (Some entry)
+given_of (Ok Done) = Ok None
+given_of (Ok (Refused fault)) = Err fault
+given_of (Ok answer) = Err NoSession
+given_of (Err fault) = Err fault
+
+-- ... and what it came to
+abbrev pub give_came : Result (Option Entry) Fault → Option Answer
+give_came (Ok (Some entry)) = Some (Gave (Some entry))
+give_came (Ok None) = Some Done
+give_came (Err fault) = Some (Refused fault)
+
+-- a session that gives no entry runs nothing then
+abbrev pub EndsUnlessGiven : Result (Option Entry) Fault → Option Op → Type 0
+EndsUnlessGiven (Ok (Some entry)) slot = Unit {0}
+EndsUnlessGiven (Ok None) slot = slot ≡ None
+EndsUnlessGiven (Err fault) slot = slot ≡ None
+
+-- no action is appended, and the call of this number has become this one; no other is changed
+pub record Becomes {S : Type 0} (number : ℕ) (after : Call) (old new : Snapshot S) : Type 0 where
+  pub history_is : new.history ≡ old.history
+  pub calls_is : new.calls ≡ slice_set old.calls number after
+
+-- the call has given one entry more; or it has finished, with all that it gave; or it is over, and no action is appended
+abbrev pub GivenTold : {S : Type 0} → ℕ → Call → Result (Option Entry) Fault → Snapshot S → Snapshot S → Type 0
+GivenTold number call (Ok (Some entry)) old new = Becomes number (given_one call entry) old new
+GivenTold number call (Ok None) old new = Becomes number (ended call EndsFinished (length old.history)) old new
+GivenTold number call (Err fault) old new = new.history ≡ old.history
+
+-- ... of the session's running scan
+abbrev pub TellsGiven : {S : Type 0} → ℕ → Result (Option Entry) Fault → Snapshot S → Snapshot S → Type 0
+TellsGiven session result old new = (number : ℕ) (call : Call) (range : Range) → IsRunningCall old.calls session number call → call.ask ≡ AskScan range → GivenTold number call result old new

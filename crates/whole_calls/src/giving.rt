@@ -1,0 +1,121 @@
+//! Scans that give one entry after the other.
+
+ghost use Rattle.std.specs.Prelude.{◌≡◌, ◌≤◌, length, IfOk, None};
+ghost use Rattle.page_action.specs.States.{Continues};
+ghost use Rattle.session_calls.specs.declared.request.Request.TheVariants.{Scan as ToScan};
+ghost use Rattle.schedule.specs.Snapshots.{both, slot_of};
+ghost use Rattle.schedule.specs.Events.{OthersStay};
+ghost use Rattle.whole_calls.specs.Telling.{TellsStep, BeginTold, step_came, begin_came};
+ghost use Rattle.whole_calls.specs.Giving.{GoesDownBy, AnswersAdvance, AnswersSeek, EndsUnlessGiven, TellsGiven, given_of, give_came};
+ghost use Rattle.whole_calls.specs.Going.{CallGoes};
+
+use crate::running::{begun, give_up, step};
+use index_model::{Entry, Fault, Range};
+use page_action::PageStore;
+use schedule::{Event, one};
+use session_calls::{Answer, Op};
+
+// The next entry that the session's scan has ready; where none is, one step of it.
+fn advance<S: PageStore>(
+    store: &mut S,
+    slots: &mut [Option<Op>],
+    session: u32,
+    least_room: u32,
+) -> Result<Answer, Fault>
+    requires few { length slots.old ≤ 64 }
+    ensures steps { Continues S.follows store.old store.new }
+    ensures sessions { length slots.new ≡ length slots.old }
+    ensures others { OthersStay session slots.old slots.new }
+    ensures goes { CallGoes S.PageStore session (TellsStep session result) (step_came result) (both store.old slots.old) (both store.new slots.new) }
+    ensures less { GoesDownBy (S.state store.old) (S.state store.new) (slot_of slots.old session) (slot_of slots.new session) result }
+    ensures kind { AnswersAdvance result }
+{
+    let answer = one(store, slots, Event::Next(session));
+    let Answer::Gave(None) = answer else {
+        return Ok(answer);
+    };
+    step(store, slots, session, least_room)
+}
+
+// Goes on until the session's scan gives an entry or is over.
+fn seek<S: PageStore>(
+    store: &mut S,
+    slots: &mut [Option<Op>],
+    session: u32,
+    least_room: u32,
+) -> Result<Answer, Fault>
+    requires few { length slots.old ≤ 64 }
+    ensures steps { Continues S.follows store.old store.new }
+    ensures sessions { length slots.new ≡ length slots.old }
+    ensures others { OthersStay session slots.old slots.new }
+    ensures goes { CallGoes S.PageStore session (TellsStep session result) (step_came result) (both store.old slots.old) (both store.new slots.new) }
+    ensures kind { AnswersSeek result }
+{
+    loop {
+        match advance(store, slots, session, least_room) {
+            Ok(answer) => match answer {
+                Answer::Going | Answer::Ready(_) => {}
+                answer => return Ok(answer),
+            },
+            Err(fault) => return Err(fault),
+        }
+    }
+}
+
+// What a scan gives that came to this.
+fn given(came: Result<Answer, Fault>) -> Result<Option<Entry>, Fault>
+    ensures { result ≡ given_of came }
+{
+    match came {
+        Ok(Answer::Gave(Some(entry))) => Ok(Some(entry)),
+        Ok(Answer::Done) => Ok(None),
+        Ok(Answer::Refused(fault)) | Err(fault) => Err(fault),
+        Ok(_) => Err(Fault::NoSession),
+    }
+}
+
+/// The next entry of the session's scan, or None where it has given all; it is over then, and where it is refused: as a step of
+/// it is, and with `Io` (2) or `Stopped` (3) where a checkpoint before a step is. There are 64 slots at most.
+pub fn give<S: PageStore>(
+    store: &mut S,
+    slots: &mut [Option<Op>],
+    session: u32,
+    least_room: u32,
+) -> Result<Option<Entry>, Fault>
+    requires few { length slots.old ≤ 64 }
+    ensures steps { Continues S.follows store.old store.new }
+    ensures sessions { length slots.new ≡ length slots.old }
+    ensures others { OthersStay session slots.old slots.new }
+    ensures over { EndsUnlessGiven result (slot_of slots.new session) }
+    ensures goes { CallGoes S.PageStore session (TellsGiven session result) (give_came result) (both store.old slots.old) (both store.new slots.new) }
+{
+    let came = seek(store, slots, session, least_room);
+    match given(came) {
+        Ok(Some(entry)) => Ok(Some(entry)),
+        Ok(None) => {
+            give_up(store, slots, session);
+            Ok(None)
+        }
+        Err(fault) => {
+            give_up(store, slots, session);
+            Err(fault)
+        }
+    }
+}
+
+/// Begins a scan. Refused as the beginning of a call is: with `Stopped` (3), `NoSession` (12), `SessionBusy` (13), in this order.
+/// There are 64 slots at most.
+pub fn open<S: PageStore>(
+    store: &mut S,
+    slots: &mut [Option<Op>],
+    session: u32,
+    range: Range,
+) -> Result<(), Fault>
+    requires few { length slots.old ≤ 64 }
+    ensures steps { Continues S.follows store.old store.new }
+    ensures sessions { length slots.new ≡ length slots.old }
+    ensures others { OthersStay session slots.old slots.new }
+    ensures goes { CallGoes S.PageStore session (BeginTold session (ToScan range) result) (begin_came result) (both store.old slots.old) (both store.new slots.new) }
+{
+    begun(one(store, slots, Event::Scan(session, range)))
+}
