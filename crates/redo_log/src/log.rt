@@ -120,7 +120,8 @@ impl Log {
         ensures same { SameLog self.old self.new }
         ensures stopped { is_stopped self.new ≡ is_err result }
 
-        ensures outside { ChangesItsRange (limits_of self.old) (D.trace device.old) (D.trace device.new) }
+        ensures outside { ChangesItsRange (limits_of self.old)
+            (D.trace device.old) (D.trace device.new) }
         ensures len { length (D.trace device.new).now.seen ≡ length (D.trace device.old).now.seen }
         ensures honest { D.is_honest device.new ≡ D.is_honest device.old }
         ensures idle { IsTrue (is_stopped self.old) ⊎ (waiting_count self.old ≡ 0)
@@ -155,7 +156,8 @@ impl Log {
 
         ensures keeps { OnOk result
             (ForgetsForced self.old (D.trace device.old).now self.new (D.trace device.new).now) }
-        ensures moments { RestartsOrEmptyThroughout self.old (D.trace device.old) (D.trace device.new) }
+        ensures moments { RestartsOrEmptyThroughout self.old
+            (D.trace device.old) (D.trace device.new) }
         ensures closed { OnOk result (groups_end self.new ≡ 0) }
         ensures waiting { waiting_count self.new ≡ waiting_count self.old }
         ensures room { OnOk result ((n : ℕ)
@@ -163,7 +165,8 @@ impl Log {
         ensures same { SameLog self.old self.new }
         ensures stopped { is_stopped self.new ≡ is_err result }
 
-        ensures outside { ChangesItsRange (limits_of self.old) (D.trace device.old) (D.trace device.new) }
+        ensures outside { ChangesItsRange (limits_of self.old)
+            (D.trace device.old) (D.trace device.new) }
         ensures len { length (D.trace device.new).now.seen ≡ length (D.trace device.old).now.seen }
         ensures honest { D.is_honest device.new ≡ D.is_honest device.old }
         ensures idle { IsTrue (is_stopped self.old) ⊎ (groups_end self.old ≡ 0)
