@@ -37,8 +37,8 @@ abbrev pub end_with : Log → ℕ → ℕ
 end_with log n = log.at + (6 + 4096 * (log.count + n))
 
 -- n images more would fit
-abbrev pub HasRoomFor : Log → ℕ → Type 0
-HasRoomFor log n = end_with log n ≤ log.limits.log_bytes
+abbrev pub ImagesFit : Log → ℕ → Type 0
+ImagesFit log n = end_with log n ≤ log.limits.log_bytes
 
 -- it is stopped, or the greatest number was given
 abbrev pub TakesNoMore : Log → Type 0
