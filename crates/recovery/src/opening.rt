@@ -100,6 +100,7 @@ fn restore_log<D: Device>(alloc: Global, device: &mut D, limits: Limits) -> Resu
         Ok(found) => found,
         Err(fault) => return Err(fault),
     };
+    found.log.keeping_law();
     bring_home(device, limits, &found.images)?;
     let mut log = found.log;
     log.reset(device)?;
