@@ -67,4 +67,5 @@ Syncs result old new = MatchResult result (λ _. new ≡ next (synced old.now) o
 
 -- a call that failed answers Io and counts one failure; nothing else counts
 abbrev pub CountsFailures : {T : Type 0} → Result T Fault → ℕ → ℕ → Type 0
-CountsFailures result old new = MatchResult result (λ _. new ≡ old) (λ e. (e ≡ Io) × (new ≡ suc old))
+CountsFailures result old new =
+    MatchResult result (λ _. new ≡ old) (λ e. (e ≡ Io) × (new ≡ suc old))

@@ -172,7 +172,8 @@ impl Device for MemDevice {
         ensures dead { fate_of (plan_of self.old) ≡ Fate.Dead
             → trace_of self.new ≡ trace_of self.old }
         // A write that fails is kept as written, unless it could not be recorded.
-        ensures kept { OnErr result (IsKeptOrNot at bytes.now (trace_of self.old) (trace_of self.new)) }
+        ensures kept { OnErr result
+            (IsKeptOrNot at bytes.now (trace_of self.old) (trace_of self.new)) }
         ensures plan { plan_of self.new ≡ after_call (plan_of self.old) }
     {
         let fate = self.plan.next();

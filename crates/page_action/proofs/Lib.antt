@@ -1,1 +1,2 @@
 pub mod StoredPages
+pub mod Laters

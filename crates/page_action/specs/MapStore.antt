@@ -13,7 +13,8 @@ use Rattle.page_action.specs.Stored.{IsStored}
 use Rattle.page_action.specs.declared.map_store.MapStore.{MapStore}
 
 abbrev pub map_state : MapStore → State
-map_state store = state_with store.limits store.limits.pages store.pages.items store.acts store.calls
+map_state store =
+    state_with store.limits store.limits.pages store.pages.items store.acts store.calls
 
 -- nothing below it fails, and its room is that of an empty log
 abbrev pub map_backing : MapStore → Backing
@@ -51,8 +52,8 @@ same_later b = record {
 }
 
 -- a plain map is never an own store, so nothing is said of what a crash leaves of it
-pub map_laws : IsPageStore map_state map_backing (λ s t. IsLater (map_backing s) (map_backing t)) (λ s. ⊥)
-    (λ s part. s.pages.items) (λ s t image. ⊥) (λ s image pages. ⊥)
+pub map_laws : IsPageStore map_state map_backing (λ s t. IsLater (map_backing s) (map_backing t))
+    (λ s. ⊥) (λ s part. s.pages.items) (λ s t image. ⊥) (λ s image pages. ⊥)
 map_laws = record {
   follows_same = λ s. same_later (map_backing s);
   follows_later = λ s t h. h;

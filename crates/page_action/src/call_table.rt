@@ -75,7 +75,8 @@ impl CallTable {
     pub fn note(&mut self, limits: Limits, changed: &[Page])
         requires actable { AreActable limits (length self.old.counted) changed.now }
         requires room { limits.pages ≤ self.old.room }
-        ensures { self.new ≡ record self.old { counted = with_counts self.old.counted changed.now } }
+        ensures { self.new
+            ≡ record self.old { counted = with_counts self.old.counted changed.now } }
     {
         place_counts(limits, &mut self.counted, changed);
     }
@@ -126,8 +127,8 @@ impl CallTable {
         ensures free { OnOk result (is_held_by_another self.old.table session block mode ≡ false) }
         ensures refused { OnErr result (self.new ≡ self.old) }
         ensures fault { IfErr result (λ f. f ≡ Fault.Blocked block) }
-        ensures only { OnErr result
-            (HasRoom self.old.table session → is_held_by_another self.old.table session block mode ≡ true) }
+        ensures only { OnErr result (HasRoom self.old.table session
+            → is_held_by_another self.old.table session block mode ≡ true) }
     {
         self.table.latch(session, block, mode)
     }
@@ -191,7 +192,8 @@ impl CallTable {
         requires counts { length self.now.counted ≡ length pages.now }
         ensures deleted { is_none result ≡ not (is_deleted pages.now block) }
         ensures free { IfSome result (λ free. free
-            ≡ others_began_after (slice_index self.now.counted block) 0 (Some session) self.now.running) }
+            ≡ others_began_after (slice_index self.now.counted block) 0 (Some session)
+            self.now.running) }
     {
         let at = block as usize;
         if at >= pages.len() || !is_deleted(pages[at].state) {

@@ -48,20 +48,25 @@ pub trait PageStore {
     fn page(&mut self, block: u32) -> Result<Page, Fault>
         ensures steps { Continues follows self.old self.new }
         ensures state { state self.new ≡ state self.old }
-        ensures page { (backing self.new).honest ≡ true → IfOk result (λ p. slice_get (state self.old).pages block ≡ Some p) }
+        ensures page { (backing self.new).honest ≡ true
+            → IfOk result (λ p. slice_get (state self.old).pages block ≡ Some p) }
         ensures stored { IfOk result (IsStored (state self.old).limits block) }
         ensures used { OnOk result (block < length (state self.old).pages) }
-        ensures inside { OnOk result (length (state self.old).pages ≤ (state self.old).limits.pages) }
-        ensures alive { OnOk result ((backing self.new).stopped ≡ true → (backing self.old).stopped ≡ true) }
+        ensures inside { OnOk result
+            (length (state self.old).pages ≤ (state self.old).limits.pages) }
+        ensures alive { OnOk result
+            ((backing self.new).stopped ≡ true → (backing self.old).stopped ≡ true) }
         ensures room { KeepsRoom (state self.old) (backing self.old) (backing self.new) }
-        ensures cause { IfErr result (HasCause (where_read (state self.old) (backing self.old) (backing self.new) block)) };
+        ensures cause { IfErr result
+            (HasCause (where_read (state self.old) (backing self.old) (backing self.new) block)) };
 
     /// Changes one to four pages at once, or none, and answers the number of the act, counted from 1 since opening.
     /// Refused with `Io`, `Stopped`, `LogFull`, `NoFrame`.
     fn act(&mut self, pages: &[Page]) -> Result<u64, Fault>
         requires some { 1 ≤ length pages.now }
         requires few { length pages.now ≤ 4 }
-        requires actable { AreActable (state self.old).limits (length (state self.old).pages) pages.now }
+        requires actable { AreActable (state self.old).limits
+            (length (state self.old).pages) pages.now }
         ensures steps { Continues follows self.old self.new }
         ensures done { OnOk result (state self.new ≡ after_act pages.now (state self.old)) }
         ensures number { IfOk result (λ n. n ≡ suc (state self.old).acts) }
@@ -69,8 +74,10 @@ pub trait PageStore {
             (TakesRoom (state self.old) (length pages.now) (backing self.old) (backing self.new)) }
         ensures stopped { (backing self.old).stopped ≡ true → result ≡ Err Fault.Stopped }
         ensures refused { OnErr result (state self.new ≡ state self.old) }
-        ensures kept { OnErr result (KeepsRoom (state self.old) (backing self.old) (backing self.new)) }
-        ensures cause { IfErr result (HasCause (where_acted (state self.old) (backing self.old) (backing self.new) pages.now)) };
+        ensures kept { OnErr result
+            (KeepsRoom (state self.old) (backing self.old) (backing self.new)) }
+        ensures cause { IfErr result (HasCause
+            (where_acted (state self.old) (backing self.old) (backing self.new) pages.now)) };
 
     /// The block that a new page takes: the lowest reusable one, else the next unused one. Nothing is taken before
     /// the act that writes it. Refused with `IndexFull` where there is neither.
@@ -84,29 +91,35 @@ pub trait PageStore {
     fn latch(&mut self, session: Session, block: u32, mode: Mode) -> Result<(), Fault>
         ensures steps { Continues follows self.old self.new }
         ensures backing { backing self.new ≡ backing self.old }
-        ensures done { OnOk result (state self.new ≡ with_table (state self.old) (latched (state self.old).table session block mode)) }
-        ensures free { OnOk result (is_held_by_another (state self.old).table session block mode ≡ false) }
+        ensures done { OnOk result (state self.new
+            ≡ with_table (state self.old) (latched (state self.old).table session block mode)) }
+        ensures free { OnOk result
+            (is_held_by_another (state self.old).table session block mode ≡ false) }
         ensures refused { OnErr result (state self.new ≡ state self.old) }
         ensures fault { IfErr result (λ f. f ≡ Fault.Blocked block) }
-        ensures cause { HasRoom (state self.old).table session → IfErr result (HasCause (where_latched (state self.old) session block mode)) };
+        ensures cause { HasRoom (state self.old).table session
+            → IfErr result (HasCause (where_latched (state self.old) session block mode)) };
 
     /// Lets go the newest latch of the page that the session has, if there is one.
     fn release(&mut self, session: Session, block: u32)
         ensures steps { Continues follows self.old self.new }
         ensures backing { backing self.new ≡ backing self.old }
-        ensures state { state self.new ≡ with_table (state self.old) (released (state self.old).table session block) };
+        ensures state { state self.new
+            ≡ with_table (state self.old) (released (state self.old).table session block) };
 
     /// Pins a page for a session, which has two pins at most.
     fn pin(&mut self, session: Session, block: u32)
         ensures steps { Continues follows self.old self.new }
         ensures backing { backing self.new ≡ backing self.old }
-        ensures state { state self.new ≡ with_table (state self.old) (pinned (state self.old).table session block) };
+        ensures state { state self.new
+            ≡ with_table (state self.old) (pinned (state self.old).table session block) };
 
     /// Lets go the newest pin of the page that the session has, if there is one.
     fn unpin(&mut self, session: Session, block: u32)
         ensures steps { Continues follows self.old self.new }
         ensures backing { backing self.new ≡ backing self.old }
-        ensures state { state self.new ≡ with_table (state self.old) (unpinned (state self.old).table session block) };
+        ensures state { state self.new
+            ≡ with_table (state self.old) (unpinned (state self.old).table session block) };
 
     /// Begins a call of a session and answers its start number: the count of calls begun before it since opening.
     /// Refused with `Stopped`.
@@ -147,7 +160,8 @@ pub trait PageStore {
         ensures stopped { (backing self.old).stopped ≡ true → result ≡ Err Fault.Stopped }
         // One that fails leaves the log stopped.
         ensures failed { OnErr result ((backing self.new).stopped ≡ true) }
-        ensures cause { IfErr result (HasCause (where_forced (backing self.old) (backing self.new))) };
+        ensures cause { IfErr result
+            (HasCause (where_forced (backing self.old) (backing self.new))) };
 
     /// Makes all acts durable, writes each changed page to its place and closes the log, which then has its whole
     /// room; answers the number of acts. Refused with `Io`, `Stopped`.
@@ -160,9 +174,12 @@ pub trait PageStore {
         ensures stopped { (backing self.old).stopped ≡ true → result ≡ Err Fault.Stopped }
         // One that fails leaves the log stopped, or all acts durable.
         ensures failed { OnErr result
-            (((backing self.new).stopped ≡ true) ⊎ ((backing self.new).durable ≡ (state self.old).acts)) }
-        ensures kept { OnErr result (KeepsRoom (state self.old) (backing self.old) (backing self.new)) }
-        ensures cause { IfErr result (HasCause (where_forced (backing self.old) (backing self.new))) };
+            (((backing self.new).stopped ≡ true)
+            ⊎ ((backing self.new).durable ≡ (state self.old).acts)) }
+        ensures kept { OnErr result
+            (KeepsRoom (state self.old) (backing self.old) (backing self.new)) }
+        ensures cause { IfErr result
+            (HasCause (where_forced (backing self.old) (backing self.new))) };
 
     /// How many images one more act could hold now. A force between now and that act may cost one image of room, yet an
     /// act of fewer images is not refused with `LogFull`.
@@ -185,7 +202,8 @@ pub trait PageStore {
     /// None for a block that is not deleted, else whether it would be reusable if that session's call were not running.
     fn free_for(&self, session: Session, block: u32) -> Option<bool>
         ensures deleted { is_none result ≡ not (is_deleted (state self.now).pages block) }
-        ensures free { IfSome result (λ free. free ≡ is_reusable_without (state self.now) session block) };
+        ensures free { IfSome result
+            (λ free. free ≡ is_reusable_without (state self.now) session block) };
 
     /// The cycle number of the running bulk delete, 0 where none runs.
     fn cycle(&self) -> u32

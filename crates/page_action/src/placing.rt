@@ -40,7 +40,7 @@ fn place_page(pages: &mut Vec<Page>, page: &Page)
     }
 }
 
-/// Puts copies of these pages at their blocks. It takes no memory.
+/// Puts copies of these pages at their blocks, each in use or the next unused one. It takes no memory.
 pub fn place_pages(limits: Limits, pages: &mut Vec<Page>, changed: &[Page])
     requires actable { AreActable limits (vec_len pages.old) changed.now }
     requires few { vec_len pages.old ≤ limits.pages }

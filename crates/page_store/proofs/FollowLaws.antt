@@ -1,20 +1,20 @@
 -- How pages over a device follow one another.
-use Rattle.std.proofs.Common.{◌≡◌, ◌⊎◌, inl, inr, true, ◌<◌, List, [], ◌++◌, refl, sym, ap, subst, ◌∙◌, arith, append_assoc}
+use Rattle.std.proofs.Common.{◌≡◌, List, [], ◌++◌, refl, sym, ap, subst, ◌∙◌, arith, append_assoc}
 use Rattle.std.proofs.lemmas.List.{append-nil}
-use Rattle.device.proofs.Going.{goes_weaker}
-use Rattle.device.proofs.Going.{goes_on}
+use Rattle.device.proofs.Going.{goes_weaker, goes_on}
 use Rattle.index_model.specs.declared.limits.Limits.{Limits}
 use Rattle.page_codec.specs.declared.page.Page.{Page}
+use Rattle.page_action.proofs.Laters.{later_trans}
 use Rattle.page_action.specs.States.{IsLater}
-use Rattle.redo_log.specs.Kept.{limits_of, is_stopped}
+use Rattle.redo_log.specs.Kept.{limits_of}
 use Rattle.redo_log.specs.declared.log.Log.{Log}
 use Rattle.page_store.specs.Restart.{RestartsToPart}
 use Rattle.page_store.specs.Logged.{Held, backing_of}
 use Rattle.page_store.specs.Crashing.{part_of_more}
 use Rattle.page_store.specs.Following.{GrowsTo, Follows, follows_same}
 
-goes_on_both : (a b c : Held) → IsLater (backing_of a) (backing_of b) → GrowsTo a b → GrowsTo b c → GrowsTo a c
-goes_on_both a b c later f s = record {
+grows_on : (a b c : Held) → IsLater (backing_of a) (backing_of b) → GrowsTo a b → GrowsTo b c → GrowsTo a c
+grows_on a b c later f s = record {
   own = s.own;
   limits = s.limits ∙ f.limits;
   start = s.start ∙ f.start;
@@ -27,25 +27,10 @@ goes_on_both a b c later f s = record {
       (part_of_more (limits_of b.log) c.history c.history [] a.durable b.durable image refl (sym (append-nil c.history.acts)) later.durable (leaves image left))) s.moments);
 }
 
-stop_cause_both : (a b c : Held) → IsLater (backing_of a) (backing_of b) → IsLater (backing_of b) (backing_of c) → is_stopped c.log ≡ true → (is_stopped a.log ≡ true) ⊎ (a.failures < c.failures)
-stop_cause_both a b c f s stopped = elim (s.stop_has_cause stopped) [
-  | inl before ↦ elim (f.stop_has_cause before) [
-    | inl earlier ↦ inl earlier
-    | inr failed ↦ inr (omega (arith, failed, s.failures))
-  ]
-  | inr failed ↦ inr (omega (arith, failed, f.failures))
-]
-
 pub follows_both : (a b c : Held) → Follows a b → Follows b c → Follows a c
 follows_both a b c f s = record {
-  later = record {
-    failures = omega (arith, f.later.failures, s.later.failures);
-    durable = omega (arith, f.later.durable, s.later.durable);
-    stopped = λ h. s.later.stopped (f.later.stopped h);
-    stop_has_cause = stop_cause_both a b c f.later s.later;
-    honest = λ h. f.later.honest (s.later.honest h);
-  };
-  grows = λ own. let first = f.grows own in goes_on_both a b c f.later first (s.grows first.own);
+  later = later_trans (backing_of a) (backing_of b) (backing_of c) f.later s.later;
+  grows = λ own. let first = f.grows own in grows_on a b c f.later first (s.grows first.own);
 }
 
 -- where the log is the same

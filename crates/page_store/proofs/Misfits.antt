@@ -2,11 +2,11 @@
 use Rattle.std.proofs.Common.{◌≡◌, ℕ, suc, ◌+◌, ◌-◌, ◌*◌, ◌<◌, ◌≤◌, inl, inr, arith}
 use Rattle.std.proofs.lemmas.Bool.{cases_lt}
 use Rattle.page_action.specs.Room.{whole_room}
-use Rattle.redo_log.specs.Kept.{limits_of, end_with, HasRoomFor}
+use Rattle.redo_log.specs.Kept.{limits_of, end_with, ImagesFit}
 use Rattle.redo_log.specs.declared.log.Log.{Log}
 
 -- what doesn't fit is longer than the log
-pub misfit : (log : Log) (n : ℕ) → (HasRoomFor log n → ⊥) → (limits_of log).log_bytes < end_with log n
+pub misfit : (log : Log) (n : ℕ) → (ImagesFit log n → ⊥) → (limits_of log).log_bytes < end_with log n
 misfit log n h = elim (cases_lt (limits_of log).log_bytes (end_with log n)) [
   | inl long ↦ long
   | inr fits ↦ absurd (h fits)
@@ -20,7 +20,7 @@ promise_left log new bytes room left fits cost no_more = elim (cases_lt (suc lef
 ]
 
 -- so many images cost no more than their room
-pub room_left : (log new : Log) (images room left : ℕ) → (0 < room → end_with log room ≤ (limits_of new).log_bytes) → ((n : ℕ) → end_with new n ≤ end_with log (images + n)) → ((n : ℕ) → left < n → HasRoomFor new n → ⊥) → room ≤ images + left
+pub room_left : (log new : Log) (images room left : ℕ) → (0 < room → end_with log room ≤ (limits_of new).log_bytes) → ((n : ℕ) → end_with new n ≤ end_with log (images + n)) → ((n : ℕ) → left < n → ImagesFit new n → ⊥) → room ≤ images + left
 room_left log new images room left fits cost no_more = elim (cases_lt (images + left) room) [
   | inl above ↦
       let n = room - images in
@@ -31,7 +31,7 @@ room_left log new images room left fits cost no_more = elim (cases_lt (images + 
 ]
 
 -- a log in which nothing stands or waits has its whole room
-pub whole_left : (log : Log) (left : ℕ) → ((n : ℕ) → end_with log n ≡ 6 + 4096 * n) → ((n : ℕ) → 0 < n → n ≤ left → HasRoomFor log n) → ((n : ℕ) → left < n → HasRoomFor log n → ⊥)
+pub whole_left : (log : Log) (left : ℕ) → ((n : ℕ) → end_with log n ≡ 6 + 4096 * n) → ((n : ℕ) → 0 < n → n ≤ left → ImagesFit log n) → ((n : ℕ) → left < n → ImagesFit log n → ⊥)
     → 6 ≤ (limits_of log).log_bytes → left ≡ whole_room (limits_of log)
 whole_left log left empty fit no_more long =
     let past = misfit log (suc left) (no_more (suc left) (omega arith)) in

@@ -27,7 +27,10 @@ newest : (P : Moment → Type 0) (first second : Trace) (early : List Moment) �
 newest P first second [] is p = let e : second.now ≡ first.now = cc in inl (subst P e p)
 newest P first second (m ∷ ms) is p = let e : second.now ≡ m = cc in inl (subst P e p)
 
-module _ (first second third : Trace) (image : List ℕ) (early late : List Moment) (to_second : second.now ∷ second.past ≡ early ++ first.now ∷ first.past) (to_third : third.now ∷ third.past ≡ late ++ second.now ∷ second.past) where
+-- a device came from the first to the second by the early moments, and from there to the third by the late ones
+module _ (first second third : Trace) (image : List ℕ) (early late : List Moment)
+    (to_second : second.now ∷ second.past ≡ early ++ first.now ∷ first.past)
+    (to_third : third.now ∷ third.past ≡ late ++ second.now ∷ second.past) where
   may : Moment → Type 0
   may m = MayLeave m image
 
@@ -38,6 +41,7 @@ module _ (first second third : Trace) (image : List ℕ) (early late : List Mome
   unfolding may
   whole some = record { since = late ++ early; is = to_end; left = subst (AtSome may) (sym (append_assoc late early (first.now ∷ []))) some }
 
+  -- what was left since the first, was left up to the second, or since that one
   pub left_between : MayHaveLeft first third image → MayHaveLeft first second image ⊎ MayHaveLeft second third image
   unfolding may
   left_between h =
@@ -48,6 +52,7 @@ module _ (first second third : Trace) (image : List ℕ) (early late : List Mome
         | inr before ↦ inl (record { since = early; is = to_second; left = before })
       ]
 
+  -- what was left of a part, was left of the whole
   pub left_early : MayHaveLeft first second image → MayHaveLeft first third image
   unfolding may
   left_early h =

@@ -29,7 +29,8 @@ module _ {D : Type 0} (g : Ghosts D) where
   abbrev pub restarts_by : Store D g → List ℕ → List Page → Type 0
   restarts_by s image pages = RestartsTo (state_of g s).limits image pages
 
-  pub store_laws : IsPageStore (state_of g) (λ s. backing_of (held_by g s)) follows_by (IsOwnStore g) past_of leaves_by restarts_by
+  pub store_laws : IsPageStore (state_of g) (λ s. backing_of (held_by g s))
+      follows_by (IsOwnStore g) past_of leaves_by restarts_by
   store_laws = record {
     follows_same = λ s. follows_same (held_by g s);
     follows_later = λ s t h. h.later;
@@ -41,8 +42,12 @@ module _ {D : Type 0} (g : Ghosts D) where
     acts_later = λ s t own h. acts_later (held_by g s) (held_by g t) own h;
     past_now = λ s own. pages_now (held_by g s) own;
     past_stays = λ s t part own h le. pages_stay (held_by g s) (held_by g t) own h part le;
-    leaves_first = λ s t image own h left. leaves_first (held_by g s) (held_by g t) own h t.held.limits image t.held.log_limits left;
-    leaves_between = λ s t u image own h then left. leaves_between (held_by g s) (held_by g t) (held_by g u) own h then image left;
-    leaves_early = λ s t u image own h then left. leaves_early (held_by g s) (held_by g t) (held_by g u) own h then image left;
-    leaves_late = λ s t u image own h then left. leaves_late (held_by g s) (held_by g t) (held_by g u) own h then image left;
+    leaves_first = λ s t image own h left.
+        leaves_first (held_by g s) (held_by g t) own h t.held.limits image t.held.log_limits left;
+    leaves_between = λ s t u image own h then left.
+        leaves_between (held_by g s) (held_by g t) (held_by g u) own h then image left;
+    leaves_early = λ s t u image own h then left.
+        leaves_early (held_by g s) (held_by g t) (held_by g u) own h then image left;
+    leaves_late = λ s t u image own h then left.
+        leaves_late (held_by g s) (held_by g t) (held_by g u) own h then image left;
   }

@@ -86,8 +86,10 @@ impl<D: Device> LoggedPages<D> {
         ensures pages { result.pages ≡ pages }
         ensures acts { result.acts ≡ 0 }
         ensures durable { result.durable ≡ 0 }
-        ensures own { StandsOpened log (D.trace device).now pages.items → IsOwn (held_of D.Device result) }
-        ensures closed { groups_end log ≡ 0 → HasWholeRoom limits (backing_of (held_of D.Device result)) }
+        ensures own { StandsOpened log (D.trace device).now pages.items
+            → IsOwn (held_of D.Device result) }
+        ensures closed { groups_end log ≡ 0
+            → HasWholeRoom limits (backing_of (held_of D.Device result)) }
     {
         let mut history = History::new();
         history.begin(&pages);
@@ -111,7 +113,8 @@ impl<D: Device> LoggedPages<D> {
         requires some { 1 ≤ length pages.now }
         requires actable { AreActable self.old.limits (length self.old.pages.items) pages.now }
         ensures steps { Follows (held_of D.Device self.old) (held_of D.Device self.new) }
-        ensures pages { OnOk result (self.new.pages.items ≡ with_pages self.old.pages.items pages.now) }
+        ensures pages { OnOk result
+            (self.new.pages.items ≡ with_pages self.old.pages.items pages.now) }
         ensures acts { OnOk result (self.new.acts ≡ suc self.old.acts) }
         ensures number { IfOk result (λ n. n ≡ suc self.old.acts) }
         ensures limits { self.new.limits ≡ self.old.limits }
@@ -119,7 +122,8 @@ impl<D: Device> LoggedPages<D> {
         ensures stopped { is_stopped self.old.log ≡ true → result ≡ Err Fault.Stopped }
         ensures refused { OnErr result (held_of D.Device self.new ≡ held_of D.Device self.old) }
         ensures cause { IfErr result (λ e.
-            ((e ≡ Fault.Stopped) × (IsTrue (is_stopped self.old.log) ⊎ (self.old.acts ≡ 2 ^ 64 - 1)))
+            ((e ≡ Fault.Stopped)
+            × (IsTrue (is_stopped self.old.log) ⊎ (self.old.acts ≡ 2 ^ 64 - 1)))
             ⊎ ((e ≡ Fault.LogFull) × (self.old.promised ≤ length pages.now))) }
     {
         let number = self.log.append(pages)?;
@@ -165,7 +169,8 @@ impl<D: Device> LoggedPages<D> {
         ensures home { OnOk result (IsOwn (held_of D.Device self.new)
             → AreHome self.new.limits [] self.new.pages.items (D.trace self.new.device).now) }
         ensures same { SameButDevice D.Device self.old self.new }
-        ensures failures { CountsFailures result (D.failures self.old.device) (D.failures self.new.device) }
+        ensures failures { CountsFailures result
+            (D.failures self.old.device) (D.failures self.new.device) }
     {
         write_home(&mut self.device, self.limits, &self.pages, &self.changed)
     }
@@ -179,9 +184,11 @@ impl<D: Device> LoggedPages<D> {
             → Follows (held_of D.Device self.old) (held_of D.Device self.new) }
         ensures pages { SamePages D.Device self.old self.new }
         ensures durable { self.new.durable ≡ self.old.durable }
-        ensures room { OnOk result (HasWholeRoom self.old.limits (backing_of (held_of D.Device self.new))) }
+        ensures room { OnOk result
+            (HasWholeRoom self.old.limits (backing_of (held_of D.Device self.new))) }
         ensures kept { OnErr result (SameRoom D.Device self.old self.new) }
-        ensures failures { CountsFailures result (D.failures self.old.device) (D.failures self.new.device) }
+        ensures failures { CountsFailures result
+            (D.failures self.old.device) (D.failures self.new.device) }
     {
         self.log.reset(&mut self.device)?;
         self.changed.fill(false);
@@ -197,12 +204,14 @@ impl<D: Device> LoggedPages<D> {
         ensures pages { SamePages D.Device self.old self.new }
         ensures number { IfOk result (λ n. n ≡ self.old.acts) }
         ensures durable { OnOk result (self.new.durable ≡ self.old.acts) }
-        ensures room { OnOk result (HasWholeRoom self.old.limits (backing_of (held_of D.Device self.new))) }
+        ensures room { OnOk result
+            (HasWholeRoom self.old.limits (backing_of (held_of D.Device self.new))) }
         ensures stopped { is_stopped self.old.log ≡ true → result ≡ Err Fault.Stopped }
         ensures failed { OnErr result
             ((is_stopped self.new.log ≡ true) ⊎ (self.new.durable ≡ self.old.acts)) }
         ensures promised { OnErr result (self.new.promised ≡ self.old.promised) }
-        ensures idle { OnErr result (self.old.durable ≡ self.old.acts → self.new.room ≡ self.old.room) }
+        ensures idle { OnErr result
+            (self.old.durable ≡ self.old.acts → self.new.room ≡ self.old.room) }
         ensures cause { IoOrStopped result (is_stopped self.old.log)
             (D.failures self.old.device) (D.failures self.new.device) }
     {

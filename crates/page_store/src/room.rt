@@ -41,7 +41,8 @@ impl StoreRoom {
         ensures empty { IfOk result (λ room. pages_of_room room ≡ []) }
         ensures counts { IfOk result (λ room. counts_of_room room ≡ []) }
         ensures allowed { OnOk result (AreLimits limits) }
-        ensures cause { IfErr result (λ e. (e ≡ Fault.NoMemory) ⊎ ((e ≡ Fault.BadLimits) × (AreLimits limits → ⊥))) }
+        ensures cause { IfErr result
+            (λ e. (e ≡ Fault.NoMemory) ⊎ ((e ≡ Fault.BadLimits) × (AreLimits limits → ⊥))) }
     {
         if !limits.are_valid() {
             return Err(Fault::BadLimits);
@@ -69,12 +70,14 @@ impl StoreRoom {
     pub fn add(&mut self, page: Page) -> Result<(), Fault>
         ensures limits { limits_of_room self.new ≡ limits_of_room self.old }
         ensures done { OnOk result (pages_of_room self.new ≡ pages_of_room self.old ++ page ∷ []) }
-        ensures stored { OnOk result (IsStored (limits_of_room self.old) (length (pages_of_room self.old)) page) }
+        ensures stored { OnOk result
+            (IsStored (limits_of_room self.old) (length (pages_of_room self.old)) page) }
         // No deletion number counts of a page that was read.
         ensures counts { OnOk result (counts_of_room self.new ≡ counts_of_room self.old ++ 0 ∷ []) }
         ensures refused { OnErr result (pages_of_room self.new ≡ pages_of_room self.old) }
         ensures cause { IfErr result (λ e.
-            ((e ≡ Fault.IndexFull) × ((limits_of_room self.old).pages ≤ length (pages_of_room self.old)))
+            ((e ≡ Fault.IndexFull)
+            × ((limits_of_room self.old).pages ≤ length (pages_of_room self.old)))
             ⊎ ((e ≡ Fault.PageDamaged (length (pages_of_room self.old)))
             × (IsStored (limits_of_room self.old) (length (pages_of_room self.old)) page → ⊥))) }
     {

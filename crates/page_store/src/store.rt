@@ -17,6 +17,7 @@ use redo_log::Log;
 pub struct Store<D: Device> {
     pub(crate) held: LoggedPages<D>,
     calls: CallTable,
+    /// How many pages may be held in memory at once; all that are in use are, as yet.
     frames: u32,
     ghost counts: { length calls.counted ≡ length held.pages.items },
     ghost count_room: { held.limits.pages ≤ calls.room },
@@ -45,13 +46,15 @@ impl<D: Device> Store<D> {
         requires sized { place (limits_of_room room) (limits_of_room room).pages
             ≤ length (D.trace device).now.seen }
         ensures state { state_of D.Device result
-            ≡ opened_state (limits_of_room room) frames (pages_of_room room) (counts_of_room room) counter }
+            ≡ opened_state (limits_of_room room) frames (pages_of_room room)
+            (counts_of_room room) counter }
         ensures device { device_of D.Device result ≡ device }
         ensures durable { (backing_of (held_by D.Device result)).durable ≡ 0 }
         ensures stopped { (backing_of (held_by D.Device result)).stopped ≡ is_stopped log }
         ensures room { groups_end log ≡ 0
             → HasWholeRoom (limits_of_room room) (backing_of (held_by D.Device result)) }
-        ensures own { StandsOpened log (D.trace device).now (pages_of_room room) → IsOwnStore D.Device result }
+        ensures own { StandsOpened log (D.trace device).now (pages_of_room room)
+            → IsOwnStore D.Device result }
     {
         Store {
             held: LoggedPages::new(room.limits, device, log, room.pages, room.marks),
@@ -72,13 +75,15 @@ impl<D: Device> Store<D> {
         ensures restarts { (first : Held) (image : List ℕ) → IsOwn first
             → Follows first (held_by D.Device self.now)
             → MayHaveLeft first.trace (held_by D.Device self.now).trace image
-            → RestartsToPart (state_of D.Device self.now).limits (store_history D.Device self.now) first.durable image }
+            → RestartsToPart (state_of D.Device self.now).limits
+            (store_history D.Device self.now) first.durable image }
         ensures pages { (first : Held) → IsOwn first → Follows first (held_by D.Device self.now)
             → first.pages ≡ pages_after (store_history D.Device self.now) first.acts }
         ensures own { (first : Held) → IsOwn first → Follows first (held_by D.Device self.now)
             → IsOwnStore D.Device self.now }
         ensures now { (image : List ℕ) → MayLeave (held_by D.Device self.now).trace.now image
-            → MayHaveLeft (held_by D.Device self.now).trace (held_by D.Device self.now).trace image }
+            → MayHaveLeft (held_by D.Device self.now).trace
+            (held_by D.Device self.now).trace image }
     {}
 }
 

@@ -18,7 +18,8 @@ use page_codec::{Page, encode};
 /// Writes the bytes of the page.
 fn write_page<D: Device>(device: &mut D, at: u64, page: &Page) -> Result<(), Fault>
     requires inside { at + 4096 ≤ length (D.trace device.old).now.seen }
-    ensures trace { Writes at (page_bytes page.now) result (D.trace device.old) (D.trace device.new) }
+    ensures trace { Writes at (page_bytes page.now) result
+        (D.trace device.old) (D.trace device.new) }
     ensures whole { length (page_bytes page.now) ≡ 4096 }
     ensures len { length (D.trace device.new).now.seen ≡ length (D.trace device.old).now.seen }
     ensures honest { D.is_honest device.new ≡ D.is_honest device.old }
@@ -43,7 +44,8 @@ fn write_block<D: Device>(
     requires inside { place limits limits.pages ≤ length (D.trace device.old).now.seen }
     ensures moments { Goes (ChangesMarked limits marks.now (D.trace device.old).now)
         (D.trace device.old) (D.trace device.new) }
-    ensures only { ChangesOnly (place limits block) 4096 (D.trace device.old).now (D.trace device.new).now }
+    ensures only { ChangesOnly (place limits block) 4096
+        (D.trace device.old).now (D.trace device.new).now }
     ensures written { OnOk result ((page : Page) → slice_get pages.now block ≡ Some page
         → get_or marks.now block false ≡ true
         → Has (place limits block) (page_bytes page) (D.trace device.new).now.seen) }
@@ -70,7 +72,8 @@ fn write_blocks<D: Device>(
     requires inside { place limits limits.pages ≤ length (D.trace device.old).now.seen }
     ensures moments { Goes (ChangesMarked limits marks.now (D.trace device.old).now)
         (D.trace device.old) (D.trace device.new) }
-    ensures written { OnOk result (AreWritten limits marks.now pages.now (length pages.now) (D.trace device.new).now) }
+    ensures written { OnOk result
+        (AreWritten limits marks.now pages.now (length pages.now) (D.trace device.new).now) }
     ensures honest { D.is_honest device.new ≡ D.is_honest device.old }
     ensures failures { CountsFailures result (D.failures device.old) (D.failures device.new) }
 {

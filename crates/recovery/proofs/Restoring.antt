@@ -6,7 +6,7 @@ use Rattle.device.specs.Disk.{Moment, Trace, MayLeave, Syncs, synced}
 use Rattle.device.specs.Moments.{Goes}
 use Rattle.device.specs.Places.{Has, OnDisk, ChangesOnly}
 use Rattle.device.proofs.Going.{goes_weaker, goes_both, goes_now, syncs_goes}
-use Rattle.device.proofs.Standing.{on_image, kept, same_only}
+use Rattle.device.proofs.Standing.{elsewhere_untouched, on_image, kept, same_only}
 use Rattle.index_model.specs.declared.fault.Fault.{Fault}
 use Rattle.index_model.specs.declared.fault.Fault.TheVariants.{NoMemory, Io, LogDamaged}
 use Rattle.index_model.specs.declared.limits.Limits.{Limits}
@@ -21,10 +21,10 @@ use Rattle.page_store.specs.Restart.{RestartsTo, LeavesPages}
 use Rattle.page_store.proofs.Restarting.{superblock_kept}
 use Rattle.redo_log.specs.Groups.{SpellsGroups, log_range}
 use Rattle.redo_log.specs.Images.{last_image, images_of, SameImages}
-use Rattle.redo_log.specs.Kept.{Keeps, Restarts, RestartsOrEmpty, RestartsOrEmptyThroughout, ChangesItsRange, ForgetsForced, limits_of, waiting_count}
+use Rattle.redo_log.specs.Kept.{Keeps, Restarts, RestartsOrEmpty, RestartsOrEmptyThroughout, ChangesItsRange, ForgetsForced, KeepsWhileUntouched, WhatItKeepsRestarts, limits_of, waiting_count}
 use Rattle.redo_log.specs.Reading.{Replays, IsOpened, IsDamaged}
 use Rattle.redo_log.specs.declared.log.Log.{Log}
-use Rattle.redo_log.proofs.Keeping.{keeps_restarts, keeps_elsewhere, forgets_all}
+use Rattle.redo_log.proofs.Keeping.{forgets_all}
 use Rattle.recovery.specs.Homing.{ChangesNamed, AreHomed}
 use Rattle.recovery.specs.Opening.{IsSynced, IsNoMemoryOrIo}
 use Rattle.recovery.proofs.Named.{same_named}
@@ -121,7 +121,8 @@ named_from limits images images' t t' u e f moments =
     subst (λ (l : List Page). Goes (ChangesNamed limits l t.now) t u) f (subst (λ (x : Trace). Goes (ChangesNamed limits images' x.now) x u) e moments)
 
 -- a log that was just replayed over an index
-module _ (limits : Limits) (images pages : List Page) (log : Log) (t : Trace) (firm : IsSynced t.now) (restarts : RestartsTo limits t.now.seen pages) (opened : IsOpened limits log) (replays : Replays limits t.now log images) where
+module _ (limits : Limits) (images pages : List Page) (log : Log) (t : Trace) (firm : IsSynced t.now) (restarts : RestartsTo limits t.now.seen pages) (opened : IsOpened limits log) (replays : Replays limits t.now log images)
+    (law : KeepsWhileUntouched log) (leaves : WhatItKeepsRestarts log) where
   abbrev gs : List (List Page)
   gs = replays.groups
 
@@ -139,12 +140,12 @@ module _ (limits : Limits) (images pages : List Page) (log : Log) (t : Trace) (f
 
   keeps_written : (m : Moment) → ChangesNamed limits images t.now m → Keeps log m gs (length gs)
   keeps_written m change =
-      keeps_elsewhere log (place limits 0) (4096 * limits.pages) t.now m gs (length gs) change.only (inl (omega (arith, ap (λ (l : Limits). l.log_bytes) opened.limits_are))) keeps
+      law t.now m gs (length gs) (elsewhere_untouched (place limits 0) (4096 * limits.pages) 4096 (limits_of log).log_bytes t.now m change.only (inl (omega (arith, ap (λ (l : Limits). l.log_bytes) opened.limits_are)))) keeps
 
   -- while its images are written
   pub written_leaves : (m : Moment) → ChangesNamed limits images t.now m → LeavesPages limits pages m
   written_leaves m change image left =
-      let h = subst (λ (l : Limits). Restarts l gs (length gs) m) opened.limits_are (keeps_restarts log m gs (length gs) (keeps_written m change)) image left in
+      let h = subst (λ (l : Limits). Restarts l gs (length gs) m) opened.limits_are (leaves m gs (length gs) (keeps_written m change)) image left in
       stands_leaves limits images pages m (stands_named limits images pages t.now m change started) image left h.holds.groups h.holds.spells (same_images h.part h.holds.groups h.from h.holds.same)
 
   -- once they are written and synced, and while the log is closed

@@ -38,7 +38,8 @@ pub record IsFirstLeaf (p : Page) : Type 0 where
 
 -- the bytes of each block from there to there are zeros
 abbrev pub AreZero : Limits → ℕ → ℕ → List ℕ → Type 0
-AreZero limits from to file = (block : ℕ) → from ≤ block → block < to → Has (place limits block) (replicate 4096 0) file
+AreZero limits from to file = (block : ℕ) → from ≤ block → block < to
+    → Has (place limits block) (replicate 4096 0) file
 
 -- the pages of an empty index, and zeros in all other blocks
 pub record HasPages (limits : Limits) (file : List ℕ) : Type 0 where
@@ -103,5 +104,6 @@ abbrev pub CreateEnds : {T : Type 0} → Limits → Result T Fault → Trace →
 CreateEnds limits result old new failed fails = MatchResult result
     (λ _. AreLimits limits × (needed_length limits ≤ length old.now.seen) × (fails ≡ failed))
     (λ e. ((e ≡ BadLimits) × (AreLimits limits → ⊥) × (new ≡ old) × (fails ≡ failed))
-    ⊎ ((e ≡ DeviceTooSmall) × AreLimits limits × (length old.now.seen < needed_length limits) × (new ≡ old) × (fails ≡ failed))
+    ⊎ ((e ≡ DeviceTooSmall) × AreLimits limits × (length old.now.seen < needed_length limits)
+    × (new ≡ old) × (fails ≡ failed))
     ⊎ ((e ≡ Io) × (fails ≡ suc failed)))

@@ -16,8 +16,10 @@ pub record ChangesNamed (limits : Limits) (images : List Page) (old m : Moment) 
 
 -- the last image of each block stands at its place
 abbrev pub HasImages : Limits → List Page → List ℕ → Type 0
-HasImages limits images file = (block : ℕ) (page : Page) → last_image images block ≡ Some page → Has (place limits block) (page_bytes page) file
+HasImages limits images file = (block : ℕ) (page : Page) → last_image images block ≡ Some page
+    → Has (place limits block) (page_bytes page) file
 
 -- and no crash changes it
 abbrev pub AreHomed : Limits → List Page → Moment → Type 0
-AreHomed limits images m = (block : ℕ) (page : Page) → last_image images block ≡ Some page → OnDisk (place limits block) (page_bytes page) m
+AreHomed limits images m = (block : ℕ) (page : Page) → last_image images block ≡ Some page
+    → OnDisk (place limits block) (page_bytes page) m

@@ -10,7 +10,7 @@ use Rattle.page_action.specs.States.{State}
 use Rattle.page_action.specs.Stored.{AreStored}
 use Rattle.page_codec.specs.declared.page.Page.{Page}
 use Rattle.page_store.specs.Logged.{StandsOpened}
-use Rattle.device_layout.specs.Layout.{superblock, place}
+use Rattle.device_layout.specs.Layout.{superblock, needed_length}
 use Rattle.page_store.specs.Rooms.{pages_of_room}
 use Rattle.page_store.specs.Stores.{state_of, device_of, opened_state, IsOwnStore}
 use Rattle.page_store.specs.declared.store.Store.{Store}
@@ -30,12 +30,13 @@ AreFrames frames = (16 ≤ frames) × (frames ≤ 1024)
 pub record IsFront (limits : Limits) (file : List ℕ) : Type 0 where
   pub allowed : AreLimits limits
   pub superblock_is : take 4096 file ≡ superblock limits
-  pub long : place limits limits.pages ≤ length file
+  pub long : needed_length limits ≤ length file
 
 -- no superblock stands there, or the device is shorter than it says
 abbrev pub IsNoFront : List ℕ → Fault → Type 0
 IsNoFront file fault = IsNoSuperblock (take 4096 file) fault
-    ⊎ ((fault ≡ BadSuper) × (limits : Limits) × AreLimits limits × (take 4096 file ≡ superblock limits) × (length file < place limits limits.pages))
+    ⊎ ((fault ≡ BadSuper) × (limits : Limits) × AreLimits limits
+    × (take 4096 file ≡ superblock limits) × (length file < needed_length limits))
 
 -- the faults of a superblock
 abbrev pub IsFrontFault : Fault → Type 0
@@ -43,7 +44,8 @@ IsFrontFault fault = (fault ≡ BadSuper) ⊎ (fault ≡ BadVersion) ⊎ (fault 
 
 -- the log's range is groups: each open one is whole
 abbrev pub HasGroups : Limits → List ℕ → Type 0
-HasGroups limits file = (groups : List (List Page)) × SpellsGroups limits (log_range limits file) groups
+HasGroups limits file =
+    (groups : List (List Page)) × SpellsGroups limits (log_range limits file) groups
 
 -- refused before anything is done: frames out of their range; or else a device of less than 4,096 bytes; or else what
 -- stands in front
@@ -58,21 +60,24 @@ IsFrontRefusal honest frames file fault =
 abbrev pub IsRestoreRefusal : Limits → Bool → Trace → Trace → Fault → Type 0
 IsRestoreRefusal limits honest old new fault =
     (fault ≡ NoMemory)
-    ⊎ ((fault ≡ LogDamaged) × (new ≡ next (synced old.now) old) × (IsTrue honest → IsDamaged limits old.now))
+    ⊎ ((fault ≡ LogDamaged) × (new ≡ next (synced old.now) old)
+    × (IsTrue honest → IsDamaged limits old.now))
     ⊎ IsDamage limits honest new.now.seen fault
 
 -- refused for one of these
 abbrev pub IsRefusal : Bool → ℕ → Trace → Trace → Fault → Type 0
 IsRefusal honest frames old new fault =
     (IsFrontRefusal honest frames old.now.seen fault × (new ≡ old))
-    ⊎ ((limits : Limits) × AreFrames frames × (IsTrue honest → IsFront limits old.now.seen) × IsRestoreRefusal limits honest old new fault)
+    ⊎ ((limits : Limits) × AreFrames frames × (IsTrue honest → IsFront limits old.now.seen)
+    × IsRestoreRefusal limits honest old new fault)
 
 -- no crash changes a byte
 abbrev pub IsSynced : Moment → Type 0
 IsSynced m = (i : ℕ) → m.loose i ≡ false
 
 -- an opened log without open groups, and what was read
-pub record IsRestored (limits : Limits) (honest : Bool) (file : List ℕ) (parts : Parts) : Type 0 where
+pub record IsRestored (limits : Limits) (honest : Bool) (file : List ℕ) (parts : Parts)
+    : Type 0 where
   pub opened : IsOpened limits parts.log
   pub closed : groups_end parts.log ≡ 0
   pub read : IsAllRead limits honest file parts.found
@@ -81,7 +86,7 @@ pub record IsRestored (limits : Limits) (honest : Bool) (file : List ℕ) (parts
 pub record IsFound (honest : Bool) (old new : List ℕ) (parts : Parts) : Type 0 where
   pub limits : Limits
   pub allowed : AreLimits limits
-  pub long : place limits limits.pages ≤ length new
+  pub long : needed_length limits ≤ length new
   pub restored : IsRestored limits honest new parts
   pub front : IsTrue honest → IsFront limits old
   pub undamaged : IsTrue honest → HasGroups limits old
@@ -102,7 +107,8 @@ pub record IsFreshlyOpened (frames : ℕ) (st : State) : Type 0 where
   pub some : 0 < length st.pages
   pub few : length st.pages ≤ st.limits.pages
   pub stored : AreStored st.limits 0 st.pages
-  pub is : st ≡ opened_state st.limits frames st.pages (replicate (length st.pages) 0) (greatest_cycle st.pages)
+  pub is : st ≡ opened_state st.limits frames st.pages
+      (replicate (length st.pages) 0) (greatest_cycle st.pages)
 
 -- the index of a store stands on its device: its superblock and an undamaged log stood there before, its pages stand
 -- there now
@@ -112,7 +118,8 @@ pub record StandsOnDevice (st : State) (old new : List ℕ) : Type 0 where
   pub in_use : AreInUse st.limits st.pages new
 
 -- the store has these pages, and is an own device's
-pub record IsSameIndex {D : Type 0} (g : Ghosts D) (limits : Limits) (pages : List Page) (store : Store D g) : Type 0 where
+pub record IsSameIndex {D : Type 0} (g : Ghosts D) (limits : Limits) (pages : List Page)
+    (store : Store D g) : Type 0 where
   pub limits_are : (state_of g store).limits ≡ limits
   pub pages_are : (state_of g store).pages ≡ pages
   pub own : IsOwnStore g store

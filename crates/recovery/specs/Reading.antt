@@ -22,7 +22,8 @@ AreBytesOf (Some page) bytes = IsPage page × (bytes ≡ page_bytes page)
 
 -- each of these pages stands at the place of its block
 abbrev pub StandFirst : Limits → List Page → List ℕ → Type 0
-StandFirst limits pages file = (block : ℕ) (page : Page) → slice_get pages block ≡ Some page → block_bytes limits block file ≡ page_bytes page
+StandFirst limits pages file = (block : ℕ) (page : Page) → slice_get pages block ≡ Some page
+    → block_bytes limits block file ≡ page_bytes page
 
 -- behind so many blocks none is in use: there is no block more, or zeros stand at the place of the next one
 abbrev pub IsEnd : Limits → ℕ → List ℕ → Type 0
@@ -42,12 +43,14 @@ pub record IsDamagedAt (limits : Limits) (block : ℕ) (file : List ℕ) : Type 
   pub stand : StandFirst limits before file
   pub count : length before ≡ block
   pub within : block < limits.pages
-  pub no_page : (page : Page) → IsStored limits block page → block_bytes limits block file ≢ page_bytes page
+  pub no_page : (page : Page) → IsStored limits block page
+      → block_bytes limits block file ≢ page_bytes page
   pub in_use : block_bytes limits block file ≡ replicate 4096 0 → block ≡ 0
 
 -- refused for a block that is damaged
 abbrev pub IsDamage : Limits → Bool → List ℕ → Fault → Type 0
-IsDamage limits honest file fault = (block : ℕ) × (fault ≡ PageDamaged block) × (IsTrue honest → IsDamagedAt limits block file)
+IsDamage limits honest file fault = (block : ℕ) × (fault ≡ PageDamaged block)
+    × (IsTrue honest → IsDamagedAt limits block file)
 
 -- the greatest cycle number of these pages, 0 where there is none
 abbrev pub greatest_cycle : List Page → ℕ
@@ -56,7 +59,8 @@ greatest_cycle (page ∷ pages) = max page.cycle (greatest_cycle pages)
 
 -- what was read: pages that may be stored, no deletion number that counts, and the greatest cycle number; the pages
 -- stand on the device, if it is honest
-pub record HasReadPages (limits : Limits) (honest : Bool) (file : List ℕ) (found : Found) : Type 0 where
+pub record HasReadPages (limits : Limits) (honest : Bool) (file : List ℕ) (found : Found)
+    : Type 0 where
   pub limits_are : limits_of_room found.room ≡ limits
   pub stored : AreStored limits 0 (pages_of_room found.room)
   pub counts : counts_of_room found.room ≡ replicate (length (pages_of_room found.room)) 0
@@ -64,7 +68,8 @@ pub record HasReadPages (limits : Limits) (honest : Bool) (file : List ℕ) (fou
   pub stand : IsTrue honest → StandFirst limits (pages_of_room found.room) file
 
 -- and these are all: one page or more
-pub record IsAllRead (limits : Limits) (honest : Bool) (file : List ℕ) (found : Found) : Type 0 where
+pub record IsAllRead (limits : Limits) (honest : Bool) (file : List ℕ) (found : Found)
+    : Type 0 where
   pub read : HasReadPages limits honest file found
   pub some : 0 < length (pages_of_room found.room)
   pub few : length (pages_of_room found.room) ≤ limits.pages

@@ -13,7 +13,11 @@ number_at at bytes = from_le_bytes w32 (take 4 (drop at bytes))
 
 -- the sizes that stand there
 abbrev pub sizes_in : List ℕ → Limits
-sizes_in bytes = record { items = number_at 12 bytes; pages = number_at 16 bytes; log_bytes = number_at 20 bytes }
+sizes_in bytes = record {
+  items = number_at 12 bytes;
+  pages = number_at 16 bytes;
+  log_bytes = number_at 20 bytes;
+}
 
 -- the bytes are no superblock: they begin otherwise; or else the layout is another; or else the sizes are out of their
 -- ranges; or else other bytes than zeros stand behind them

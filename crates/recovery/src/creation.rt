@@ -67,8 +67,10 @@ fn place<D: Device>(device: &mut D, at: u64, bytes: &[u8]) -> Result<(), Fault>
 fn place_zeros<D: Device>(device: &mut D, limits: &Limits) -> Result<(), Fault>
     requires allowed { AreLimits limits.now }
     requires inside { needed_length limits.now ≤ length (D.trace device.old).now.seen }
-    ensures there { OnOk result (AreZero limits.now 2 limits.now.pages (D.trace device.new).now.seen) }
-    ensures moments { Goes (ChangesOnly (place limits.now 2) (4096 * (limits.now.pages - 2)) (D.trace device.old).now)
+    ensures there { OnOk result
+        (AreZero limits.now 2 limits.now.pages (D.trace device.new).now.seen) }
+    ensures moments { Goes
+        (ChangesOnly (place limits.now 2) (4096 * (limits.now.pages - 2)) (D.trace device.old).now)
         (D.trace device.old) (D.trace device.new) }
     ensures calls { OnlyWrites D.Device result device.old device.new }
 {
@@ -88,9 +90,11 @@ pub(crate) fn place_page<D: Device>(
     requires allowed { AreLimits limits.now }
     requires below { page.now.block < limits.now.pages }
     requires inside { needed_length limits.now ≤ length (D.trace device.old).now.seen }
-    ensures there { OnOk result (Has (place limits.now page.now.block) (page_bytes page.now) (D.trace device.new).now.seen) }
+    ensures there { OnOk result
+        (Has (place limits.now page.now.block) (page_bytes page.now) (D.trace device.new).now.seen) }
     ensures long { length (page_bytes page.now) ≡ 4096 }
-    ensures moments { Goes (ChangesOnly (place limits.now page.now.block) 4096 (D.trace device.old).now)
+    ensures moments { Goes
+        (ChangesOnly (place limits.now page.now.block) 4096 (D.trace device.old).now)
         (D.trace device.old) (D.trace device.new) }
     ensures calls { OnlyWrites D.Device result device.old device.new }
 {
@@ -104,7 +108,8 @@ fn place_pages<D: Device>(device: &mut D, limits: &Limits) -> Result<(), Fault>
     requires allowed { AreLimits limits.now }
     requires inside { needed_length limits.now ≤ length (D.trace device.old).now.seen }
     ensures there { OnOk result (HasPages limits.now (D.trace device.new).now.seen) }
-    ensures moments { Goes (ChangesOnly (place limits.now 0) (4096 * limits.now.pages) (D.trace device.old).now)
+    ensures moments { Goes
+        (ChangesOnly (place limits.now 0) (4096 * limits.now.pages) (D.trace device.old).now)
         (D.trace device.old) (D.trace device.new) }
     ensures calls { OnlyWrites D.Device result device.old device.new }
 {
@@ -118,7 +123,9 @@ fn place_body<D: Device>(device: &mut D, limits: &Limits) -> Result<(), Fault>
     requires allowed { AreLimits limits.now }
     requires inside { needed_length limits.now ≤ length (D.trace device.old).now.seen }
     ensures there { OnOk result (HasBody limits.now (D.trace device.new).now) }
-    ensures moments { Goes (ChangesOnly log_start (limits.now.log_bytes + 4096 * limits.now.pages) (D.trace device.old).now)
+    ensures moments { Goes
+        (ChangesOnly log_start (limits.now.log_bytes + 4096 * limits.now.pages)
+        (D.trace device.old).now)
         (D.trace device.old) (D.trace device.new) }
     ensures calls { OnlyWrites D.Device result device.old device.new }
 {
@@ -131,7 +138,8 @@ fn place_body<D: Device>(device: &mut D, limits: &Limits) -> Result<(), Fault>
 fn place_front<D: Device>(device: &mut D, bytes: &[u8; 4096]) -> Result<(), Fault>
     requires inside { 4096 ≤ length (D.trace device.old).now.seen }
     ensures there { OnOk result (OnDisk 0 bytes.now (D.trace device.new).now) }
-    ensures moments { Goes (WritesFront bytes.now (D.trace device.old).now) (D.trace device.old) (D.trace device.new) }
+    ensures moments { Goes (WritesFront bytes.now (D.trace device.old).now)
+        (D.trace device.old) (D.trace device.new) }
     ensures calls { OnlyWrites D.Device result device.old device.new }
 {
     device.write_at(0, bytes)?;
@@ -144,7 +152,8 @@ fn write_index<D: Device>(device: &mut D, limits: &Limits) -> Result<(), Fault>
     requires allowed { AreLimits limits.now }
     requires inside { needed_length limits.now ≤ length (D.trace device.old).now.seen }
     ensures made { OnOk result (IsEmptyIndex limits.now (D.trace device.new).now) }
-    ensures moments { Goes (IsMaking limits.now (D.trace device.old).now) (D.trace device.old) (D.trace device.new) }
+    ensures moments { Goes (IsMaking limits.now (D.trace device.old).now)
+        (D.trace device.old) (D.trace device.new) }
     ensures calls { OnlyWrites D.Device result device.old device.new }
 {
     let mut front = [0; 4096];
@@ -164,8 +173,10 @@ pub fn create<D: Device>(device: &mut D, limits: &Limits) -> Result<(), Fault>
     ensures made { OnOk result (IsEmptyIndex limits.now (D.trace device.new).now) }
     // So it can be opened, also after a crash.
     ensures own { OnOk result (LeavesEmpty limits.now (D.trace device.new).now) }
-    // A crash at each moment since leaves what was there but for its superblock, or no index, or the new one.
-    ensures moments { Goes (IsMaking limits.now (D.trace device.old).now) (D.trace device.old) (D.trace device.new) }
+    // A crash at each moment since leaves what was there but for its superblock, no index, or the
+    // new one.
+    ensures moments { Goes (IsMaking limits.now (D.trace device.old).now)
+        (D.trace device.old) (D.trace device.new) }
     ensures ends { CreateEnds limits.now result (D.trace device.old) (D.trace device.new)
         (D.failures device.old) (D.failures device.new) }
     ensures len { length (D.trace device.new).now.seen ≡ length (D.trace device.old).now.seen }

@@ -3,7 +3,7 @@
 ghost use Rattle.std.specs.Prelude.{◌≡◌, ◌≤◌, length, OnOk};
 ghost use Rattle.device.specs.Moments.{Goes};
 ghost use Rattle.index_model.specs.Limits.{AreLimits};
-ghost use Rattle.device_layout.specs.Layout.{place};
+ghost use Rattle.device_layout.specs.Layout.{needed_length};
 ghost use Rattle.redo_log.specs.Groups.{AreImages};
 ghost use Rattle.recovery.specs.Calls.{OnlyWrites};
 ghost use Rattle.recovery.specs.Homing.{ChangesNamed, HasImages, AreHomed};
@@ -17,7 +17,7 @@ use page_codec::Page;
 fn write_images<D: Device>(device: &mut D, limits: Limits, images: &[Page]) -> Result<(), Fault>
     requires allowed { AreLimits limits }
     requires images { AreImages limits images.now }
-    requires inside { place limits limits.pages ≤ length (D.trace device.old).now.seen }
+    requires inside { needed_length limits ≤ length (D.trace device.old).now.seen }
     ensures moments { Goes (ChangesNamed limits images.now (D.trace device.old).now)
         (D.trace device.old) (D.trace device.new) }
     ensures written { OnOk result (HasImages limits images.now (D.trace device.new).now.seen) }
@@ -38,7 +38,7 @@ pub(crate) fn bring_home<D: Device>(
 ) -> Result<(), Fault>
     requires allowed { AreLimits limits }
     requires images { AreImages limits images.now }
-    requires inside { place limits limits.pages ≤ length (D.trace device.old).now.seen }
+    requires inside { needed_length limits ≤ length (D.trace device.old).now.seen }
     ensures moments { Goes (ChangesNamed limits images.now (D.trace device.old).now)
         (D.trace device.old) (D.trace device.new) }
     ensures home { OnOk result (AreHomed limits images.now (D.trace device.new).now) }

@@ -9,7 +9,7 @@ ghost use Rattle.page_store.specs.Logged.{StandsOpened, backing_of};
 ghost use Rattle.page_store.specs.Rooms.{limits_of_room};
 ghost use Rattle.page_store.specs.Stores.{state_of, held_by};
 ghost use Rattle.index_model.specs.declared.limits.Limits.{Limits};
-ghost use Rattle.device_layout.specs.Layout.{place};
+ghost use Rattle.device_layout.specs.Layout.{needed_length};
 ghost use Rattle.page_store.specs.Restart.{RestartsTo, LeavesPages};
 ghost use Rattle.redo_log.specs.Kept.{groups_end};
 ghost use Rattle.redo_log.specs.Reading.{IsOpened, IsDamaged, ReplayFails};
@@ -45,14 +45,18 @@ pub(crate) struct Parts {
 /// fewer than 4,096 bytes (`BadSuper`); a failed read (`Io`); what the superblock is refused with; a device shorter than
 /// it says (`BadSuper`).
 fn find_limits<D: Device>(device: &mut D, frames: u32) -> Result<Limits, Fault>
-    ensures front { IfOk result (λ limits. IsTrue (D.is_honest device.new) → IsFront limits (D.trace device.old).now.seen) }
+    ensures front { IfOk result (λ limits. IsTrue (D.is_honest device.new)
+        → IsFront limits (D.trace device.old).now.seen) }
     ensures allowed { IfOk result AreLimits }
-    ensures long { IfOk result (λ limits. place limits limits.pages ≤ length (D.trace device.old).now.seen) }
+    ensures long { IfOk result (λ limits.
+        needed_length limits ≤ length (D.trace device.old).now.seen) }
     ensures frames { OnOk result (AreFrames frames) }
     ensures only { AreFrames frames → IsTrue (D.is_honest device.new) → (limits : Limits)
-        → IsFront limits (D.trace device.old).now.seen → MatchResult result (λ found. found ≡ limits) (λ e. e ≡ Fault.Io) }
+        → IsFront limits (D.trace device.old).now.seen
+        → MatchResult result (λ found. found ≡ limits) (λ e. e ≡ Fault.Io) }
     ensures calls { OnlyReads D.Device device.old device.new }
-    ensures cause { FailsWithIoOr (IsFrontRefusal (D.is_honest device.new) frames (D.trace device.old).now.seen)
+    ensures cause { FailsWithIoOr
+        (IsFrontRefusal (D.is_honest device.new) frames (D.trace device.old).now.seen)
         result (D.failures device.old) (D.failures device.new) }
 {
     if frames < 16 || frames > 1024 {
@@ -74,17 +78,20 @@ fn find_limits<D: Device>(device: &mut D, frames: u32) -> Result<Limits, Fault>
 /// `LogDamaged`.
 fn restore_log<D: Device>(alloc: Global, device: &mut D, limits: Limits) -> Result<Log, Fault>
     requires allowed { AreLimits limits }
-    requires inside { place limits limits.pages ≤ length (D.trace device.old).now.seen }
+    requires inside { needed_length limits ≤ length (D.trace device.old).now.seen }
     ensures opened { IfOk result (IsOpened limits) }
     ensures closed { IfOk result (λ log. groups_end log ≡ 0) }
-    ensures undamaged { OnOk result (IsTrue (D.is_honest device.new) → HasGroups limits (D.trace device.old).now.seen) }
+    ensures undamaged { OnOk result (IsTrue (D.is_honest device.new)
+        → HasGroups limits (D.trace device.old).now.seen) }
     ensures same { IsTrue (D.is_honest device.new) → IsSynced (D.trace device.old).now
         → (pages : List Page) → RestartsTo limits (D.trace device.old).now.seen pages
-        → MatchResult result (λ log. StandsOpened log (D.trace device.new).now pages) IsNoMemoryOrIo }
+        → MatchResult result (λ log. StandsOpened log (D.trace device.new).now pages)
+        IsNoMemoryOrIo }
     ensures moments { IsTrue (D.is_honest device.new) → IsSynced (D.trace device.old).now
         → (pages : List Page) → RestartsTo limits (D.trace device.old).now.seen pages
         → Goes (LeavesPages limits pages) (D.trace device.old) (D.trace device.new) }
-    ensures damaged { IfErr result (λ e. e ≡ Fault.LogDamaged → (D.trace device.new ≡ D.trace device.old)
+    ensures damaged { IfErr result (λ e. e ≡ Fault.LogDamaged
+        → (D.trace device.new ≡ D.trace device.old)
         × (IsTrue (D.is_honest device.new) → IsDamaged limits (D.trace device.old).now)) }
     ensures calls { ReadsAndWrites D.Device device.old device.new }
     ensures cause { ReplayFails result (D.failures device.old) (D.failures device.new) }
@@ -93,6 +100,7 @@ fn restore_log<D: Device>(alloc: Global, device: &mut D, limits: Limits) -> Resu
         Ok(found) => found,
         Err(fault) => return Err(fault),
     };
+    found.log.keeping_law();
     bring_home(device, limits, &found.images)?;
     let mut log = found.log;
     log.reset(device)?;
@@ -103,9 +111,11 @@ fn restore_log<D: Device>(alloc: Global, device: &mut D, limits: Limits) -> Resu
 /// `LogDamaged` and `PageDamaged`.
 fn restore<D: Device>(alloc: Global, device: &mut D, limits: Limits) -> Result<Parts, Fault>
     requires allowed { AreLimits limits }
-    requires inside { place limits limits.pages ≤ length (D.trace device.old).now.seen }
-    ensures restored { IfOk result (IsRestored limits (D.is_honest device.new) (D.trace device.new).now.seen) }
-    ensures undamaged { OnOk result (IsTrue (D.is_honest device.new) → HasGroups limits (D.trace device.old).now.seen) }
+    requires inside { needed_length limits ≤ length (D.trace device.old).now.seen }
+    ensures restored { IfOk result
+        (IsRestored limits (D.is_honest device.new) (D.trace device.new).now.seen) }
+    ensures undamaged { OnOk result (IsTrue (D.is_honest device.new)
+        → HasGroups limits (D.trace device.old).now.seen) }
     ensures same { IsTrue (D.is_honest device.new) → (pages : List Page) → 0 < length pages
         → RestartsTo limits (D.trace device.old).now.seen pages
         → MatchResult result (AreSamePages pages (D.trace device.new).now) IsNoMemoryOrIo }
@@ -127,15 +137,18 @@ fn restore<D: Device>(alloc: Global, device: &mut D, limits: Limits) -> Result<P
 fn read_index<D: Device>(alloc: Global, device: &mut D, frames: u32) -> Result<Parts, Fault>
     ensures frames { OnOk result (AreFrames frames) }
     ensures found { IfOk result
-        (IsFound (D.is_honest device.new) (D.trace device.old).now.seen (D.trace device.new).now.seen) }
-    ensures same { IsTrue (D.is_honest device.new) → AreFrames frames → (limits : Limits) (pages : List Page)
-        → HasIndex limits pages (D.trace device.old).now.seen → MatchResult result
-        (λ parts. (limits_of_room parts.found.room ≡ limits) × AreSamePages pages (D.trace device.new).now parts) IsNoMemoryOrIo }
+        (IsFound (D.is_honest device.new)
+        (D.trace device.old).now.seen (D.trace device.new).now.seen) }
+    ensures same { IsTrue (D.is_honest device.new) → AreFrames frames
+        → (limits : Limits) (pages : List Page) → HasIndex limits pages (D.trace device.old).now.seen
+        → MatchResult result (λ parts. (limits_of_room parts.found.room ≡ limits)
+        × AreSamePages pages (D.trace device.new).now parts) IsNoMemoryOrIo }
     ensures moments { IsTrue (D.is_honest device.new) → (limits : Limits) (pages : List Page)
         → HasIndex limits pages (D.trace device.old).now.seen
         → Goes (LeavesPages limits pages) (D.trace device.old) (D.trace device.new) }
     ensures calls { ReadsAndWrites D.Device device.old device.new }
-    ensures cause { FailsWithIoOr (IsRefusal (D.is_honest device.new) frames (D.trace device.old) (D.trace device.new))
+    ensures cause { FailsWithIoOr
+        (IsRefusal (D.is_honest device.new) frames (D.trace device.old) (D.trace device.new))
         result (D.failures device.old) (D.failures device.new) }
 {
     let limits = find_limits(device, frames)?;
@@ -164,21 +177,26 @@ pub fn open<D: Device>(alloc: Global, device: D, frames: u32) -> Result<Store<D>
         HasWholeRoom (state_of D.Device store).limits (backing_of (held_by D.Device store))) }
     // What it has is what stands on the device.
     ensures read { IsTrue (D.is_honest (device_left D.Device result)) → IfOk result (λ store.
-        StandsOnDevice (state_of D.Device store) (D.trace device).now.seen (D.trace (device_left D.Device result)).now.seen) }
+        StandsOnDevice (state_of D.Device store) (D.trace device).now.seen
+        (D.trace (device_left D.Device result)).now.seen) }
     // An index is opened with its pages, and refused only for want of memory or of the device.
     ensures same { IsTrue (D.is_honest (device_left D.Device result)) → AreFrames frames
         → (limits : Limits) (pages : List Page) → HasIndex limits pages (D.trace device).now.seen
-        → MatchResult result (IsSameIndex D.Device limits pages) (λ refused. IsNoMemoryOrIo refused.fault) }
+        → MatchResult result (IsSameIndex D.Device limits pages)
+        (λ refused. IsNoMemoryOrIo refused.fault) }
     // A crash at each moment since leaves the same index, whatever was answered.
-    ensures moments { IsTrue (D.is_honest (device_left D.Device result)) → (limits : Limits) (pages : List Page)
-        → HasIndex limits pages (D.trace device).now.seen
+    ensures moments { IsTrue (D.is_honest (device_left D.Device result))
+        → (limits : Limits) (pages : List Page) → HasIndex limits pages (D.trace device).now.seen
         → Goes (LeavesPages limits pages) (D.trace device) (D.trace (device_left D.Device result)) }
     ensures cause { IfErr result (λ refused.
-        IsIoOr (IsRefusal (D.is_honest refused.device) frames (D.trace device) (D.trace refused.device))
+        IsIoOr
+        (IsRefusal (D.is_honest refused.device) frames (D.trace device) (D.trace refused.device))
         (D.failures device) (D.failures refused.device) refused.fault) }
     ensures done { OnOk result (D.failures (device_left D.Device result) ≡ D.failures device) }
-    ensures len { length (D.trace (device_left D.Device result)).now.seen ≡ length (D.trace device).now.seen }
-    ensures honest { IsTrue (D.is_honest (device_left D.Device result)) → IsTrue (D.is_honest device) }
+    ensures len { length (D.trace (device_left D.Device result)).now.seen
+        ≡ length (D.trace device).now.seen }
+    ensures honest { IsTrue (D.is_honest (device_left D.Device result))
+        → IsTrue (D.is_honest device) }
 {
     let mut device = device;
     let read = read_index(alloc, &mut device, frames);

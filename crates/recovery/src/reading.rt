@@ -2,7 +2,7 @@
 
 ghost use Rattle.std.specs.Prelude.{◌≡◌, ◌⊎◌, ◌+◌, ◌≤◌, ◌<◌, ℕ, suc, IsTrue, [], length, replicate, IfOk, IfErr, OnOk};
 ghost use Rattle.index_model.specs.Limits.{AreLimits};
-ghost use Rattle.device_layout.specs.Layout.{place};
+ghost use Rattle.device_layout.specs.Layout.{needed_length};
 ghost use Rattle.page_store.specs.Rooms.{limits_of_room, pages_of_room, counts_of_room};
 ghost use Rattle.recovery.specs.Calls.{OnlyReads, FailsWithIoOr};
 ghost use Rattle.recovery.specs.Reading.{block_bytes, AreBytesOf, IsEnd, IsDamage, HasReadPages, IsAllRead};
@@ -29,7 +29,8 @@ pub(crate) struct Found {
 fn page_of(block: u32, bytes: &[u8; 4096]) -> Result<Option<Page>, Fault>
     ensures found { IfOk result (λ found. AreBytesOf found bytes.now) }
     ensures fault { IfErr result (λ e. e ≡ Fault.PageDamaged block) }
-    ensures no_page { IfErr result (λ e. (page : Page) → IsPage page → bytes.now ≡ page_bytes page → ⊥) }
+    ensures no_page { IfErr result (λ e.
+        (page : Page) → IsPage page → bytes.now ≡ page_bytes page → ⊥) }
     ensures in_use { IfErr result (λ e. bytes.now ≡ replicate 4096 0 → ⊥) }
 {
     if is_unused(bytes) {
@@ -45,15 +46,18 @@ fn page_of(block: u32, bytes: &[u8; 4096]) -> Result<Option<Page>, Fault>
 fn read_page<D: Device>(device: &mut D, limits: Limits, block: u32) -> Result<Option<Page>, Fault>
     requires allowed { AreLimits limits }
     requires block { block < limits.pages }
-    requires inside { place limits limits.pages ≤ length (D.trace device.old).now.seen }
+    requires inside { needed_length limits ≤ length (D.trace device.old).now.seen }
     ensures found { IfOk result (λ found. IsTrue (D.is_honest device.new)
         → AreBytesOf found (block_bytes limits block (D.trace device.old).now.seen)) }
-    ensures no_page { IfErr result (λ e. e ≡ Fault.PageDamaged block → IsTrue (D.is_honest device.new)
-        → (page : Page) → IsPage page → block_bytes limits block (D.trace device.old).now.seen ≡ page_bytes page → ⊥) }
-    ensures in_use { IfErr result (λ e. e ≡ Fault.PageDamaged block → IsTrue (D.is_honest device.new)
+    ensures no_page { IfErr result (λ e. e ≡ Fault.PageDamaged block
+        → IsTrue (D.is_honest device.new) → (page : Page) → IsPage page
+        → block_bytes limits block (D.trace device.old).now.seen ≡ page_bytes page → ⊥) }
+    ensures in_use { IfErr result (λ e. e ≡ Fault.PageDamaged block
+        → IsTrue (D.is_honest device.new)
         → block_bytes limits block (D.trace device.old).now.seen ≡ replicate 4096 0 → ⊥) }
     ensures calls { OnlyReads D.Device device.old device.new }
-    ensures cause { FailsWithIoOr (λ e. e ≡ Fault.PageDamaged block) result (D.failures device.old) (D.failures device.new) }
+    ensures cause { FailsWithIoOr (λ e. e ≡ Fault.PageDamaged block)
+        result (D.failures device.old) (D.failures device.new) }
 {
     let mut bytes = [0; 4096];
     device.read_at(page_place(&limits, block), &mut bytes)?;
@@ -64,18 +68,20 @@ fn read_page<D: Device>(device: &mut D, limits: Limits, block: u32) -> Result<Op
 /// `PageDamaged` for the first block that is damaged.
 fn add_pages<D: Device>(device: &mut D, limits: Limits, found: &mut Found) -> Result<u32, Fault>
     requires allowed { AreLimits limits }
-    requires inside { place limits limits.pages ≤ length (D.trace device.old).now.seen }
+    requires inside { needed_length limits ≤ length (D.trace device.old).now.seen }
     requires limits { limits_of_room found.old.room ≡ limits }
     requires empty { pages_of_room found.old.room ≡ [] }
     requires uncounted { counts_of_room found.old.room ≡ [] }
     requires counter { found.old.counter ≡ 0 }
-    ensures read { OnOk result (HasReadPages limits (D.is_honest device.new) (D.trace device.old).now.seen found.new) }
+    ensures read { OnOk result
+        (HasReadPages limits (D.is_honest device.new) (D.trace device.old).now.seen found.new) }
     ensures number { IfOk result (λ used. used ≡ length (pages_of_room found.new.room)) }
     ensures few { IfOk result (λ used. used ≤ limits.pages) }
     ensures end { IfOk result (λ used. IsTrue (D.is_honest device.new)
         → IsEnd limits used (D.trace device.old).now.seen) }
     ensures calls { OnlyReads D.Device device.old device.new }
-    ensures cause { FailsWithIoOr (IsDamage limits (D.is_honest device.new) (D.trace device.old).now.seen)
+    ensures cause { FailsWithIoOr
+        (IsDamage limits (D.is_honest device.new) (D.trace device.old).now.seen)
         result (D.failures device.old) (D.failures device.new) }
 {
     for block in 0..limits.pages {
@@ -97,11 +103,13 @@ pub(crate) fn read_pages<D: Device>(
     limits: Limits,
 ) -> Result<Found, Fault>
     requires allowed { AreLimits limits }
-    requires inside { place limits limits.pages ≤ length (D.trace device.old).now.seen }
-    ensures read { IfOk result (IsAllRead limits (D.is_honest device.new) (D.trace device.old).now.seen) }
+    requires inside { needed_length limits ≤ length (D.trace device.old).now.seen }
+    ensures read { IfOk result
+        (IsAllRead limits (D.is_honest device.new) (D.trace device.old).now.seen) }
     ensures calls { OnlyReads D.Device device.old device.new }
     ensures cause { FailsWithIoOr
-        (λ e. (e ≡ Fault.NoMemory) ⊎ IsDamage limits (D.is_honest device.new) (D.trace device.old).now.seen e)
+        (λ e. (e ≡ Fault.NoMemory)
+        ⊎ IsDamage limits (D.is_honest device.new) (D.trace device.old).now.seen e)
         result (D.failures device.old) (D.failures device.new) }
 {
     let mut found = Found {

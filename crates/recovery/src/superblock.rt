@@ -68,7 +68,8 @@ fn number_at(bytes: &[u8; 4096], at: usize) -> u32
 pub(crate) fn read_superblock(bytes: &[u8; 4096]) -> Result<Limits, Fault>
     ensures allowed { IfOk result AreLimits }
     ensures found { IfOk result (λ limits. bytes.now ≡ superblock limits) }
-    ensures only { (limits : Limits) → AreLimits limits → bytes.now ≡ superblock limits → result ≡ Ok limits }
+    ensures only { (limits : Limits) → AreLimits limits → bytes.now ≡ superblock limits
+        → result ≡ Ok limits }
     ensures fault { IfErr result (IsNoSuperblock bytes.now) }
 {
     if bytes[..8] != MAGIC[..] {

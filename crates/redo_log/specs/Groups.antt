@@ -41,7 +41,8 @@ spelled [] = []
 spelled (group ∷ groups) = 1 ∷ body group ++ spelled groups
 
 -- the bytes are these groups, open, then a gate that isn't 1, and anything
-pub record SpellsGroups (limits : Limits) (bytes : List ℕ) (groups : List (List Page)) : Type 0 where
+pub record SpellsGroups (limits : Limits) (bytes : List ℕ) (groups : List (List Page))
+    : Type 0 where
   pub good : AreGroups limits groups
   pub gate : ℕ
   pub closed : gate ≢ 1

@@ -37,8 +37,8 @@ abbrev pub end_with : Log → ℕ → ℕ
 end_with log n = log.at + (6 + 4096 * (log.count + n))
 
 -- n images more would fit
-abbrev pub HasRoomFor : Log → ℕ → Type 0
-HasRoomFor log n = end_with log n ≤ log.limits.log_bytes
+abbrev pub ImagesFit : Log → ℕ → Type 0
+ImagesFit log n = end_with log n ≤ log.limits.log_bytes
 
 -- it is stopped, or the greatest number was given
 abbrev pub TakesNoMore : Log → Type 0
@@ -56,7 +56,8 @@ IoOrStopped result was_stopped old new = MatchResult result (λ _. new ≡ old)
     (λ e. ((e ≡ Io) × (new ≡ suc old)) ⊎ ((e ≡ Stopped) × (was_stopped ≡ true) × (new ≡ old)))
 
 -- its groups stand on the disk, and behind them a gate that isn't 1
-pub record IsSettled (limits : Limits) (start at : ℕ) (groups : List (List Page)) (m : Moment) : Type 0 where
+pub record IsSettled (limits : Limits) (start at : ℕ) (groups : List (List Page)) (m : Moment)
+    : Type 0 where
   pub good : AreGroups limits groups
   pub end : at ≡ length (spelled groups)
   pub gate : ℕ
@@ -144,7 +145,8 @@ RangeIsUntouched limits old new = IsUntouched log_start limits.log_bytes old new
 -- whatever actions the log keeps at one moment, it keeps at each at which its range is untouched
 abbrev pub KeepsWhileUntouched : Log → Type 0
 KeepsWhileUntouched log = (old new : Moment) (acts : List (List Page)) (forced : ℕ)
-    → RangeIsUntouched (limits_of log) old new → Keeps log old acts forced → Keeps log new acts forced
+    → RangeIsUntouched (limits_of log) old new
+    → Keeps log old acts forced → Keeps log new acts forced
 
 -- whatever actions the log keeps, a crash leaves a first part of them with every forced one
 abbrev pub WhatItKeepsRestarts : Log → Type 0

@@ -20,7 +20,8 @@ pub record AddsImages (limits : Limits) (bytes : List ℕ) (old new : List Page)
 
 -- the images of the group of so many that these bytes begin with were added, and something stands
 -- behind it
-pub record AddsGroup (limits : Limits) (bytes : List ℕ) (count : ℕ) (old new : List Page) : Type 0 where
+pub record AddsGroup (limits : Limits) (bytes : List ℕ) (count : ℕ) (old new : List Page)
+    : Type 0 where
   pub group : List Page
   pub good : IsGroup limits group
   pub counted : count ≡ length group
@@ -29,7 +30,8 @@ pub record AddsGroup (limits : Limits) (bytes : List ℕ) (count : ℕ) (old new
   pub added : new ≡ old ++ group
 
 -- these are all images that the bytes stand for, and the open groups end there
-pub record AreAllImages (limits : Limits) (bytes : List ℕ) (images : List Page) (end : ℕ) : Type 0 where
+pub record AreAllImages (limits : Limits) (bytes : List ℕ) (images : List Page) (end : ℕ)
+    : Type 0 where
   pub groups : List (List Page)
   pub spells : SpellsGroups limits bytes groups
   pub images_are : images ≡ images_of groups
@@ -67,4 +69,5 @@ ReplayFails result old new = MatchResult result (λ _. new ≡ old)
 
 -- no groups are spelled in the log's range: an open group there is none
 abbrev pub IsDamaged : Limits → Moment → Type 0
-IsDamaged limits m = (groups : List (List Page)) → SpellsGroups limits (log_range limits m.seen) groups → ⊥
+IsDamaged limits m =
+    (groups : List (List Page)) → SpellsGroups limits (log_range limits m.seen) groups → ⊥

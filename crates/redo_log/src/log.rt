@@ -35,7 +35,7 @@ pub struct Log {
 }
 
 impl Log {
-    ghost use Rattle.redo_log.specs.Kept.{limits_of, is_stopped, actions_of, waiting_count, groups_end, end_with, HasRoomFor, TakesNoMore};
+    ghost use Rattle.redo_log.specs.Kept.{limits_of, is_stopped, actions_of, waiting_count, groups_end, end_with, ImagesFit, TakesNoMore};
     ghost use Rattle.redo_log.specs.Kept.{AddsAction, ForcesAll, ForgetsForced, RestartsThroughout, RestartsOrEmptyThroughout, SameLog, ChangesItsRange, KeepsWhileUntouched, WhatItKeepsRestarts, IoOrStopped};
     ghost use Rattle.redo_log.specs.Reading.{Replays, IsOpened, IsDamaged, ReplayFails};
 
@@ -55,8 +55,8 @@ impl Log {
 
     /// How many images one more action could hold now.
     pub fn room(&self) -> u32
-        ensures fit { (n : ℕ) → 0 < n → n ≤ result → HasRoomFor self.now n }
-        ensures no_more { (n : ℕ) → result < n → ¬ HasRoomFor self.now n }
+        ensures fit { (n : ℕ) → 0 < n → n ≤ result → ImagesFit self.now n }
+        ensures no_more { (n : ℕ) → result < n → ¬ ImagesFit self.now n }
     {
         let left = self.limits.log_bytes - self.at as u32;
         left.saturating_sub(6) / 4096 - self.count
@@ -82,7 +82,7 @@ impl Log {
         ensures err { OnErr result (self.new ≡ self.old) }
         ensures stopped_first { is_stopped self.old ≡ true → result ≡ Err Fault.Stopped }
         ensures cause { IfErr result (λ e. ((e ≡ Fault.Stopped) × TakesNoMore self.old)
-            ⊎ ((e ≡ Fault.LogFull) × (¬ HasRoomFor self.old (length images.now)))) }
+            ⊎ ((e ≡ Fault.LogFull) × (¬ ImagesFit self.old (length images.now)))) }
     {
         if self.stopped || self.actions == u64::MAX {
             return Err(Fault::Stopped);
@@ -120,7 +120,8 @@ impl Log {
         ensures same { SameLog self.old self.new }
         ensures stopped { is_stopped self.new ≡ is_err result }
 
-        ensures outside { ChangesItsRange (limits_of self.old) (D.trace device.old) (D.trace device.new) }
+        ensures outside { ChangesItsRange (limits_of self.old)
+            (D.trace device.old) (D.trace device.new) }
         ensures len { length (D.trace device.new).now.seen ≡ length (D.trace device.old).now.seen }
         ensures honest { D.is_honest device.new ≡ D.is_honest device.old }
         ensures idle { IsTrue (is_stopped self.old) ⊎ (waiting_count self.old ≡ 0)
@@ -155,7 +156,8 @@ impl Log {
 
         ensures keeps { OnOk result
             (ForgetsForced self.old (D.trace device.old).now self.new (D.trace device.new).now) }
-        ensures moments { RestartsOrEmptyThroughout self.old (D.trace device.old) (D.trace device.new) }
+        ensures moments { RestartsOrEmptyThroughout self.old
+            (D.trace device.old) (D.trace device.new) }
         ensures closed { OnOk result (groups_end self.new ≡ 0) }
         ensures waiting { waiting_count self.new ≡ waiting_count self.old }
         ensures room { OnOk result ((n : ℕ)
@@ -163,7 +165,8 @@ impl Log {
         ensures same { SameLog self.old self.new }
         ensures stopped { is_stopped self.new ≡ is_err result }
 
-        ensures outside { ChangesItsRange (limits_of self.old) (D.trace device.old) (D.trace device.new) }
+        ensures outside { ChangesItsRange (limits_of self.old)
+            (D.trace device.old) (D.trace device.new) }
         ensures len { length (D.trace device.new).now.seen ≡ length (D.trace device.old).now.seen }
         ensures honest { D.is_honest device.new ≡ D.is_honest device.old }
         ensures idle { IsTrue (is_stopped self.old) ⊎ (groups_end self.old ≡ 0)

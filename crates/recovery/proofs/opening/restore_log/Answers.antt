@@ -22,7 +22,7 @@ returns-in_err-bring_home-clause-moments g c = λ honest firm pages restarts.
     let middle = g.D.Device.trace c.bring_home.new.device in
     let moments = named_from limits images c.deref.result.now start (g.D.Device.trace c.replay.new.device) middle c.replay.ensures.trace c.deref.ensures.value c.bring_home.ensures.moments in
     let found = c.in-Ok.ensures.ok (subst IsTrue c.bring_home.ensures.calls.honest honest) in
-    goes_weaker _ _ start middle (written_leaves limits images pages c.in-Ok.found.log start firm restarts c.in-Ok.ensures.opened found) moments
+    goes_weaker _ _ start middle (written_leaves limits images pages c.in-Ok.found.log start firm restarts c.in-Ok.ensures.opened found c.keeping_law.ensures.keeps c.keeping_law.ensures.restarts) moments
 
 pub reset-requires : goal.reset-requires
 reset-requires g c =
@@ -39,8 +39,8 @@ returns-in_err-reset-clause-moments g c = λ honest firm pages restarts.
     let found = c.in-Ok.ensures.ok (subst IsTrue (c.reset.ensures.honest ∙ c.bring_home.ensures.calls.honest) honest) in
     let homed = subst (λ (l : List Page). AreHomed limits l middle.now) c.deref.ensures.value c.in_ok-bring_home.ensures.home in
     goes_on _ start middle (g.D.Device.trace c.reset.new.device)
-    (goes_weaker _ _ start middle (written_leaves limits images pages c.in-Ok.found.log start firm restarts c.in-Ok.ensures.opened found) moments)
-    (closed_goes limits images pages c.in-Ok.found.log start firm restarts c.in-Ok.ensures.opened found middle (g.D.Device.trace c.reset.new.device) moments homed c.reset.ensures.moments c.reset.ensures.outside)
+    (goes_weaker _ _ start middle (written_leaves limits images pages c.in-Ok.found.log start firm restarts c.in-Ok.ensures.opened found c.keeping_law.ensures.keeps c.keeping_law.ensures.restarts) moments)
+    (closed_goes limits images pages c.in-Ok.found.log start firm restarts c.in-Ok.ensures.opened found c.keeping_law.ensures.keeps c.keeping_law.ensures.restarts middle (g.D.Device.trace c.reset.new.device) moments homed c.reset.ensures.moments c.reset.ensures.outside)
 
 pub returns-clause-same : goal.returns-clause-same
 returns-clause-same g c = λ honest firm pages restarts.
@@ -51,7 +51,7 @@ returns-clause-same g c = λ honest firm pages restarts.
     let moments = named_from limits images c.deref.result.now start (g.D.Device.trace c.replay.new.device) middle c.replay.ensures.trace c.deref.ensures.value c.bring_home.ensures.moments in
     let found = c.in-Ok.ensures.ok (subst IsTrue (c.reset.ensures.honest ∙ c.bring_home.ensures.calls.honest) honest) in
     let homed = subst (λ (l : List Page). AreHomed limits l middle.now) c.deref.ensures.value c.in_ok-bring_home.ensures.home in
-    closed_stands limits images pages c.in-Ok.found.log start firm restarts c.in-Ok.ensures.opened found middle (g.D.Device.trace c.reset.new.device) moments homed c.reset.ensures.moments c.reset.ensures.outside
+    closed_stands limits images pages c.in-Ok.found.log start firm restarts c.in-Ok.ensures.opened found c.keeping_law.ensures.keeps c.keeping_law.ensures.restarts middle (g.D.Device.trace c.reset.new.device) moments homed c.reset.ensures.moments c.reset.ensures.outside
     c.reset.new.self c.reset.ensures.same.limits c.reset.ensures.waiting c.in_ok-reset.ensures.keeps
 
 pub returns-clause-moments : goal.returns-clause-moments
@@ -64,8 +64,8 @@ returns-clause-moments g c = λ honest firm pages restarts.
     let found = c.in-Ok.ensures.ok (subst IsTrue (c.reset.ensures.honest ∙ c.bring_home.ensures.calls.honest) honest) in
     let homed = subst (λ (l : List Page). AreHomed limits l middle.now) c.deref.ensures.value c.in_ok-bring_home.ensures.home in
     goes_on _ start middle (g.D.Device.trace c.reset.new.device)
-    (goes_weaker _ _ start middle (written_leaves limits images pages c.in-Ok.found.log start firm restarts c.in-Ok.ensures.opened found) moments)
-    (closed_goes limits images pages c.in-Ok.found.log start firm restarts c.in-Ok.ensures.opened found middle (g.D.Device.trace c.reset.new.device) moments homed c.reset.ensures.moments c.reset.ensures.outside)
+    (goes_weaker _ _ start middle (written_leaves limits images pages c.in-Ok.found.log start firm restarts c.in-Ok.ensures.opened found c.keeping_law.ensures.keeps c.keeping_law.ensures.restarts) moments)
+    (closed_goes limits images pages c.in-Ok.found.log start firm restarts c.in-Ok.ensures.opened found c.keeping_law.ensures.keeps c.keeping_law.ensures.restarts middle (g.D.Device.trace c.reset.new.device) moments homed c.reset.ensures.moments c.reset.ensures.outside)
 
 pub returns-clause-undamaged : goal.returns-clause-undamaged
 returns-clause-undamaged g c = λ honest. (let found = c.in-Ok.ensures.ok (subst IsTrue (c.reset.ensures.honest ∙ c.bring_home.ensures.calls.honest) honest) in (found.groups, found.spells))
