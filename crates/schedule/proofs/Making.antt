@@ -11,7 +11,7 @@ use Rattle.page_action.specs.Causes.{nothing_wrong, where_forced}
 use Rattle.page_action.specs.States.{State, Backing, after_begin}
 use Rattle.page_action.specs.declared.page_store.PageStore.{Ghosts}
 use Rattle.session_calls.specs.Due.{IsDue, IsDueIn, CountsDown, HasSteps}
-use Rattle.session_calls.specs.Ops.{where_stepped, where_asked_next, where_beginning, AnswersStopped}
+use Rattle.session_calls.specs.Ops.{IsCaused, where_stepped, where_asked_next, where_beginning, AnswersStopped}
 use Rattle.session_calls.specs.Sessions.{Matches, IsIdle, SlotFits, SessionGoes, SessionBegins, IsBegun, IsNotBegun, BeginsBy, is_busy, slot_add, LeavesLess, LeavesNoMore, GivesLess, AnswersStep, AnswersNext, AnswersEnd, RefusalChangesNothing}
 use Rattle.session_calls.specs.declared.answer.Answer.{Answer}
 use Rattle.session_calls.specs.declared.answer.Answer.TheVariants.{Begun, Going, Added, Ready, Done, Finished, Gave, Ended, Forced, Flushed, Checkpointed, Refused}
@@ -62,6 +62,7 @@ module _ {S : Type 0} (g : Ghosts S) (laws : Laws g) (old new : S) (follows : g.
         less = at_slots slots session before slot (λ x y. LeavesLess (g.state old) (g.state new) x y answer) found_at less;
         others = others_stay_set slots session slot;
         left = tt;
+        causes = tt;
       }
 
   pub end_makes : AnswersEnd before answer → slot ≡ None → g.backing new ≡ g.backing old → (g.state new).begun ≡ (g.state old).begun
@@ -87,6 +88,7 @@ module _ {S : Type 0} (g : Ghosts S) (laws : Laws g) (old new : S) (follows : g.
         less = tt;
         others = others_stay_set slots session slot;
         left = record { over = at_slots slots session before slot (λ x y. y ≡ None) found_at over; backing = backing; begun = begun };
+        causes = tt;
       }
 
 -- a `next` of a session's running call, which changes nothing of the store
@@ -131,6 +133,7 @@ module _ {S : Type 0} (g : Ghosts S) (laws : Laws g) (store : S) (slots : List (
         less = at_slots slots session before slot (λ x y. GivesLess x y answer) found_at less;
         others = others_stay_set slots session slot;
         left = refl;
+        causes = tt;
       }
 
 -- what is done for the store
@@ -164,6 +167,7 @@ module _ {S : Type 0} (g : Ghosts S) (laws : Laws g) (old new : S) (follows : g.
         less = tt;
         others = λ s of other apart. refl;
         left = tt;
+        causes = tt;
       }
 
   pub not_kept_makes : (fault : Fault) → ((g.backing old).stopped ≡ true → fault ≡ Stopped) → HasCause (where_forced (g.backing old) (g.backing new)) fault
@@ -185,6 +189,7 @@ module _ {S : Type 0} (g : Ghosts S) (laws : Laws g) (old new : S) (follows : g.
         less = tt;
         others = λ s of other apart. refl;
         left = tt;
+        causes = tt;
       }
 
 -- a beginning in a session that was found
@@ -201,6 +206,7 @@ module _ {S : Type 0} (g : Ghosts S) (laws : Laws g) (old new : S) (follows : g.
     less = tt;
     others = others_stay_set slots session slot;
     left = tt;
+    causes = tt;
   }
   always_of (Refused fault) h = record {
     answers = tt;
@@ -209,6 +215,8 @@ module _ {S : Type 0} (g : Ghosts S) (laws : Laws g) (old new : S) (follows : g.
     less = tt;
     others = others_stay_set slots session slot;
     left = tt;
+    causes = subst (λ (o : Option (Option Op)). IsCaused (where_begun_at g old o) (Refused fault)) (sym free)
+        (subst (λ (o : Option Op). HasCause (where_beginning (g.state old) (g.backing old) (is_busy o)) fault) before_is h.cause);
   }
   always_of Going h = absurd h
   always_of (Added x u) h = absurd h
@@ -292,4 +300,5 @@ not_found_makes g laws store slots session request fault none = record {
       less = tt;
       others = λ s of other apart. refl;
       left = tt;
+      causes = not_found_why g store session (g.backing store).stopped (slice_get slots session) fault refl none;
     }

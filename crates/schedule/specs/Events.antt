@@ -247,8 +247,15 @@ session_at (Begins session request) = session
 session_at (Moves session move) = session
 session_at (Keeps upkeep) = 0
 
+-- a beginning that is refused has its cause
+abbrev pub BeginningIsCaused : {S : Type 0} → Ghosts S → Kind → Answer → StoreAndSlots S → Type 0
+BeginningIsCaused g (Begins session request) answer old =
+    IsCaused (where_begun_at g old.store (slice_get old.slots session)) answer
+BeginningIsCaused g kind answer old = Unit {0}
+
 -- What holds of an event whatever the pages are: what it may answer; that a refusal changes nothing; that a stopped log
--- refuses it first; what is left to do for its call; that no other session's slot is changed; and what it leaves.
+-- refuses it first; what is left to do for its call; that no other session's slot is changed; what it leaves; and that a
+-- beginning that is refused has its cause.
 pub record EventAlways {S : Type 0} (g : Ghosts S) (kind : Kind) (answer : Answer) (old new : StoreAndSlots S) : Type 0 where
   pub answers : AnswersEvent kind answer old.slots new.slots
   pub refused : RefusalKeeps g kind answer old new
@@ -256,6 +263,7 @@ pub record EventAlways {S : Type 0} (g : Ghosts S) (kind : Kind) (answer : Answe
   pub less : IsLessLeft kind answer (g.state old.store) (g.state new.store) (slot_of old.slots (session_at kind)) (slot_of new.slots (session_at kind))
   pub others : (session : ℕ) → IsOfKind session kind → OthersStay session old.slots new.slots
   pub left : IsLeft g kind old new
+  pub causes : BeginningIsCaused g kind answer old
 
 -- A step: a call that was due comes to what is awaited at its last step, and each step before leaves one fewer. While no
 -- action is logged, no more is left to do than before, whether it was due or not.
