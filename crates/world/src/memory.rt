@@ -9,7 +9,7 @@ ghost use Rattle.index_model.specs.Calls.{Call};
 ghost use Rattle.index_model.specs.declared.entry.Entry.{Entry};
 ghost use Rattle.page_action.specs.States.{Continues};
 ghost use Rattle.page_store.specs.Stores.{held_by, device_of};
-ghost use Rattle.schedule.specs.Worlds.{WorldFits, WorldKeeps};
+ghost use Rattle.world.specs.Worlds.{WorldFits, WorldKeeps};
 
 use crate::world::World;
 use device::{CrashImage, Device, MemDevice};

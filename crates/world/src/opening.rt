@@ -8,7 +8,7 @@ ghost use Rattle.page_store.specs.Restart.{LeavesPages};
 ghost use Rattle.recovery.specs.Index.{HasIndex};
 ghost use Rattle.recovery.specs.Opening.{AreFrames, IsNoMemoryOrIo, IsRefusal};
 ghost use Rattle.tree_shape.specs.Tree.{IsBlinkTree};
-ghost use Rattle.schedule.specs.Reopening.{BeginsWith, world_device};
+ghost use Rattle.world.specs.Reopening.{BeginsWith, world_device};
 
 use crate::world::{NotMade, World};
 use device::Device;
