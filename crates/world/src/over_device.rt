@@ -26,11 +26,14 @@ impl<D: Device, T: DeadRows + Drop> World<Store<D>, T> {
     /// bytes restart to pages as an open reads them), and what every crash leaves, at any moment between an earlier store and
     /// this one.
     pub fn crash_law(&self)
-        ensures own { (s : Store D D.Device) → IsOwnStore D.Device s → ⟦<Store<D> as PageStore>⟧.own s }
+        ensures own { (s : Store D D.Device)
+            → IsOwnStore D.Device s → ⟦<Store<D> as PageStore>⟧.own s }
         ensures leaves { (s t : Store D D.Device) (image : List ℕ)
-            → MayHaveLeft (held_by D.Device s).trace (held_by D.Device t).trace image → ⟦<Store<D> as PageStore>⟧.leaves s t image }
+            → MayHaveLeft (held_by D.Device s).trace (held_by D.Device t).trace image
+            → ⟦<Store<D> as PageStore>⟧.leaves s t image }
         ensures restarts { (s : Store D D.Device) (image : List ℕ) (pages : List Page)
-            → ⟦<Store<D> as PageStore>⟧.restarts s image pages → RestartsTo (state_of D.Device s).limits image pages }
+            → ⟦<Store<D> as PageStore>⟧.restarts s image pages
+            → RestartsTo (state_of D.Device s).limits image pages }
         // What a crash at some moment since an own store has left of a world that is fitted and keeps its history is an
         // index that can be opened again, with all that was durable in that store.
         ensures index { (first : Store D D.Device)
@@ -39,11 +42,13 @@ impl<D: Device, T: DeadRows + Drop> World<Store<D>, T> {
             → WorldFits ⟦<Store<D> as PageStore>⟧ self.now start history calls
             → WorldKeeps ⟦<Store<D> as PageStore>⟧ self.now start history calls
             → (image : List ℕ)
-            → MayHaveLeft (held_by D.Device first).trace (held_by D.Device self.now.store).trace image
+            → MayHaveLeft (held_by D.Device first).trace
+            (held_by D.Device self.now.store).trace image
             → IsIndexAfterFirstPart (state_of D.Device self.now.store).limits start history
             (backing_of (held_by D.Device first)).durable image }
         // ... and so is what a crash now leaves.
-        ensures now { (start : Entry → Bool) (history : List Action) (calls : List Call) (image : List ℕ)
+        ensures now { (start : Entry → Bool) (history : List Action) (calls : List Call)
+            → (image : List ℕ)
             → WorldFits ⟦<Store<D> as PageStore>⟧ self.now start history calls
             → WorldKeeps ⟦<Store<D> as PageStore>⟧ self.now start history calls
             → MayLeave (held_by D.Device self.now.store).trace.now image

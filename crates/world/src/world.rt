@@ -70,9 +70,12 @@ impl<S: PageStore, T: DeadRows + Drop> World<S, T> {
             WorldKeeps S.PageStore world (entry_on_live_leaf (S.state store).pages) [] []) }
         ensures given_back { IfErr result (λ not_made. not_made.store ≡ store) }
         ensures sets_back { IfErr result (λ not_made. not_made.sets ≡ sets) }
-        ensures first { IfErr result (λ not_made. (sessions ≡ 0) ⊎ (64 < sessions) → not_made.fault ≡ Fault.BadLimits) }
-        ensures limits { IfErr result (λ not_made. not_made.fault ≡ Fault.BadLimits → (sessions ≡ 0) ⊎ (64 < sessions)) }
-        ensures memory { IfErr result (λ not_made. (not_made.fault ≡ Fault.BadLimits) ⊎ (not_made.fault ≡ Fault.NoMemory)) }
+        ensures first { IfErr result (λ not_made.
+            (sessions ≡ 0) ⊎ (64 < sessions) → not_made.fault ≡ Fault.BadLimits) }
+        ensures limits { IfErr result (λ not_made.
+            not_made.fault ≡ Fault.BadLimits → (sessions ≡ 0) ⊎ (64 < sessions)) }
+        ensures memory { IfErr result (λ not_made.
+            (not_made.fault ≡ Fault.BadLimits) ⊎ (not_made.fault ≡ Fault.NoMemory)) }
     {
         if sessions == 0 || sessions > 64 {
             return Err(NotMade {
@@ -95,8 +98,10 @@ impl<S: PageStore, T: DeadRows + Drop> World<S, T> {
         ensures sets { self.new.sets ≡ self.old.sets }
         ensures runs { WorldCarries S.PageStore self.old self.new
             (WorldRuns S.PageStore self.old self.new (event ∷ []) (result ∷ [])) }
-        ensures always { EventAlways S.PageStore (kind_of event) result (inside self.old) (inside self.new) }
-        ensures calm { result ≡ Answer.Going → (S.state self.new.store).acts ≡ (S.state self.old.store).acts }
+        ensures always { EventAlways S.PageStore (kind_of event) result
+            (inside self.old) (inside self.new) }
+        ensures calm { result ≡ Answer.Going
+            → (S.state self.new.store).acts ≡ (S.state self.old.store).acts }
     {
         schedule::one(&mut self.store, &mut self.slots, event)
     }
@@ -108,12 +113,16 @@ impl<S: PageStore, T: DeadRows + Drop> World<S, T> {
         ensures sessions { length self.new.slots.items ≡ length self.old.slots.items }
         ensures sets { self.new.sets ≡ self.old.sets }
         ensures runs { OnOk result (WorldCarries S.PageStore self.old self.new
-            (WorldRuns S.PageStore self.old self.new events.now (answers_behind answers.old.items answers.new.items))) }
-        ensures each { OnOk result (length answers.new.items ≡ length answers.old.items + length events.now) }
+            (WorldRuns S.PageStore self.old self.new events.now
+            (answers_behind answers.old.items answers.new.items))) }
+        ensures each { OnOk result
+            (length answers.new.items ≡ length answers.old.items + length events.now) }
         ensures kept { take (length answers.old.items) answers.new.items ≡ answers.old.items }
-        ensures refused { OnErr result ((self.new ≡ self.old) × (answers.new.items ≡ answers.old.items)) }
+        ensures refused { OnErr result
+            ((self.new ≡ self.old) × (answers.new.items ≡ answers.old.items)) }
         ensures fault { IfErr result (λ fault. fault ≡ Fault.NoMemory) }
-        ensures room { vec_len answers.old + length events.now ≤ vec_capacity answers.old → IsOk result }
+        ensures room { vec_len answers.old + length events.now ≤ vec_capacity answers.old
+            → IsOk result }
     {
         schedule::run(&mut self.store, &mut self.slots, events, answers)
     }
@@ -126,10 +135,12 @@ impl<S: PageStore, T: DeadRows + Drop> World<S, T> {
         ensures sets { self.new.sets ≡ self.old.sets }
         ensures unchanged { IsUnchanged S.PageStore (inside self.old) (inside self.new) }
         ensures fits { WorldCarries S.PageStore self.old self.new (WorldFits S.PageStore self.new) }
-        ensures crash { WorldCarries S.PageStore self.old self.new (WorldIsSafe S.PageStore self.old self.new) }
+        ensures crash { WorldCarries S.PageStore self.old self.new
+            (WorldIsSafe S.PageStore self.old self.new) }
         ensures page { (S.backing self.new.store).honest ≡ true
             → IfOk result (λ page. slice_get (S.state self.old.store).pages block ≡ Some page) }
-        ensures cause { IfErr result (HasCause (where_read (S.state self.old.store) (S.backing self.old.store) (S.backing self.new.store) block)) }
+        ensures cause { IfErr result (HasCause (where_read (S.state self.old.store)
+            (S.backing self.old.store) (S.backing self.new.store) block)) }
     {
         self.store.page(block)
     }
@@ -141,7 +152,8 @@ impl<S: PageStore, T: DeadRows + Drop> World<S, T> {
         ensures sets { self.new.sets ≡ self.old.sets }
         ensures runs { WorldCarries S.PageStore self.old self.new
             (WorldRuns S.PageStore self.old self.new (Event.End session ∷ []) (result ∷ [])) }
-        ensures always { EventAlways S.PageStore (Moves session GivesUp) result (inside self.old) (inside self.new) }
+        ensures always { EventAlways S.PageStore (Moves session GivesUp) result
+            (inside self.old) (inside self.new) }
     {
         self.one(Event::End(session))
     }
