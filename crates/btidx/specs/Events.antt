@@ -1,7 +1,7 @@
 -- The lines that are events.
 use Rattle.std.specs.Prelude.{Option, Some, None}
 use Rattle.schedule.specs.declared.event.Event.{Event}
-use Rattle.schedule.specs.declared.event.Event.TheVariants.{Insert as InsertEvent, Scan as ScanEvent, Step as StepEvent, Next as NextEvent, End as EndEvent, Force as ForceEvent}
+use Rattle.schedule.specs.declared.event.Event.TheVariants.{Insert as InsertEvent, Scan as ScanEvent, Step as StepEvent, Next as NextEvent, End as EndEvent, Force as ForceEvent, Checkpoint as CheckpointEvent}
 use Rattle.btidx.specs.declared.line.Line.{Line}
 use Rattle.btidx.specs.declared.line.Line.TheVariants.{Nothing, Insert, Scan, Bulk, Cleanup, Step, Run, Next, End, Put, List as ListOf, Force, Flush, Checkpoint, Fail, Stop, Crash as CrashOf, Dump}
 
@@ -20,7 +20,7 @@ event_of (Put session entry) = None
 event_of (ListOf session range) = None
 event_of Force = Some ForceEvent
 event_of Flush = None
-event_of Checkpoint = None
+event_of Checkpoint = Some CheckpointEvent
 event_of (Fail number) = None
 event_of (Stop number) = None
 event_of (CrashOf crash) = None

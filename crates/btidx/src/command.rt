@@ -16,6 +16,7 @@ const LINES: &str = "Lines of a script:           What they do:                 
   put S KEY ROW              an insert, run to its end               added N
   list S FROM BELOW          a scan, run to its end                  entry KEY ROW .., done N
   force                      make each action so far durable         forced N
+  checkpoint                 force, and write pages to their places  checkpointed N
   fail N                     the Nth device call from now fails      set
   stop N                     that one and each later one fail        set
   crash keep|drop|tear       a crash, and the index opened again     opened
@@ -25,7 +26,7 @@ const LINES: &str = "Lines of a script:           What they do:                 
 S: a session, counted from 0.  N: a number without sign or zeros in front; `fail` and `stop` count from 1.
 KEY: 0 to 64 bytes as lower-case hex, `-` for none.  ROW: (BLOCK,OFFSET).
 FROM, BELOW: a key, or `*` for an open end; what is below BELOW is given.
-`added N` is the Nth action, `forced N`: the first N are durable, `ready N`: `next` can take N entries.
+`added N` is the Nth action, `forced N`, `checkpointed N`: the first N are durable, `ready N`: `next` can take N.
 A crash keeps all that wasn't synced, drops it, or tears it: half of each write stays.
 A line may also answer `refused N` with the number of a fault; `refused 4 BLOCK`: that page is latched, step again.
 Any other line ends the script with status 2.";

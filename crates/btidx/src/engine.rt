@@ -12,9 +12,9 @@ ghost use Rattle.page_store.specs.Stores.{state_of, held_by};
 ghost use Rattle.recovery.specs.Index.{HasIndex};
 ghost use Rattle.tree_shape.specs.Tree.{IsBlinkTree};
 ghost use Rattle.session_calls.specs.Sessions.{work_left, IsDrained};
-ghost use Rattle.schedule.specs.Reopening.{BeginsWith, BeginsEmpty, BeginsAfterFirstPart};
-ghost use Rattle.schedule.specs.Runs.{slot_at};
-ghost use Rattle.schedule.specs.Worlds.{WorldFits, WorldKeeps, WorldCarries, WorldRuns};
+ghost use Rattle.schedule.specs.Snapshots.{slot_of};
+ghost use Rattle.world.specs.Reopening.{BeginsWith, BeginsEmpty, BeginsAfterFirstPart};
+ghost use Rattle.world.specs.Worlds.{WorldFits, WorldKeeps, WorldCarries, WorldRuns};
 ghost use Rattle.btidx.specs.Settings.{IsSetting};
 
 use device::{CrashImage, Device, MemDevice};
@@ -23,10 +23,11 @@ use page_action::PageStore;
 use page_codec::Page;
 use page_store::Store;
 use recovery::create;
-use schedule::{Event, World};
+use schedule::Event;
 use session_calls::Answer;
 use std::alloc::Global;
 use std::io;
+use world::World;
 
 /// The sizes that a script is run with.
 #[derive(Clone, Copy)]
@@ -159,9 +160,10 @@ impl Engine {
 
     /// Hands over the entries that a session's scan has ready, and answers how many.
     fn give_ready<S: Sink>(&mut self, session: u32, sink: &mut S) -> io::Result<u64>
-        ensures drained { OnOk result (IsDrained (slot_at self.new.world.slots.items session)) }
-        ensures less { work_left (slot_at self.new.world.slots.items session)
-            ≤ work_left (slot_at self.old.world.slots.items session) }
+        ensures drained { OnOk result (IsDrained (slot_of self.new.world.slots.items session)) }
+        ensures less { (pages : List Page)
+            → work_left pages (slot_of self.new.world.slots.items session)
+            ≤ work_left pages (slot_of self.old.world.slots.items session) }
     {
         let mut count = 0u64;
         while let Answer::Gave(Some(entry)) = self.world.one(Event::Next(session)) {

@@ -166,6 +166,7 @@ fn event_of(line: &Line<'_>) -> Option<Event>
         Line::Next(session) => Some(Event::Next(*session)),
         Line::End(session) => Some(Event::End(*session)),
         Line::Force => Some(Event::Force),
+        Line::Checkpoint => Some(Event::Checkpoint),
         _ => None,
     }
 }

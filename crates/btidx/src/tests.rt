@@ -170,6 +170,43 @@ added 1
     )
 }
 
+/// A checkpoint makes each action durable; a stopped log refuses it.
+#[test]
+fn checkpoints(rt: HostRuntime) -> Result<(), Fail> {
+    runs(
+        &rt,
+        ["btidx", "play"].as_slice(),
+        "put 0 61 (0,1)
+put 0 62 (0,2)
+checkpoint
+put 0 63 (0,3)
+crash drop
+list 0 * *
+checkpoint
+put 0 63 (0,3)
+stop 1
+checkpoint
+checkpoint
+",
+        "added 1
+added 2
+checkpointed 2
+added 3
+opened
+entry 61 (0,1)
+entry 62 (0,2)
+done 2
+checkpointed 0
+added 1
+set
+refused 2
+refused 3
+",
+        "",
+        0,
+    )
+}
+
 /// A force that is stopped at its first write, or at that of the gate, half of which is written or all.
 #[test]
 fn torn(rt: HostRuntime) -> Result<(), Fail> {
@@ -347,6 +384,7 @@ fn command_lines(rt: HostRuntime) -> Result<(), Fail> {
         "put S KEY ROW",
         "list S FROM BELOW",
         "force",
+        "checkpoint",
         "fail N",
         "stop N",
         "crash keep|drop|tear",

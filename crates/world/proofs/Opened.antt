@@ -1,5 +1,5 @@
 -- A store as it is opened.
-use Rattle.std.specs.Prelude.{◌≡◌, ℕ, zero, suc, ◌<◌, unwrap_or, List, [], length, replicate, slice_get}
+use Rattle.std.specs.Prelude.{◌≡◌, ℕ, zero, suc, ◌<◌, unwrap_or, None, List, [], length, replicate, slice_get}
 use Rattle.std.proofs.Common.{refl, ap, subst, arith}
 use Rattle.index_model.specs.declared.limits.Limits.{Limits}
 use Rattle.latch_table.specs.Holdings.{Holding, nothing_held, holding_of, latches_exclude}
@@ -9,9 +9,9 @@ use Rattle.page_store.specs.Stores.{opened_state}
 use Rattle.tree_shape.specs.Tree.{IsBlinkTree}
 use Rattle.page_action.specs.Contents.{entry_on_live_leaf}
 use Rattle.page_action.specs.declared.page_store.PageStore.{Ghosts}
-use Rattle.schedule.specs.Promises.{IsUnused}
-use Rattle.schedule.specs.Worlds.{WorldFits, WorldKeeps}
-use Rattle.schedule.specs.declared.world.World.{World}
+use Rattle.schedule.specs.Snapshots.{IsUnused}
+use Rattle.world.specs.Worlds.{WorldFits, WorldKeeps}
+use Rattle.world.specs.declared.world.World.{World}
 
 all_same : {A : Type 0} (n i : ℕ) (a : A) → unwrap_or (slice_get (replicate n a) i) a ≡ a
 all_same zero i a = refl
@@ -23,8 +23,8 @@ held_by_none : (session : ℕ) → holding_of (replicate 64 nothing_held) sessio
 held_by_none session = all_same 64 session nothing_held
 
 -- pages that are a tree are in order as they are opened
-pub opened_unused : (limits : Limits) (pages : List Page) (counted : List ℕ) (counter : ℕ) → IsBlinkTree pages → IsUnused (opened_state limits pages counted counter)
-opened_unused limits pages counted counter tree = record {
+pub opened_unused : (limits : Limits) (frames : ℕ) (pages : List Page) (counted : List ℕ) (counter : ℕ) → IsBlinkTree pages → IsUnused (opened_state limits frames pages counted counter)
+opened_unused limits frames pages counted counter tree = record {
   order = record {
     tree = tree;
     apart = λ session other block ne holds. ap (λ (h : Holding). latches_exclude h.latches block Exclusive) (held_by_none other);
@@ -32,7 +32,7 @@ opened_unused limits pages counted counter tree = record {
     calls = refl;
   };
   acts = refl;
-  idle = held_by_none;
+  idle = λ session. record { holds = held_by_none session; number = all_same 64 session None };
 }
 
 -- a tree has pages

@@ -11,9 +11,9 @@ use Rattle.page_store.specs.Stores.{state_of, device_of}
 use Rattle.page_store.specs.declared.store.Store.{Store}
 use Rattle.recovery.specs.Index.{HasIndex}
 use Rattle.schedule.specs.Crashes.{ArePagesAfter}
-use Rattle.schedule.specs.Worlds.{WorldFits, WorldKeeps}
-use Rattle.schedule.specs.declared.opening.NotOpened.{NotOpened}
-use Rattle.schedule.specs.declared.world.World.{World}
+use Rattle.world.specs.Worlds.{WorldFits, WorldKeeps}
+use Rattle.world.specs.declared.opening.NotOpened.{NotOpened}
+use Rattle.world.specs.declared.world.World.{World}
 
 -- these bytes are an index whose pages are a B-link tree, with the contents after a first part of the history of at least
 -- so many actions

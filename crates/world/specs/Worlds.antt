@@ -5,31 +5,31 @@ use Rattle.index_model.specs.Calls.{Call}
 use Rattle.index_model.specs.declared.entry.Entry.{Entry}
 use Rattle.page_action.specs.declared.page_store.PageStore.{Ghosts}
 use Rattle.session_calls.specs.declared.answer.Answer.{Answer}
-use Rattle.schedule.specs.Moments.{Moment, Fits}
 use Rattle.schedule.specs.Crashes.{KeepsHistory, IsCrashSafe}
-use Rattle.schedule.specs.Promises.{StoreAndSlots, moment_at, Carries, Runs}
+use Rattle.schedule.specs.Runs.{Carries, Runs}
+use Rattle.schedule.specs.Snapshots.{StoreAndSlots, Snapshot, snapshot_of, Fits}
 use Rattle.schedule.specs.declared.event.Event.{Event}
-use Rattle.schedule.specs.declared.world.World.{World}
+use Rattle.world.specs.declared.world.World.{World}
 
 -- the store of a world, and what each of its sessions runs
 abbrev pub inside : {S T : Type 0} → World S T → StoreAndSlots S
 inside world = record { store = world.store; slots = world.slots.items }
 
 -- the moment at which a world stands, told by this history and these calls
-abbrev pub moment_of : {S T : Type 0} → World S T → List Action → List Call → Moment S
-moment_of world history calls = moment_at (inside world) history calls
+abbrev pub snapshot_in : {S T : Type 0} → World S T → List Action → List Call → Snapshot S
+snapshot_in world history calls = snapshot_of (inside world) history calls
 
 -- these contents at the start, this history and these calls fit the world
 abbrev pub WorldFits : {S T : Type 0} → Ghosts S → World S T → (Entry → Bool) → List Action → List Call → Type 0
-WorldFits g world start history calls = Fits g start (moment_of world history calls)
+WorldFits g world start history calls = Fits g start (snapshot_in world history calls)
 
 -- ... and each crash leaves a first part of the history
 abbrev pub WorldKeeps : {S T : Type 0} → Ghosts S → World S T → (Entry → Bool) → List Action → List Call → Type 0
-WorldKeeps g world start history calls = KeepsHistory g start (moment_of world history calls)
+WorldKeeps g world start history calls = KeepsHistory g start (snapshot_in world history calls)
 
 -- where the history was kept, it is so still, and a crash in between leaves a first part of it
 abbrev pub WorldIsSafe : {S T : Type 0} → Ghosts S → World S T → World S T → (Entry → Bool) → List Action → List Call → Type 0
-WorldIsSafe g old new start history calls = WorldKeeps g old start history calls → IsCrashSafe g start (moment_of old history calls) (moment_of new history calls)
+WorldIsSafe g old new start history calls = WorldKeeps g old start history calls → IsCrashSafe g start (snapshot_in old history calls) (snapshot_in new history calls)
 
 -- where the device has kept its model up to now, this holds of whatever fitted the world before
 abbrev pub WorldCarries : {S T : Type 0} → Ghosts S → World S T → World S T → ((Entry → Bool) → List Action → List Call → Type 0) → Type 0

@@ -9,7 +9,7 @@ ghost use Rattle.index_model.specs.Calls.{Call};
 ghost use Rattle.index_model.specs.declared.entry.Entry.{Entry};
 ghost use Rattle.page_action.specs.States.{Continues};
 ghost use Rattle.page_store.specs.Stores.{held_by, device_of};
-ghost use Rattle.schedule.specs.Worlds.{WorldFits, WorldKeeps};
+ghost use Rattle.world.specs.Worlds.{WorldFits, WorldKeeps};
 
 use crate::world::World;
 use device::{CrashImage, Device, MemDevice};
@@ -24,7 +24,8 @@ impl<T: DeadRows + Drop> World<Store<MemDevice>, T> {
     pub fn fail_at(&mut self, n: u64)
         ensures plan { plan_of (device_of ⟦<MemDevice as Device>⟧ self.new.store)
             ≡ failing_at n (plan_of (device_of ⟦<MemDevice as Device>⟧ self.old.store)) }
-        ensures steps { Continues ⟦<Store<MemDevice> as PageStore>⟧.follows self.old.store self.new.store }
+        ensures steps { Continues ⟦<Store<MemDevice> as PageStore>⟧.follows
+            self.old.store self.new.store }
         ensures fits { (start : Entry → Bool) (history : List Action) (calls : List Call)
             → WorldFits ⟦<Store<MemDevice> as PageStore>⟧ self.old start history calls
             → WorldFits ⟦<Store<MemDevice> as PageStore>⟧ self.new start history calls }
@@ -41,7 +42,8 @@ impl<T: DeadRows + Drop> World<Store<MemDevice>, T> {
     pub fn stop_at(&mut self, n: u64)
         ensures plan { plan_of (device_of ⟦<MemDevice as Device>⟧ self.new.store)
             ≡ stopping_at n (plan_of (device_of ⟦<MemDevice as Device>⟧ self.old.store)) }
-        ensures steps { Continues ⟦<Store<MemDevice> as PageStore>⟧.follows self.old.store self.new.store }
+        ensures steps { Continues ⟦<Store<MemDevice> as PageStore>⟧.follows
+            self.old.store self.new.store }
         ensures fits { (start : Entry → Bool) (history : List Action) (calls : List Call)
             → WorldFits ⟦<Store<MemDevice> as PageStore>⟧ self.old start history calls
             → WorldFits ⟦<Store<MemDevice> as PageStore>⟧ self.new start history calls }
@@ -55,8 +57,10 @@ impl<T: DeadRows + Drop> World<Store<MemDevice>, T> {
     /// What a crash now leaves, as a device of its own: its bytes are synced, and no call of it is made to fail. Without
     /// memory for it the call is refused with `NoMemory`.
     pub fn crash(&self, alloc: Global, image: CrashImage) -> Result<MemDevice, Fault>
-        ensures bytes { IfOk result (λ d. trace_of d ≡ first (left_by image (device_of ⟦<MemDevice as Device>⟧ self.now.store))) }
-        ensures left { MayLeave (held_by ⟦<MemDevice as Device>⟧ self.now.store).trace.now (left_by image (device_of ⟦<MemDevice as Device>⟧ self.now.store)) }
+        ensures bytes { IfOk result (λ d.
+            trace_of d ≡ first (left_by image (device_of ⟦<MemDevice as Device>⟧ self.now.store))) }
+        ensures left { MayLeave (held_by ⟦<MemDevice as Device>⟧ self.now.store).trace.now
+            (left_by image (device_of ⟦<MemDevice as Device>⟧ self.now.store)) }
         ensures plan { IfOk result (λ d. plan_of d ≡ no_plan) }
         ensures fault { IfErr result (λ e. e ≡ Fault.NoMemory) }
     {

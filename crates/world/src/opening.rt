@@ -8,7 +8,7 @@ ghost use Rattle.page_store.specs.Restart.{LeavesPages};
 ghost use Rattle.recovery.specs.Index.{HasIndex};
 ghost use Rattle.recovery.specs.Opening.{AreFrames, IsNoMemoryOrIo, IsRefusal};
 ghost use Rattle.tree_shape.specs.Tree.{IsBlinkTree};
-ghost use Rattle.schedule.specs.Reopening.{BeginsWith, world_device};
+ghost use Rattle.world.specs.Reopening.{BeginsWith, world_device};
 
 use crate::world::{NotMade, World};
 use device::Device;
@@ -28,9 +28,9 @@ pub struct NotOpened<D, T> {
 
 impl<D: Device, T: DeadRows + Drop> World<Store<D>, T> {
     /// Opens the index on the device, after any crash, for so many pages in memory at once (16 to 1,024), with so many
-    /// sessions (1 to 64), none of which has a call, and these sets of dead rows. Refused with `BadLimits` (18) for another number of sessions, before
-    /// the device is read; as `open` of `recovery` is; and with `NoMemory` (1). The device and the sets are given back. It may be called
-    /// again after any refusal, and after a crash at any moment.
+    /// sessions (1 to 64), none of which has a call, and these sets of dead rows. Refused with `BadLimits` (18) for another
+    /// number of sessions, before the device is read; as `open` of `recovery` is; and with `NoMemory` (1). The device and
+    /// the sets are given back. It may be called again after any refusal, and after a crash at any moment.
     pub fn open(
         alloc: Global,
         device: D,
@@ -42,18 +42,25 @@ impl<D: Device, T: DeadRows + Drop> World<Store<D>, T> {
         ensures sets { IfOk result (λ world. world.sets ≡ sets) }
         ensures sets_back { IfErr result (λ not_opened. not_opened.sets ≡ sets) }
         // An index whose pages are a B-link tree is opened with them, or refused for want of memory or of the device.
-        ensures begins { IsTrue (D.is_honest (world_device D.Device result)) → AreFrames frames → 1 ≤ sessions → sessions ≤ 64
-            → (limits : Limits) (pages : List Page) → HasIndex limits pages (D.trace device).now.seen → IsBlinkTree pages
-            → MatchResult result (BeginsWith D.Device ⟦<Store<D> as PageStore>⟧ limits pages) (λ not_opened. IsNoMemoryOrIo not_opened.fault) }
+        ensures begins { IsTrue (D.is_honest (world_device D.Device result))
+            → AreFrames frames → 1 ≤ sessions → sessions ≤ 64
+            → (limits : Limits) (pages : List Page)
+            → HasIndex limits pages (D.trace device).now.seen → IsBlinkTree pages
+            → MatchResult result (BeginsWith D.Device ⟦<Store<D> as PageStore>⟧ limits pages)
+            (λ not_opened. IsNoMemoryOrIo not_opened.fault) }
         // A crash at each moment since leaves the same index, whatever was answered.
         ensures moments { IsTrue (D.is_honest (world_device D.Device result))
-            → (limits : Limits) (pages : List Page) → HasIndex limits pages (D.trace device).now.seen
-            → Goes (LeavesPages limits pages) (D.trace device) (D.trace (world_device D.Device result)) }
+            → (limits : Limits) (pages : List Page)
+            → HasIndex limits pages (D.trace device).now.seen
+            → Goes (LeavesPages limits pages) (D.trace device)
+            (D.trace (world_device D.Device result)) }
         ensures cause { IfErr result (λ not_opened.
             ((not_opened.fault ≡ Fault.BadLimits) × ((sessions ≡ 0) ⊎ (64 < sessions)))
             ⊎ (not_opened.fault ≡ Fault.NoMemory)
-            ⊎ ((not_opened.fault ≡ Fault.Io) × (D.failures not_opened.device ≡ suc (D.failures device)))
-            ⊎ IsRefusal (D.is_honest not_opened.device) frames (D.trace device) (D.trace not_opened.device) not_opened.fault) }
+            ⊎ ((not_opened.fault ≡ Fault.Io)
+            × (D.failures not_opened.device ≡ suc (D.failures device)))
+            ⊎ IsRefusal (D.is_honest not_opened.device) frames (D.trace device)
+            (D.trace not_opened.device) not_opened.fault) }
     {
         if sessions == 0 || sessions > 64 {
             return Err(NotOpened {

@@ -13,29 +13,47 @@ impl<D: Device, T: DeadRows + Drop> World<Store<D>, T> {
     ghost use Rattle.index_model.specs.Calls.{Call};
     ghost use Rattle.index_model.specs.declared.entry.Entry.{Entry};
     ghost use Rattle.page_store.specs.Logged.{backing_of};
-    ghost use Rattle.schedule.specs.Reopening.{IsIndexAfterFirstPart};
-    ghost use Rattle.schedule.specs.Worlds.{WorldFits, WorldKeeps};
     ghost use Rattle.device.specs.Moments.{MayHaveLeft};
+    ghost use Rattle.world.specs.Reopening.{IsIndexAfterFirstPart};
+    ghost use Rattle.world.specs.Worlds.{WorldFits, WorldKeeps};
     ghost use Rattle.page_codec.specs.declared.page.Page.{Page};
     ghost use Rattle.page_store.specs.Restart.{RestartsTo};
     ghost use Rattle.page_store.specs.Stores.{state_of, held_by, device_of, IsOwnStore};
     ghost use Rattle.page_store.specs.declared.store.Store.{Store};
 
-    /// Does nothing: what the words of crashes are for a store over a device. A store is its own where nobody else wrote
+    /// Does nothing: what the words of crashes are for a store over a device (a store is its own where nobody else wrote
     /// to the device; a crash leaves what the device may have left at some moment from the first store to the second; and
-    /// bytes restart to pages as an open reads them.
+    /// bytes restart to pages as an open reads them), and what every crash leaves, at any moment between an earlier store and
+    /// this one.
     pub fn crash_law(&self)
-        ensures own { (s : Store D D.Device) → IsOwnStore D.Device s → ⟦<Store<D> as PageStore>⟧.own s }
+        ensures own { (s : Store D D.Device)
+            → IsOwnStore D.Device s → ⟦<Store<D> as PageStore>⟧.own s }
         ensures leaves { (s t : Store D D.Device) (image : List ℕ)
-            → MayHaveLeft (held_by D.Device s).trace (held_by D.Device t).trace image → ⟦<Store<D> as PageStore>⟧.leaves s t image }
+            → MayHaveLeft (held_by D.Device s).trace (held_by D.Device t).trace image
+            → ⟦<Store<D> as PageStore>⟧.leaves s t image }
         ensures restarts { (s : Store D D.Device) (image : List ℕ) (pages : List Page)
-            → ⟦<Store<D> as PageStore>⟧.restarts s image pages → RestartsTo (state_of D.Device s).limits image pages }
-        // What a crash now leaves of a world that is fitted and keeps its history is an index that can be opened again.
-        ensures index { (start : Entry → Bool) (history : List Action) (calls : List Call) (image : List ℕ)
+            → ⟦<Store<D> as PageStore>⟧.restarts s image pages
+            → RestartsTo (state_of D.Device s).limits image pages }
+        // What a crash at some moment since an own store has left of a world that is fitted and keeps its history is an
+        // index that can be opened again, with all that was durable in that store.
+        ensures index { (first : Store D D.Device)
+            → IsOwnStore D.Device first → ⟦<Store<D> as PageStore>⟧.follows first self.now.store
+            → (start : Entry → Bool) (history : List Action) (calls : List Call)
+            → WorldFits ⟦<Store<D> as PageStore>⟧ self.now start history calls
+            → WorldKeeps ⟦<Store<D> as PageStore>⟧ self.now start history calls
+            → (image : List ℕ)
+            → MayHaveLeft (held_by D.Device first).trace
+            (held_by D.Device self.now.store).trace image
+            → IsIndexAfterFirstPart (state_of D.Device self.now.store).limits start history
+            (backing_of (held_by D.Device first)).durable image }
+        // ... and so is what a crash now leaves.
+        ensures now { (start : Entry → Bool) (history : List Action) (calls : List Call)
+            → (image : List ℕ)
             → WorldFits ⟦<Store<D> as PageStore>⟧ self.now start history calls
             → WorldKeeps ⟦<Store<D> as PageStore>⟧ self.now start history calls
             → MayLeave (held_by D.Device self.now.store).trace.now image
-            → IsIndexAfterFirstPart (state_of D.Device self.now.store).limits start history (backing_of (held_by D.Device self.now.store)).durable image }
+            → IsIndexAfterFirstPart (state_of D.Device self.now.store).limits start history
+            (backing_of (held_by D.Device self.now.store)).durable image }
     {}
 
     /// The device below.

@@ -6,6 +6,7 @@ use page_action::{MapStore, PageStore};
 use page_codec::{Items, Page, PageState};
 use page_store::Store;
 use recovery::create;
+use schedule::{Event, is_running, one, run};
 use session_calls::Answer;
 use std::alloc::Global;
 use std::test::{Fail, *};

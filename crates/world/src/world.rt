@@ -2,11 +2,10 @@
 
 ghost use Rattle.std.specs.Prelude.{◌≡◌, ◌≤◌, IfOk, IfErr, length, None, replicate};
 
-use crate::event::Event;
-use crate::happening;
 use index_model::{DeadRows, Fault};
 use page_action::PageStore;
 use page_codec::Page;
+use schedule::Event;
 use session_calls::{Answer, Op};
 use std::alloc::Global;
 
@@ -15,7 +14,12 @@ use std::alloc::Global;
 /// A world stores no history. Its promise is one of each run: whatever history and calls fitted it before, there is a
 /// continuation that fits it afterwards, by events with exactly these answers. Where nobody else writes to the store's
 /// device, a crash at any moment leaves the contents after some first part of that history, with all that was durable.
-/// Each event of the run also says how many steps its call takes (`counts`), and what it leaves as it was (`quiet`).
+///
+/// Of what its clauses name: `steps`, that what its store followed it follows still; `sets` and `sessions`, that these
+/// stay; `always`, what holds of an event whatever the pages are (what it may answer, that a refusal changes nothing, that
+/// a stopped log refuses first, that a step leaves less to do, that no other session is touched, and what an end leaves);
+/// `runs`, the continuation, in which each event also says how many steps its call takes, and what it leaves as it was;
+/// `calm`, that a step that goes on does no act.
 #[derive(Drop)]
 pub struct World<S, T> {
     pub(crate) store: S,
@@ -39,10 +43,10 @@ impl<S: PageStore, T: DeadRows + Drop> World<S, T> {
     ghost use Rattle.page_action.specs.Causes.{where_read};
     ghost use Rattle.page_action.specs.Contents.{entry_on_live_leaf};
     ghost use Rattle.page_action.specs.States.{Continues};
-    ghost use Rattle.schedule.specs.Moments.{has_call};
-    ghost use Rattle.schedule.specs.Runs.{IsLessLeft};
-    ghost use Rattle.schedule.specs.Promises.{IsUnused, answers_behind};
-    ghost use Rattle.schedule.specs.Worlds.{WorldFits, WorldKeeps, WorldIsSafe, WorldRuns, WorldCarries};
+    ghost use Rattle.schedule.specs.Events.{Moves, GivesUp, EventAlways, IsUnchanged, kind_of};
+    ghost use Rattle.schedule.specs.Runs.{answers_behind};
+    ghost use Rattle.schedule.specs.Snapshots.{IsUnused, has_call};
+    ghost use Rattle.world.specs.Worlds.{WorldFits, WorldKeeps, WorldIsSafe, WorldRuns, WorldCarries, inside};
 
     /// A world over the store with so many sessions, none of which has a call, and the sets of dead rows that its events
     /// may name. Refused with `BadLimits` unless it is 1 to 64 sessions, and with `NoMemory`; the store and the sets are
@@ -66,9 +70,12 @@ impl<S: PageStore, T: DeadRows + Drop> World<S, T> {
             WorldKeeps S.PageStore world (entry_on_live_leaf (S.state store).pages) [] []) }
         ensures given_back { IfErr result (λ not_made. not_made.store ≡ store) }
         ensures sets_back { IfErr result (λ not_made. not_made.sets ≡ sets) }
-        ensures first { IfErr result (λ not_made. (sessions ≡ 0) ⊎ (64 < sessions) → not_made.fault ≡ Fault.BadLimits) }
-        ensures limits { IfErr result (λ not_made. not_made.fault ≡ Fault.BadLimits → (sessions ≡ 0) ⊎ (64 < sessions)) }
-        ensures memory { IfErr result (λ not_made. (not_made.fault ≡ Fault.BadLimits) ⊎ (not_made.fault ≡ Fault.NoMemory)) }
+        ensures first { IfErr result (λ not_made.
+            (sessions ≡ 0) ⊎ (64 < sessions) → not_made.fault ≡ Fault.BadLimits) }
+        ensures limits { IfErr result (λ not_made.
+            not_made.fault ≡ Fault.BadLimits → (sessions ≡ 0) ⊎ (64 < sessions)) }
+        ensures memory { IfErr result (λ not_made.
+            (not_made.fault ≡ Fault.BadLimits) ⊎ (not_made.fault ≡ Fault.NoMemory)) }
     {
         if sessions == 0 || sessions > 64 {
             return Err(NotMade {
@@ -91,10 +98,12 @@ impl<S: PageStore, T: DeadRows + Drop> World<S, T> {
         ensures sets { self.new.sets ≡ self.old.sets }
         ensures runs { WorldCarries S.PageStore self.old self.new
             (WorldRuns S.PageStore self.old self.new (event ∷ []) (result ∷ [])) }
-        // Whatever fits: a step that ends no call leaves less to do, and so does an entry that is given.
-        ensures less { IsLessLeft event result self.old.slots.items self.new.slots.items }
+        ensures always { EventAlways S.PageStore (kind_of event) result
+            (inside self.old) (inside self.new) }
+        ensures calm { result ≡ Answer.Going
+            → (S.state self.new.store).acts ≡ (S.state self.old.store).acts }
     {
-        happening::one(&mut self.store, &mut self.slots, event)
+        schedule::one(&mut self.store, &mut self.slots, event)
     }
 
     /// Does these events one after the other, and puts an answer for each behind the answers that are there. Refused
@@ -104,26 +113,34 @@ impl<S: PageStore, T: DeadRows + Drop> World<S, T> {
         ensures sessions { length self.new.slots.items ≡ length self.old.slots.items }
         ensures sets { self.new.sets ≡ self.old.sets }
         ensures runs { OnOk result (WorldCarries S.PageStore self.old self.new
-            (WorldRuns S.PageStore self.old self.new events.now (answers_behind answers.old.items answers.new.items))) }
-        ensures each { OnOk result (length answers.new.items ≡ length answers.old.items + length events.now) }
+            (WorldRuns S.PageStore self.old self.new events.now
+            (answers_behind answers.old.items answers.new.items))) }
+        ensures each { OnOk result
+            (length answers.new.items ≡ length answers.old.items + length events.now) }
         ensures kept { take (length answers.old.items) answers.new.items ≡ answers.old.items }
-        ensures refused { OnErr result ((self.new ≡ self.old) × (answers.new.items ≡ answers.old.items)) }
+        ensures refused { OnErr result
+            ((self.new ≡ self.old) × (answers.new.items ≡ answers.old.items)) }
         ensures fault { IfErr result (λ fault. fault ≡ Fault.NoMemory) }
-        ensures room { vec_len answers.old + length events.now ≤ vec_capacity answers.old → IsOk result }
+        ensures room { vec_len answers.old + length events.now ≤ vec_capacity answers.old
+            → IsOk result }
     {
-        happening::run(&mut self.store, &mut self.slots, events, answers)
+        schedule::run(&mut self.store, &mut self.slots, events, answers)
     }
 
     /// A copy of the page of this block, as it was acted last. Refused with `Io`, `Stopped`, `NoFrame`, and with
-    /// `PageDamaged` for a block that is not in use. What fits is kept.
+    /// `PageDamaged` for a block that is not in use. Nothing of the pages, the calls and the sessions is changed, whatever it
+    /// answers; what fits is kept.
     pub fn page(&mut self, block: u32) -> Result<Page, Fault>
         ensures steps { Continues S.follows self.old.store self.new.store }
         ensures sets { self.new.sets ≡ self.old.sets }
+        ensures unchanged { IsUnchanged S.PageStore (inside self.old) (inside self.new) }
         ensures fits { WorldCarries S.PageStore self.old self.new (WorldFits S.PageStore self.new) }
-        ensures crash { WorldCarries S.PageStore self.old self.new (WorldIsSafe S.PageStore self.old self.new) }
+        ensures crash { WorldCarries S.PageStore self.old self.new
+            (WorldIsSafe S.PageStore self.old self.new) }
         ensures page { (S.backing self.new.store).honest ≡ true
             → IfOk result (λ page. slice_get (S.state self.old.store).pages block ≡ Some page) }
-        ensures cause { IfErr result (HasCause (where_read (S.state self.old.store) (S.backing self.old.store) (S.backing self.new.store) block)) }
+        ensures cause { IfErr result (HasCause (where_read (S.state self.old.store)
+            (S.backing self.old.store) (S.backing self.new.store) block)) }
     {
         self.store.page(block)
     }
@@ -135,6 +152,8 @@ impl<S: PageStore, T: DeadRows + Drop> World<S, T> {
         ensures sets { self.new.sets ≡ self.old.sets }
         ensures runs { WorldCarries S.PageStore self.old self.new
             (WorldRuns S.PageStore self.old self.new (Event.End session ∷ []) (result ∷ [])) }
+        ensures always { EventAlways S.PageStore (Moves session GivesUp) result
+            (inside self.old) (inside self.new) }
     {
         self.one(Event::End(session))
     }
@@ -147,9 +166,10 @@ impl<S: PageStore, T: DeadRows + Drop> World<S, T> {
         store
     }
 
-    /// How many images one more act could hold now.
+    /// How many images one more act could hold now: no more than are promised to it.
     pub fn room(&self) -> u32
-        ensures { result ≡ (S.backing self.now.store).room }
+        ensures value { result ≡ (S.backing self.now.store).room }
+        ensures promised { result ≤ (S.backing self.now.store).promised }
     {
         self.store.room()
     }
@@ -173,7 +193,7 @@ impl<S: PageStore, T: DeadRows + Drop> World<S, T> {
         ensures value { result ≡ has_call self.now.slots.items session }
         ensures within { result ≡ true → session < length self.now.slots.items }
     {
-        happening::is_running(&self.slots, session)
+        schedule::is_running(&self.slots, session)
     }
 }
 

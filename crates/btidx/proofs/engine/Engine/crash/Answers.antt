@@ -5,7 +5,7 @@ use Rattle.btidx.proofs.engine.Engine.crash.Goals as goal
 
 pub returns-clause-reopened : goal.returns-clause-reopened
 returns-clause-reopened c start history calls fits keeps =
-    let left = c.crash_law.ensures.index start history calls _ fits keeps c.crash.ensures.left in
+    let left = c.crash_law.ensures.now start history calls _ fits keeps c.crash.ensures.left in
     let limits = c.args.self.now.world.store.held.limits in
     let index = subst (λ (t : Trace). HasIndex limits left.pages t.now.seen) (sym c.in_ok-device.ensures.bytes) left.index in
     record {

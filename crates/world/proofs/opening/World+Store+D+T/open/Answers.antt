@@ -1,9 +1,9 @@
 use Rattle.std.proofs.Common.{arith, inl, inr, sym, ap, subst, ◌∙◌, ⊎_elim, IsTrue}
 use Rattle.page_store.specs.Stores.{state_of, device_of}
 use Rattle.tree_shape.specs.Tree.{IsBlinkTree}
-use Rattle.schedule.specs.Promises.{IsUnused}
-use Rattle.schedule.proofs.Opened.{opened_unused, same_start, same_kept}
-use Rattle.schedule.proofs.opening.World+Store+D+T.open.Goals as goal
+use Rattle.schedule.specs.Snapshots.{IsUnused}
+use Rattle.world.proofs.Opened.{opened_unused, same_start, same_kept}
+use Rattle.world.proofs.opening.World+Store+D+T.open.Goals as goal
 
 pub returns-in-Err-new-clause-begins : goal.returns-in-Err-new-clause-begins
 returns-in-Err-new-clause-begins g c honest frames from to limits pages index tree =
@@ -21,7 +21,7 @@ returns-in-Ok-new-clause-begins g c honest frames from to limits pages index tre
     let st = state_of g.D.Device store in
     let same = c.in-Ok.ensures.same (subst (λ (d : g.row.D.Denot). IsTrue (g.D.Device.is_honest d)) (ap (device_of g.D.Device) c.in-Ok-new.ensures.store) honest) frames limits pages index in
     let opened = c.in-Ok.ensures.opened in
-    let unused : IsUnused st = subst IsUnused (sym opened.is) (opened_unused st.limits st.pages _ _ (subst IsBlinkTree (sym same.pages_are) tree)) in
+    let unused : IsUnused st = subst IsUnused (sym opened.is) (opened_unused st.limits c.args.frames st.pages _ _ (subst IsBlinkTree (sym same.pages_are) tree)) in
     record {
       limits_are = ap (λ s. (state_of g.D.Device s).limits) c.in-Ok-new.ensures.store ∙ same.limits_are;
       fits = same_start _ c.in-Ok-new.world st.pages pages same.pages_are (c.in-Ok-new.ensures.fits unused);
