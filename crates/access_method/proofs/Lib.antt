@@ -1,5 +1,2 @@
-pub mod Composing
-pub mod Tellings
-pub mod Given
 pub mod Seats
 pub mod Results

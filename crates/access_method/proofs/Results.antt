@@ -1,5 +1,19 @@
 -- What the answers of an insert and of a scan say, read off the run.
-use Rattle.std.proofs.Common.{◌≡◌, ◌||◌, ℕ, ◌+◌, Bool, Option, Some, None, Result, Ok, Err, List, [], ◌∷◌, ◌++◌, length, take, slice_get, refl, sym, ap, subst, ◌∙◌, arith, length-append}
+use Rattle.std.specs.Prelude.{IfOk, IfErr, OnOk}
+use Rattle.index_model.specs.Faults.{HasCause}
+use Rattle.page_action.specs.Causes.{where_forced}
+use Rattle.session_calls.specs.declared.answer.Answer.{Answer}
+use Rattle.session_calls.specs.declared.answer.Answer.TheVariants.{Begun, Going, Added, Ready, Done, Finished, Gave, Ended, Forced, Flushed, Checkpointed, Refused}
+use Rattle.schedule.specs.Events.{Kind, Keeps, Upkeep, Forces, Checkpoints, kind_of, IsOfKind, AnswersUpkeep, StoreIsKept, EventDoes}
+use Rattle.schedule.specs.Runs.{Carries, Runs}
+use Rattle.schedule.specs.declared.event.Event.{Event}
+use Rattle.schedule.proofs.Keeping.{Laws}
+use Rattle.whole_calls.specs.Telling.{IsSilent}
+use Rattle.whole_calls.specs.Going.{CallGoes}
+use Rattle.whole_calls.proofs.Composing.{goes_by}
+use Rattle.whole_calls.proofs.Tellings.{keeps_silent}
+use Rattle.access_method.specs.Counted.{counted, kept_came}
+use Rattle.std.proofs.Common.{◌≡◌, ◌||◌, ℕ, suc, ◌+◌, Bool, Option, Some, None, Result, Ok, Err, List, [], ◌∷◌, ◌++◌, length, take, slice_get, refl, sym, ap, subst, ◌∙◌, arith, length-append}
 use Rattle.std.proofs.lemmas.List.{take_at, take_all}
 use Rattle.index_model.specs.Actions.{ThereAtSomeMoment, Action, contents_after}
 use Rattle.index_model.specs.Calls.{Failed, Ask, AskInsert, AskScan, Call, Ending, Running, Finished as EndsFinished, Meets, AnswersRight, IsAdded, IsScanAnswer, IsScanAnswerSoFar, end_of}
@@ -10,24 +24,23 @@ use Rattle.index_model.specs.declared.fault.Fault.TheVariants.{Exists}
 use Rattle.index_model.specs.declared.range.Range.{Range}
 use Rattle.index_model.proofs.Histories.{contents_after-add}
 use Rattle.page_action.specs.declared.page_store.PageStore.{Ghosts}
-use Rattle.session_calls.specs.Sessions.{begun_call, ended_added, given_one, ended}
-use Rattle.schedule.specs.Moments.{Fits}
-use Rattle.schedule.specs.Promises.{StoreAndSlots, moment_at}
+use Rattle.session_calls.specs.Sessions.{begun_call, given_one, ended}
+use Rattle.schedule.specs.Snapshots.{StoreAndSlots, Fits, snapshot_of}
 use Rattle.schedule.proofs.Lists.{get_append_new, get_set_same, get_within}
-use Rattle.access_method.specs.Telling.{InsertTold}
-use Rattle.access_method.specs.Giving.{Becomes, TellsGiven}
-use Rattle.access_method.specs.Going.{CallRuns}
+use Rattle.whole_calls.specs.Telling.{InsertTold, insert_came, inserted_call}
+use Rattle.whole_calls.specs.Giving.{Becomes, TellsGiven, give_came}
+use Rattle.whole_calls.specs.Going.{CallRuns}
 use Rattle.access_method.specs.Indexes.{InsertsOrKeeps, AnswersScan}
-use Rattle.access_method.specs.declared.inserted.Inserted.{Inserted}
+use Rattle.whole_calls.specs.declared.inserted.Inserted.{Inserted}
 
 -- an insert's answer in words of the contents
 pub inserts_or_keeps : {S : Type 0} (g : Ghosts S) (entry : Entry) (result : Result Inserted Fault) (old new : StoreAndSlots S) (start : Entry → Bool) (history : List Action) (calls : List Call)
-    → Fits g start (moment_at old history calls) → CallRuns g 63 (InsertTold entry result) old new start history calls → InsertsOrKeeps g entry result old.store new.store
+    → Fits g start (snapshot_of old history calls) → CallRuns g 63 (InsertTold 63 entry result) (insert_came result) old new start history calls → InsertsOrKeeps g entry result old.store new.store
 inserts_or_keeps g entry (Ok inserted) old new start history calls fits r =
-    let call : Call = ended_added (begun_call 63 (AskInsert entry) (length history)) inserted.action inserted.unfinished in
+    let call : Call = inserted_call 63 entry (length history) inserted in
     let found : slice_get r.then_calls (length calls) ≡ Some call = ap (λ (l : List Call). slice_get l (length calls)) r.tells.calls_is ∙ get_append_new calls call in
     let meets : Meets start r.then_history (length calls) call = r.ran.fits.meets (length calls) call found in
-    let added : IsAdded start r.then_history (length calls) (length history) inserted.action entry inserted.action = meets.right.add in
+    let added : IsAdded start r.then_history (length calls) (length history) (suc (length history)) entry inserted.action = meets.right.add in
     let before : added.before ≡ length history = (let a = added.number_is in let b = r.tells.action_is in omega (arith, a, b)) in
     let first : take added.before r.then_history ≡ history = ap (λ (n : ℕ). take n r.then_history) before ∙ ap (λ (l : List Action). take (length history) l) r.tells.history_is ∙ take_at history _ (length history) refl in
     record {
@@ -62,18 +75,169 @@ so_far start history number began until ask range given added ending is_ask is_r
 
 -- ... as it gives
 pub gives_right : {S : Type 0} (g : Ghosts S) (session : ℕ) (result : Result (Option Entry) Fault) (old new : StoreAndSlots S) (start : Entry → Bool) (history : List Action) (calls : List Call)
-    → CallRuns g session (TellsGiven session result) old new start history calls → AnswersScan session result start history calls
+    → CallRuns g session (TellsGiven session result) (give_came result) old new start history calls → AnswersScan session result start history calls
 gives_right g session (Ok (Some entry)) old new start history calls r number call range running ask =
-    let told : Becomes number (given_one call entry) (moment_at old history calls) (moment_at new r.then_history r.then_calls) = r.tells number call range running ask in
+    let told : Becomes number (given_one call entry) (snapshot_of old history calls) (snapshot_of new r.then_history r.then_calls) = r.tells number call range running ask in
     let found : slice_get r.then_calls number ≡ Some (given_one call entry) = ap (λ (l : List Call). slice_get l number) told.calls_is ∙ get_set_same calls number (given_one call entry) (get_within calls number call running.found) in
     let meets : Meets start r.then_history number (given_one call entry) = r.ran.fits.meets number (given_one call entry) found in
     subst (λ (l : List Action). IsScanAnswerSoFar start l range call.began (length l) (call.given ++ entry ∷ [])) told.history_is
     (so_far start r.then_history number call.began call.until call.ask range (call.given ++ entry ∷ []) call.added call.ending ask running.running meets.right)
 gives_right g session (Ok None) old new start history calls r number call range running ask =
     let after : Call = ended call EndsFinished (length history) in
-    let told : Becomes number after (moment_at old history calls) (moment_at new r.then_history r.then_calls) = r.tells number call range running ask in
+    let told : Becomes number after (snapshot_of old history calls) (snapshot_of new r.then_history r.then_calls) = r.tells number call range running ask in
     let found : slice_get r.then_calls number ≡ Some after = ap (λ (l : List Call). slice_get l number) told.calls_is ∙ get_set_same calls number after (get_within calls number call running.found) in
     let meets : Meets start r.then_history number after = r.ran.fits.meets number after found in
     subst (λ (l : List Action). IsScanAnswer start l range call.began (length history) call.given) told.history_is
     (subst (λ (a : Ask). AnswersRight start r.then_history number call.began (length history) a call.given call.added EndsFinished) ask meets.right)
 gives_right g session (Err fault) old new start history calls r number call range running ask = tt
+
+-- what was done for the store, as it is told: the number of actions,
+kept_number : {S : Type 0} (g : Ghosts S) (upkeep : Upkeep) (answer : Answer) (old new : S) → AnswersUpkeep upkeep answer → StoreIsKept g upkeep answer old new
+    → IfOk (counted answer) (λ n. n ≡ (g.state old).acts)
+kept_number g Forces Begun old new kind kept = absurd kind
+kept_number g Forces Going old new kind kept = absurd kind
+kept_number g Forces (Added a u) old new kind kept = absurd kind
+kept_number g Forces (Ready r) old new kind kept = absurd kind
+kept_number g Forces Done old new kind kept = absurd kind
+kept_number g Forces (Finished s) old new kind kept = absurd kind
+kept_number g Forces (Gave e) old new kind kept = absurd kind
+kept_number g Forces Ended old new kind kept = absurd kind
+kept_number g Forces (Forced n) old new kind kept = kept.number n refl
+kept_number g Forces (Flushed b) old new kind kept = absurd kind
+kept_number g Forces (Checkpointed n) old new kind kept = absurd kind
+kept_number g Forces (Refused f) old new kind kept = tt
+kept_number g Checkpoints Begun old new kind kept = absurd kind
+kept_number g Checkpoints Going old new kind kept = absurd kind
+kept_number g Checkpoints (Added a u) old new kind kept = absurd kind
+kept_number g Checkpoints (Ready r) old new kind kept = absurd kind
+kept_number g Checkpoints Done old new kind kept = absurd kind
+kept_number g Checkpoints (Finished s) old new kind kept = absurd kind
+kept_number g Checkpoints (Gave e) old new kind kept = absurd kind
+kept_number g Checkpoints Ended old new kind kept = absurd kind
+kept_number g Checkpoints (Forced n) old new kind kept = absurd kind
+kept_number g Checkpoints (Flushed b) old new kind kept = absurd kind
+kept_number g Checkpoints (Checkpointed n) old new kind kept = kept.number n refl
+kept_number g Checkpoints (Refused f) old new kind kept = tt
+
+-- ... that they are durable,
+kept_durable : {S : Type 0} (g : Ghosts S) (upkeep : Upkeep) (answer : Answer) (old new : S) → AnswersUpkeep upkeep answer → StoreIsKept g upkeep answer old new
+    → OnOk (counted answer) ((g.backing new).durable ≡ (g.state old).acts)
+kept_durable g Forces Begun old new kind kept = absurd kind
+kept_durable g Forces Going old new kind kept = absurd kind
+kept_durable g Forces (Added a u) old new kind kept = absurd kind
+kept_durable g Forces (Ready r) old new kind kept = absurd kind
+kept_durable g Forces Done old new kind kept = absurd kind
+kept_durable g Forces (Finished s) old new kind kept = absurd kind
+kept_durable g Forces (Gave e) old new kind kept = absurd kind
+kept_durable g Forces Ended old new kind kept = absurd kind
+kept_durable g Forces (Forced n) old new kind kept = kept.durable n refl
+kept_durable g Forces (Flushed b) old new kind kept = absurd kind
+kept_durable g Forces (Checkpointed n) old new kind kept = absurd kind
+kept_durable g Forces (Refused f) old new kind kept = tt
+kept_durable g Checkpoints Begun old new kind kept = absurd kind
+kept_durable g Checkpoints Going old new kind kept = absurd kind
+kept_durable g Checkpoints (Added a u) old new kind kept = absurd kind
+kept_durable g Checkpoints (Ready r) old new kind kept = absurd kind
+kept_durable g Checkpoints Done old new kind kept = absurd kind
+kept_durable g Checkpoints (Finished s) old new kind kept = absurd kind
+kept_durable g Checkpoints (Gave e) old new kind kept = absurd kind
+kept_durable g Checkpoints Ended old new kind kept = absurd kind
+kept_durable g Checkpoints (Forced n) old new kind kept = absurd kind
+kept_durable g Checkpoints (Flushed b) old new kind kept = absurd kind
+kept_durable g Checkpoints (Checkpointed n) old new kind kept = kept.durable n refl
+kept_durable g Checkpoints (Refused f) old new kind kept = tt
+
+-- ... and why it was refused
+kept_cause : {S : Type 0} (g : Ghosts S) (upkeep : Upkeep) (answer : Answer) (old new : S) → AnswersUpkeep upkeep answer → StoreIsKept g upkeep answer old new
+    → IfErr (counted answer) (HasCause (where_forced (g.backing old) (g.backing new)))
+kept_cause g Forces Begun old new kind kept = absurd kind
+kept_cause g Forces Going old new kind kept = absurd kind
+kept_cause g Forces (Added a u) old new kind kept = absurd kind
+kept_cause g Forces (Ready r) old new kind kept = absurd kind
+kept_cause g Forces Done old new kind kept = absurd kind
+kept_cause g Forces (Finished s) old new kind kept = absurd kind
+kept_cause g Forces (Gave e) old new kind kept = absurd kind
+kept_cause g Forces Ended old new kind kept = absurd kind
+kept_cause g Forces (Forced n) old new kind kept = tt
+kept_cause g Forces (Flushed b) old new kind kept = absurd kind
+kept_cause g Forces (Checkpointed n) old new kind kept = absurd kind
+kept_cause g Forces (Refused f) old new kind kept = kept.caused f refl
+kept_cause g Checkpoints Begun old new kind kept = absurd kind
+kept_cause g Checkpoints Going old new kind kept = absurd kind
+kept_cause g Checkpoints (Added a u) old new kind kept = absurd kind
+kept_cause g Checkpoints (Ready r) old new kind kept = absurd kind
+kept_cause g Checkpoints Done old new kind kept = absurd kind
+kept_cause g Checkpoints (Finished s) old new kind kept = absurd kind
+kept_cause g Checkpoints (Gave e) old new kind kept = absurd kind
+kept_cause g Checkpoints Ended old new kind kept = absurd kind
+kept_cause g Checkpoints (Forced n) old new kind kept = absurd kind
+kept_cause g Checkpoints (Flushed b) old new kind kept = absurd kind
+kept_cause g Checkpoints (Checkpointed n) old new kind kept = tt
+kept_cause g Checkpoints (Refused f) old new kind kept = kept.caused f refl
+
+-- what was told was answered
+came_of : (upkeep : Upkeep) (answer : Answer) → AnswersUpkeep upkeep answer → kept_came upkeep (counted answer) ≡ Some answer
+came_of Forces Begun kind = absurd kind
+came_of Forces Going kind = absurd kind
+came_of Forces (Added a u) kind = absurd kind
+came_of Forces (Ready r) kind = absurd kind
+came_of Forces Done kind = absurd kind
+came_of Forces (Finished s) kind = absurd kind
+came_of Forces (Gave e) kind = absurd kind
+came_of Forces Ended kind = absurd kind
+came_of Forces (Forced n) kind = refl
+came_of Forces (Flushed b) kind = absurd kind
+came_of Forces (Checkpointed n) kind = absurd kind
+came_of Forces (Refused f) kind = refl
+came_of Checkpoints Begun kind = absurd kind
+came_of Checkpoints Going kind = absurd kind
+came_of Checkpoints (Added a u) kind = absurd kind
+came_of Checkpoints (Ready r) kind = absurd kind
+came_of Checkpoints Done kind = absurd kind
+came_of Checkpoints (Finished s) kind = absurd kind
+came_of Checkpoints (Gave e) kind = absurd kind
+came_of Checkpoints Ended kind = absurd kind
+came_of Checkpoints (Forced n) kind = absurd kind
+came_of Checkpoints (Flushed b) kind = absurd kind
+came_of Checkpoints (Checkpointed n) kind = refl
+came_of Checkpoints (Refused f) kind = refl
+
+-- it is a run of one event, of which nothing is told
+goes_kept : {S : Type 0} (g : Ghosts S) (laws : Laws g) (upkeep : Upkeep) (event : Event) (answer : Answer) (a b : StoreAndSlots S) → kind_of event ≡ Keeps upkeep → AnswersUpkeep upkeep answer
+    → Carries g a b (Runs g a b (event ∷ []) (answer ∷ [])) → CallGoes g 0 IsSilent (kept_came upkeep (counted answer)) a b
+goes_kept {S} g laws upkeep event answer a b kind answers runs = subst (λ (came : Option Answer). CallGoes g 0 IsSilent came a b) (sym (came_of upkeep answer answers))
+    (goes_by g laws 0 IsSilent event answer a b (subst (λ (k : Kind). IsOfKind 0 k) (sym kind) tt) runs
+    (λ start x y from to fits does. keeps_silent g start upkeep answer x y (subst (λ (k : Kind). EventDoes g start k answer x y) kind does)))
+
+-- a checkpoint leaves the whole room of the log
+kept_room : (Room : Type 0) (answer : Answer) → AnswersUpkeep Checkpoints answer → ((count : ℕ) → answer ≡ Checkpointed count → Room) → OnOk (counted answer) Room
+kept_room Room Begun kind h = absurd kind
+kept_room Room Going kind h = absurd kind
+kept_room Room (Added a u) kind h = absurd kind
+kept_room Room (Ready r) kind h = absurd kind
+kept_room Room Done kind h = absurd kind
+kept_room Room (Finished s) kind h = absurd kind
+kept_room Room (Gave e) kind h = absurd kind
+kept_room Room Ended kind h = absurd kind
+kept_room Room (Forced n) kind h = absurd kind
+kept_room Room (Flushed b) kind h = absurd kind
+kept_room Room (Checkpointed n) kind h = h n refl
+kept_room Room (Refused f) kind h = tt
+
+-- ... of a result that tells so
+module _ {S : Type 0} (g : Ghosts S) (upkeep : Upkeep) (answer : Answer) (old new : S) (result : Result ℕ Fault) (is : result ≡ counted answer) (kind : AnswersUpkeep upkeep answer) (kept : StoreIsKept g upkeep answer old new) where
+  pub number_told : IfOk result (λ n. n ≡ (g.state old).acts)
+  number_told = subst (λ (r : Result ℕ Fault). IfOk r (λ n. n ≡ (g.state old).acts)) (sym is) (kept_number g upkeep answer old new kind kept)
+
+  pub durable_told : OnOk result ((g.backing new).durable ≡ (g.state old).acts)
+  durable_told = subst (λ (r : Result ℕ Fault). OnOk r ((g.backing new).durable ≡ (g.state old).acts)) (sym is) (kept_durable g upkeep answer old new kind kept)
+
+  pub cause_told : IfErr result (HasCause (where_forced (g.backing old) (g.backing new)))
+  cause_told = subst (λ (r : Result ℕ Fault). IfErr r (HasCause (where_forced (g.backing old) (g.backing new)))) (sym is) (kept_cause g upkeep answer old new kind kept)
+
+pub room_told : (Room : Type 0) (answer : Answer) (result : Result ℕ Fault) → result ≡ counted answer → AnswersUpkeep Checkpoints answer → ((count : ℕ) → answer ≡ Checkpointed count → Room) → OnOk result Room
+room_told Room answer result is kind h = subst (λ (r : Result ℕ Fault). OnOk r Room) (sym is) (kept_room Room answer kind h)
+
+pub goes_told_kept : {S : Type 0} (g : Ghosts S) (laws : Laws g) (upkeep : Upkeep) (event : Event) (answer : Answer) (a b : StoreAndSlots S) (result : Result ℕ Fault) → result ≡ counted answer → kind_of event ≡ Keeps upkeep
+    → AnswersUpkeep upkeep answer → Carries g a b (Runs g a b (event ∷ []) (answer ∷ [])) → CallGoes g 0 IsSilent (kept_came upkeep result) a b
+goes_told_kept g laws upkeep event answer a b result is kind answers runs = subst (λ (r : Result ℕ Fault). CallGoes g 0 IsSilent (kept_came upkeep r) a b) (sym is) (goes_kept g laws upkeep event answer a b kind answers runs)

@@ -3,18 +3,25 @@ use Rattle.std.proofs.Common.{◌≡◌, ◌≢◌, ℕ, zero, suc, ◌<◌, Opt
 use Rattle.std.proofs.lemmas.Bool.{cases_eq}
 use Rattle.index_model.specs.Actions.{Action}
 use Rattle.index_model.specs.Calls.{AskScan, Call}
+use Rattle.std.specs.Prelude.{◌||◌, Bool, true, false}
+use Rattle.index_model.specs.Faults.{HasCause}
 use Rattle.index_model.specs.declared.fault.Fault.{Fault}
+use Rattle.index_model.specs.declared.fault.Fault.TheVariants.{NoMemory, Io, Stopped, Blocked, Exists, KeyTooLong, BadRow, IndexFull, LogFull, NoFrame, VacuumRunning, NoSession, SessionBusy, BadSuper, BadVersion, LogDamaged, PageDamaged, BadLimits, TooTall, DeviceTooSmall}
+use Rattle.page_action.specs.Causes.{nothing_wrong, is_at_end}
+use Rattle.page_action.specs.States.{Backing}
 use Rattle.index_model.specs.declared.range.Range.{Range}
 use Rattle.page_action.specs.Contents.{entry_on_live_leaf}
 use Rattle.page_action.specs.declared.page_store.PageStore.{Ghosts}
-use Rattle.session_calls.specs.Sessions.{begun_call}
+use Rattle.session_calls.specs.Sessions.{IsIdle, begun_call}
+use Rattle.session_calls.specs.declared.request.Request.TheVariants.{Scan as ToScan}
 use Rattle.session_calls.specs.declared.op.Op.{Op}
-use Rattle.schedule.specs.Moments.{Moment, SlotMatches, Fits}
-use Rattle.schedule.specs.Promises.{IsUnused, both, moment_at}
-use Rattle.schedule.specs.Runs.{slot_at, OthersStay}
-use Rattle.schedule.proofs.Lists.{get_set_same, get_set_other}
-use Rattle.access_method.specs.Telling.{IsSilent, TellsEnd, BeginTold, HasNone}
-use Rattle.access_method.specs.Indexes.{RescanTold}
+use Rattle.schedule.specs.Snapshots.{Snapshot, SlotMatches, Fits, IsUnused, both, snapshot_of, slot_of}
+use Rattle.schedule.specs.Events.{OthersStay, where_begun_at}
+use Rattle.schedule.proofs.Lists.{get_set_same, get_set_other, get_some}
+use Rattle.whole_calls.specs.Telling.{TellsEnd, BeginTold}
+use Rattle.page_codec.specs.declared.page.Page.{Page}
+use Rattle.access_method.specs.declared.index.Index.{Index}
+use Rattle.access_method.specs.Indexes.{IndexFits, IndexKeeps, RescanTold}
 use Rattle.access_method.specs.Tokens.{SeatsAgree, seat_for}
 use Rattle.access_method.specs.declared.token.Seat.{Seat}
 
@@ -25,7 +32,7 @@ in_replicate (suc n) x y zero h = cc
 in_replicate (suc n) x y (suc i) h = in_replicate n x y i h
 
 -- no session runs anything
-pub empty_at : (n i : ℕ) (slots : List (Option Op)) → slots ≡ replicate n None → slot_at slots i ≡ None
+pub empty_at : (n i : ℕ) (slots : List (Option Op)) → slots ≡ replicate n None → slot_of slots i ≡ None
 empty_at n i slots is = of (slice_get slots i) refl
   where
     of : (o : Option (Option Op)) → slice_get slots i ≡ o → unwrap_or o None ≡ None
@@ -43,33 +50,34 @@ closed_at n i number seats is = of (slice_get seats i) refl
 
 -- an unused store with empty slots is fitted by the contents of its pages
 pub unused_fits : {S : Type 0} (g : Ghosts S) (store : S) (slots : List (Option Op)) (n : ℕ) → slots ≡ replicate n None → IsUnused (g.state store)
-    → Fits g (entry_on_live_leaf (g.state store).pages) (moment_at (both store slots) [] [])
+    → Fits g (entry_on_live_leaf (g.state store).pages) (snapshot_of (both store slots) [] [])
 unused_fits {S} g store slots n is unused = record {
   matches = record { contents = λ e. refl; count = unused.acts; order = unused.order };
   running = λ session slot h. of session slot (in_replicate n None slot session (ap (λ (l : List (Option Op)). slice_get l session) (sym is) ∙ h));
+  beyond = λ session h. unused.idle session;
   known = λ number call h. absurd cc;
   meets = λ number call h. absurd cc;
   owned = λ before action h. absurd cc;
 }
   where
-    of : (session : ℕ) (slot : Option Op) → slot ≡ None → SlotMatches g (entry_on_live_leaf (g.state store).pages) (moment_at (both store slots) [] []) session slot
+    of : (session : ℕ) (slot : Option Op) → slot ≡ None → SlotMatches g (entry_on_live_leaf (g.state store).pages) (snapshot_of (both store slots) [] []) session slot
     of session None e = record { none = λ number call h. (let f = h.found in absurd cc); idle = unused.idle session }
     of session (Some op) e = absurd cc
 
 -- the slots of sessions that stay
-stays_at : (old new : List (Option Op)) (session other : ℕ) → OthersStay session old new → other ≢ session → slot_at new other ≡ slot_at old other
+stays_at : (old new : List (Option Op)) (session other : ℕ) → OthersStay session old new → other ≢ session → slot_of new other ≡ slot_of old other
 stays_at old new session other stay apart = ap (λ (o : Option (Option Op)). unwrap_or o None) (stay other apart)
 
 module _ (old new : List (Option Op)) (seats : List (Option Seat)) (session : ℕ) (agree : SeatsAgree old seats) (low : session < 63) (stay : OthersStay session old new) where
-  inserts_stay : slot_at new 63 ≡ None
+  inserts_stay : slot_of new 63 ≡ None
   inserts_stay = stays_at old new session 63 stay (λ e. (omega arith)) ∙ agree.inserts
 
   -- a seat is changed, whose session runs nothing
-  pub agree_over : (seat : Option Seat) → slot_at new session ≡ None → SeatsAgree new (slice_set seats session seat)
+  pub agree_over : (seat : Option Seat) → slot_of new session ≡ None → SeatsAgree new (slice_set seats session seat)
   agree_over seat over = record {
     inserts = inserts_stay;
     free = λ other h. elim (cases_eq other session) [
-      | inl same ↦ subst (λ (n : ℕ). slot_at new n ≡ None) (sym same) over
+      | inl same ↦ subst (λ (n : ℕ). slot_of new n ≡ None) (sym same) over
       | inr apart ↦ stays_at old new session other stay apart ∙ agree.free other (sym (get_set_other seats session other seat apart) ∙ h)
     ];
   }
@@ -88,7 +96,7 @@ module _ (old new : List (Option Op)) (seats : List (Option Seat)) (session : �
   }
 
 -- an end, and then a beginning
-pub rescan_told : {S : Type 0} (session : ℕ) (range : Range) (u : Unit {0}) (x y z : Moment S) → TellsEnd session x y → BeginTold session (AskScan range) (Ok u) y z → RescanTold session range x z
+pub rescan_told : {S : Type 0} (session : ℕ) (range : Range) (u : Unit {0}) (x y z : Snapshot S) → TellsEnd session x y → BeginTold session (ToScan range) (Ok u) y z → RescanTold session range x z
 rescan_told session range u x y z end began = record {
   history_is = began.history_is ∙ end.history_is;
   given_up = y.calls;
@@ -96,9 +104,55 @@ rescan_told session range u x y z end began = record {
   calls_is = began.calls_is ∙ ap (λ (l : List Action). y.calls ++ begun_call session (AskScan range) (length l) ∷ []) end.history_is;
 }
 
--- a beginning that is refused, and then an end
-pub refused_silent : {S : Type 0} (session : ℕ) (range : Range) (fault : Fault) (x y z : Moment S) → HasNone session x → BeginTold session (AskScan range) (Err fault) x y → TellsEnd session y z → IsSilent x z
-refused_silent session range fault x y z free began end = record {
-  history_is = end.history_is ∙ began.silent.history_is;
-  calls_is = end.calls_is (λ number call is. free number call (record { found = ap (λ (l : List Call). slice_get l number) (sym began.silent.calls_is) ∙ is.found; session_is = is.session_is; running = is.running })) ∙ began.silent.calls_is;
-}
+-- a session that is there and runs nothing has an empty slot
+pub empty_slot : (slots : List (Option Op)) (session : ℕ) → session < length slots → slot_of slots session ≡ None → slice_get slots session ≡ Some None
+empty_slot slots session within over =
+    let found = get_some slots session within in
+    let same : slot_of slots session ≡ found.0 = ap (λ (o : Option (Option Op)). unwrap_or o None) found.1 in
+    found.1 ∙ ap (λ (o : Option Op). Some o) (sym same ∙ over)
+
+no_cause : (stopped : Bool) → stopped ≡ false → (fault : Fault) → HasCause (record nothing_wrong { is_stopped = stopped; session_has_a_call = false }) fault → ⊥
+no_cause stopped runs NoMemory h = cc
+no_cause stopped runs Io h = cc
+no_cause stopped runs Stopped h = cc
+no_cause stopped runs (Blocked b) h = cc
+no_cause stopped runs Exists h = cc
+no_cause stopped runs KeyTooLong h = h
+no_cause stopped runs BadRow h = h
+no_cause stopped runs IndexFull h = cc
+no_cause stopped runs LogFull h = cc
+no_cause stopped runs NoFrame h = cc
+no_cause stopped runs VacuumRunning h = cc
+no_cause stopped runs NoSession h = cc
+no_cause stopped runs SessionBusy h = cc
+no_cause stopped runs BadSuper h = h
+no_cause stopped runs BadVersion h = h
+no_cause stopped runs LogDamaged h = h
+no_cause stopped runs (PageDamaged b) h = cc
+no_cause stopped runs BadLimits h = h
+no_cause stopped runs TooTall h = cc
+no_cause stopped runs DeviceTooSmall h = h
+
+-- a scan that may begin is not refused
+pub may_begin : {S : Type 0} (g : Ghosts S) (old store : S) (slots : List (Option Op)) (session : ℕ) (fault : Fault) (at_end : Bool)
+    → ((g.backing old).stopped || (is_at_end (g.state old).begun || at_end)) ≡ false → g.backing store ≡ g.backing old → (g.state store).begun ≡ (g.state old).begun
+    → session < length slots → slot_of slots session ≡ None → HasCause (where_begun_at g store (slice_get slots session)) fault → ⊥
+may_begin g old store slots session fault at_end may backing begun within over cause =
+    no_cause ((g.backing store).stopped || is_at_end (g.state store).begun) runs fault
+    (subst (λ (o : Option (Option Op)). HasCause (where_begun_at g store o) fault) (empty_slot slots session within over) cause)
+  where
+    first : (a b c : Bool) → (a || (b || c)) ≡ false → (a || b) ≡ false
+    first false false c h = refl
+    first false true c h = h
+    first true b c h = h
+
+    runs : ((g.backing store).stopped || is_at_end (g.state store).begun) ≡ false
+    runs = ap (λ (b : Backing). b.stopped || is_at_end (g.state store).begun) backing ∙ ap (λ (n : ℕ). (g.backing old).stopped || is_at_end n) begun
+        ∙ first (g.backing old).stopped (is_at_end (g.state old).begun) at_end may
+
+-- an index begins with the contents of these pages, by whatever name they are called
+pub same_start : {S : Type 0} (g : Ghosts S) (index : Index S) (read pages : List Page) → read ≡ pages → IndexFits g index (entry_on_live_leaf read) [] [] → IndexFits g index (entry_on_live_leaf pages) [] []
+same_start g index read pages same fits = subst (λ (ps : List Page). IndexFits g index (entry_on_live_leaf ps) [] []) same fits
+
+pub same_kept : {S : Type 0} (g : Ghosts S) (index : Index S) (read pages : List Page) → read ≡ pages → IndexKeeps g index (entry_on_live_leaf read) [] [] → IndexKeeps g index (entry_on_live_leaf pages) [] []
+same_kept g index read pages same keeps = subst (λ (ps : List Page). IndexKeeps g index (entry_on_live_leaf ps) [] []) same keeps

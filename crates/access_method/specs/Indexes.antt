@@ -1,45 +1,54 @@
 -- What is promised of an index.
-use Rattle.std.specs.Prelude.{◌||◌, ◌≡◌, ℕ, suc, Bool, true, false, Option, Some, None, Result, Ok, Err, List, ◌∷◌, [], ◌++◌, length, slice_get, slice_set}
+use Rattle.std.specs.Prelude.{◌||◌, ◌≡◌, ℕ, suc, ◌≤◌, Bool, true, false, Option, Some, None, Result, Ok, Err, List, ◌∷◌, [], ◌++◌, length, take, slice_get, slice_set}
+use Rattle.device.specs.declared.device.Device.{Ghosts as DeviceGhosts}
 use Rattle.index_model.specs.Actions.{Action}
 use Rattle.index_model.specs.Calls.{AskScan, Call, IsScanAnswer, IsScanAnswerSoFar}
 use Rattle.index_model.specs.Order.{same_entry}
+use Rattle.page_action.specs.Causes.{is_at_end}
 use Rattle.page_action.specs.Contents.{entry_on_live_leaf}
 use Rattle.index_model.specs.declared.entry.Entry.{Entry}
 use Rattle.index_model.specs.declared.fault.Fault.{Fault}
-use Rattle.index_model.specs.declared.fault.Fault.TheVariants.{Exists}
+use Rattle.index_model.specs.declared.fault.Fault.TheVariants.{Stopped, NoSession, Exists}
+use Rattle.index_model.specs.declared.limits.Limits.{Limits}
 use Rattle.index_model.specs.declared.range.Range.{Range}
 use Rattle.page_action.specs.declared.page_store.PageStore.{Ghosts}
+use Rattle.page_codec.specs.declared.page.Page.{Page}
+use Rattle.page_store.specs.Stores.{state_of, device_of}
+use Rattle.page_store.specs.declared.store.Store.{Store}
+use Rattle.recovery.specs.declared.opening.Refused.{Refused as NotOpened}
 use Rattle.session_calls.specs.Sessions.{begun_call}
-use Rattle.schedule.specs.Moments.{Moment, IsRunningCall, Fits}
+use Rattle.session_calls.specs.declared.answer.Answer.{Answer}
 use Rattle.schedule.specs.Crashes.{KeepsHistory}
-use Rattle.schedule.specs.Promises.{StoreAndSlots, moment_at}
-use Rattle.access_method.specs.Telling.{IsSilent, HasNone}
-use Rattle.access_method.specs.Going.{Goes}
+use Rattle.schedule.specs.Runs.{Carries}
+use Rattle.schedule.specs.Snapshots.{StoreAndSlots, Snapshot, snapshot_of, IsRunningCall, Fits}
+use Rattle.whole_calls.specs.Going.{CallGoes}
+use Rattle.whole_calls.specs.Telling.{HasNone}
+use Rattle.whole_calls.specs.declared.inserted.Inserted.{Inserted}
+use Rattle.access_method.specs.Tokens.{seat_of, AreTaken}
 use Rattle.access_method.specs.declared.index.Index.{Index}
-use Rattle.access_method.specs.declared.inserted.Inserted.{Inserted}
 use Rattle.access_method.specs.declared.token.ScanToken.{ScanToken}
 use Rattle.access_method.specs.declared.token.Seat.{Seat}
 
 -- the store of an index, and what its sessions run
-abbrev pub inside : {S : Type 0} → Index S → StoreAndSlots S
-inside index = record { store = index.store; slots = index.slots }
+abbrev pub slots_within : {S : Type 0} → Index S → StoreAndSlots S
+slots_within index = record { store = index.store; slots = index.slots }
 
 -- these contents at the start, this history and these calls fit the index
 abbrev pub IndexFits : {S : Type 0} → Ghosts S → Index S → (Entry → Bool) → List Action → List Call → Type 0
-IndexFits g index start history calls = Fits g start (moment_at (inside index) history calls)
+IndexFits g index start history calls = Fits g start (snapshot_of (slots_within index) history calls)
 
 -- ... and each crash leaves a first part of the history
 abbrev pub IndexKeeps : {S : Type 0} → Ghosts S → Index S → (Entry → Bool) → List Action → List Call → Type 0
-IndexKeeps g index start history calls = KeepsHistory g start (moment_at (inside index) history calls)
+IndexKeeps g index start history calls = KeepsHistory g start (snapshot_of (slots_within index) history calls)
 
--- for whatever fitted the index before there is a run of events of this session, and this is told
-abbrev pub IndexGoes : {S : Type 0} → Ghosts S → ℕ → (Moment S → Moment S → Type 0) → Index S → Index S → Type 0
-IndexGoes g session Tells old new = Goes g session Tells (inside old) (inside new)
+-- for whatever fitted the index before there is a run of events of this session, of which one answered what the call came
+-- to, and this is told
+abbrev pub IndexGoes : {S : Type 0} → Ghosts S → ℕ → (Snapshot S → Snapshot S → Type 0) → Option Answer → Index S → Index S → Type 0
+IndexGoes g session Tells came old new = CallGoes g session Tells came (slots_within old) (slots_within new)
 
--- there is a session by whose events nothing is told
-pub record GoesSilent {S : Type 0} (g : Ghosts S) (old new : Index S) : Type 0 where
-  pub session : ℕ
-  pub goes : IndexGoes g session IsSilent old new
+-- where the device has kept its model up to now, this holds of whatever fitted the index before
+abbrev pub IndexCarries : {S : Type 0} → Ghosts S → Index S → Index S → ((Entry → Bool) → List Action → List Call → Type 0) → Type 0
+IndexCarries g old new goes = Carries g (slots_within old) (slots_within new) goes
 
 -- tokens are as they were
 pub record KeepsTokens {S : Type 0} (old new : Index S) : Type 0 where
@@ -62,8 +71,24 @@ pub record SeatBecomes {S : Type 0} (token : ScanToken) (seat : Option Seat) (ol
 abbrev pub seat_with : ScanToken → Bool → Option Seat
 seat_with token is_refused = Some (record { number = token.number; is_refused = is_refused })
 
+-- no scan can begin: the log has failed, or a counter is at its end
+abbrev pub cannot_begin : {S : Type 0} → Ghosts S → Index S → Bool
+cannot_begin g index = (g.backing index.store).stopped || (is_at_end (g.state index.store).begun || is_at_end index.given)
+
+-- why no scan is opened: none can begin, or no session is left for one
+abbrev pub NotOpenedFor : {S : Type 0} → Ghosts S → Index S → Fault → Type 0
+NotOpenedFor g index Stopped = cannot_begin g index ≡ true
+NotOpenedFor g index NoSession = AreTaken index.seats
+NotOpenedFor g index fault = ⊥
+
+-- why no scan is begun under a token: none can begin, or the token is not open
+abbrev pub NotRescannedFor : {S : Type 0} → Ghosts S → Index S → ScanToken → Fault → Type 0
+NotRescannedFor g index token Stopped = cannot_begin g index ≡ true
+NotRescannedFor g index token NoSession = seat_of index.seats token ≡ None
+NotRescannedFor g index token fault = ⊥
+
 -- the old call is given up, if it still ran, and a scan of the range is begun; no action is appended
-pub record RescanTold {S : Type 0} (session : ℕ) (range : Range) (old new : Moment S) : Type 0 where
+pub record RescanTold {S : Type 0} (session : ℕ) (range : Range) (old new : Snapshot S) : Type 0 where
   pub history_is : new.history ≡ old.history
   pub given_up : List Call
   pub kept : HasNone session old → given_up ≡ old.calls
@@ -104,3 +129,16 @@ GivesRight start history range call (Err fault) = Unit {0}
 abbrev pub AnswersScan : ℕ → Result (Option Entry) Fault → (Entry → Bool) → List Action → List Call → Type 0
 AnswersScan session result start history calls = (number : ℕ) (call : Call) (range : Range) → IsRunningCall calls session number call → call.ask ≡ AskScan range
     → GivesRight start history range call result
+
+-- an index of these limits, fitted by the contents of these pages, no action and no call, which keeps that history; no token
+-- is open
+pub record IndexBegins {D : Type 0} (d : DeviceGhosts D) (g : Ghosts (Store D d)) (limits : Limits) (pages : List Page) (index : Index (Store D d)) : Type 0 where
+  pub limits_are : (state_of d index.store).limits ≡ limits
+  pub fits : IndexFits g index (entry_on_live_leaf pages) [] []
+  pub keeps : IndexKeeps g index (entry_on_live_leaf pages) [] []
+  pub closed : (token : ScanToken) → seat_of index.seats token ≡ None
+
+-- the device as an open left it, in the index or given back
+abbrev pub index_device : {D : Type 0} (d : DeviceGhosts D) → Result (Index (Store D d)) (NotOpened D) → D
+index_device d (Ok index) = device_of d index.store
+index_device d (Err refused) = refused.device

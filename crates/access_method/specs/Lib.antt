@@ -1,5 +1,3 @@
-pub mod Telling
-pub mod Giving
-pub mod Going
 pub mod Tokens
+pub mod Counted
 pub mod Indexes

@@ -1,7 +1,7 @@
 -- Tokens, and which of them are open.
 use Rattle.std.specs.Prelude.{◌≡◌, ◌≢◌, ℕ, ◌==◌, if◌then◌else◌, Option, Some, None, List, slice_get}
 use Rattle.session_calls.specs.declared.op.Op.{Op}
-use Rattle.schedule.specs.Runs.{slot_at}
+use Rattle.schedule.specs.Snapshots.{slot_of}
 use Rattle.access_method.specs.declared.token.ScanToken.{ScanToken}
 use Rattle.access_method.specs.declared.token.Seat.{Seat}
 
@@ -17,8 +17,8 @@ seat_of seats token = seat_for token.number (slice_get seats token.session)
 
 -- inserts have run to their ends, and a session whose seat is free runs nothing
 pub record SeatsAgree (slots : List (Option Op)) (seats : List (Option Seat)) : Type 0 where
-  pub inserts : slot_at slots 63 ≡ None
-  pub free : (session : ℕ) → slice_get seats session ≡ Some None → slot_at slots session ≡ None
+  pub inserts : slot_of slots 63 ≡ None
+  pub free : (session : ℕ) → slice_get seats session ≡ Some None → slot_of slots session ≡ None
 
 -- no seat is free
 abbrev pub AreTaken : List (Option Seat) → Type 0

@@ -1,19 +1,23 @@
 //! The index.
 
 ghost use Rattle.std.specs.Prelude.{◌≡◌, ◌<◌, None, IfSome, length, replicate};
+ghost use Rattle.access_method.specs.Counted.{counted};
 ghost use Rattle.access_method.specs.Tokens.{SeatsAgree, IsFreeSeat};
 
-use crate::giving::{give, open};
-use crate::inserted::Inserted;
-use crate::running::{checkpoint, give_up, insert};
 use crate::token::{ScanToken, Seat};
 use device::Device;
 use index_model::{Entry, Fault, Range};
 use page_action::PageStore;
 use page_store::Store;
-use schedule::is_running;
-use session_calls::Op;
+use recovery::Refused;
+use schedule::{checkpoint, force, is_running};
+use session_calls::{Answer, Op};
+use std::alloc::Global;
 use std::array;
+use whole_calls::{Inserted, give, give_up, insert, open};
+
+// How many images of pages the log has room for before a step: an act takes four at most, and a force that it makes one more.
+const LEAST_ROOM: u32 = 5;
 
 /// The index of one user over a store of pages. Session 63 runs its inserts, sessions 0 to 62 its open scans; each call
 /// is run to its end before it answers. Nothing takes memory.
@@ -33,6 +37,17 @@ fn empty_slots() -> [Option<Op>; 64]
     array::from_fn(|_| None)
 }
 
+// How many actions are told as durable.
+fn count(answer: Answer) -> Result<u64, Fault>
+    ensures { result ≡ counted answer }
+{
+    match answer {
+        Answer::Forced(count) | Answer::Checkpointed(count) => Ok(count),
+        Answer::Refused(fault) => Err(fault),
+        _ => Err(Fault::NoSession),
+    }
+}
+
 // The first seat that no open scan has.
 fn free_seat(seats: &[Option<Seat>]) -> Option<usize>
     ensures free { IsFreeSeat seats.now result }
@@ -47,19 +62,22 @@ fn free_seat(seats: &[Option<Seat>]) -> Option<usize>
 }
 
 impl<S: PageStore> Index<S> {
-    ghost use Rattle.std.specs.Prelude.{◌≡◌, ◌⊎◌, [], true, false, None, Some, Ok, Err, IfOk, IfErr, OnOk, OnErr, OnSome, IsErr, ◌<◌, ◌≤◌, slice_get};
+    ghost use Rattle.std.specs.Prelude.{◌≡◌, ◌≢◌, [], true, false, None, Some, Ok, Err, IfOk, IfErr, OnOk, OnErr, OnSome, ◌<◌};
     ghost use Rattle.access_method.specs.declared.token.ScanToken.{ScanToken};
     ghost use Rattle.page_action.specs.Contents.{entry_on_live_leaf};
+    ghost use Rattle.page_action.specs.Room.{HasWholeRoom};
     ghost use Rattle.index_model.specs.Faults.{HasCause};
-    ghost use Rattle.page_action.specs.Causes.{where_forced, is_at_end};
+    ghost use Rattle.page_action.specs.Causes.{where_forced};
     ghost use Rattle.page_action.specs.States.{Continues};
-    ghost use Rattle.schedule.specs.Promises.{IsUnused, Carries};
-    ghost use Rattle.index_model.specs.Calls.{AskScan};
-    ghost use Rattle.schedule.specs.Runs.{slot_at};
-    ghost use Rattle.access_method.specs.Telling.{IsSilent, InsertTold, HasBegun, TellsEnd};
-    ghost use Rattle.access_method.specs.Giving.{TellsGiven, EndsUnlessGiven};
-    ghost use Rattle.access_method.specs.Tokens.{seat_of, AreTaken};
-    ghost use Rattle.access_method.specs.Indexes.{inside, IndexFits, IndexKeeps, IndexGoes, GoesSilent, KeepsTokens, IsNewToken, SeatBecomes, seat_with, RescanTold, TokenAfter, InsertsOrKeeps, AnswersScan};
+    ghost use Rattle.session_calls.specs.declared.answer.Answer.TheVariants.{Begun};
+    ghost use Rattle.session_calls.specs.declared.request.Request.TheVariants.{Scan as ToScan};
+    ghost use Rattle.schedule.specs.Events.{Forces, Checkpoints};
+    ghost use Rattle.schedule.specs.Snapshots.{IsUnused, slot_of};
+    ghost use Rattle.whole_calls.specs.Telling.{IsSilent, InsertTold, HasBegun, TellsEnd, insert_came};
+    ghost use Rattle.whole_calls.specs.Giving.{TellsGiven, EndsUnlessGiven, give_came};
+    ghost use Rattle.access_method.specs.Tokens.{seat_of};
+    ghost use Rattle.access_method.specs.Indexes.{IndexFits, IndexKeeps, IndexGoes, IndexCarries, KeepsTokens, IsNewToken, SeatBecomes, seat_with, RescanTold, TokenAfter, InsertsOrKeeps, AnswersScan, NotOpenedFor, NotRescannedFor, cannot_begin};
+    ghost use Rattle.access_method.specs.Counted.{kept_came};
 
     /// An index over the store, with no call and no open scan. Where the store's pages are in order and it has made no
     /// act, the index is fitted by the contents of its pages, no actions and no calls; over an own device it keeps them
@@ -84,41 +102,41 @@ impl<S: PageStore> Index<S> {
     /// is added then. Open scans stay as they are.
     pub fn aminsert(&mut self, entry: Entry) -> Result<Inserted, Fault>
         ensures steps { Continues S.follows self.old.store self.new.store }
-        ensures runs { IndexGoes S.PageStore 63 (InsertTold entry result) self.old self.new }
-        ensures inserts { Carries S.PageStore (inside self.old) (inside self.new)
+        ensures runs { IndexGoes S.PageStore 63 (InsertTold 63 entry result) (insert_came result) self.old self.new }
+        ensures inserts { IndexCarries S.PageStore self.old self.new
             (λ start history calls. InsertsOrKeeps S.PageStore entry result self.old.store self.new.store) }
         ensures tokens { KeepsTokens self.old self.new }
     {
-        insert(&mut self.store, &mut self.slots, entry)
+        insert(&mut self.store, &mut self.slots, 63, entry, LEAST_ROOM)
     }
 
-    /// Makes all actions durable and answers their number. Refused with `Stopped` and `Io`.
+    /// Makes all actions durable and answers their number. Refused with `Stopped` (3) and `Io` (2).
     pub fn commit(&mut self) -> Result<u64, Fault>
         ensures steps { Continues S.follows self.old.store self.new.store }
-        ensures runs { IndexGoes S.PageStore 0 IsSilent self.old self.new }
+        ensures runs { IndexGoes S.PageStore 0 IsSilent (kept_came Forces result) self.old self.new }
         ensures number { IfOk result (λ n. n ≡ (S.state self.old.store).acts) }
         ensures durable { OnOk result ((S.backing self.new.store).durable ≡ (S.state self.old.store).acts) }
-        ensures cause { IfErr result (HasCause (where_forced (S.backing self.old.store) (S.backing self.new.store))) }
+        ensures cause { IfErr result
+            (HasCause (where_forced (S.backing self.old.store) (S.backing self.new.store))) }
         ensures tokens { KeepsTokens self.old self.new }
     {
-        if self.store.is_stopped() {
-            return Err(Fault::Stopped);
-        }
-        self.store.force()
+        count(force(&mut self.store, &self.slots))
     }
 
     /// Makes all actions durable, writes each changed page to its place and closes the log; answers the number of
-    /// actions. Refused with `Stopped` and `Io`.
+    /// actions. Refused with `Stopped` (3) and `Io` (2).
     pub fn checkpoint(&mut self) -> Result<u64, Fault>
         ensures steps { Continues S.follows self.old.store self.new.store }
-        ensures runs { IndexGoes S.PageStore 0 IsSilent self.old self.new }
+        ensures runs { IndexGoes S.PageStore 0 IsSilent (kept_came Checkpoints result) self.old self.new }
         ensures number { IfOk result (λ n. n ≡ (S.state self.old.store).acts) }
         ensures durable { OnOk result ((S.backing self.new.store).durable ≡ (S.state self.old.store).acts) }
-        ensures room { OnOk result (5 ≤ (S.backing self.new.store).room) }
-        ensures cause { IfErr result (HasCause (where_forced (S.backing self.old.store) (S.backing self.new.store))) }
+        ensures room { OnOk result
+            (HasWholeRoom (S.state self.old.store).limits (S.backing self.new.store)) }
+        ensures cause { IfErr result
+            (HasCause (where_forced (S.backing self.old.store) (S.backing self.new.store))) }
         ensures tokens { KeepsTokens self.old self.new }
     {
-        checkpoint(&mut self.store)
+        count(checkpoint(&mut self.store, &self.slots))
     }
 
     // The seat of an open token.
@@ -141,15 +159,16 @@ impl<S: PageStore> Index<S> {
     /// `Blocked` or `NoFrame`: the scan is over then. Once it has answered None it answers None again.
     pub fn amgettuple(&mut self, token: ScanToken) -> Result<Option<Entry>, Fault>
         ensures steps { Continues S.follows self.old.store self.new.store }
-        ensures runs { IndexGoes S.PageStore token.session (TellsGiven token.session result) self.old self.new }
-        ensures answers { Carries S.PageStore (inside self.old) (inside self.new) (AnswersScan token.session result) }
+        ensures runs { seat_of self.old.seats token ≡ seat_with token false → slot_of self.old.slots token.session ≢ None
+            → IndexGoes S.PageStore token.session (TellsGiven token.session result) (give_came result) self.old self.new }
+        ensures answers { IndexCarries S.PageStore self.old self.new (AnswersScan token.session result) }
         ensures closed { seat_of self.old.seats token ≡ None → (result ≡ Err Fault.NoSession) × (self.new ≡ self.old) }
         ensures refused { seat_of self.old.seats token ≡ seat_with token true
             → (result ≡ Err Fault.NoSession) × (self.new ≡ self.old) }
-        ensures over { seat_of self.old.seats token ≡ seat_with token false → slot_at self.old.slots token.session ≡ None
+        ensures over { seat_of self.old.seats token ≡ seat_with token false → slot_of self.old.slots token.session ≡ None
             → (result ≡ Ok None) × (self.new ≡ self.old) }
         ensures ends { seat_of self.old.seats token ≡ seat_with token false
-            → EndsUnlessGiven result (slot_at self.new.slots token.session) }
+            → EndsUnlessGiven result (slot_of self.new.slots token.session) }
         ensures tokens { seat_of self.old.seats token ≡ seat_with token false → TokenAfter token result self.old self.new }
     {
         let Some(seat) = self.find(token) else {
@@ -161,7 +180,7 @@ impl<S: PageStore> Index<S> {
         if !is_running(&self.slots, token.session) {
             return Ok(None);
         }
-        match give(&mut self.store, &mut self.slots, token.session) {
+        match give(&mut self.store, &mut self.slots, token.session, LEAST_ROOM) {
             Ok(given) => Ok(given),
             Err(fault) => {
                 self.seats[token.session as usize] = Some(Seat {
@@ -177,7 +196,7 @@ impl<S: PageStore> Index<S> {
     /// token is not open.
     pub fn amendscan(&mut self, token: ScanToken) -> Result<(), Fault>
         ensures steps { Continues S.follows self.old.store self.new.store }
-        ensures runs { IndexGoes S.PageStore token.session (TellsEnd token.session) self.old self.new }
+        ensures runs { IndexGoes S.PageStore token.session (TellsEnd token.session) None self.old self.new }
         ensures closed { seat_of self.old.seats token ≡ None → (result ≡ Err Fault.NoSession) × (self.new ≡ self.old) }
         ensures refused { IfErr result (λ fault. fault ≡ Fault.NoSession) }
         ensures open { OnErr result (seat_of self.old.seats token ≡ None) }
@@ -191,36 +210,32 @@ impl<S: PageStore> Index<S> {
         Ok(())
     }
 
-    // Whether a call may begin: the log has not failed, and no counter is at its end.
-    fn may_begin(&self) -> bool
-        ensures running { result ≡ true → (S.backing self.now.store).stopped ≡ false }
-        ensures counts { result ≡ true → is_at_end (S.state self.now.store).begun ≡ false }
-        ensures given { result ≡ true → self.now.given < 18446744073709551615 }
+    // Whether no scan can begin: the log has failed, or a counter is at its end.
+    fn is_at_end(&self) -> bool
+        ensures value { result ≡ cannot_begin S.PageStore self.now }
+        ensures given { result ≡ false → self.now.given < 18446744073709551615 }
     {
-        !self.store.is_stopped() && self.store.begun() < u64::MAX && self.given < u64::MAX
+        self.store.is_stopped() || self.store.begun() == u64::MAX || self.given == u64::MAX
     }
 
-    /// Opens a scan of the entries of a range, and answers its token, a new one. Refused with `Stopped` where the log
-    /// has failed or a counter is at its end, and then with `NoSession` where 63 scans are open.
+    /// Opens a scan of the entries of a range, and answers its token, a new one. Refused with `Stopped` (3) where the log
+    /// has failed or a counter is at its end, and then with `NoSession` (12) where 63 scans are open: nothing is changed.
     pub fn ambeginscan(&mut self, range: Range) -> Result<ScanToken, Fault>
         ensures steps { Continues S.follows self.old.store self.new.store }
-        ensures runs { IfOk result (λ token. IndexGoes S.PageStore token.session (HasBegun token.session (AskScan range)) self.old self.new) }
-        ensures silent { OnErr result (GoesSilent S.PageStore self.old self.new) }
+        ensures runs { IfOk result (λ token.
+            IndexGoes S.PageStore token.session (HasBegun token.session (ToScan range)) (Some Begun) self.old self.new) }
         ensures tokens { IfOk result (IsNewToken self.old self.new) }
-        ensures kept { OnErr result (KeepsTokens self.old self.new) }
-        ensures full { AreTaken self.old.seats → IsErr result }
+        ensures refused { OnErr result (self.new ≡ self.old) }
+        ensures cause { IfErr result (NotOpenedFor S.PageStore self.old) }
     {
-        if !self.may_begin() {
+        if self.is_at_end() {
             return Err(Fault::Stopped);
         }
         let Some(at) = free_seat(&self.seats) else {
             return Err(Fault::NoSession);
         };
         let session = at as u32;
-        if let Err(fault) = open(&mut self.store, &mut self.slots, session, range) {
-            give_up(&mut self.store, &mut self.slots, session);
-            return Err(fault);
-        }
+        open(&mut self.store, &mut self.slots, session, range)?;
         let number = self.given;
         self.seats[at] = Some(Seat {
             number,
@@ -230,34 +245,86 @@ impl<S: PageStore> Index<S> {
         Ok(ScanToken { number, session })
     }
 
-    /// Begins a scan of a range anew under an open token; the old call is given up. Refused with `NoSession` where the
-    /// token is not open, then with `Stopped` where the log has failed or a counter is at its end: nothing is changed.
+    /// Begins a scan of a range anew under an open token; the old call is given up. Refused with `NoSession` (12) where the
+    /// token is not open, then with `Stopped` (3) where the log has failed or a counter is at its end: nothing is changed.
     pub fn amrescan(&mut self, token: ScanToken, range: Range) -> Result<(), Fault>
         ensures steps { Continues S.follows self.old.store self.new.store }
-        ensures runs { OnOk result (IndexGoes S.PageStore token.session (RescanTold token.session range) self.old self.new) }
-        ensures closed { seat_of self.old.seats token ≡ None → (result ≡ Err Fault.NoSession) × (self.new ≡ self.old) }
-        ensures stopped { (S.backing self.old.store).stopped ≡ true → IsErr result × (self.new ≡ self.old) }
+        ensures runs { OnOk result
+            (IndexGoes S.PageStore token.session (RescanTold token.session range) (Some Begun) self.old self.new) }
         ensures tokens { OnOk result (SeatBecomes token (seat_with token false) self.old self.new) }
+        ensures refused { OnErr result (self.new ≡ self.old) }
+        ensures cause { IfErr result (NotRescannedFor S.PageStore self.old token) }
     {
         let Some(_seat) = self.find(token) else {
             return Err(Fault::NoSession);
         };
-        if !self.may_begin() {
+        if self.is_at_end() {
             return Err(Fault::Stopped);
         }
         give_up(&mut self.store, &mut self.slots, token.session);
-        let begun = open(&mut self.store, &mut self.slots, token.session, range);
+        open(&mut self.store, &mut self.slots, token.session, range)?;
         self.seats[token.session as usize] = Some(Seat {
             number: token.number,
-            is_refused: begun.is_err(),
+            is_refused: false,
         });
-        begun
+        Ok(())
     }
 }
 
 impl<D: Device> Index<Store<D>> {
-    ghost use Rattle.std.specs.Prelude.{◌≡◌};
-    ghost use Rattle.page_store.specs.Stores.{device_of};
+    ghost use Rattle.std.specs.Prelude.{◌≡◌, ℕ, Bool, List, IsTrue, IfErr, MatchResult};
+    ghost use Rattle.device.specs.Moments.{Goes, MayHaveLeft};
+    ghost use Rattle.index_model.specs.Actions.{Action};
+    ghost use Rattle.index_model.specs.Calls.{Call};
+    ghost use Rattle.index_model.specs.declared.entry.Entry.{Entry};
+    ghost use Rattle.index_model.specs.declared.limits.Limits.{Limits};
+    ghost use Rattle.page_codec.specs.declared.page.Page.{Page};
+    ghost use Rattle.page_store.specs.Logged.{backing_of};
+    ghost use Rattle.page_store.specs.Restart.{LeavesPages};
+    ghost use Rattle.page_store.specs.Stores.{state_of, held_by, device_of, IsOwnStore};
+    ghost use Rattle.page_store.specs.declared.store.Store.{Store};
+    ghost use Rattle.recovery.specs.Calls.{IsIoOr};
+    ghost use Rattle.recovery.specs.Index.{HasIndex};
+    ghost use Rattle.recovery.specs.Opening.{AreFrames, IsNoMemoryOrIo, IsRefusal};
+    ghost use Rattle.tree_shape.specs.Tree.{IsBlinkTree};
+    ghost use Rattle.world.specs.Reopening.{IsIndexAfterFirstPart};
+    ghost use Rattle.access_method.specs.Indexes.{IndexFits, IndexKeeps, IndexBegins, index_device};
+
+    /// Opens the index on the device, after any crash, for so many pages in memory at once (16 to 1,024). Refused as `open` of
+    /// `recovery` is, with the device given back. It may be called again after any refusal, and after a crash at any moment.
+    pub fn open(alloc: Global, device: D, frames: u32) -> Result<Index<Store<D>>, Refused<D>>
+        // An index whose pages are a B-link tree is opened with them, or refused for want of memory or of the device.
+        ensures begins { IsTrue (D.is_honest (index_device D.Device result)) → AreFrames frames
+            → (limits : Limits) (pages : List Page) → HasIndex limits pages (D.trace device).now.seen → IsBlinkTree pages
+            → MatchResult result (IndexBegins D.Device ⟦<Store<D> as PageStore>⟧ limits pages)
+            (λ refused. IsNoMemoryOrIo refused.fault) }
+        // A crash at each moment since leaves the same index, whatever was answered.
+        ensures moments { IsTrue (D.is_honest (index_device D.Device result))
+            → (limits : Limits) (pages : List Page) → HasIndex limits pages (D.trace device).now.seen
+            → Goes (LeavesPages limits pages) (D.trace device) (D.trace (index_device D.Device result)) }
+        ensures cause { IfErr result (λ refused.
+            IsIoOr (IsRefusal (D.is_honest refused.device) frames (D.trace device) (D.trace refused.device))
+            (D.failures device) (D.failures refused.device) refused.fault) }
+    {
+        match recovery::open(alloc, device, frames) {
+            Ok(store) => Ok(Index::new(store)),
+            Err(refused) => Err(refused),
+        }
+    }
+
+    /// Does nothing: what every crash leaves, at any moment between an earlier store of the index and now. It is an index that
+    /// can be opened, with the contents after a first part of the history, and all that was durable at that earlier moment.
+    pub fn crash_law(&self)
+        ensures { (first : Store D D.Device)
+            → IsOwnStore D.Device first → ⟦<Store<D> as PageStore>⟧.follows first self.now.store
+            → (start : Entry → Bool) (history : List Action) (calls : List Call)
+            → IndexFits ⟦<Store<D> as PageStore>⟧ self.now start history calls
+            → IndexKeeps ⟦<Store<D> as PageStore>⟧ self.now start history calls
+            → (image : List ℕ) → MayHaveLeft (held_by D.Device first).trace (held_by D.Device self.now.store).trace image
+            → IsIndexAfterFirstPart (state_of D.Device self.now.store).limits start history
+            (backing_of (held_by D.Device first)).durable image }
+    {}
+
 
     /// The device below.
     pub fn into_device(self) -> D

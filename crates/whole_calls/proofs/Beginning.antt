@@ -1,5 +1,8 @@
 -- Beginnings as runs of one event.
 use Rattle.std.proofs.Common.{◌≡◌, ℕ, Bool, Result, Ok, Err, Option, Some, List, [], ◌∷◌, refl, sym, ap, subst}
+use Rattle.std.specs.Prelude.{IfErr, OnErr}
+use Rattle.index_model.specs.Faults.{Circumstances, HasCause}
+use Rattle.session_calls.specs.Ops.{IsCaused}
 use Rattle.index_model.specs.declared.entry.Entry.{Entry}
 use Rattle.index_model.specs.declared.fault.Fault.{Fault}
 use Rattle.page_action.specs.declared.page_store.PageStore.{Ghosts}
@@ -43,3 +46,39 @@ goes_begun {S} g laws session request event answer result a b kind is answers ru
   where
     of_session : kind_of event ≡ Begins session request → IsOf session event
     of_session k = subst (λ (x : Kind). IsOfKind session x) (sym k) refl
+
+-- a beginning that is refused has its cause
+begun_cause : (at : Circumstances) (answer : Answer) → AnswersBeginning answer → IsCaused at answer → IfErr (begun_of answer) (HasCause at)
+begun_cause at Begun kind h = tt
+begun_cause at (Refused fault) kind h = h
+begun_cause at Going kind h = absurd kind
+begun_cause at (Added a u) kind h = absurd kind
+begun_cause at (Ready r) kind h = absurd kind
+begun_cause at Done kind h = absurd kind
+begun_cause at (Finished s) kind h = absurd kind
+begun_cause at (Gave e) kind h = absurd kind
+begun_cause at Ended kind h = absurd kind
+begun_cause at (Forced n) kind h = absurd kind
+begun_cause at (Flushed b) kind h = absurd kind
+begun_cause at (Checkpointed n) kind h = absurd kind
+
+-- ... and changes nothing
+begun_refused : (Unchanged : Type 0) (answer : Answer) → AnswersBeginning answer → ((fault : Fault) → answer ≡ Refused fault → Unchanged) → OnErr (begun_of answer) Unchanged
+begun_refused Unchanged Begun kind h = tt
+begun_refused Unchanged (Refused fault) kind h = h fault refl
+begun_refused Unchanged Going kind h = absurd kind
+begun_refused Unchanged (Added a u) kind h = absurd kind
+begun_refused Unchanged (Ready r) kind h = absurd kind
+begun_refused Unchanged Done kind h = absurd kind
+begun_refused Unchanged (Finished s) kind h = absurd kind
+begun_refused Unchanged (Gave e) kind h = absurd kind
+begun_refused Unchanged Ended kind h = absurd kind
+begun_refused Unchanged (Forced n) kind h = absurd kind
+begun_refused Unchanged (Flushed b) kind h = absurd kind
+begun_refused Unchanged (Checkpointed n) kind h = absurd kind
+
+pub caused_by : (at : Circumstances) (answer : Answer) (result : Result (Unit {0}) Fault) → result ≡ begun_of answer → AnswersBeginning answer → IsCaused at answer → IfErr result (HasCause at)
+caused_by at answer result is kind h = subst (λ (r : Result (Unit {0}) Fault). IfErr r (HasCause at)) (sym is) (begun_cause at answer kind h)
+
+pub refused_by : (Unchanged : Type 0) (answer : Answer) (result : Result (Unit {0}) Fault) → result ≡ begun_of answer → AnswersBeginning answer → ((fault : Fault) → answer ≡ Refused fault → Unchanged) → OnErr result Unchanged
+refused_by Unchanged answer result is kind h = subst (λ (r : Result (Unit {0}) Fault). OnErr r Unchanged) (sym is) (begun_refused Unchanged answer kind h)

@@ -1,10 +1,11 @@
 //! Scans that give one entry after the other.
 
-ghost use Rattle.std.specs.Prelude.{◌≡◌, ◌≤◌, length, IfOk, None};
+ghost use Rattle.std.specs.Prelude.{◌≡◌, ◌≤◌, length, slice_get, OnErr, IfErr, None};
+ghost use Rattle.index_model.specs.Faults.{HasCause};
 ghost use Rattle.page_action.specs.States.{Continues};
 ghost use Rattle.session_calls.specs.declared.request.Request.TheVariants.{Scan as ToScan};
 ghost use Rattle.schedule.specs.Snapshots.{both, slot_of};
-ghost use Rattle.schedule.specs.Events.{OthersStay};
+ghost use Rattle.schedule.specs.Events.{OthersStay, IsUnchanged, where_begun_at};
 ghost use Rattle.whole_calls.specs.Telling.{TellsStep, BeginTold, step_came, begin_came};
 ghost use Rattle.whole_calls.specs.Giving.{GoesDownBy, AnswersAdvance, AnswersSeek, EndsUnlessGiven, TellsGiven, given_of, give_came};
 ghost use Rattle.whole_calls.specs.Going.{CallGoes};
@@ -103,7 +104,7 @@ pub fn give<S: PageStore>(
     }
 }
 
-/// Begins a scan. Refused as the beginning of a call is: with `Stopped` (3), `NoSession` (12), `SessionBusy` (13), in this order.
+/// Begins a scan. Refused as the beginning of a call is: with `Stopped` (3), `NoSession` (12), `SessionBusy` (13), in this order; nothing is changed then.
 /// There are 64 slots at most.
 pub fn open<S: PageStore>(
     store: &mut S,
@@ -116,6 +117,9 @@ pub fn open<S: PageStore>(
     ensures sessions { length slots.new ≡ length slots.old }
     ensures others { OthersStay session slots.old slots.new }
     ensures goes { CallGoes S.PageStore session (BeginTold session (ToScan range) result) (begin_came result) (both store.old slots.old) (both store.new slots.new) }
+    ensures refused { OnErr result (IsUnchanged S.PageStore (both store.old slots.old) (both store.new slots.new)) }
+    ensures cause { IfErr result
+        (HasCause (where_begun_at S.PageStore store.old (slice_get slots.old session))) }
 {
     begun(one(store, slots, Event::Scan(session, range)))
 }

@@ -1,33 +1,19 @@
-use Rattle.std.proofs.Common.{sym, refl, ◌∙◌}
-use Rattle.schedule.proofs.Keeping.{Laws}
-use Rattle.access_method.specs.Telling.{IsSilent}
-use Rattle.access_method.proofs.Composing.{StoreLaws, goes_nowhere, goes_checkpoint}
-use Rattle.access_method.specs.Indexes.{inside}
+use Rattle.std.proofs.Common.{ℕ, Result, refl, sym, subst}
+use Rattle.std.specs.Prelude.{IfOk, IfErr, OnOk}
+use Rattle.index_model.specs.declared.fault.Fault.{Fault}
+use Rattle.schedule.specs.Events.{Forces}
+use Rattle.schedule.specs.declared.event.Event.TheVariants.{Force}
+use Rattle.access_method.proofs.Results.{number_told, durable_told, cause_told, goes_told_kept}
 use Rattle.access_method.proofs.index.Index.commit.Goals as goal
 
-pub returns-then-is_stopped-clause-runs : goal.returns-then-is_stopped-clause-runs
-returns-then-is_stopped-clause-runs g c =
-    let kept : Laws g.S.PageStore = record {
-      same = g.met.S.PageStore.follows_same;
-      durable_few = g.met.S.PageStore.durable_few;
-      own_stays = g.met.S.PageStore.own_stays;
-      past_now = g.met.S.PageStore.past_now;
-      past_stays = g.met.S.PageStore.past_stays;
-      leaves_first = g.met.S.PageStore.leaves_first;
-    } in
-    let laws : StoreLaws g.S.PageStore = record { kept = kept; later = g.met.S.PageStore.follows_later } in
-    goes_nowhere g.S.PageStore laws 0 IsSilent (inside c.args.self.now) (λ x. record { history_is = refl; calls_is = refl })
-
 pub returns-clause-runs : goal.returns-clause-runs
-returns-clause-runs g c =
-    let kept : Laws g.S.PageStore = record {
-      same = g.met.S.PageStore.follows_same;
-      durable_few = g.met.S.PageStore.durable_few;
-      own_stays = g.met.S.PageStore.own_stays;
-      past_now = g.met.S.PageStore.past_now;
-      past_stays = g.met.S.PageStore.past_stays;
-      leaves_first = g.met.S.PageStore.leaves_first;
-    } in
-    let laws : StoreLaws g.S.PageStore = record { kept = kept; later = g.met.S.PageStore.follows_later } in
-    goes_checkpoint g.S.PageStore laws 0 c.args.self.now.store c.force.new.self c.force.ensures.steps c.force.ensures.state (sym c.is_stopped.ensures ∙ c.if-is_stopped.false) c.args.self.now.slots
-    c.force.result c.force.ensures.number c.force.ensures.durable c.force.ensures.cause
+returns-clause-runs g c = goes_told_kept g.S.PageStore g.met.S.PageStore.laws Forces Force c.force.result _ _ _ c.count.ensures refl c.force.ensures.answers c.force.ensures.runs
+
+pub returns-clause-number : goal.returns-clause-number
+returns-clause-number g c = number_told g.S.PageStore Forces c.force.result _ _ _ c.count.ensures c.force.ensures.answers c.force.ensures.kept
+
+pub returns-clause-durable : goal.returns-clause-durable
+returns-clause-durable g c = durable_told g.S.PageStore Forces c.force.result _ _ _ c.count.ensures c.force.ensures.answers c.force.ensures.kept
+
+pub returns-clause-cause : goal.returns-clause-cause
+returns-clause-cause g c = cause_told g.S.PageStore Forces c.force.result _ _ _ c.count.ensures c.force.ensures.answers c.force.ensures.kept

@@ -1,0 +1,24 @@
+use Rattle.std.proofs.Common.{sym, ap, subst, ◌∙◌, IsTrue}
+use Rattle.page_store.specs.Stores.{state_of, device_of}
+use Rattle.tree_shape.specs.Tree.{IsBlinkTree}
+use Rattle.schedule.specs.Snapshots.{IsUnused}
+use Rattle.world.proofs.Opened.{opened_unused}
+use Rattle.access_method.proofs.Seats.{same_start, same_kept}
+use Rattle.access_method.proofs.index.Index+Store+D.open.Goals as goal
+
+pub returns-in-Ok-clause-begins : goal.returns-in-Ok-clause-begins
+returns-in-Ok-clause-begins g c honest frames limits pages index tree =
+    let store = c.in-Ok.store in
+    let st = state_of g.D.Device store in
+    let same = c.in-Ok.ensures.same (subst (λ (d : g.row.D.Denot). IsTrue (g.D.Device.is_honest d)) (ap (device_of g.D.Device) c.new.ensures.store) honest) frames limits pages index in
+    let opened = c.in-Ok.ensures.opened in
+    let unused : IsUnused st = subst IsUnused (sym opened.is) (opened_unused st.limits c.args.frames st.pages _ _ (subst IsBlinkTree (sym same.pages_are) tree)) in
+    record {
+      limits_are = ap (λ s. (state_of g.D.Device s).limits) c.new.ensures.store ∙ same.limits_are;
+      fits = same_start _ c.new.result st.pages pages same.pages_are (c.new.ensures.fits unused);
+      keeps = same_kept _ c.new.result st.pages pages same.pages_are (c.new.ensures.keeps unused same.own);
+      closed = c.new.ensures.closed;
+    }
+
+pub returns-in-Err-clause-begins : goal.returns-in-Err-clause-begins
+returns-in-Err-clause-begins g c honest frames limits pages index tree = c.in-Err.ensures.same honest frames limits pages index

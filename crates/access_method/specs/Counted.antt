@@ -1,0 +1,19 @@
+-- What a force and a checkpoint of an index answer.
+use Rattle.std.specs.Prelude.{ℕ, Option, Some, Result, Ok, Err}
+use Rattle.index_model.specs.declared.fault.Fault.{Fault}
+use Rattle.index_model.specs.declared.fault.Fault.TheVariants.{NoSession}
+use Rattle.session_calls.specs.declared.answer.Answer.{Answer}
+use Rattle.session_calls.specs.declared.answer.Answer.TheVariants.{Forced, Checkpointed, Refused}
+use Rattle.schedule.specs.Events.{Upkeep, kept_answer}
+
+-- how many actions are told as durable, or the refusal
+abbrev pub counted : Answer → Result ℕ Fault
+counted (Forced count) = Ok count
+counted (Checkpointed count) = Ok count
+counted (Refused fault) = Err fault
+counted answer = Err NoSession
+
+-- ... and what was answered then
+abbrev pub kept_came : Upkeep → Result ℕ Fault → Option Answer
+kept_came upkeep (Ok count) = Some (kept_answer upkeep count)
+kept_came upkeep (Err fault) = Some (Refused fault)
