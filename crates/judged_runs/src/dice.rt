@@ -67,13 +67,14 @@ impl Dice {
         } else {
             self.roll(sessions)
         };
-        match self.roll(48) {
+        match self.roll(49) {
             0..9 => Event::Insert(session, self.entry()),
             9..15 => Event::Scan(session, self.range()),
             15..37 => Event::Step(session),
             37..46 => Event::Next(session),
             46 => Event::End(session),
-            _ => Event::Force,
+            47 => Event::Force,
+            _ => Event::Checkpoint,
         }
     }
 }

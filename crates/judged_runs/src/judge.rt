@@ -107,6 +107,7 @@ impl Judge {
                 _ => self.is_refused_idle(*session, answer),
             }),
             Event::Force => Ok(self.forces(answer)),
+            Event::Checkpoint => Ok(self.checkpoints(answer)),
         }
     }
 
@@ -179,6 +180,11 @@ impl Judge {
     fn forces(&mut self, answer: &Answer) -> bool {
         self.forced = self.history.len();
         matches!(answer, Answer::Forced(count) if *count == self.forced as u64)
+    }
+
+    fn checkpoints(&mut self, answer: &Answer) -> bool {
+        self.forced = self.history.len();
+        matches!(answer, Answer::Checkpointed(count) if *count == self.forced as u64)
     }
 
     /// The session's call has ended so: whether it was right to, and every action so far is owned.

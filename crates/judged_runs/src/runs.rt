@@ -8,8 +8,9 @@ use index_model::{DeadRows, Entry, Range, RowAddr};
 use page_action::PageStore;
 use page_codec::{Items, Page, PageState};
 use plain_histories::{PlainEffect, is_among};
-use schedule::{Event, World};
+use schedule::Event;
 use std::alloc::{AllocError, Global};
+use world::World;
 
 /// A set without rows.
 #[derive(Drop)]
@@ -33,7 +34,7 @@ fn session_of(event: &Event) -> u32 {
         | Event::Step(session)
         | Event::Next(session)
         | Event::End(session) => *session,
-        Event::Force => u32::MAX,
+        Event::Force | Event::Checkpoint => u32::MAX,
     }
 }
 

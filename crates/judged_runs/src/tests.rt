@@ -8,10 +8,11 @@ use page_action::MapStore;
 use page_codec::{Items, Page, PageState};
 use page_store::Store;
 use recovery::create;
-use schedule::{Event, World};
+use schedule::Event;
 use session_calls::Answer;
 use std::alloc::{AllocError, Global};
 use std::test::{Fail, *};
+use world::World;
 
 fn limits(items: u32) -> Limits {
     Limits {
@@ -91,21 +92,26 @@ fn on_a_device(alloc: Global) -> Result<World<Store<MemDevice>, NoRows>, Fault> 
     opened(alloc, device, 3)
 }
 
-/// A last force, whose device stops at one of its first calls or not at all: whether its answer is right.
-fn forces_at_last(
+/// A last force or checkpoint, whose device stops at one of its first calls or not at all: whether its answer is right.
+fn keeps_at_last(
     world: &mut World<Store<MemDevice>, NoRows>,
     judge: &mut Judge,
     dice: &mut Dice,
 ) -> Result<bool, AllocError> {
-    world.stop_at(u64::from(dice.roll(6)));
-    match world.one(Event::Force) {
+    world.stop_at(u64::from(dice.roll(12)));
+    let event = if dice.roll(2) == 0 {
+        Event::Force
+    } else {
+        Event::Checkpoint
+    };
+    match world.one(event) {
         Answer::Refused(Fault::Io) => Ok(true),
-        answer => judge.hears(&Event::Force, &answer),
+        answer => judge.hears(&event, &answer),
     }
 }
 
-/// The same over a device, which crashes after every 100 events, inside of a force or behind it: what is opened again
-/// has the contents after some first part of the actions that holds every forced one.
+/// The same over a device, which crashes after every 100 events, inside of a force or a checkpoint, or behind it: what is
+/// opened again has the contents after some first part of the actions that holds every forced one.
 #[test]
 fn runs_over_a_device(rt: HostRuntime) -> Result<(), Fail> {
     let alloc = rt.alloc();
@@ -118,10 +124,7 @@ fn runs_over_a_device(rt: HostRuntime) -> Result<(), Fail> {
                 are_right(&mut world, &mut judge, &mut dice, 3, 100)?,
                 "{seed}"
             );
-            assert!(rt;
-                forces_at_last(&mut world, &mut judge, &mut dice)?,
-                "{seed}"
-            );
+            assert!(rt; keeps_at_last(&mut world, &mut judge, &mut dice)?, "{seed}");
             let left = world.crash(alloc, image)?;
             world = opened(alloc, left, 3)?;
             let found = contents(alloc, &mut world)?;
