@@ -1,8 +1,8 @@
 -- Seats and slots.
-use Rattle.std.proofs.Common.{◌≡◌, ◌≢◌, ℕ, zero, suc, ◌<◌, Option, Some, None, unwrap_or, Ok, Err, List, [], ◌∷◌, ◌++◌, length, slice_get, slice_set, replicate, refl, sym, ap, subst, ◌∙◌, arith, inl, inr}
+use Rattle.std.proofs.Common.{◌≡◌, ◌≢◌, ℕ, zero, suc, ◌<◌, Option, Some, None, unwrap_or, Ok, List, [], ◌∷◌, ◌++◌, length, slice_get, slice_set, replicate, refl, sym, ap, subst, ◌∙◌, arith, inl, inr}
 use Rattle.std.proofs.lemmas.Bool.{cases_eq}
 use Rattle.index_model.specs.Actions.{Action}
-use Rattle.index_model.specs.Calls.{AskScan, Call}
+use Rattle.index_model.specs.Calls.{AskScan}
 use Rattle.std.specs.Prelude.{◌||◌, Bool, true, false}
 use Rattle.index_model.specs.Faults.{HasCause}
 use Rattle.index_model.specs.declared.fault.Fault.{Fault}
@@ -12,7 +12,7 @@ use Rattle.page_action.specs.States.{Backing}
 use Rattle.index_model.specs.declared.range.Range.{Range}
 use Rattle.page_action.specs.Contents.{entry_on_live_leaf}
 use Rattle.page_action.specs.declared.page_store.PageStore.{Ghosts}
-use Rattle.session_calls.specs.Sessions.{IsIdle, begun_call}
+use Rattle.session_calls.specs.Sessions.{begun_call}
 use Rattle.session_calls.specs.declared.request.Request.TheVariants.{Scan as ToScan}
 use Rattle.session_calls.specs.declared.op.Op.{Op}
 use Rattle.schedule.specs.Snapshots.{Snapshot, SlotMatches, Fits, IsUnused, both, snapshot_of, slot_of}

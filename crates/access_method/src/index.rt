@@ -84,7 +84,8 @@ impl<S: PageStore> Index<S> {
     /// over crashes.
     pub fn new(store: S) -> Index<S>
         ensures store { result.store ≡ store }
-        ensures fits { IsUnused (S.state store) → IndexFits S.PageStore result (entry_on_live_leaf (S.state store).pages) [] [] }
+        ensures fits { IsUnused (S.state store)
+            → IndexFits S.PageStore result (entry_on_live_leaf (S.state store).pages) [] [] }
         ensures keeps { IsUnused (S.state store) → S.own store
             → IndexKeeps S.PageStore result (entry_on_live_leaf (S.state store).pages) [] [] }
         ensures closed { (token : ScanToken) → seat_of result.seats token ≡ None }
@@ -102,9 +103,11 @@ impl<S: PageStore> Index<S> {
     /// is added then. Open scans stay as they are.
     pub fn aminsert(&mut self, entry: Entry) -> Result<Inserted, Fault>
         ensures steps { Continues S.follows self.old.store self.new.store }
-        ensures runs { IndexGoes S.PageStore 63 (InsertTold 63 entry result) (insert_came result) self.old self.new }
+        ensures runs { IndexGoes S.PageStore 63 (InsertTold 63 entry result)
+            (insert_came result) self.old self.new }
         ensures inserts { IndexCarries S.PageStore self.old self.new
-            (λ start history calls. InsertsOrKeeps S.PageStore entry result self.old.store self.new.store) }
+            (λ start history calls. InsertsOrKeeps S.PageStore entry result self.old.store
+            self.new.store) }
         ensures tokens { KeepsTokens self.old self.new }
     {
         insert(&mut self.store, &mut self.slots, 63, entry, LEAST_ROOM)
@@ -113,9 +116,11 @@ impl<S: PageStore> Index<S> {
     /// Makes all actions durable and answers their number. Refused with `Stopped` (3) and `Io` (2).
     pub fn commit(&mut self) -> Result<u64, Fault>
         ensures steps { Continues S.follows self.old.store self.new.store }
-        ensures runs { IndexGoes S.PageStore 0 IsSilent (kept_came Forces result) self.old self.new }
+        ensures runs { IndexGoes S.PageStore 0 IsSilent
+            (kept_came Forces result) self.old self.new }
         ensures number { IfOk result (λ n. n ≡ (S.state self.old.store).acts) }
-        ensures durable { OnOk result ((S.backing self.new.store).durable ≡ (S.state self.old.store).acts) }
+        ensures durable { OnOk result ((S.backing self.new.store).durable
+            ≡ (S.state self.old.store).acts) }
         ensures cause { IfErr result
             (HasCause (where_forced (S.backing self.old.store) (S.backing self.new.store))) }
         ensures tokens { KeepsTokens self.old self.new }
@@ -127,9 +132,11 @@ impl<S: PageStore> Index<S> {
     /// actions. Refused with `Stopped` (3) and `Io` (2).
     pub fn checkpoint(&mut self) -> Result<u64, Fault>
         ensures steps { Continues S.follows self.old.store self.new.store }
-        ensures runs { IndexGoes S.PageStore 0 IsSilent (kept_came Checkpoints result) self.old self.new }
+        ensures runs { IndexGoes S.PageStore 0 IsSilent
+            (kept_came Checkpoints result) self.old self.new }
         ensures number { IfOk result (λ n. n ≡ (S.state self.old.store).acts) }
-        ensures durable { OnOk result ((S.backing self.new.store).durable ≡ (S.state self.old.store).acts) }
+        ensures durable { OnOk result ((S.backing self.new.store).durable
+            ≡ (S.state self.old.store).acts) }
         ensures room { OnOk result
             (HasWholeRoom (S.state self.old.store).limits (S.backing self.new.store)) }
         ensures cause { IfErr result
@@ -159,17 +166,23 @@ impl<S: PageStore> Index<S> {
     /// `Blocked` or `NoFrame`: the scan is over then. Once it has answered None it answers None again.
     pub fn amgettuple(&mut self, token: ScanToken) -> Result<Option<Entry>, Fault>
         ensures steps { Continues S.follows self.old.store self.new.store }
-        ensures runs { seat_of self.old.seats token ≡ seat_with token false → slot_of self.old.slots token.session ≢ None
-            → IndexGoes S.PageStore token.session (TellsGiven token.session result) (give_came result) self.old self.new }
-        ensures answers { IndexCarries S.PageStore self.old self.new (AnswersScan token.session result) }
-        ensures closed { seat_of self.old.seats token ≡ None → (result ≡ Err Fault.NoSession) × (self.new ≡ self.old) }
+        ensures runs { seat_of self.old.seats token ≡ seat_with token false
+            → slot_of self.old.slots token.session ≢ None
+            → IndexGoes S.PageStore token.session (TellsGiven token.session result)
+            (give_came result) self.old self.new }
+        ensures answers { IndexCarries S.PageStore self.old self.new
+            (AnswersScan token.session result) }
+        ensures closed { seat_of self.old.seats token ≡ None
+            → (result ≡ Err Fault.NoSession) × (self.new ≡ self.old) }
         ensures refused { seat_of self.old.seats token ≡ seat_with token true
             → (result ≡ Err Fault.NoSession) × (self.new ≡ self.old) }
-        ensures over { seat_of self.old.seats token ≡ seat_with token false → slot_of self.old.slots token.session ≡ None
+        ensures over { seat_of self.old.seats token ≡ seat_with token false
+            → slot_of self.old.slots token.session ≡ None
             → (result ≡ Ok None) × (self.new ≡ self.old) }
         ensures ends { seat_of self.old.seats token ≡ seat_with token false
             → EndsUnlessGiven result (slot_of self.new.slots token.session) }
-        ensures tokens { seat_of self.old.seats token ≡ seat_with token false → TokenAfter token result self.old self.new }
+        ensures tokens { seat_of self.old.seats token ≡ seat_with token false
+            → TokenAfter token result self.old self.new }
     {
         let Some(seat) = self.find(token) else {
             return Err(Fault::NoSession);
@@ -196,8 +209,10 @@ impl<S: PageStore> Index<S> {
     /// token is not open.
     pub fn amendscan(&mut self, token: ScanToken) -> Result<(), Fault>
         ensures steps { Continues S.follows self.old.store self.new.store }
-        ensures runs { IndexGoes S.PageStore token.session (TellsEnd token.session) None self.old self.new }
-        ensures closed { seat_of self.old.seats token ≡ None → (result ≡ Err Fault.NoSession) × (self.new ≡ self.old) }
+        ensures runs { IndexGoes S.PageStore token.session
+            (TellsEnd token.session) None self.old self.new }
+        ensures closed { seat_of self.old.seats token ≡ None
+            → (result ≡ Err Fault.NoSession) × (self.new ≡ self.old) }
         ensures refused { IfErr result (λ fault. fault ≡ Fault.NoSession) }
         ensures open { OnErr result (seat_of self.old.seats token ≡ None) }
         ensures tokens { OnOk result (SeatBecomes token None self.old self.new) }
@@ -250,12 +265,13 @@ impl<S: PageStore> Index<S> {
     pub fn amrescan(&mut self, token: ScanToken, range: Range) -> Result<(), Fault>
         ensures steps { Continues S.follows self.old.store self.new.store }
         ensures runs { OnOk result
-            (IndexGoes S.PageStore token.session (RescanTold token.session range) (Some Begun) self.old self.new) }
+            (IndexGoes S.PageStore token.session (RescanTold token.session range)
+            (Some Begun) self.old self.new) }
         ensures tokens { OnOk result (SeatBecomes token (seat_with token false) self.old self.new) }
         ensures refused { OnErr result (self.new ≡ self.old) }
         ensures cause { IfErr result (NotRescannedFor S.PageStore self.old token) }
     {
-        let Some(_seat) = self.find(token) else {
+        let Some(_known) = self.find(token) else {
             return Err(Fault::NoSession);
         };
         if self.is_at_end() {
@@ -295,13 +311,16 @@ impl<D: Device> Index<Store<D>> {
     pub fn open(alloc: Global, device: D, frames: u32) -> Result<Index<Store<D>>, Refused<D>>
         // An index whose pages are a B-link tree is opened with them, or refused for want of memory or of the device.
         ensures begins { IsTrue (D.is_honest (index_device D.Device result)) → AreFrames frames
-            → (limits : Limits) (pages : List Page) → HasIndex limits pages (D.trace device).now.seen → IsBlinkTree pages
+            → (limits : Limits) (pages : List Page)
+            → HasIndex limits pages (D.trace device).now.seen → IsBlinkTree pages
             → MatchResult result (IndexBegins D.Device ⟦<Store<D> as PageStore>⟧ limits pages)
             (λ refused. IsNoMemoryOrIo refused.fault) }
         // A crash at each moment since leaves the same index, whatever was answered.
         ensures moments { IsTrue (D.is_honest (index_device D.Device result))
-            → (limits : Limits) (pages : List Page) → HasIndex limits pages (D.trace device).now.seen
-            → Goes (LeavesPages limits pages) (D.trace device) (D.trace (index_device D.Device result)) }
+            → (limits : Limits) (pages : List Page)
+            → HasIndex limits pages (D.trace device).now.seen
+            → Goes (LeavesPages limits pages) (D.trace device)
+            (D.trace (index_device D.Device result)) }
         ensures cause { IfErr result (λ refused.
             IsIoOr (IsRefusal (D.is_honest refused.device) frames (D.trace device) (D.trace refused.device))
             (D.failures device) (D.failures refused.device) refused.fault) }
@@ -320,11 +339,11 @@ impl<D: Device> Index<Store<D>> {
             → (start : Entry → Bool) (history : List Action) (calls : List Call)
             → IndexFits ⟦<Store<D> as PageStore>⟧ self.now start history calls
             → IndexKeeps ⟦<Store<D> as PageStore>⟧ self.now start history calls
-            → (image : List ℕ) → MayHaveLeft (held_by D.Device first).trace (held_by D.Device self.now.store).trace image
+            → (image : List ℕ) → MayHaveLeft (held_by D.Device first).trace
+            (held_by D.Device self.now.store).trace image
             → IsIndexAfterFirstPart (state_of D.Device self.now.store).limits start history
             (backing_of (held_by D.Device first)).durable image }
     {}
-
 
     /// The device below.
     pub fn into_device(self) -> D

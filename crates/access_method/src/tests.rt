@@ -5,7 +5,7 @@ use index_model::{Entry, Fault, Key, Limits, Range, RowAddr};
 use page_action::{MapStore, PageStore};
 use page_codec::{Items, Page, PageState};
 use page_store::Store;
-use recovery::{create, open};
+use recovery::create;
 use std::alloc::Global;
 use std::test::{Fail, *};
 
@@ -33,8 +33,8 @@ fn entry(key: u8, offset: u16) -> Entry {
 fn index(alloc: Global) -> Result<Index<Store<MemDevice>>, Fault> {
     let mut device = MemDevice::new(alloc, LEN)?;
     create(&mut device, &LIMITS)?;
-    match open(alloc, device, 16) {
-        Ok(store) => Ok(Index::new(store)),
+    match Index::open(alloc, device, 16) {
+        Ok(index) => Ok(index),
         Err(refused) => Err(refused.fault),
     }
 }
@@ -95,8 +95,30 @@ fn entries_are_given_in_order(rt: HostRuntime) -> Result<(), Fail> {
     }
     assert_eq!(rt; index.amendscan(token), Ok(()));
     assert_eq!(rt; index.checkpoint(), Ok(3));
+    index.crash_law();
     let device = index.into_device();
     assert_eq!(rt; device.len(), LEN);
+    Ok(())
+}
+
+#[test]
+fn an_index_is_opened_again(rt: HostRuntime) -> Result<(), Fail> {
+    let mut first = index(rt.alloc())?;
+    assert!(rt; first.aminsert(entry(0x61, 1)).is_ok());
+    assert_eq!(rt; first.commit(), Ok(1));
+    let Ok(mut again) = Index::open(rt.alloc(), first.into_device(), 16) else {
+        assert!(rt; false);
+        return Ok(());
+    };
+    let token = again.ambeginscan(ALL)?;
+    for expected in [1, 0] {
+        assert_eq!(rt; given(&mut again, token), expected);
+    }
+    let Err(refused) = Index::open(rt.alloc(), again.into_device(), 15) else {
+        assert!(rt; false);
+        return Ok(());
+    };
+    assert_eq!(rt; refused.fault, Fault::BadLimits);
     Ok(())
 }
 
@@ -133,11 +155,10 @@ fn a_failed_device_stops_the_index(rt: HostRuntime) -> Result<(), Fail> {
     create(&mut device, &LIMITS)?;
     // To open makes 7 calls of the device, the first commit 4: the next is the first of the second commit.
     device.fail_at(12);
-    let Ok(store) = open(rt.alloc(), device, 16) else {
+    let Ok(mut index) = Index::open(rt.alloc(), device, 16) else {
         assert!(rt; false);
         return Ok(());
     };
-    let mut index = Index::new(store);
     let token = index.ambeginscan(ALL)?;
     assert!(rt; index.aminsert(entry(0x61, 1)).is_ok());
     assert_eq!(rt; index.commit(), Ok(1));
@@ -145,6 +166,8 @@ fn a_failed_device_stops_the_index(rt: HostRuntime) -> Result<(), Fail> {
     assert_eq!(rt; index.commit(), Err(Fault::Io));
     assert_eq!(rt; index.commit(), Err(Fault::Stopped));
     assert!(rt; matches!(index.aminsert(entry(0x63, 3)), Err(Fault::Stopped)));
+    assert_eq!(rt; index.amrescan(token, ALL), Err(Fault::Stopped));
+    assert_eq!(rt; index.ambeginscan(ALL), Err(Fault::Stopped));
     assert!(rt; index.amendscan(token).is_ok());
     Ok(())
 }

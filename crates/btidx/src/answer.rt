@@ -32,7 +32,8 @@ pub fn print_answer<W: Write>(out: &mut W, answer: &Answer) -> io::Result<()>
 
 /// Prints `entry KEY ROW`.
 pub fn print_entry<W: Write>(out: &mut W, entry: &Entry) -> io::Result<()>
-    ensures { PrintsLine (W.contents out.old) (W.contents out.new) result (given_text (Some entry.now)) }
+    ensures { PrintsLine (W.contents out.old) (W.contents out.new) result
+        (given_text (Some entry.now)) }
 {
     let entry = ShownEntry { entry: *entry };
     writeln!(out, "entry {entry}")

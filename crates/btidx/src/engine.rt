@@ -106,7 +106,8 @@ impl Engine {
     /// One event.
     pub fn one(&mut self, event: Event) -> Answer
         ensures runs { WorldCarries ⟦<Store<MemDevice> as PageStore>⟧ self.old.world self.new.world
-            (WorldRuns ⟦<Store<MemDevice> as PageStore>⟧ self.old.world self.new.world (event ∷ []) (result ∷ [])) }
+            (WorldRuns ⟦<Store<MemDevice> as PageStore>⟧ self.old.world self.new.world
+            (event ∷ []) (result ∷ [])) }
     {
         self.world.one(event)
     }
@@ -197,12 +198,14 @@ impl Engine {
     /// A crash, and the index opened again, with as many sessions. Refused as `open` is, and with `NoMemory`; the index
     /// is as it was then.
     pub fn crash(&mut self, image: CrashImage) -> Result<(), Fault>
-        ensures reopened { OnOk result ((start : IndexEntry → Bool) (history : List Action) (calls : List Call)
+        ensures reopened { OnOk result ((start : IndexEntry → Bool) (history : List Action)
+            (calls : List Call)
             → WorldFits ⟦<Store<MemDevice> as PageStore>⟧ self.old.world start history calls
             → WorldKeeps ⟦<Store<MemDevice> as PageStore>⟧ self.old.world start history calls
             → BeginsAfterFirstPart ⟦<MemDevice as Device>⟧ ⟦<Store<MemDevice> as PageStore>⟧
             (state_of ⟦<MemDevice as Device>⟧ self.old.world.store).limits start history
-            (backing_of (held_by ⟦<MemDevice as Device>⟧ self.old.world.store)).durable self.new.world) }
+            (backing_of (held_by ⟦<MemDevice as Device>⟧ self.old.world.store)).durable
+            self.new.world) }
         ensures refused { OnErr result (self.new ≡ self.old) }
     {
         self.world.crash_law();
@@ -220,7 +223,8 @@ fn opened(
 ) -> Result<World<Store<MemDevice>, NoRows>, Fault>
     ensures begins { IsSetting setting.now → (limits : Limits) (pages : List Page)
         → HasIndex limits pages (trace_of device).now.seen → IsBlinkTree pages
-        → IfOk result (BeginsWith ⟦<MemDevice as Device>⟧ ⟦<Store<MemDevice> as PageStore>⟧ limits pages) }
+        → IfOk result
+        (BeginsWith ⟦<MemDevice as Device>⟧ ⟦<Store<MemDevice> as PageStore>⟧ limits pages) }
 {
     match World::open(
         alloc,

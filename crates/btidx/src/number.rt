@@ -76,7 +76,8 @@ pub fn number_u16(text: &[u8]) -> Option<u16>
 
 /// The block and offset of the text `(block,offset)`.
 pub fn pair(text: &[u8]) -> Option<(u32, u16)>
-    ensures found { IfSome result (λ p. text.now ≡ row_text (record { block = p.0; offset = p.1 })) }
+    ensures found { IfSome result (λ p. text.now
+        ≡ row_text (record { block = p.0; offset = p.1 })) }
     ensures only { (row : Row) → row.block < 2 ^ 32 → row.offset < 2 ^ 16
         → text.now ≡ row_text row → result ≡ Some (row.block, row.offset) }
 {

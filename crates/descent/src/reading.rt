@@ -18,12 +18,17 @@ use page_codec::{Items, Page};
 pub fn look<S: PageStore>(store: &mut S, session: Session, block: u32) -> Result<Page, Fault>
     ensures steps { Continues S.follows store.old store.new }
     ensures state { S.state store.new ≡ S.state store.old }
-    ensures page { (S.backing store.new).honest ≡ true → IfOk result (λ p. slice_get (S.state store.old).pages block ≡ Some p) }
+    ensures page { (S.backing store.new).honest ≡ true
+        → IfOk result (λ p. slice_get (S.state store.old).pages block ≡ Some p) }
     ensures stored { IfOk result (IsStored (S.state store.old).limits block) }
     ensures used { OnOk result (block < length (S.state store.old).pages) }
-    ensures inside { OnOk result (length (S.state store.old).pages ≤ (S.state store.old).limits.pages) }
+    ensures inside { OnOk result (length (S.state store.old).pages ≤
+        (S.state store.old).limits.pages) }
     ensures stopped { (S.backing store.old).stopped ≡ true → result ≡ Err Fault.Stopped }
-    ensures cause { HasRoom (S.state store.old).table session → IfErr result (HasCause (where_looked (S.state store.old) (S.backing store.old) (S.backing store.new) session block)) }
+    ensures cause { HasRoom (S.state store.old).table session
+        → IfErr result
+        (HasCause (where_looked (S.state store.old) (S.backing store.old)
+        (S.backing store.new) session block)) }
 {
     if store.is_stopped() {
         return Err(Fault::Stopped);
@@ -40,9 +45,13 @@ pub fn root<S: PageStore>(store: &mut S, session: Session) -> Result<u32, Fault>
     ensures steps { Continues S.follows store.old store.new }
     ensures state { S.state store.new ≡ S.state store.old }
     ensures stopped { (S.backing store.old).stopped ≡ true → result ≡ Err Fault.Stopped }
-    ensures root { (S.backing store.new).honest ≡ true → IsBlinkTree (S.state store.old).pages → IfOk result (λ b. b ≡ 1) }
-    ensures cause { (S.backing store.new).honest ≡ true → IsBlinkTree (S.state store.old).pages → HasRoom (S.state store.old).table session
-        → IfErr result (HasCause (where_looked (S.state store.old) (S.backing store.old) (S.backing store.new) session 0)) }
+    ensures root { (S.backing store.new).honest ≡ true → IsBlinkTree (S.state store.old).pages
+        → IfOk result (λ b. b ≡ 1) }
+    ensures cause { (S.backing store.new).honest ≡ true → IsBlinkTree (S.state store.old).pages
+        → HasRoom (S.state store.old).table session
+        → IfErr result
+        (HasCause (where_looked (S.state store.old) (S.backing store.old)
+        (S.backing store.new) session 0)) }
 {
     let page = look(store, session, 0)?;
     match root_of(&page) {

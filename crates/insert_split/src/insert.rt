@@ -124,8 +124,10 @@ impl InsertOp {
 fn place_in(page: &Page, entry: &Entry, most: u32) -> Result<usize, Fault>
     requires { most ≤ 50 }
     ensures may { OnOk result (MayHold page.now entry.now) }
-    ensures absent { IsPage page.now → OnOk result (is_among (entries_of page.now.items) entry.now ≡ false) }
-    ensures place { IsPage page.now → IfOk result (IsPlaceOf entry.now (entries_of page.now.items)) }
+    ensures absent { IsPage page.now → OnOk result
+        (is_among (entries_of page.now.items) entry.now ≡ false) }
+    ensures place { IsPage page.now → IfOk result
+        (IsPlaceOf entry.now (entries_of page.now.items)) }
     ensures room { OnOk result (length (entries_of page.now.items) < most) }
     ensures within { IfOk result (λ at. at ≤ length (entries_of page.now.items)) }
     ensures cause { IfErr result (PlaceRefused page.now entry.now most) }

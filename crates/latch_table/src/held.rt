@@ -75,7 +75,8 @@ impl Held {
 
     /// Takes one more pin, if there are fewer than two.
     pub fn pin(&mut self, block: u32)
-        ensures { self.new ≡ record self.old { pins = if nat_lt (length self.old.pins) 2 then block ∷ self.old.pins else self.old.pins } }
+        ensures { self.new ≡ record self.old { pins = if nat_lt
+            (length self.old.pins) 2 then block ∷ self.old.pins else self.old.pins } }
     {
         if !self.pins.is_full() {
             self.pins.insert(0, block);
@@ -95,7 +96,8 @@ impl Held {
 ghost use Rattle.latch_table.specs.Holdings.{excludes};
 
 fn latch_excludes(latches: &[Latch], block: u32, asked: Mode) -> bool
-    ensures { result ≡ list_any (λ held. (held.block == block) && excludes held.mode asked) latches.now }
+    ensures { result ≡ list_any (λ held. (held.block == block) && excludes held.mode asked)
+        latches.now }
 {
     latches
         .iter()

@@ -104,7 +104,8 @@ impl LatchTable {
 ghost use Rattle.latch_table.specs.Holdings.{holding_excludes};
 
 fn others_conflict(holdings: &[Held], session: usize, block: u32, mode: Mode) -> bool
-    ensures { result ≡ list_any (λ item. not (item.0 == session) && holding_excludes item.1 block mode)
+    ensures { result
+        ≡ list_any (λ item. not (item.0 == session) && holding_excludes item.1 block mode)
         (enumerate_from 0 holdings.now) }
 {
     holdings.iter().enumerate().any(|(number, held)| number != session

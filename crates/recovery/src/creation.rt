@@ -91,7 +91,8 @@ pub(crate) fn place_page<D: Device>(
     requires below { page.now.block < limits.now.pages }
     requires inside { needed_length limits.now ≤ length (D.trace device.old).now.seen }
     ensures there { OnOk result
-        (Has (place limits.now page.now.block) (page_bytes page.now) (D.trace device.new).now.seen) }
+        (Has (place limits.now page.now.block) (page_bytes page.now)
+        (D.trace device.new).now.seen) }
     ensures long { length (page_bytes page.now) ≡ 4096 }
     ensures moments { Goes
         (ChangesOnly (place limits.now page.now.block) 4096 (D.trace device.old).now)

@@ -140,7 +140,8 @@ fn read_index<D: Device>(alloc: Global, device: &mut D, frames: u32) -> Result<P
         (IsFound (D.is_honest device.new)
         (D.trace device.old).now.seen (D.trace device.new).now.seen) }
     ensures same { IsTrue (D.is_honest device.new) → AreFrames frames
-        → (limits : Limits) (pages : List Page) → HasIndex limits pages (D.trace device.old).now.seen
+        → (limits : Limits) (pages : List Page)
+        → HasIndex limits pages (D.trace device.old).now.seen
         → MatchResult result (λ parts. (limits_of_room parts.found.room ≡ limits)
         × AreSamePages pages (D.trace device.new).now parts) IsNoMemoryOrIo }
     ensures moments { IsTrue (D.is_honest device.new) → (limits : Limits) (pages : List Page)

@@ -5,27 +5,27 @@ use Rattle.std.proofs.lemmas.List.{append-nil, append_cancel_left}
 use Rattle.std.proofs.lemmas.Option.{slice_get_read}
 use Rattle.std.proofs.lemmas.Bool.{cases_eq}
 use Rattle.index_model.specs.Actions.{Effect, Action}
-use Rattle.index_model.specs.Calls.{Ask, Running, Call, Meets, IsOwned}
+use Rattle.index_model.specs.Calls.{Ask, Call, Meets, IsOwned}
 use Rattle.index_model.specs.Faults.{Circumstances, HasCause}
 use Rattle.index_model.specs.declared.entry.Entry.{Entry}
 use Rattle.index_model.specs.declared.fault.Fault.{Fault}
 use Rattle.index_model.specs.declared.fault.Fault.TheVariants.{Stopped, NoSession, SessionBusy}
 use Rattle.page_action.specs.Causes.{where_forced}
-use Rattle.page_action.specs.States.{State, Backing, IsLater, after_begin}
+use Rattle.page_action.specs.States.{State, IsLater, after_begin}
 use Rattle.page_action.specs.declared.page_store.PageStore.{Ghosts}
 use Rattle.descent.specs.Steps.{OthersRely}
 use Rattle.session_calls.specs.Due.{IsDueIn, HasSteps}
-use Rattle.session_calls.specs.Ops.{asked_by, op_before, ask_of, where_beginning, IsCaused}
-use Rattle.session_calls.specs.Sessions.{Matches, OpRuns, CallFits, SlotFits, SlotIs, IsIdle, acts_of, begun_call, is_busy, no_call, SessionGoes, SessionBegins, IsBegun, IsNotBegun, BeginsBy}
+use Rattle.session_calls.specs.Ops.{asked_by, ask_of, IsCaused}
+use Rattle.session_calls.specs.Sessions.{Matches, OpRuns, CallFits, SlotFits, IsIdle, acts_of, begun_call, SessionGoes, SessionBegins}
 use Rattle.session_calls.specs.declared.answer.Answer.{Answer}
-use Rattle.session_calls.specs.declared.answer.Answer.TheVariants.{Begun, Going, Added, Ready, Done, Finished, Gave, Ended, Forced, Flushed, Checkpointed, Refused}
+use Rattle.session_calls.specs.declared.answer.Answer.TheVariants.{Begun, Refused}
 use Rattle.session_calls.specs.declared.op.Op.{Op}
 use Rattle.session_calls.specs.declared.request.Request.{Request}
 use Rattle.session_calls.proofs.Meeting.{grown}
 use Rattle.session_calls.proofs.Telling.{told_same}
 use Rattle.session_calls.proofs.Undisturbed.{undisturbed, idle_undisturbed}
-use Rattle.schedule.specs.Snapshots.{StoreAndSlots, Snapshot, here_at, slot_of, IsRunningCall, SlotRuns, IsFree, SlotMatches, Fits, slot_has_call, has_call}
-use Rattle.schedule.specs.Events.{Move, Steps, Takes, GivesUp, Upkeep, Forces, Checkpoints, Kind, Begins, Moves, Keeps, IsOfKind, CallGoesOn, IsStill, Stays, kept_answer, MovesOn, MayBegin, session_to_begin, where_no_call, where_moved, where_begun_at, where_moving, Happens, where_happening, OthersStay, session_at, EventAlways, StaysAsDue, CountsSteps, LeavesBe, IsDurable, GrowsByOne, EventDoes}
+use Rattle.schedule.specs.Snapshots.{Snapshot, here_at, slot_of, IsRunningCall, SlotRuns, IsFree, SlotMatches, Fits, slot_has_call, has_call}
+use Rattle.schedule.specs.Events.{Move, Steps, Takes, GivesUp, Upkeep, Forces, Checkpoints, Kind, Begins, Moves, Keeps, IsOfKind, Stays, kept_answer, MovesOn, MayBegin, session_to_begin, where_begun_at, where_moving, Happens, where_happening, OthersStay, session_at, EventAlways, CountsSteps, LeavesBe, IsDurable, EventDoes}
 use Rattle.schedule.specs.Runs.{Does}
 use Rattle.schedule.proofs.Frames.{goes_fits}
 use Rattle.schedule.proofs.Keeping.{no_growth}

@@ -1,5 +1,5 @@
 -- What an event of one session leaves the others: the frame of a running call's event, of a beginning and of a refusal.
-use Rattle.std.proofs.Common.{◌≡◌, ◌≢◌, ℕ, suc, ◌+◌, ◌-◌, ◌<◌, ◌≤◌, Bool, Option, Some, None, List, ◌++◌, length, slice_get, slice_set, sym, ap, subst, arith, inl, inr, ◌∙◌, length-append}
+use Rattle.std.proofs.Common.{◌≡◌, ◌≢◌, ℕ, suc, ◌-◌, ◌<◌, ◌≤◌, Bool, Option, Some, None, List, ◌++◌, length, slice_get, slice_set, sym, ap, subst, arith, inl, inr, ◌∙◌, length-append}
 use Rattle.std.proofs.lemmas.Bool.{cases_eq, cases_lt}
 use Rattle.index_model.specs.Actions.{Effect, Add, Remove, Shape, Action, contents_after, is_there_after}
 use Rattle.index_model.specs.Calls.{Ask, AskInsert, AskScan, AskBulkDelete, AskCleanup, Ending, Running, Added, Finished, Vacuumed, GivenUp, Failed, Call, Meets, MayAct, IsOwned, end_of}

@@ -1,27 +1,27 @@
 -- What each kind of event makes, by what the call behind it promises.
-use Rattle.std.proofs.Common.{◌≡◌, ℕ, suc, ◌<◌, ◌≤◌, Bool, true, false, Option, Some, None, Ok, Err, List, length, slice_get, slice_set, refl, sym, ap, subst, inl, inr, ◌∙◌}
+use Rattle.std.proofs.Common.{◌≡◌, ℕ, suc, Bool, true, false, Option, Some, None, Err, List, length, slice_get, slice_set, refl, sym, ap, subst, inr, ◌∙◌}
 use Rattle.std.specs.Prelude.{unwrap_or}
 use Rattle.index_model.specs.Actions.{Action}
-use Rattle.index_model.specs.Calls.{Ask, Call}
+use Rattle.index_model.specs.Calls.{Call}
 use Rattle.index_model.specs.Faults.{Circumstances, HasCause}
 use Rattle.index_model.specs.declared.entry.Entry.{Entry}
 use Rattle.index_model.specs.declared.fault.Fault.{Fault}
-use Rattle.index_model.specs.declared.fault.Fault.TheVariants.{Stopped, NoSession}
+use Rattle.index_model.specs.declared.fault.Fault.TheVariants.{Stopped}
 use Rattle.page_action.specs.Causes.{nothing_wrong, where_forced}
-use Rattle.page_action.specs.States.{State, Backing, after_begin}
+use Rattle.page_action.specs.States.{State}
 use Rattle.page_action.specs.declared.page_store.PageStore.{Ghosts}
 use Rattle.session_calls.specs.Due.{IsDue, IsDueIn, CountsDown, HasSteps}
 use Rattle.session_calls.specs.Ops.{IsCaused, where_stepped, where_asked_next, where_beginning, AnswersStopped}
-use Rattle.session_calls.specs.Sessions.{Matches, IsIdle, SlotFits, SessionGoes, SessionBegins, IsBegun, IsNotBegun, BeginsBy, is_busy, slot_add, LeavesLess, LeavesNoMore, GivesLess, AnswersStep, AnswersNext, AnswersEnd, RefusalChangesNothing}
+use Rattle.session_calls.specs.Sessions.{Matches, IsIdle, SlotFits, SessionGoes, SessionBegins, IsBegun, BeginsBy, is_busy, slot_add, LeavesLess, LeavesNoMore, GivesLess, AnswersStep, AnswersNext, AnswersEnd, RefusalChangesNothing}
 use Rattle.session_calls.specs.declared.answer.Answer.{Answer}
 use Rattle.session_calls.specs.declared.answer.Answer.TheVariants.{Begun, Going, Added, Ready, Done, Finished, Gave, Ended, Forced, Flushed, Checkpointed, Refused}
 use Rattle.session_calls.specs.declared.op.Op.{Op}
 use Rattle.session_calls.specs.declared.request.Request.{Request}
 use Rattle.page_codec.specs.declared.page.Page.{Page}
-use Rattle.schedule.specs.Snapshots.{Snapshot, both, snapshot_of, slot_of, Fits}
-use Rattle.schedule.specs.Events.{Steps, Takes, GivesUp, Upkeep, Forces, Checkpoints, Begins, Moves, Keeps, kept_answer, MovesOn, session_to_begin, where_no_call, where_begun_at, EventAlways, AnswersUpkeep}
+use Rattle.schedule.specs.Snapshots.{both, snapshot_of, slot_of, Fits}
+use Rattle.schedule.specs.Events.{Steps, Takes, GivesUp, Upkeep, Forces, Checkpoints, Begins, Moves, Keeps, kept_answer, session_to_begin, where_begun_at, EventAlways, AnswersUpkeep}
 use Rattle.schedule.specs.Runs.{Does, Makes}
-use Rattle.schedule.proofs.Events.{at_slots, others_stay_set, moves_on, stays_on, refused_stay, keeps_on_store, begins_on, not_begun, found, not_found_why, not_found_first, set_same}
+use Rattle.schedule.proofs.Events.{at_slots, others_stay_set, moves_on, stays_on, refused_stay, keeps_on_store, begins_on, not_begun, not_found_why, not_found_first, set_same}
 use Rattle.schedule.proofs.Keeping.{Laws}
 use Rattle.schedule.proofs.Lists.{length_set}
 

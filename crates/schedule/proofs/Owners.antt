@@ -1,11 +1,11 @@
 -- Each action is owned by the call that asked for it.
-use Rattle.std.proofs.Common.{◌≡◌, ℕ, zero, suc, ◌≤◌, Bool, true, false, Option, Some, None, List, [], ◌∷◌, ◌++◌, length, slice_get, refl, sym, ap, subst, arith, ◌∙◌}
+use Rattle.std.proofs.Common.{◌≡◌, ℕ, zero, suc, ◌≤◌, Bool, Option, Some, None, List, [], ◌∷◌, ◌++◌, length, slice_get, refl, sym, ap, subst, arith, ◌∙◌}
 use Rattle.index_model.specs.Actions.{Effect, Add, Remove, Shape, Action, contents_after, is_there_after}
 use Rattle.index_model.specs.Calls.{Ask, AskInsert, AskScan, AskBulkDelete, AskCleanup, Call, MayAct}
 use Rattle.index_model.specs.declared.entry.Entry.{Entry}
 use Rattle.index_model.proofs.Histories.{there_before, there_now}
 use Rattle.descent.specs.Steps.{IsApt}
-use Rattle.session_calls.specs.Sessions.{MayDo, IsAsked, acts_of, add_after, Told}
+use Rattle.session_calls.specs.Sessions.{IsAsked, acts_of, add_after, Told}
 use Rattle.session_calls.specs.declared.answer.Answer.{Answer}
 use Rattle.session_calls.specs.declared.answer.Answer.TheVariants.{Begun, Going, Added, Ready, Done, Finished, Gave, Ended, Forced, Flushed, Checkpointed, Refused}
 use Rattle.schedule.specs.Events.{IsDurable}

@@ -21,9 +21,11 @@ pub fn one<S: PageStore>(store: &mut S, slots: &mut [Option<Op>], event: Event) 
     requires few { length slots.old ≤ 64 }
     ensures steps { Continues S.follows store.old store.new }
     ensures sessions { length slots.new ≡ length slots.old }
-    ensures always { EventAlways S.PageStore (kind_of event) result (both store.old slots.old) (both store.new slots.new) }
+    ensures always { EventAlways S.PageStore (kind_of event) result (both store.old slots.old)
+        (both store.new slots.new) }
     ensures runs { Carries S.PageStore (both store.old slots.old) (both store.new slots.new)
-        (Runs S.PageStore (both store.old slots.old) (both store.new slots.new) (event ∷ []) (result ∷ [])) }
+        (Runs S.PageStore (both store.old slots.old) (both store.new slots.new) (event ∷ [])
+        (result ∷ [])) }
     // A step that goes on logs nothing yet, on one leaf.
     ensures calm { result ≡ Answer.Going → (S.state store.new).acts ≡ (S.state store.old).acts }
 {
@@ -42,13 +44,18 @@ pub fn run<S: PageStore>(
     requires few { length slots.old ≤ 64 }
     ensures steps { Continues S.follows store.old store.new }
     ensures sessions { length slots.new ≡ length slots.old }
-    ensures runs { OnOk result (Carries S.PageStore (both store.old slots.old) (both store.new slots.new)
-        (Runs S.PageStore (both store.old slots.old) (both store.new slots.new) events.now (answers_behind answers.old.items answers.new.items))) }
-    ensures each { OnOk result (length answers.new.items ≡ length answers.old.items + length events.now) }
+    ensures runs { OnOk result (Carries S.PageStore (both store.old slots.old)
+        (both store.new slots.new)
+        (Runs S.PageStore (both store.old slots.old) (both store.new slots.new) events.now
+        (answers_behind answers.old.items answers.new.items))) }
+    ensures each { OnOk result (length answers.new.items
+        ≡ length answers.old.items + length events.now) }
     ensures kept { take (length answers.old.items) answers.new.items ≡ answers.old.items }
-    ensures refused { OnErr result ((store.new ≡ store.old) × (slots.new ≡ slots.old) × (answers.new.items ≡ answers.old.items)) }
+    ensures refused { OnErr result ((store.new ≡ store.old) × (slots.new ≡ slots.old)
+        × (answers.new.items ≡ answers.old.items)) }
     ensures fault { IfErr result (λ fault. fault ≡ Fault.NoMemory) }
-    ensures room { vec_len answers.old + length events.now ≤ vec_capacity answers.old → IsOk result }
+    ensures room { vec_len answers.old + length events.now ≤ vec_capacity answers.old
+        → IsOk result }
 {
     let Ok(()) = answers.reserve(events.len()) else {
         return Err(Fault::NoMemory);
@@ -64,7 +71,8 @@ pub fn run<S: PageStore>(
 fn pick<S: PageStore>(store: &mut S, slots: &mut [Option<Op>], event: Event) -> Answer
     requires few { length slots.old ≤ 64 }
     ensures steps { Continues S.follows store.old store.new }
-    ensures makes { Makes S.PageStore (kind_of event) result (both store.old slots.old) (both store.new slots.new) }
+    ensures makes { Makes S.PageStore (kind_of event) result (both store.old slots.old)
+        (both store.new slots.new) }
     ensures calm { result ≡ Answer.Going → (S.state store.new).acts ≡ (S.state store.old).acts }
 {
     match event {
@@ -86,7 +94,8 @@ fn begin<S: PageStore>(
 ) -> Answer
     requires few { length slots.old ≤ 64 }
     ensures steps { Continues S.follows store.old store.new }
-    ensures makes { Makes S.PageStore (Begins session request) result (both store.old slots.old) (both store.new slots.new) }
+    ensures makes { Makes S.PageStore (Begins session request) result (both store.old slots.old)
+        (both store.new slots.new) }
     ensures calm { result ≡ Answer.Going → (S.state store.new).acts ≡ (S.state store.old).acts }
 {
     match find(store.is_stopped(), slots, session) {
@@ -97,7 +106,8 @@ fn begin<S: PageStore>(
 
 fn step<S: PageStore>(store: &mut S, slots: &mut [Option<Op>], session: u32) -> Answer
     ensures steps { Continues S.follows store.old store.new }
-    ensures makes { Makes S.PageStore (Moves session Steps) result (both store.old slots.old) (both store.new slots.new) }
+    ensures makes { Makes S.PageStore (Moves session Steps) result (both store.old slots.old)
+        (both store.new slots.new) }
     ensures calm { result ≡ Answer.Going → (S.state store.new).acts ≡ (S.state store.old).acts }
 {
     if !is_running(slots, session) {
@@ -107,7 +117,8 @@ fn step<S: PageStore>(store: &mut S, slots: &mut [Option<Op>], session: u32) -> 
 }
 
 fn next<S: PageStore>(store: &S, slots: &mut [Option<Op>], session: u32) -> Answer
-    ensures makes { Makes S.PageStore (Moves session Takes) result (both store.now slots.old) (both store.now slots.new) }
+    ensures makes { Makes S.PageStore (Moves session Takes) result (both store.now slots.old)
+        (both store.now slots.new) }
 {
     if !is_running(slots, session) {
         return refuse_idle(false);
@@ -117,7 +128,8 @@ fn next<S: PageStore>(store: &S, slots: &mut [Option<Op>], session: u32) -> Answ
 
 fn end<S: PageStore>(store: &mut S, slots: &mut [Option<Op>], session: u32) -> Answer
     ensures steps { Continues S.follows store.old store.new }
-    ensures makes { Makes S.PageStore (Moves session GivesUp) result (both store.old slots.old) (both store.new slots.new) }
+    ensures makes { Makes S.PageStore (Moves session GivesUp) result (both store.old slots.old)
+        (both store.new slots.new) }
     ensures calm { result ≡ Answer.Going → (S.state store.new).acts ≡ (S.state store.old).acts }
 {
     if !is_running(slots, session) {
@@ -133,7 +145,8 @@ pub fn force<S: PageStore>(store: &mut S, slots: &[Option<Op>]) -> Answer
     ensures answers { AnswersUpkeep Forces result }
     ensures kept { StoreIsKept S.PageStore Forces result store.old store.new }
     ensures runs { Carries S.PageStore (both store.old slots.now) (both store.new slots.now)
-        (Runs S.PageStore (both store.old slots.now) (both store.new slots.now) (Event.Force ∷ []) (result ∷ [])) }
+        (Runs S.PageStore (both store.old slots.now) (both store.new slots.now) (Event.Force ∷ [])
+        (result ∷ [])) }
 {
     make_force(store, slots)
 }
@@ -145,16 +158,19 @@ pub fn checkpoint<S: PageStore>(store: &mut S, slots: &[Option<Op>]) -> Answer
     ensures steps { Continues S.follows store.old store.new }
     ensures answers { AnswersUpkeep Checkpoints result }
     ensures kept { StoreIsKept S.PageStore Checkpoints result store.old store.new }
-    ensures room { (count : ℕ) → result ≡ Answer.Checkpointed count → HasWholeRoom (S.state store.old).limits (S.backing store.new) }
+    ensures room { (count : ℕ) → result ≡ Answer.Checkpointed count
+        → HasWholeRoom (S.state store.old).limits (S.backing store.new) }
     ensures runs { Carries S.PageStore (both store.old slots.now) (both store.new slots.now)
-        (Runs S.PageStore (both store.old slots.now) (both store.new slots.now) (Event.Checkpoint ∷ []) (result ∷ [])) }
+        (Runs S.PageStore (both store.old slots.now) (both store.new slots.now)
+        (Event.Checkpoint ∷ []) (result ∷ [])) }
 {
     make_checkpoint(store, slots)
 }
 
 fn make_force<S: PageStore>(store: &mut S, slots: &[Option<Op>]) -> Answer
     ensures steps { Continues S.follows store.old store.new }
-    ensures makes { Makes S.PageStore (Keeps Forces) result (both store.old slots.now) (both store.new slots.now) }
+    ensures makes { Makes S.PageStore (Keeps Forces) result (both store.old slots.now)
+        (both store.new slots.now) }
     ensures kept { StoreIsKept S.PageStore Forces result store.old store.new }
     ensures answers { AnswersUpkeep Forces result }
     ensures calm { result ≡ Answer.Going → (S.state store.new).acts ≡ (S.state store.old).acts }
@@ -167,10 +183,12 @@ fn make_force<S: PageStore>(store: &mut S, slots: &[Option<Op>]) -> Answer
 
 fn make_checkpoint<S: PageStore>(store: &mut S, slots: &[Option<Op>]) -> Answer
     ensures steps { Continues S.follows store.old store.new }
-    ensures makes { Makes S.PageStore (Keeps Checkpoints) result (both store.old slots.now) (both store.new slots.now) }
+    ensures makes { Makes S.PageStore (Keeps Checkpoints) result (both store.old slots.now)
+        (both store.new slots.now) }
     ensures kept { StoreIsKept S.PageStore Checkpoints result store.old store.new }
     ensures answers { AnswersUpkeep Checkpoints result }
-    ensures room { (count : ℕ) → result ≡ Answer.Checkpointed count → HasWholeRoom (S.state store.old).limits (S.backing store.new) }
+    ensures room { (count : ℕ) → result ≡ Answer.Checkpointed count
+        → HasWholeRoom (S.state store.old).limits (S.backing store.new) }
     ensures calm { result ≡ Answer.Going → (S.state store.new).acts ≡ (S.state store.old).acts }
 {
     match store.checkpoint() {

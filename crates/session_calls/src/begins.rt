@@ -28,12 +28,16 @@ pub fn begin<S: PageStore>(
 ) -> Answer
     ensures steps { Continues S.follows store.old store.new }
     ensures backing { S.backing store.new ≡ S.backing store.old }
-    ensures by { BeginsBy (S.state store.old) (S.backing store.old) (S.state store.new) session request slot.old slot.new result }
+    ensures by { BeginsBy (S.state store.old) (S.backing store.old)
+        (S.state store.new) session request slot.old slot.new result }
     ensures stopped { (S.backing store.old).stopped ≡ true → result ≡ Answer.Refused Fault.Stopped }
-    ensures begins { result ≡ Answer.Begun → (start : Entry → Bool) (history : List Action) (number : ℕ)
+    ensures begins { result ≡ Answer.Begun → (start : Entry → Bool) (history : List Action)
+        (number : ℕ)
         → Matches (S.state store.old) start history → IsIdle (S.state store.old) session
-        → SessionBegins (S.state store.old) (S.state store.new) start history number session request slot.new }
-    ensures counts { result ≡ Answer.Begun → HasSteps (S.state store.old) (S.state store.new) request slot.new }
+        → SessionBegins (S.state store.old) (S.state store.new) start history number session
+        request slot.new }
+    ensures counts { result ≡ Answer.Begun → HasSteps (S.state store.old)
+        (S.state store.new) request slot.new }
 {
     if let Err(fault) = start(store, session, slot.is_some()) {
         return Answer::Refused(fault);
@@ -51,7 +55,8 @@ fn start<S: PageStore>(store: &mut S, session: Session, busy: bool) -> Result<()
     ensures low { session < 64 }
     ensures stopped { (S.backing store.old).stopped ≡ true → result ≡ Err Fault.Stopped }
     ensures refused { OnErr result (S.state store.new ≡ S.state store.old) }
-    ensures cause { IfErr result (HasCause (where_beginning (S.state store.old) (S.backing store.old) busy)) }
+    ensures cause { IfErr result
+        (HasCause (where_beginning (S.state store.old) (S.backing store.old) busy)) }
 {
     let _number = session.number();
     if store.is_stopped() {

@@ -22,18 +22,25 @@ use page_action::PageStore;
 /// but that the call is over where it wasn't blocked.
 pub fn step<S: PageStore>(store: &mut S, slot: &mut Option<Op>) -> Answer
     ensures steps { Continues S.follows store.old store.new }
-    ensures idle { slot.old ≡ None → (result ≡ no_call (S.backing store.old).stopped) × (store.new ≡ store.old) }
-    ensures refused { RefusalChangesNothing (S.state store.old) (S.state store.new) slot.old slot.new result }
-    ensures stopped { (S.backing store.old).stopped ≡ true → AnswersStopped (slot_add slot.old) result }
+    ensures idle { slot.old ≡ None → (result ≡ no_call (S.backing store.old).stopped)
+        × (store.new ≡ store.old) }
+    ensures refused { RefusalChangesNothing (S.state store.old)
+        (S.state store.new) slot.old slot.new result }
+    ensures stopped { (S.backing store.old).stopped ≡ true
+        → AnswersStopped (slot_add slot.old) result }
     ensures kind { AnswersStep slot.old slot.new result }
-    ensures quiet { result ≡ Answer.Going → S.state store.new ≡ with_table (S.state store.old) (S.state store.new).table }
+    ensures quiet { result ≡ Answer.Going → S.state store.new
+        ≡ with_table (S.state store.old) (S.state store.new).table }
     ensures less { LeavesLess (S.state store.old) (S.state store.new) slot.old slot.new result }
     ensures no_more { LeavesNoMore (S.state store.old) (S.state store.new) slot.old slot.new }
-    ensures goes { (S.backing store.new).honest ≡ true → (start : Entry → Bool) (history : List Action) (number : ℕ) (call : Call)
+    ensures goes { (S.backing store.new).honest ≡ true
+        → (start : Entry → Bool) (history : List Action) (number : ℕ) (call : Call)
         → SlotFits (S.state store.old) start history number call slot.old
-        → SessionGoes (where_stepped call.ask (S.state store.old) (S.backing store.old) (S.backing store.new) call.session)
+        → SessionGoes (where_stepped call.ask (S.state store.old) (S.backing store.old)
+        (S.backing store.new) call.session)
         (S.state store.old) (S.state store.new) start history number call slot.new result }
-    ensures due { (S.backing store.new).honest ≡ true → (start : Entry → Bool) (history : List Action) (number : ℕ) (call : Call)
+    ensures due { (S.backing store.new).honest ≡ true
+        → (start : Entry → Bool) (history : List Action) (number : ℕ) (call : Call)
         → SlotFits (S.state store.old) start history number call slot.old
         → (left : ℕ) → IsDueIn (S.state store.old) slot.old (suc left)
         → CountsDown (S.state store.old) (S.state store.new) slot.old slot.new left result }
@@ -78,10 +85,12 @@ pub fn next(slot: &mut Option<Op>) -> Answer
     ensures idle { slot.old ≡ None → (slot.new ≡ None) × (result ≡ no_call false) }
     ensures kind { AnswersNext slot.old result }
     ensures less { GivesLess slot.old slot.new result }
-    ensures goes { (st : State) (start : Entry → Bool) (history : List Action) (number : ℕ) (call : Call)
+    ensures goes { (st : State) (start : Entry → Bool) (history : List Action) (number : ℕ)
+        (call : Call)
         → SlotFits st start history number call slot.old
         → SessionGoes (where_asked_next call.ask) st st start history number call slot.new result }
-    ensures due { (items : ℕ) (pages : List Page) (steps : ℕ) → IsDue items pages slot.old steps → IsDue items pages slot.new steps }
+    ensures due { (items : ℕ) (pages : List Page) (steps : ℕ) → IsDue items pages slot.old steps
+        → IsDue items pages slot.new steps }
 {
     match slot {
         Some(Op::Scan(op)) => Answer::Gave(op.next()),
@@ -101,7 +110,8 @@ pub fn end<S: PageStore>(store: &mut S, slot: &mut Option<Op>) -> Answer
         → S.state store.new ≡ after_end (session_of op) (S.state store.old) }
     ensures goes { (start : Entry → Bool) (history : List Action) (number : ℕ) (call : Call)
         → SlotFits (S.state store.old) start history number call slot.old
-        → SessionGoes nothing_wrong (S.state store.old) (S.state store.new) start history number call slot.new result }
+        → SessionGoes nothing_wrong (S.state store.old)
+        (S.state store.new) start history number call slot.new result }
 {
     let Some(op) = slot else {
         return Answer::Refused(Fault::NoSession);

@@ -48,13 +48,17 @@ impl Op {
     // One step. After an answer that is its last, what the session holds is still held.
     pub(crate) fn step<S: PageStore>(&mut self, store: &mut S) -> Answer
         ensures all { OpSteps S.PageStore self.old self.new store.old store.new result }
-        ensures goes { (S.backing store.new).honest ≡ true → (start : Entry → Bool) (history : List Action) (number : ℕ) (call : Call)
+        ensures goes { (S.backing store.new).honest ≡ true
+            → (start : Entry → Bool) (history : List Action) (number : ℕ) (call : Call)
             → CallFits (S.state store.old) start history number call self.old
-            → OpGoes (where_stepped call.ask (S.state store.old) (S.backing store.old) (S.backing store.new) call.session)
+            → OpGoes (where_stepped call.ask (S.state store.old) (S.backing store.old)
+            (S.backing store.new) call.session)
             (S.state store.old) (S.state store.new) start history number call self.new result }
-        ensures due { (S.backing store.new).honest ≡ true → IsInOrder (S.state store.old) → OpFits (S.state store.old) self.old
+        ensures due { (S.backing store.new).honest ≡ true → IsInOrder (S.state store.old)
+            → OpFits (S.state store.old) self.old
             → (left : ℕ) → IsDueIn (S.state store.old) (Some self.old) (suc left)
-            → CountsDown (S.state store.old) (S.state store.new) (Some self.old) (slot_after result self.new) left result }
+            → CountsDown (S.state store.old) (S.state store.new) (Some self.old)
+            (slot_after result self.new) left result }
     {
         match self {
             Op::Insert(op) => match op.step(store) {

@@ -15,7 +15,8 @@ use page_codec::{Items, Page, PageState};
 /// How many of the entries stand before the entry.
 fn count_before(entries: &[Entry], entry: &Entry) -> usize
     ensures within { result ≤ length entries.now }
-    ensures parts { IsAscending entries.now → AreParts (λ x. is_past (bound_of x) entry.now) entries.now result }
+    ensures parts { IsAscending entries.now → AreParts
+        (λ x. is_past (bound_of x) entry.now) entries.now result }
 {
     entries.partition_point(|x| x.bound().is_below(entry))
 }
@@ -23,7 +24,8 @@ fn count_before(entries: &[Entry], entry: &Entry) -> usize
 /// How many of the entries do not lie beyond the bound.
 fn count_up_to(entries: &[Entry], bound: &Bound) -> usize
     ensures within { result ≤ length entries.now }
-    ensures parts { IsAscending entries.now → AreParts (λ x. not (is_past bound.now x)) entries.now result }
+    ensures parts { IsAscending entries.now → AreParts
+        (λ x. not (is_past bound.now x)) entries.now result }
 {
     entries.partition_point(|x| !bound.is_below(x))
 }
@@ -31,7 +33,8 @@ fn count_up_to(entries: &[Entry], bound: &Bound) -> usize
 /// How many of the entries have a key below this one.
 fn count_below(entries: &[Entry], below: &Option<Key>) -> usize
     ensures within { result ≤ length entries.now }
-    ensures parts { IsAscending entries.now → AreParts (λ x. below_admits below.now x.key) entries.now result }
+    ensures parts { IsAscending entries.now → AreParts
+        (λ x. below_admits below.now x.key) entries.now result }
 {
     match below {
         None => entries.len(),
@@ -42,9 +45,11 @@ fn count_below(entries: &[Entry], below: &Option<Key>) -> usize
 /// Where the entry stands among ascending entries (`Ok`), or the place that it would take (`Err`).
 pub fn find(entries: &[Entry], entry: &Entry) -> Result<usize, usize>
     ensures there { OnOk result (is_among entries.now entry.now ≡ true) }
-    ensures stands { IfOk result (λ at. IfSome (slice_get entries.now at) (λ x. same_entry x entry.now ≡ true)) }
+    ensures stands { IfOk result (λ at. IfSome (slice_get entries.now at)
+        (λ x. same_entry x entry.now ≡ true)) }
     ensures inside { IfOk result (λ at. at < length entries.now) }
-    ensures absent { IsAscending entries.now → OnErr result (is_among entries.now entry.now ≡ false) }
+    ensures absent { IsAscending entries.now → OnErr result
+        (is_among entries.now entry.now ≡ false) }
     ensures place { IsAscending entries.now → IfErr result (IsPlaceOf entry.now entries.now) }
     ensures within { IfErr result (λ at. at ≤ length entries.now) }
 {
@@ -87,8 +92,10 @@ pub fn put(page: &mut Page, at: usize, entry: Entry)
     requires room { length (entries_of page.old.items) < 50 }
     requires place { at ≤ length (entries_of page.old.items) }
     ensures put { page.new ≡ with_entries page.old (insert (entries_of page.old.items) at entry) }
-    ensures among { (y : Entry) → is_among (entries_of page.new.items) y ≡ (same_entry entry y || is_among (entries_of page.old.items) y) }
-    ensures page { IsPage page.old → MayHold page.old entry → IsPlaceOf entry (entries_of page.old.items) at → IsPage page.new }
+    ensures among { (y : Entry) → is_among (entries_of page.new.items) y
+        ≡ (same_entry entry y || is_among (entries_of page.old.items) y) }
+    ensures page { IsPage page.old → MayHold page.old entry
+        → IsPlaceOf entry (entries_of page.old.items) at → IsPage page.new }
     ensures count { length (entries_of page.new.items) ≡ length (entries_of page.old.items) + 1 }
 {
     entry.seen();
@@ -121,7 +128,8 @@ pub fn matches_beyond(
     below: &Option<Key>,
 ) -> ArrayVec<Entry, 50>
     requires { length entries.now ≤ 50 }
-    ensures { IsAscending entries.now → IsCopiedFrom entries.now frontier.now below.now result.items }
+    ensures { IsAscending entries.now → IsCopiedFrom entries.now frontier.now below.now
+        result.items }
 {
     let beyond = tail(entries, count_up_to(entries, frontier));
     let count = count_below(beyond, below);

@@ -1,9 +1,8 @@
 -- Beginnings as runs of one event.
-use Rattle.std.proofs.Common.{◌≡◌, ℕ, Bool, Result, Ok, Err, Option, Some, List, [], ◌∷◌, refl, sym, ap, subst}
+use Rattle.std.proofs.Common.{◌≡◌, ℕ, Result, Some, List, [], ◌∷◌, refl, sym, subst}
 use Rattle.std.specs.Prelude.{IfErr, OnErr}
 use Rattle.index_model.specs.Faults.{Circumstances, HasCause}
 use Rattle.session_calls.specs.Ops.{IsCaused}
-use Rattle.index_model.specs.declared.entry.Entry.{Entry}
 use Rattle.index_model.specs.declared.fault.Fault.{Fault}
 use Rattle.page_action.specs.declared.page_store.PageStore.{Ghosts}
 use Rattle.session_calls.specs.declared.answer.Answer.{Answer}

@@ -1,7 +1,5 @@
 -- Runs of one session's events, one behind the other.
-use Rattle.std.proofs.Common.{◌≡◌, ℕ, Bool, true, Option, Some, None, List, [], ◌∷◌, ◌++◌, refl, sym, subst, inl, inr}
-use Rattle.index_model.specs.Actions.{Action}
-use Rattle.index_model.specs.Calls.{Call}
+use Rattle.std.proofs.Common.{◌≡◌, ℕ, Bool, Option, Some, None, List, [], ◌∷◌, ◌++◌, refl, subst, inl, inr}
 use Rattle.index_model.specs.declared.entry.Entry.{Entry}
 use Rattle.page_action.specs.States.{IsLater, Continues}
 use Rattle.page_action.specs.declared.page_store.PageStore.{Ghosts}

@@ -1,12 +1,10 @@
 -- What a scan gives tells.
-use Rattle.std.proofs.Common.{◌≡◌, ℕ, ◌<◌, Bool, Option, Some, None, Result, Ok, Err, List, ◌++◌, length, slice_get, slice_set, refl, sym, ap, subst, inl, inr, ◌∙◌}
+use Rattle.std.proofs.Common.{◌≡◌, ℕ, ◌<◌, Bool, Option, Some, None, Result, Ok, Err, List, length, slice_get, slice_set, refl, sym, ap, subst, inl, inr, ◌∙◌}
 use Rattle.std.specs.Prelude.{IfOk}
 use Rattle.std.proofs.lemmas.Bool.{cases_eq}
-use Rattle.index_model.specs.Actions.{Effect, Action}
-use Rattle.index_model.specs.Calls.{Ask, AskInsert, AskScan, Running, Finished as EndsFinished, Call}
+use Rattle.index_model.specs.Calls.{Running, Finished as EndsFinished, Call}
 use Rattle.index_model.specs.declared.entry.Entry.{Entry}
 use Rattle.index_model.specs.declared.fault.Fault.{Fault}
-use Rattle.index_model.specs.declared.range.Range.{Range}
 use Rattle.page_action.specs.States.{State}
 use Rattle.page_action.specs.declared.page_store.PageStore.{Ghosts}
 use Rattle.session_calls.specs.Sessions.{IsDrained, LeavesLess, GivesLess, AnswersStep, AnswersNext, work_left, given_one, ended}
@@ -18,7 +16,7 @@ use Rattle.schedule.specs.Snapshots.{Snapshot, IsRunningCall, Fits}
 use Rattle.schedule.proofs.Lists.{get_set_same, get_set_other, get_within}
 use Rattle.whole_calls.specs.Going.{CameBy}
 use Rattle.whole_calls.specs.Giving.{GoesDown, GoesDownBy, AnswerLeavesLess, StepLeavesLess, AnswersAdvance, AnswersSeek, given_of, give_came, Becomes, GivenTold, TellsGiven}
-use Rattle.whole_calls.specs.Telling.{IsTold, StepTold, TellsStep, HasNone, TellsEnd, step_came}
+use Rattle.whole_calls.specs.Telling.{StepTold, TellsStep, HasNone, TellsEnd, step_came}
 use Rattle.whole_calls.proofs.Tellings.{one_runs, same_history}
 
 -- a step that was made leaves less to do

@@ -3,7 +3,7 @@ use Rattle.std.proofs.Common.{◌≡◌, ◌≢◌, ℕ, zero, suc, ◌+◌, ◌
 use Rattle.std.specs.Prelude.{unwrap_or}
 use Rattle.std.proofs.lemmas.List.{append-nil}
 use Rattle.index_model.specs.Actions.{Effect, Add, Remove, Shape, Action, contents_after}
-use Rattle.index_model.specs.Calls.{Ask, AskInsert, AskScan, Ending, Running, Added as EndsAdded, Failed, Call}
+use Rattle.index_model.specs.Calls.{Ask, AskInsert, Running, Added as EndsAdded, Failed, Call}
 use Rattle.index_model.specs.Faults.{HasCause}
 use Rattle.index_model.specs.declared.entry.Entry.{Entry}
 use Rattle.index_model.specs.declared.fault.Fault.{Fault}
@@ -12,17 +12,17 @@ use Rattle.page_action.specs.Causes.{where_forced}
 use Rattle.page_action.specs.States.{Backing}
 use Rattle.page_action.specs.declared.page_store.PageStore.{Ghosts}
 use Rattle.session_calls.specs.Ops.{asked_by, ask_of, IsCaused, ends_call}
-use Rattle.session_calls.specs.Sessions.{Told, IsAsked, MayDo, acts_of, act_count, add_after, noted, begun_call, ended, AnswersStep, AnswersNext, AnswersEnd}
+use Rattle.session_calls.specs.Sessions.{Told, IsAsked, acts_of, act_count, add_after, noted, begun_call, ended, AnswersStep, AnswersNext, AnswersEnd}
 use Rattle.session_calls.specs.declared.answer.Answer.{Answer}
 use Rattle.session_calls.specs.declared.answer.Answer.TheVariants.{Begun, Going, Added, Ready, Done, Finished, Gave, Ended, Forced, Flushed, Checkpointed, Refused}
 use Rattle.session_calls.specs.declared.op.Op.{Op}
 use Rattle.session_calls.specs.declared.op.Op.TheVariants.{Insert as Inserts, Scan as Scans}
 use Rattle.session_calls.specs.declared.request.Request.{Request}
-use Rattle.session_calls.specs.declared.request.Request.TheVariants.{Insert as ToInsert, Scan as ToScan}
+use Rattle.session_calls.specs.declared.request.Request.TheVariants.{Insert as ToInsert}
 use Rattle.schedule.specs.Snapshots.{StoreAndSlots, Snapshot, here_at, slot_of, IsRunningCall, SlotRuns, SlotMatches, Fits, has_call}
-use Rattle.schedule.specs.Events.{Move, Steps, Takes, Upkeep, Keeps, Begins, Moves, GivesUp, CallGoesOn, CallBegins, Stays, MovesOn, MayBegin, where_begun_at, EventAlways, EventDoes, AnswersMove}
+use Rattle.schedule.specs.Events.{Move, Steps, Takes, Upkeep, Keeps, Begins, Moves, GivesUp, CallGoesOn, CallBegins, Stays, MovesOn, MayBegin, where_begun_at, EventDoes, AnswersMove}
 use Rattle.schedule.proofs.Lists.{get_some, get_append_new, get_append_cases, same_some}
-use Rattle.whole_calls.specs.Telling.{IsSilent, MayAnswer, IsOwnEffect, IsTold, NothingTold, StepTold, TellsStep, StaysRunning, HasNone, HasBegun, begun_of, BeginTold, TellsEnd, CameTo, HasCome, outcome_of, step_came, insert_came, inserted_call, InsertTold}
+use Rattle.whole_calls.specs.Telling.{IsSilent, MayAnswer, IsOwnEffect, IsTold, StepTold, TellsStep, StaysRunning, HasNone, HasBegun, begun_of, BeginTold, TellsEnd, CameTo, HasCome, outcome_of, step_came, insert_came, inserted_call, InsertTold}
 use Rattle.whole_calls.specs.Going.{CameBy}
 use Rattle.whole_calls.specs.declared.inserted.Inserted.{Inserted}
 

@@ -1,7 +1,7 @@
 -- What is told of one session's call, by the history and the calls before and after.
-use Rattle.std.specs.Prelude.{◌≡◌, ◌≢◌, ℕ, suc, Option, Some, None, Result, Ok, Err, List, [], ◌∷◌, ◌++◌, length, slice_set}
-use Rattle.index_model.specs.Actions.{Effect, Action, Add}
-use Rattle.index_model.specs.Calls.{Ask, AskInsert, AskScan, AskBulkDelete, AskCleanup, Added as EndsAdded, Failed, Call}
+use Rattle.std.specs.Prelude.{◌≡◌, ◌≢◌, ℕ, suc, Option, Some, None, Result, Ok, Err, [], ◌∷◌, ◌++◌, length, slice_set}
+use Rattle.index_model.specs.Actions.{Effect, Add}
+use Rattle.index_model.specs.Calls.{Ask, AskInsert, AskScan, Added as EndsAdded, Failed, Call}
 use Rattle.index_model.specs.declared.fault.Fault.{Fault}
 use Rattle.index_model.specs.declared.fault.Fault.TheVariants.{NoSession, Exists}
 use Rattle.index_model.specs.declared.entry.Entry.{Entry}

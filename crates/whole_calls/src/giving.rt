@@ -27,8 +27,10 @@ fn advance<S: PageStore>(
     ensures steps { Continues S.follows store.old store.new }
     ensures sessions { length slots.new ≡ length slots.old }
     ensures others { OthersStay session slots.old slots.new }
-    ensures goes { CallGoes S.PageStore session (TellsStep session result) (step_came result) (both store.old slots.old) (both store.new slots.new) }
-    ensures less { GoesDownBy (S.state store.old) (S.state store.new) (slot_of slots.old session) (slot_of slots.new session) result }
+    ensures goes { CallGoes S.PageStore session (TellsStep session result) (step_came result)
+        (both store.old slots.old) (both store.new slots.new) }
+    ensures less { GoesDownBy (S.state store.old) (S.state store.new) (slot_of slots.old session)
+        (slot_of slots.new session) result }
     ensures kind { AnswersAdvance result }
 {
     let answer = one(store, slots, Event::Next(session));
@@ -49,7 +51,8 @@ fn seek<S: PageStore>(
     ensures steps { Continues S.follows store.old store.new }
     ensures sessions { length slots.new ≡ length slots.old }
     ensures others { OthersStay session slots.old slots.new }
-    ensures goes { CallGoes S.PageStore session (TellsStep session result) (step_came result) (both store.old slots.old) (both store.new slots.new) }
+    ensures goes { CallGoes S.PageStore session (TellsStep session result) (step_came result)
+        (both store.old slots.old) (both store.new slots.new) }
     ensures kind { AnswersSeek result }
 {
     loop {
@@ -88,7 +91,8 @@ pub fn give<S: PageStore>(
     ensures sessions { length slots.new ≡ length slots.old }
     ensures others { OthersStay session slots.old slots.new }
     ensures over { EndsUnlessGiven result (slot_of slots.new session) }
-    ensures goes { CallGoes S.PageStore session (TellsGiven session result) (give_came result) (both store.old slots.old) (both store.new slots.new) }
+    ensures goes { CallGoes S.PageStore session (TellsGiven session result) (give_came result)
+        (both store.old slots.old) (both store.new slots.new) }
 {
     let came = seek(store, slots, session, least_room);
     match given(came) {
@@ -116,8 +120,10 @@ pub fn open<S: PageStore>(
     ensures steps { Continues S.follows store.old store.new }
     ensures sessions { length slots.new ≡ length slots.old }
     ensures others { OthersStay session slots.old slots.new }
-    ensures goes { CallGoes S.PageStore session (BeginTold session (ToScan range) result) (begin_came result) (both store.old slots.old) (both store.new slots.new) }
-    ensures refused { OnErr result (IsUnchanged S.PageStore (both store.old slots.old) (both store.new slots.new)) }
+    ensures goes { CallGoes S.PageStore session (BeginTold session (ToScan range) result)
+        (begin_came result) (both store.old slots.old) (both store.new slots.new) }
+    ensures refused { OnErr result (IsUnchanged S.PageStore (both store.old slots.old)
+        (both store.new slots.new)) }
     ensures cause { IfErr result
         (HasCause (where_begun_at S.PageStore store.old (slice_get slots.old session))) }
 {

@@ -8,3 +8,6 @@ mod running;
 pub use giving::{give, open};
 pub use inserted::Inserted;
 pub use running::{finish, give_up, insert, put};
+
+#[cfg(test)]
+mod tests;

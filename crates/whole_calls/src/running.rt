@@ -27,8 +27,10 @@ fn make_room<S: PageStore>(
 ) -> Result<(), Fault>
     ensures steps { Continues S.follows store.old store.new }
     ensures state { S.state store.new ≡ S.state store.old }
-    ensures goes { (session : ℕ) → CallGoes S.PageStore session IsSilent (room_came result) (both store.old slots.now) (both store.new slots.now) }
-    ensures cause { IfErr result (HasCause (where_forced (S.backing store.old) (S.backing store.new))) }
+    ensures goes { (session : ℕ) → CallGoes S.PageStore session IsSilent (room_came result)
+        (both store.old slots.now) (both store.new slots.now) }
+    ensures cause { IfErr result
+        (HasCause (where_forced (S.backing store.old) (S.backing store.new))) }
 {
     if store.room() >= least_room {
         return Ok(());
@@ -51,9 +53,12 @@ pub(crate) fn step<S: PageStore>(
     ensures steps { Continues S.follows store.old store.new }
     ensures sessions { length slots.new ≡ length slots.old }
     ensures others { OthersStay session slots.old slots.new }
-    ensures goes { CallGoes S.PageStore session (TellsStep session result) (step_came result) (both store.old slots.old) (both store.new slots.new) }
-    ensures less { StepLeavesLess (S.state store.old) (S.state store.new) (slot_of slots.old session) (slot_of slots.new session) result }
-    ensures kind { IfOk result (AnswersStep (slot_of slots.old session) (slot_of slots.new session)) }
+    ensures goes { CallGoes S.PageStore session (TellsStep session result) (step_came result)
+        (both store.old slots.old) (both store.new slots.new) }
+    ensures less { StepLeavesLess (S.state store.old) (S.state store.new)
+        (slot_of slots.old session) (slot_of slots.new session) result }
+    ensures kind { IfOk result (AnswersStep (slot_of slots.old session)
+        (slot_of slots.new session)) }
 {
     match make_room(store, slots, least_room) {
         Ok(()) => Ok(one(store, slots, Event::Step(session))),
@@ -73,7 +78,8 @@ pub fn finish<S: PageStore>(
     ensures steps { Continues S.follows store.old store.new }
     ensures sessions { length slots.new ≡ length slots.old }
     ensures others { OthersStay session slots.old slots.new }
-    ensures goes { CallGoes S.PageStore session (TellsStep session result) (step_came result) (both store.old slots.old) (both store.new slots.new) }
+    ensures goes { CallGoes S.PageStore session (TellsStep session result) (step_came result)
+        (both store.old slots.old) (both store.new slots.new) }
     ensures over { result ≢ Ok Answer.Going }
 {
     loop {
@@ -107,7 +113,8 @@ fn begin<S: PageStore>(
     ensures steps { Continues S.follows store.old store.new }
     ensures sessions { length slots.new ≡ length slots.old }
     ensures others { OthersStay session slots.old slots.new }
-    ensures goes { CallGoes S.PageStore session (BeginTold session (ToInsert entry) result) (begin_came result) (both store.old slots.old) (both store.new slots.new) }
+    ensures goes { CallGoes S.PageStore session (BeginTold session (ToInsert entry) result)
+        (begin_came result) (both store.old slots.old) (both store.new slots.new) }
 {
     begun(one(store, slots, Event::Insert(session, entry)))
 }
@@ -125,7 +132,8 @@ pub fn put<S: PageStore>(
     ensures steps { Continues S.follows store.old store.new }
     ensures sessions { length slots.new ≡ length slots.old }
     ensures others { OthersStay session slots.old slots.new }
-    ensures goes { CallGoes S.PageStore session (HasCome session (ToInsert entry) result) (step_came result) (both store.old slots.old) (both store.new slots.new) }
+    ensures goes { CallGoes S.PageStore session (HasCome session (ToInsert entry) result)
+        (step_came result) (both store.old slots.old) (both store.new slots.new) }
     ensures over { result ≢ Ok Answer.Going }
 {
     match begin(store, slots, session, entry) {
@@ -154,7 +162,8 @@ pub fn give_up<S: PageStore>(store: &mut S, slots: &mut [Option<Op>], session: u
     ensures over { slot_of slots.new session ≡ None }
     ensures backing { S.backing store.new ≡ S.backing store.old }
     ensures begun { (S.state store.new).begun ≡ (S.state store.old).begun }
-    ensures goes { CallGoes S.PageStore session (TellsEnd session) None (both store.old slots.old) (both store.new slots.new) }
+    ensures goes { CallGoes S.PageStore session (TellsEnd session) None (both store.old slots.old)
+        (both store.new slots.new) }
 {
     let _answer = one(store, slots, Event::End(session));
 }
@@ -173,7 +182,8 @@ pub fn insert<S: PageStore>(
     ensures others { OthersStay session slots.old slots.new }
     ensures over { slot_of slots.new session ≡ None }
     ensures goes { slot_of slots.old session ≡ None
-        → CallGoes S.PageStore session (InsertTold session entry result) (insert_came result) (both store.old slots.old) (both store.new slots.new) }
+        → CallGoes S.PageStore session (InsertTold session entry result) (insert_came result)
+        (both store.old slots.old) (both store.new slots.new) }
 {
     let came = put(store, slots, session, entry, least_room);
     give_up(store, slots, session);

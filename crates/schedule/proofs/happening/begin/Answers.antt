@@ -1,7 +1,4 @@
-use Rattle.std.proofs.Common.{◌≡◌, Option, Some, None, sym, ap, subst, ◌∙◌}
-use Rattle.session_calls.specs.declared.op.Op.{Op}
-use Rattle.session_calls.specs.Sessions.{BeginsBy}
-use Rattle.schedule.specs.Events.{session_to_begin}
+use Rattle.std.proofs.Common.{None, sym, ◌∙◌}
 use Rattle.schedule.proofs.Lists.{get_within, same_some}
 use Rattle.schedule.proofs.Events.{found, slot_read}
 use Rattle.schedule.proofs.Making.{begin_makes, not_found_makes}

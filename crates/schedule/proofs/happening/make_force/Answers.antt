@@ -1,4 +1,4 @@
-use Rattle.std.proofs.Common.{◌≡◌, true, Ok, Err, sym, ◌∙◌}
+use Rattle.std.proofs.Common.{sym, ◌∙◌}
 use Rattle.schedule.specs.Events.{Forces}
 use Rattle.schedule.proofs.Making.{kept_makes, not_kept_makes}
 use Rattle.schedule.proofs.happening.make_force.Goals as goal

@@ -1,9 +1,8 @@
-use Rattle.std.proofs.Common.{rules, ◌≡◌, Result, Ok, Err, Option, Some, None, refl, sym, ap, subst, ◌∙◌}
+use Rattle.std.proofs.Common.{rules, ◌≡◌, Ok, Some, None, refl, sym, subst, ◌∙◌}
 use Rattle.page_action.specs.States.{State}
 use Rattle.session_calls.specs.Sessions.{AnswersNext, GivesLess}
 use Rattle.session_calls.specs.declared.answer.Answer.{Answer}
-use Rattle.session_calls.specs.declared.answer.Answer.TheVariants.{Gave, Going}
-use Rattle.session_calls.specs.declared.op.Op.{Op}
+use Rattle.session_calls.specs.declared.answer.Answer.TheVariants.{Gave}
 use Rattle.schedule.specs.Events.{Takes}
 use Rattle.schedule.specs.Snapshots.{both, slot_of}
 use Rattle.schedule.specs.declared.event.Event.TheVariants.{Next}

@@ -1,9 +1,6 @@
-use Rattle.std.proofs.Common.{Result, Ok, Err, Option, Some, refl, sym, subst}
-use Rattle.index_model.specs.declared.fault.Fault.{Fault}
-use Rattle.schedule.specs.Snapshots.{both}
+use Rattle.std.proofs.Common.{refl}
 use Rattle.schedule.specs.declared.event.Event.TheVariants.{Insert}
 use Rattle.session_calls.specs.declared.request.Request.TheVariants.{Insert as ToInsert}
-use Rattle.whole_calls.specs.Telling.{BeginTold, begun_of, begin_came}
 use Rattle.whole_calls.proofs.Beginning.{goes_begun}
 use Rattle.whole_calls.proofs.running.begin.Goals as goal
 

@@ -1,4 +1,4 @@
-use Rattle.std.proofs.Common.{Option, Some, None, refl}
+use Rattle.std.proofs.Common.{Some, None, refl}
 use Rattle.schedule.specs.Snapshots.{both}
 use Rattle.schedule.specs.declared.event.Event.TheVariants.{End}
 use Rattle.whole_calls.specs.Telling.{TellsEnd}

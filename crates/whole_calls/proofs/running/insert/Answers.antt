@@ -1,4 +1,4 @@
-use Rattle.std.proofs.Common.{Result, Option, Some, None, List, sym, ap, subst, ◌∙◌}
+use Rattle.std.proofs.Common.{Result, Option, None, List, sym, ap, subst, ◌∙◌}
 use Rattle.index_model.specs.declared.fault.Fault.{Fault}
 use Rattle.session_calls.specs.declared.op.Op.{Op}
 use Rattle.session_calls.specs.declared.request.Request.TheVariants.{Insert as ToInsert}

@@ -1,4 +1,4 @@
-use Rattle.std.proofs.Common.{Result, Ok, Err, Option, Some, refl, sym, subst}
+use Rattle.std.proofs.Common.{Result, Err, subst}
 use Rattle.index_model.specs.declared.fault.Fault.{Fault}
 use Rattle.session_calls.specs.declared.request.Request.TheVariants.{Insert as ToInsert}
 use Rattle.schedule.specs.Snapshots.{both}

@@ -1,5 +1,4 @@
-use Rattle.std.proofs.Common.{Option, Some, Ok, Err, refl, sym, ap, ◌∙◌}
-use Rattle.page_action.specs.States.{State}
+use Rattle.std.proofs.Common.{Some, Ok, Err, refl, sym, ◌∙◌}
 use Rattle.schedule.specs.Events.{Steps}
 use Rattle.schedule.specs.Snapshots.{both}
 use Rattle.schedule.specs.declared.event.Event.TheVariants.{Step}

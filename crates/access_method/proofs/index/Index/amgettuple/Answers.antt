@@ -1,4 +1,4 @@
-use Rattle.std.proofs.Common.{true, Ok, Err, Option, List, None, Some, sym, ap, ◌∙◌}
+use Rattle.std.proofs.Common.{true, Ok, Some, sym, ◌∙◌}
 use Rattle.schedule.specs.Snapshots.{both, snapshot_of}
 use Rattle.whole_calls.proofs.Tellings.{runs_has_call, true_false}
 use Rattle.access_method.specs.Indexes.{slots_within}

@@ -1,6 +1,4 @@
-use Rattle.std.proofs.Common.{ℕ, Result, refl, sym, subst}
-use Rattle.std.specs.Prelude.{IfOk, IfErr, OnOk}
-use Rattle.index_model.specs.declared.fault.Fault.{Fault}
+use Rattle.std.proofs.Common.{refl}
 use Rattle.schedule.specs.Events.{Checkpoints}
 use Rattle.schedule.specs.declared.event.Event.TheVariants.{Checkpoint}
 use Rattle.access_method.proofs.Results.{number_told, durable_told, cause_told, goes_told_kept, room_told}
