@@ -21,6 +21,8 @@ pub struct Judge {
     running: Vec<Option<usize>>,
     /// How many actions were durable when it was last said.
     forced: usize,
+    /// Whether a force failed: nothing is done from then on.
+    stopped: bool,
 }
 
 impl Judge {
@@ -37,6 +39,7 @@ impl Judge {
             calls: Vec::new(alloc),
             running,
             forced: 0,
+            stopped: false,
         })
     }
 
@@ -115,9 +118,10 @@ impl Judge {
             Answer::Begun => {}
             Answer::Refused(Fault::SessionBusy) => return Ok(self.is_running(session)),
             Answer::Refused(Fault::NoSession) => return Ok(session as usize >= self.running.len()),
+            Answer::Refused(Fault::Stopped) => return Ok(self.stopped),
             _ => return Ok(false),
         }
-        if self.is_running(session) {
+        if self.is_running(session) || self.stopped {
             return Ok(false);
         }
         let Some(place) = self.running.get_mut(session as usize) else {
@@ -153,6 +157,7 @@ impl Judge {
             }
             Answer::Done => self.ends(session, PlainEnding::HasFinished),
             Answer::Refused(Fault::NoSession) => !self.is_running(session),
+            Answer::Refused(Fault::Stopped) if !self.is_running(session) => self.stopped,
             Answer::Refused(fault) => self.ends(session, PlainEnding::HasFailed(*fault)),
             _ => false,
         }
@@ -177,8 +182,19 @@ impl Judge {
     }
 
     fn forces(&mut self, answer: &Answer) -> bool {
-        self.forced = self.history.len();
-        matches!(answer, Answer::Forced(count) if *count == self.forced as u64)
+        let had_stopped = self.stopped;
+        match answer {
+            Answer::Forced(count) => {
+                self.forced = self.history.len();
+                !had_stopped && *count == self.forced as u64
+            }
+            Answer::Refused(Fault::Io) => {
+                self.stopped = true;
+                !had_stopped
+            }
+            Answer::Refused(Fault::Stopped) => had_stopped,
+            _ => false,
+        }
     }
 
     /// The session's call has ended so: whether it was right to, and every action so far is owned.

@@ -68,7 +68,7 @@ fn effect_of<S: PageStore>(
 }
 
 /// Does one event. Whether its answer is right, and what it has done.
-fn is_right<S: PageStore>(
+pub fn is_right<S: PageStore>(
     world: &mut World<S, NoRows>,
     judge: &mut Judge,
     event: Event,

@@ -1,6 +1,6 @@
 use crate::dice::Dice;
 use crate::judge::Judge;
-use crate::runs::{NoRows, are_right, contents, ends_right};
+use crate::runs::{NoRows, are_right, contents, ends_right, is_right};
 use arrayvec::ArrayVec;
 use device::{CrashImage, MemDevice};
 use index_model::{Fault, Limits};
@@ -9,8 +9,7 @@ use page_codec::{Items, Page, PageState};
 use page_store::Store;
 use recovery::create;
 use schedule::{Event, World};
-use session_calls::Answer;
-use std::alloc::{AllocError, Global};
+use std::alloc::Global;
 use std::test::{Fail, *};
 
 fn limits(items: u32) -> Limits {
@@ -91,21 +90,9 @@ fn on_a_device(alloc: Global) -> Result<World<Store<MemDevice>, NoRows>, Fault> 
     opened(alloc, device, 3)
 }
 
-/// A last force, whose device stops at one of its first calls or not at all: whether its answer is right.
-fn forces_at_last(
-    world: &mut World<Store<MemDevice>, NoRows>,
-    judge: &mut Judge,
-    dice: &mut Dice,
-) -> Result<bool, AllocError> {
-    world.stop_at(u64::from(dice.roll(6)));
-    match world.one(Event::Force) {
-        Answer::Refused(Fault::Io) => Ok(true),
-        answer => judge.hears(&Event::Force, &answer),
-    }
-}
-
-/// The same over a device, which crashes after every 100 events, inside of a force or behind it: what is opened again
-/// has the contents after some first part of the actions that holds every forced one.
+/// The same over a device, which crashes after every 100 events and a force. A call of the device may fail before, and
+/// in the force it may stop. What is opened again has the contents after some first part of the actions that holds
+/// every forced one.
 #[test]
 fn runs_over_a_device(rt: HostRuntime) -> Result<(), Fail> {
     let alloc = rt.alloc();
@@ -114,14 +101,13 @@ fn runs_over_a_device(rt: HostRuntime) -> Result<(), Fail> {
         let mut world = on_a_device(alloc)?;
         let mut judge = Judge::new(alloc, Vec::new(alloc), 3)?;
         for image in [CrashImage::Keep, CrashImage::Drop, CrashImage::Tear] {
+            world.fail_at(u64::from(dice.roll(16)));
             assert!(rt;
                 are_right(&mut world, &mut judge, &mut dice, 3, 100)?,
                 "{seed}"
             );
-            assert!(rt;
-                forces_at_last(&mut world, &mut judge, &mut dice)?,
-                "{seed}"
-            );
+            world.stop_at(u64::from(dice.roll(6)));
+            assert!(rt; is_right(&mut world, &mut judge, Event::Force)?, "{seed}");
             let left = world.crash(alloc, image)?;
             world = opened(alloc, left, 3)?;
             let found = contents(alloc, &mut world)?;
