@@ -75,8 +75,10 @@ impl Held {
 
     /// Takes one more pin, if there are fewer than two.
     pub fn pin(&mut self, block: u32)
-        ensures { self.new ≡ record self.old { pins = if nat_lt
-            (length self.old.pins) 2 then block ∷ self.old.pins else self.old.pins } }
+        ensures { self.new ≡ record self.old {
+          pins = if nat_lt
+              (length self.old.pins) 2 then block ∷ self.old.pins else self.old.pins;
+        } }
     {
         if !self.pins.is_full() {
             self.pins.insert(0, block);

@@ -9,7 +9,8 @@ use Rattle.schedule.specs.Events.{AreOf}
 use Rattle.schedule.specs.Runs.{AreDurable, IsRun, Ran}
 use Rattle.schedule.specs.declared.event.Event.{Event}
 use Rattle.schedule.proofs.Keeping.{Laws, safe}
-use Rattle.schedule.proofs.Running.{durable_more, later_trans}
+use Rattle.page_action.proofs.Laters.{later_trans}
+use Rattle.schedule.proofs.Running.{durable_more}
 
 are_durable_more : (few many : ℕ) (answers : List Answer) → few ≤ many → AreDurable few answers → AreDurable many answers
 are_durable_more few many [] le h = tt

@@ -1,8 +1,8 @@
 -- Runs that go on by one event.
-use Rattle.std.proofs.Common.{ℕ, ◌≤◌, Bool, List, [], ◌∷◌, ◌++◌, refl, sym, subst, arith, inl, inr, append_assoc}
+use Rattle.std.proofs.Common.{ℕ, ◌≤◌, Bool, List, [], ◌∷◌, ◌++◌, refl, sym, subst, arith, append_assoc}
 use Rattle.std.proofs.lemmas.List.{append-nil}
 use Rattle.index_model.specs.declared.entry.Entry.{Entry}
-use Rattle.page_action.specs.States.{Backing, IsLater}
+use Rattle.page_action.proofs.Laters.{later_trans}
 use Rattle.page_action.specs.declared.page_store.PageStore.{Ghosts}
 use Rattle.session_calls.specs.declared.answer.Answer.{Answer}
 use Rattle.session_calls.specs.declared.answer.Answer.TheVariants.{Begun, Going, Added, Ready, Done, Finished, Gave, Ended, Forced, Flushed, Checkpointed, Refused}
@@ -11,22 +11,6 @@ use Rattle.schedule.specs.Events.{kind_of, IsDurable, EventDoes}
 use Rattle.schedule.specs.Runs.{AreDurable, EventGoes, IsRun, Ran}
 use Rattle.schedule.specs.declared.event.Event.{Event}
 use Rattle.schedule.proofs.Keeping.{Laws, safe, keeps_on}
-
--- what never goes back over two runs
-pub later_trans : (a b c : Backing) → IsLater a b → IsLater b c → IsLater a c
-later_trans a b c one two = record {
-  failures = (let x : a.failures ≤ b.failures = one.failures in let y : b.failures ≤ c.failures = two.failures in omega arith);
-  durable = (let x : a.durable ≤ b.durable = one.durable in let y : b.durable ≤ c.durable = two.durable in omega arith);
-  stopped = λ h. two.stopped (one.stopped h);
-  stop_has_cause = λ h. elim (two.stop_has_cause h) [
-    | inl was ↦ elim (one.stop_has_cause was) [
-      | inl before ↦ inl before
-      | inr failed ↦ inr (let y : b.failures ≤ c.failures = two.failures in omega arith)
-    ]
-    | inr failed ↦ inr (let x : a.failures ≤ b.failures = one.failures in omega arith)
-  ];
-  honest = λ h. one.honest (two.honest h);
-}
 
 pub durable_more : (few many : ℕ) (answer : Answer) → few ≤ many → IsDurable few answer → IsDurable many answer
 durable_more few many Begun le h = tt
