@@ -1,5 +1,5 @@
 -- What a scan gives tells.
-use Rattle.std.proofs.Common.{◌≡◌, ℕ, ◌<◌, Bool, Option, Some, None, Result, Ok, Err, List, length, slice_get, slice_set, refl, sym, ap, subst, inl, inr, ◌∙◌}
+use Rattle.std.proofs.Common.{◌≡◌, ℕ, ◌<◌, ◌≤◌, arith, Bool, Option, Some, None, Result, Ok, Err, List, length, slice_get, slice_set, refl, sym, ap, subst, inl, inr, ◌∙◌}
 use Rattle.std.specs.Prelude.{IfOk}
 use Rattle.std.proofs.lemmas.Bool.{cases_eq}
 use Rattle.index_model.specs.Calls.{Running, Finished as EndsFinished, Call}
@@ -35,62 +35,69 @@ made_less old new before after (Checkpointed n) h calm = tt
 made_less old new before after (Refused f) h calm = tt
 
 -- behind a `next` that gave none, a step leaves less to do
-pub step_down : (old new : State) (before mid after : Option Op) (result : Result Answer Fault) → GivesLess before mid (Gave None) → StepLeavesLess old new mid after result → GoesDownBy old new before after result
-step_down old new before mid after (Err fault) gives less = tt
-step_down old new before mid after (Ok answer) gives less = of answer less
+no_gave : (mid after : Option Op) (entry : Option Entry) → AnswersStep mid after (Gave entry) → ⊥
+no_gave None after entry h = h
+no_gave (Some (Inserts op)) after entry h = h
+no_gave (Some (Scans op)) after entry h = h
+
+pub step_down : (old new : State) (before mid after : Option Op) (result : Result Answer Fault) → GivesLess before mid (Gave None) → StepLeavesLess old new mid after result → IfOk result (AnswersStep mid after) → GoesDownBy old new before after result
+step_down old new before mid after (Err fault) gives less kind = tt
+step_down old new before mid after (Ok answer) gives less kind = of answer less kind
   where
-    of : (a : Answer) → AnswerLeavesLess old new mid after a → GoesDown old new before after a
-    of Begun h = tt
-    of Going h = subst (λ (o : Option Op). work_left new.pages after < work_left old.pages o) gives.0 h
-    of (Added a u) h = tt
-    of (Ready r) h = subst (λ (o : Option Op). work_left new.pages after < work_left old.pages o) gives.0 (h (subst IsDrained (sym gives.0) gives.1))
-    of Done h = tt
-    of (Finished s) h = tt
-    of (Gave e) h = tt
-    of Ended h = tt
-    of (Forced n) h = tt
-    of (Flushed b) h = tt
-    of (Checkpointed n) h = tt
-    of (Refused f) h = tt
+    of : (a : Answer) → AnswerLeavesLess old new mid after a → AnswersStep mid after a → GoesDown old new before after a
+    of Begun h k = tt
+    of Going h k = subst (λ (o : Option Op). work_left new.pages after < work_left old.pages o) gives.0 h
+    of (Added a u) h k = tt
+    of (Ready r) h k = subst (λ (o : Option Op). work_left new.pages after < work_left old.pages o) gives.0 (h (subst IsDrained (sym gives.0) gives.1))
+    of Done h k = tt
+    of (Finished s) h k = tt
+    of (Gave None) h k = tt
+    of (Gave (Some e)) h k = absurd (no_gave mid after (Some e) k)
+    of Ended h k = tt
+    of (Forced n) h k = tt
+    of (Flushed b) h k = tt
+    of (Checkpointed n) h k = tt
+    of (Refused f) h k = tt
 
 -- what a `next` answers leaves nothing to go on with, and is what a scan may answer, or a refusal
-pub next_down : (old new : State) (before after : Option Op) (answer : Answer) → AnswersNext before answer → GoesDown old new before after answer
-next_down old new None after (Refused f) h = tt
-next_down old new None after Begun h = absurd h
-next_down old new None after Going h = absurd h
-next_down old new None after (Added a u) h = absurd h
-next_down old new None after (Ready r) h = absurd h
-next_down old new None after Done h = absurd h
-next_down old new None after (Finished s) h = absurd h
-next_down old new None after (Gave e) h = absurd h
-next_down old new None after Ended h = absurd h
-next_down old new None after (Forced n) h = absurd h
-next_down old new None after (Flushed b) h = absurd h
-next_down old new None after (Checkpointed n) h = absurd h
-next_down old new (Some (Inserts op)) after (Refused f) h = tt
-next_down old new (Some (Inserts op)) after Begun h = absurd h
-next_down old new (Some (Inserts op)) after Going h = absurd h
-next_down old new (Some (Inserts op)) after (Added a u) h = absurd h
-next_down old new (Some (Inserts op)) after (Ready r) h = absurd h
-next_down old new (Some (Inserts op)) after Done h = absurd h
-next_down old new (Some (Inserts op)) after (Finished s) h = absurd h
-next_down old new (Some (Inserts op)) after (Gave e) h = absurd h
-next_down old new (Some (Inserts op)) after Ended h = absurd h
-next_down old new (Some (Inserts op)) after (Forced n) h = absurd h
-next_down old new (Some (Inserts op)) after (Flushed b) h = absurd h
-next_down old new (Some (Inserts op)) after (Checkpointed n) h = absurd h
-next_down old new (Some (Scans op)) after (Gave e) h = tt
-next_down old new (Some (Scans op)) after Begun h = absurd h
-next_down old new (Some (Scans op)) after Going h = absurd h
-next_down old new (Some (Scans op)) after (Added a u) h = absurd h
-next_down old new (Some (Scans op)) after (Ready r) h = absurd h
-next_down old new (Some (Scans op)) after Done h = absurd h
-next_down old new (Some (Scans op)) after (Finished s) h = absurd h
-next_down old new (Some (Scans op)) after (Refused f) h = absurd h
-next_down old new (Some (Scans op)) after Ended h = absurd h
-next_down old new (Some (Scans op)) after (Forced n) h = absurd h
-next_down old new (Some (Scans op)) after (Flushed b) h = absurd h
-next_down old new (Some (Scans op)) after (Checkpointed n) h = absurd h
+pub next_down : (old new : State) (before after : Option Op) (answer : Answer) → AnswersNext before answer → GivesLess before after answer → new ≡ old → GoesDown old new before after answer
+next_down old new None after (Refused f) h less same = tt
+next_down old new None after Begun h less same = absurd h
+next_down old new None after Going h less same = absurd h
+next_down old new None after (Added a u) h less same = absurd h
+next_down old new None after (Ready r) h less same = absurd h
+next_down old new None after Done h less same = absurd h
+next_down old new None after (Finished s) h less same = absurd h
+next_down old new None after (Gave e) h less same = absurd h
+next_down old new None after Ended h less same = absurd h
+next_down old new None after (Forced n) h less same = absurd h
+next_down old new None after (Flushed b) h less same = absurd h
+next_down old new None after (Checkpointed n) h less same = absurd h
+next_down old new (Some (Inserts op)) after (Refused f) h less same = tt
+next_down old new (Some (Inserts op)) after Begun h less same = absurd h
+next_down old new (Some (Inserts op)) after Going h less same = absurd h
+next_down old new (Some (Inserts op)) after (Added a u) h less same = absurd h
+next_down old new (Some (Inserts op)) after (Ready r) h less same = absurd h
+next_down old new (Some (Inserts op)) after Done h less same = absurd h
+next_down old new (Some (Inserts op)) after (Finished s) h less same = absurd h
+next_down old new (Some (Inserts op)) after (Gave e) h less same = absurd h
+next_down old new (Some (Inserts op)) after Ended h less same = absurd h
+next_down old new (Some (Inserts op)) after (Forced n) h less same = absurd h
+next_down old new (Some (Inserts op)) after (Flushed b) h less same = absurd h
+next_down old new (Some (Inserts op)) after (Checkpointed n) h less same = absurd h
+next_down old new (Some (Scans op)) after (Gave None) h less same = tt
+next_down old new (Some (Scans op)) after (Gave (Some e)) h less same = subst (λ (st : State). work_left st.pages after < work_left old.pages (Some (Scans op))) (sym same) (less old.pages)
+next_down old new (Some (Scans op)) after Begun h less same = absurd h
+next_down old new (Some (Scans op)) after Going h less same = absurd h
+next_down old new (Some (Scans op)) after (Added a u) h less same = absurd h
+next_down old new (Some (Scans op)) after (Ready r) h less same = absurd h
+next_down old new (Some (Scans op)) after Done h less same = absurd h
+next_down old new (Some (Scans op)) after (Finished s) h less same = absurd h
+next_down old new (Some (Scans op)) after (Refused f) h less same = absurd h
+next_down old new (Some (Scans op)) after Ended h less same = absurd h
+next_down old new (Some (Scans op)) after (Forced n) h less same = absurd h
+next_down old new (Some (Scans op)) after (Flushed b) h less same = absurd h
+next_down old new (Some (Scans op)) after (Checkpointed n) h less same = absurd h
 
 -- a `next` that isn't without an entry is one of the answers
 pub next_kind : (before : Option Op) (answer : Answer) → AnswersNext before answer → (answer ≡ Gave None → ⊥) → AnswersAdvance (Ok answer)
@@ -256,3 +263,37 @@ end_given {S} g start session came x y z fits kind no_entry tells end number cal
     of (Ok (Flushed b)) kind some t = absurd kind
     of (Ok (Checkpointed n)) kind some t = absurd kind
     of (Err f) kind some t = end.history_is ∙ t.silent.history_is
+
+-- behind steps that left no more to do, what leaves less than then leaves less than before them
+pub down_after : (old mid new : State) (before between after : Option Op) (result : Result Answer Fault) → work_left mid.pages between ≤ work_left old.pages before → GoesDownBy mid new between after result → GoesDownBy old new before after result
+down_after old mid new before between after (Err fault) most down = tt
+down_after old mid new before between after (Ok Going) most down = omega (arith, most, down)
+down_after old mid new before between after (Ok (Ready r)) most down = omega (arith, most, down)
+down_after old mid new before between after (Ok (Gave (Some e))) most down = omega (arith, most, down)
+down_after old mid new before between after (Ok Begun) most down = tt
+down_after old mid new before between after (Ok (Added a u)) most down = tt
+down_after old mid new before between after (Ok Done) most down = tt
+down_after old mid new before between after (Ok (Finished s)) most down = tt
+down_after old mid new before between after (Ok (Gave None)) most down = tt
+down_after old mid new before between after (Ok Ended) most down = tt
+down_after old mid new before between after (Ok (Forced n)) most down = tt
+down_after old mid new before between after (Ok (Flushed b)) most down = tt
+down_after old mid new before between after (Ok (Checkpointed n)) most down = tt
+down_after old mid new before between after (Ok (Refused f)) most down = tt
+
+-- ... and so does an entry that is given
+pub given_down : (old new : State) (before after : Option Op) (came : Result Answer Fault) (entry : Entry) → AnswersSeek came → given_of came ≡ Ok (Some entry) → GoesDownBy old new before after came → work_left new.pages after < work_left old.pages before
+given_down old new before after (Ok (Gave (Some e))) entry kind is down = down
+given_down old new before after (Ok Done) entry kind is down = absurd cc
+given_down old new before after (Ok (Refused f)) entry kind is down = absurd cc
+given_down old new before after (Err f) entry kind is down = absurd cc
+given_down old new before after (Ok (Gave None)) entry kind is down = absurd kind
+given_down old new before after (Ok Begun) entry kind is down = absurd kind
+given_down old new before after (Ok Going) entry kind is down = absurd kind
+given_down old new before after (Ok (Added a u)) entry kind is down = absurd kind
+given_down old new before after (Ok (Ready r)) entry kind is down = absurd kind
+given_down old new before after (Ok (Finished s)) entry kind is down = absurd kind
+given_down old new before after (Ok Ended) entry kind is down = absurd kind
+given_down old new before after (Ok (Forced n)) entry kind is down = absurd kind
+given_down old new before after (Ok (Flushed b)) entry kind is down = absurd kind
+given_down old new before after (Ok (Checkpointed n)) entry kind is down = absurd kind

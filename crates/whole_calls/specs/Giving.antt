@@ -12,10 +12,11 @@ use Rattle.session_calls.specs.declared.answer.Answer.TheVariants.{Going, Ready,
 use Rattle.session_calls.specs.declared.op.Op.{Op}
 use Rattle.schedule.specs.Snapshots.{Snapshot, IsRunningCall}
 
--- where the scan is to go on, less is left to do
+-- where the scan is to go on, or has given an entry, less is left to do
 abbrev pub GoesDown : State → State → Option Op → Option Op → Answer → Type 0
 GoesDown old new before after Going = work_left new.pages after < work_left old.pages before
 GoesDown old new before after (Ready count) = work_left new.pages after < work_left old.pages before
+GoesDown old new before after (Gave (Some entry)) = work_left new.pages after < work_left old.pages before
 GoesDown old new before after answer = Unit {0}
 
 -- ... by whether it was refused before its step
@@ -64,6 +65,11 @@ abbrev pub give_came : Result (Option Entry) Fault → Option Answer
 give_came (Ok (Some entry)) = Some (Gave (Some entry))
 give_came (Ok None) = Some Done
 give_came (Err fault) = Some (Refused fault)
+
+-- each entry that a scan gives leaves less to do
+abbrev pub GiveLeavesLess : State → State → Option Op → Option Op → Result (Option Entry) Fault → Type 0
+GiveLeavesLess old new before after (Ok (Some entry)) = work_left new.pages after < work_left old.pages before
+GiveLeavesLess old new before after result = Unit {0}
 
 -- a session that gives no entry runs nothing then
 abbrev pub EndsUnlessGiven : Result (Option Entry) Fault → Option Op → Type 0

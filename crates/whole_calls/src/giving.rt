@@ -7,7 +7,7 @@ ghost use Rattle.session_calls.specs.declared.request.Request.TheVariants.{Scan 
 ghost use Rattle.schedule.specs.Snapshots.{both, slot_of};
 ghost use Rattle.schedule.specs.Events.{OthersStay, IsUnchanged, where_begun_at};
 ghost use Rattle.whole_calls.specs.Telling.{TellsStep, BeginTold, step_came, begin_came};
-ghost use Rattle.whole_calls.specs.Giving.{GoesDownBy, AnswersAdvance, AnswersSeek, EndsUnlessGiven, TellsGiven, given_of, give_came};
+ghost use Rattle.whole_calls.specs.Giving.{GoesDownBy, AnswersAdvance, AnswersSeek, EndsUnlessGiven, GiveLeavesLess, TellsGiven, given_of, give_came};
 ghost use Rattle.whole_calls.specs.Going.{CallGoes};
 
 use crate::running::{begun, give_up, step};
@@ -54,6 +54,8 @@ fn seek<S: PageStore>(
     ensures goes { CallGoes S.PageStore session (TellsStep session result) (step_came result)
         (both store.old slots.old) (both store.new slots.new) }
     ensures kind { AnswersSeek result }
+    ensures less { GoesDownBy (S.state store.old) (S.state store.new) (slot_of slots.old session)
+        (slot_of slots.new session) result }
 {
     loop {
         match advance(store, slots, session, least_room) {
@@ -91,6 +93,8 @@ pub fn give<S: PageStore>(
     ensures sessions { length slots.new ≡ length slots.old }
     ensures others { OthersStay session slots.old slots.new }
     ensures over { EndsUnlessGiven result (slot_of slots.new session) }
+    ensures less { GiveLeavesLess (S.state store.old) (S.state store.new)
+        (slot_of slots.old session) (slot_of slots.new session) result }
     ensures goes { CallGoes S.PageStore session (TellsGiven session result) (give_came result)
         (both store.old slots.old) (both store.new slots.new) }
 {

@@ -24,7 +24,7 @@ returns-in_default-clause-goes g c =
     (λ going. acts_at g.S.PageStore y there to ∙ c.one-answer.ensures.calm going ∙ sym (acts_at g.S.PageStore x here from)))
 
 pub returns-in_default-clause-less : goal.returns-in_default-clause-less
-returns-in_default-clause-less g c = next_down (g.S.PageStore.state c.args.store.now) (g.S.PageStore.state c.one-answer.new.store) _ _ c.one-answer.result c.one-answer.ensures.always.answers
+returns-in_default-clause-less g c = next_down (g.S.PageStore.state c.args.store.now) (g.S.PageStore.state c.one-answer.new.store) _ _ c.one-answer.result c.one-answer.ensures.always.answers c.one-answer.ensures.always.less c.one-answer.ensures.always.left
 
 pub returns-in_default-clause-kind : goal.returns-in_default-clause-kind
 returns-in_default-clause-kind g c = next_kind _ c.one-answer.result c.one-answer.ensures.always.answers (search rules)
@@ -51,7 +51,7 @@ returns-clause-less g c =
     let whole : c.one-answer.result ≡ Gave None = search rules in
     let gives = subst (λ (a : Answer). GivesLess (slot_of c.args.slots.now session) (slot_of c.one-answer.new.slots session) a) whole c.one-answer.ensures.always.less in
     subst (λ (st : State). GoesDownBy st (g.S.PageStore.state c.step.new.store) (slot_of c.args.slots.now session) (slot_of c.step.new.slots session) c.step.result) c.one-answer.ensures.always.left
-    (step_down (g.S.PageStore.state c.one-answer.new.store) (g.S.PageStore.state c.step.new.store) (slot_of c.args.slots.now session) (slot_of c.one-answer.new.slots session) (slot_of c.step.new.slots session) c.step.result gives c.step.ensures.less)
+    (step_down (g.S.PageStore.state c.one-answer.new.store) (g.S.PageStore.state c.step.new.store) (slot_of c.args.slots.now session) (slot_of c.one-answer.new.slots session) (slot_of c.step.new.slots session) c.step.result gives c.step.ensures.less c.step.ensures.kind)
 
 pub returns-clause-kind : goal.returns-clause-kind
 returns-clause-kind g c =

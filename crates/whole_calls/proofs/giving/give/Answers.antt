@@ -5,7 +5,7 @@ use Rattle.schedule.specs.Snapshots.{both}
 use Rattle.whole_calls.specs.Telling.{TellsStep, TellsEnd, step_came}
 use Rattle.whole_calls.specs.Giving.{TellsGiven, given_of, give_came}
 use Rattle.whole_calls.proofs.Composing.{goes_first, goes_told}
-use Rattle.whole_calls.proofs.Given.{some_given, end_given, give_comes}
+use Rattle.whole_calls.proofs.Given.{given_down, some_given, end_given, give_comes}
 use Rattle.whole_calls.proofs.giving.give.Goals as goal
 
 pub returns-in-Ok-Some-clause-goes : goal.returns-in-Ok-Some-clause-goes
@@ -47,3 +47,8 @@ returns-in-Err-clause-goes g c =
     c.give_up-in-Err.ensures.goes
     (λ s x y z at fx fy fz one two. subst (λ (r : Result (Option Entry) Fault). TellsGiven session r x z) is
     (end_given g.S.PageStore s session came x y z fx c.seek-came.ensures.kind (λ e some. (let f : given_of came ≡ Err fault = is in absurd cc)) one two))
+
+pub returns-in-Ok-Some-clause-less : goal.returns-in-Ok-Some-clause-less
+returns-in-Ok-Some-clause-less g c =
+    let is : given_of c.seek-came.result ≡ Ok (Some c.in-Ok-Some.entry) = sym c.given.ensures ∙ c.in-Ok-Some.is ∙ ap (λ (o : Option Entry). Ok o) c.in-Ok-Some.field-0-is in
+    given_down (g.S.PageStore.state c.args.store.now) (g.S.PageStore.state c.seek-came.new.store) _ _ c.seek-came.result c.in-Ok-Some.entry c.seek-came.ensures.kind is c.seek-came.ensures.less

@@ -1,13 +1,14 @@
-use Rattle.std.proofs.Common.{◌≡◌, Result, Ok, Err, None, refl, subst, ap, ◌∙◌}
+use Rattle.std.proofs.Common.{◌≡◌, ◌<◌, arith, Result, Ok, Err, None, refl, subst, ap, ◌∙◌}
 use Rattle.index_model.specs.declared.fault.Fault.{Fault}
+use Rattle.session_calls.specs.Sessions.{work_left}
 use Rattle.session_calls.specs.declared.answer.Answer.{Answer}
-use Rattle.schedule.specs.Snapshots.{both}
+use Rattle.schedule.specs.Snapshots.{both, slot_of}
 use Rattle.whole_calls.specs.Telling.{TellsStep, StaysRunning, step_came}
 use Rattle.whole_calls.proofs.Composing.{goes_then, goes_nowhere, goes_told}
 use Rattle.whole_calls.proofs.Tellings.{silent_then, going_stays, ready_stays, stays_then}
 use Rattle.std.proofs.Common.{inl, inr, rules}
-use Rattle.whole_calls.proofs.Given.{sought}
-use Rattle.whole_calls.specs.Giving.{AnswersAdvance}
+use Rattle.whole_calls.proofs.Given.{sought, down_after}
+use Rattle.whole_calls.specs.Giving.{AnswersAdvance, GoesDownBy}
 use Rattle.whole_calls.proofs.giving.seek.Goals as goal
 use Rattle.whole_calls.specs.Going.{CallGoes}
 use Rattle.whole_calls.proofs.giving.seek.Given.{Over}
@@ -21,6 +22,7 @@ loop-answer-init g c =
       sessions = refl;
       others = λ o ne. refl;
       goes = goes_nowhere g.S.PageStore laws c.args.session (StaysRunning c.args.session) (both c.args.store.now c.args.slots.now) (λ x number call is. record { history_is = refl; calls_is = refl });
+      less = omega arith;
     }
 
 -- behind the steps so far, what the last one tells
@@ -47,6 +49,8 @@ returns-in_default g c = record {
   others = λ o ne. c.advance.ensures.others o ne ∙ c.loop-answer.invariant.others o ne;
   goes = answered g ((goal.at.returns-in_default g c).After-advance) (Ok c.in-Ok.answer) c.in-Ok.is;
   kind = sought c.in-Ok.answer (subst AnswersAdvance c.in-Ok.is c.advance.ensures.kind) (λ is. search rules) (λ count is. search rules);
+  less = down_after (g.S.PageStore.state c.args.store.now) (g.S.PageStore.state c.loop-answer.store) (g.S.PageStore.state c.advance.new.store) _ _ _ (Ok c.in-Ok.answer) c.loop-answer.invariant.less
+      (subst (GoesDownBy (g.S.PageStore.state c.loop-answer.store) (g.S.PageStore.state c.advance.new.store) (slot_of c.loop-answer.slots c.args.session) (slot_of c.advance.new.slots c.args.session)) c.in-Ok.is c.advance.ensures.less);
 }
 
 pub returns-in-Err : goal.returns-in-Err
@@ -56,6 +60,7 @@ returns-in-Err g c = record {
   others = λ o ne. c.advance.ensures.others o ne ∙ c.loop-answer.invariant.others o ne;
   goes = answered g ((goal.at.returns-in-Err g c).After-advance) (Err c.in-Err.fault) c.in-Err.is;
   kind = tt;
+  less = tt;
 }
 
 pub loop-answer-preserved : goal.loop-answer-preserved
@@ -75,4 +80,16 @@ loop-answer-preserved g c =
             | inl going ↦ going_stays session y z (subst (λ (r : Result Answer Fault). TellsStep session r y z) (c.in-Ok.is ∙ ap (λ (a : Answer). Ok a) going) two)
             | inr ready ↦ ready_stays session ready.0 y z (subst (λ (r : Result Answer Fault). TellsStep session r y z) (c.in-Ok.is ∙ ap (λ (a : Answer). Ok a) ready.1) two)
           ])));
+      less = elim (c.in-Going.is) [
+        | inl going ↦ (
+            let down : work_left (g.S.PageStore.state c.advance.new.store).pages (slot_of c.advance.new.slots session) < work_left (g.S.PageStore.state c.loop-answer.store).pages (slot_of c.loop-answer.slots session) =
+              subst (GoesDownBy (g.S.PageStore.state c.loop-answer.store) (g.S.PageStore.state c.advance.new.store) (slot_of c.loop-answer.slots session) (slot_of c.advance.new.slots session)) (c.in-Ok.is ∙ ap (λ (a : Answer). Ok a) going) c.advance.ensures.less in
+            let most = c.loop-answer.invariant.less in
+            omega (arith, down, most))
+        | inr ready ↦ (
+            let down : work_left (g.S.PageStore.state c.advance.new.store).pages (slot_of c.advance.new.slots session) < work_left (g.S.PageStore.state c.loop-answer.store).pages (slot_of c.loop-answer.slots session) =
+              subst (GoesDownBy (g.S.PageStore.state c.loop-answer.store) (g.S.PageStore.state c.advance.new.store) (slot_of c.loop-answer.slots session) (slot_of c.advance.new.slots session)) (c.in-Ok.is ∙ ap (λ (a : Answer). Ok a) ready.1) c.advance.ensures.less in
+            let most = c.loop-answer.invariant.less in
+            omega (arith, down, most))
+      ];
     }

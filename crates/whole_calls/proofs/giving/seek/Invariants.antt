@@ -1,4 +1,4 @@
-use Rattle.std.proofs.Common.{◌≡◌, None, length}
+use Rattle.std.proofs.Common.{◌≡◌, ◌≤◌, None, length}
 use Rattle.page_action.specs.States.{Continues}
 use Rattle.session_calls.specs.Sessions.{work_left}
 use Rattle.schedule.specs.Snapshots.{both, slot_of}
@@ -13,6 +13,7 @@ invariant-loop-answer g l = record {
   sessions : length l.slots ≡ length l.fn.slots;
   others : OthersStay l.session l.fn.slots l.slots;
   goes : CallGoes g.S.PageStore l.session (StaysRunning l.session) None (both l.fn.store l.fn.slots) (both l.store l.slots);
+  less : work_left (g.S.PageStore.state l.store).pages (slot_of l.slots l.session) ≤ work_left (g.S.PageStore.state l.fn.store).pages (slot_of l.fn.slots l.session);
 }
 
 abbrev pub decreases-loop-answer : goal.decreases-loop-answer
