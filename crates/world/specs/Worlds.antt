@@ -1,5 +1,5 @@
 -- What is promised of a world.
-use Rattle.std.specs.Prelude.{Bool, List}
+use Rattle.std.specs.Prelude.{ℕ, Bool, Option, List}
 use Rattle.index_model.specs.Actions.{Action}
 use Rattle.index_model.specs.Calls.{Call}
 use Rattle.index_model.specs.declared.entry.Entry.{Entry}
@@ -9,6 +9,7 @@ use Rattle.schedule.specs.Crashes.{KeepsHistory, IsCrashSafe}
 use Rattle.schedule.specs.Runs.{Carries, Runs}
 use Rattle.schedule.specs.Snapshots.{StoreAndSlots, Snapshot, snapshot_of, Fits}
 use Rattle.schedule.specs.declared.event.Event.{Event}
+use Rattle.whole_calls.specs.Going.{CallGoes}
 use Rattle.world.specs.declared.world.World.{World}
 
 -- the store of a world, and what each of its sessions runs
@@ -39,3 +40,8 @@ WorldCarries g old new goes = Carries g (inside old) (inside new) goes
 -- answers
 abbrev pub WorldRuns : {S T : Type 0} → Ghosts S → World S T → World S T → List Event → List Answer → (Entry → Bool) → List Action → List Call → Type 0
 WorldRuns g old new events answers start history calls = Runs g (inside old) (inside new) events answers start history calls
+
+-- for whatever fitted the world before there is a run of events of this session, of which one answered what the call came
+-- to, and this is told
+abbrev pub WorldGoes : {S T : Type 0} → Ghosts S → ℕ → (Snapshot S → Snapshot S → Type 0) → Option Answer → World S T → World S T → Type 0
+WorldGoes g session Tells came old new = CallGoes g session Tells came (inside old) (inside new)

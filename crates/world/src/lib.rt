@@ -4,6 +4,7 @@
 mod memory;
 mod opening;
 mod over_device;
+mod whole;
 mod world;
 
 pub use opening::NotOpened;

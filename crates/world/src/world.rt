@@ -23,7 +23,7 @@ use std::alloc::Global;
 #[derive(Drop)]
 pub struct World<S, T> {
     pub(crate) store: S,
-    slots: Vec<Option<Op>>,
+    pub(crate) slots: Vec<Option<Op>>,
     /// The sets of dead rows that events name by their places.
     sets: Vec<T>,
     ghost few: { length slots.items ≤ 64 },
