@@ -1,6 +1,6 @@
 //! What the lines of a script are done with: the only file of the program that knows an index.
 
-ghost use Rattle.std.specs.Prelude.{◌≡◌, ◌≤◌, ◌∷◌, [], true, Bool, List, IfOk, OnOk, OnErr};
+ghost use Rattle.std.specs.Prelude.{◌≡◌, ◌≢◌, ◌∷◌, [], true, Bool, List, Ok, IfOk, OnOk, OnErr};
 ghost use Rattle.device.specs.Memory.{trace_of};
 ghost use Rattle.index_model.specs.Actions.{Action};
 ghost use Rattle.index_model.specs.Calls.{Call};
@@ -11,10 +11,10 @@ ghost use Rattle.page_store.specs.Logged.{backing_of};
 ghost use Rattle.page_store.specs.Stores.{state_of, held_by};
 ghost use Rattle.recovery.specs.Index.{HasIndex};
 ghost use Rattle.tree_shape.specs.Tree.{IsBlinkTree};
-ghost use Rattle.session_calls.specs.Sessions.{work_left, IsDrained};
-ghost use Rattle.schedule.specs.Snapshots.{slot_of};
+ghost use Rattle.session_calls.specs.declared.request.Request.TheVariants.{Insert as ToInsert};
+ghost use Rattle.whole_calls.specs.Telling.{TellsStep, HasCome, step_came};
 ghost use Rattle.world.specs.Reopening.{BeginsWith, BeginsEmpty, BeginsAfterFirstPart};
-ghost use Rattle.world.specs.Worlds.{WorldFits, WorldKeeps, WorldCarries, WorldRuns};
+ghost use Rattle.world.specs.Worlds.{WorldFits, WorldKeeps, WorldCarries, WorldRuns, WorldGoes};
 ghost use Rattle.btidx.specs.Settings.{IsSetting};
 
 use device::{CrashImage, Device, MemDevice};
@@ -112,22 +112,23 @@ impl Engine {
         self.world.one(event)
     }
 
-    /// Steps of a session's call until one doesn't answer `Going`.
-    pub fn run(&mut self, session: u32) -> Answer {
-        loop {
-            match self.world.one(Event::Step(session)) {
-                Answer::Going => {}
-                answer => return answer,
-            }
-        }
+    /// Steps of a session's call until one doesn't answer `Going`, and that answer. No checkpoint is made for them.
+    pub fn run(&mut self, session: u32) -> Result<Answer, Fault>
+        ensures goes { WorldGoes ⟦<Store<MemDevice> as PageStore>⟧ session
+            (TellsStep session result) (step_came result) self.old.world self.new.world }
+        ensures over { result ≢ Ok Answer.Going }
+    {
+        self.world.finish(session, 0)
     }
 
-    /// An insert, run until a step doesn't answer `Going`.
-    pub fn put(&mut self, session: u32, entry: &Entry) -> Answer {
-        match self.world.one(Event::Insert(session, *entry)) {
-            Answer::Begun => self.run(session),
-            answer => answer,
-        }
+    /// An insert, run until a step doesn't answer `Going`, and that answer.
+    pub fn put(&mut self, session: u32, entry: &Entry) -> Result<Answer, Fault>
+        ensures goes { WorldGoes ⟦<Store<MemDevice> as PageStore>⟧ session
+            (HasCome session (ToInsert entry.now) result) (step_came result)
+            self.old.world self.new.world }
+        ensures over { result ≢ Ok Answer.Going }
+    {
+        self.world.put(session, *entry, 0)
     }
 
     /// A scan, run to its end: hands over each entry of the range in order, and answers their number. A scan that is
@@ -147,31 +148,17 @@ impl Engine {
     }
 
     /// Runs a session's scan to its end, handing over what it gives, and answers how many entries.
-    fn give_all<S: Sink>(&mut self, session: u32, sink: &mut S) -> io::Result<Result<u64, Fault>> {
-        let mut count = 0u64;
-        loop {
-            count = count.saturating_add(self.give_ready(session, sink)?);
-            match self.world.one(Event::Step(session)) {
-                Answer::Going | Answer::Ready(_) => {}
-                Answer::Refused(fault) => return Ok(Err(fault)),
-                _ => return Ok(Ok(count)),
-            }
-        }
-    }
-
-    /// Hands over the entries that a session's scan has ready, and answers how many.
-    fn give_ready<S: Sink>(&mut self, session: u32, sink: &mut S) -> io::Result<u64>
-        ensures drained { OnOk result (IsDrained (slot_of self.new.world.slots.items session)) }
-        ensures less { (pages : List Page)
-            → work_left pages (slot_of self.new.world.slots.items session)
-            ≤ work_left pages (slot_of self.old.world.slots.items session) }
+    fn give_all<S: Sink>(&mut self, session: u32, sink: &mut S) -> io::Result<Result<u64, Fault>>
     {
         let mut count = 0u64;
-        while let Answer::Gave(Some(entry)) = self.world.one(Event::Next(session)) {
-            sink.entry(&entry)?;
+        loop {
+            match self.world.give(session, 0) {
+                Ok(Some(entry)) => sink.entry(&entry)?,
+                Ok(None) => return Ok(Ok(count)),
+                Err(fault) => return Ok(Err(fault)),
+            }
             count = count.saturating_add(1);
         }
-        Ok(count)
     }
 
     /// Hands over each used page, lowest block first.

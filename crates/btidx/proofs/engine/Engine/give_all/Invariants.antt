@@ -3,5 +3,5 @@ use Rattle.session_calls.specs.Sessions.{work_left}
 use Rattle.schedule.specs.Snapshots.{slot_of}
 use Rattle.btidx.proofs.engine.Engine.give_all.Given as goal
 
-abbrev pub decreases-loop-count : goal.decreases-loop-count
-decreases-loop-count g l = work_left (state_of _ l.self.world.store).pages (slot_of l.self.world.slots.items l.fn.session)
+abbrev pub decreases-loop-entry : goal.decreases-loop-entry
+decreases-loop-entry g l = work_left (state_of _ l.self.world.store).pages (slot_of l.self.world.slots.items l.fn.session)

@@ -1,7 +1,0 @@
-use Rattle.page_store.specs.Stores.{state_of}
-use Rattle.session_calls.specs.Sessions.{work_left}
-use Rattle.schedule.specs.Snapshots.{slot_of}
-use Rattle.btidx.proofs.engine.Engine.run.Given as goal
-
-abbrev pub decreases-loop-answer : goal.decreases-loop-answer
-decreases-loop-answer l = work_left (state_of _ l.self.world.store).pages (slot_of l.self.world.slots.items l.fn.session)
