@@ -325,7 +325,15 @@ fn calls_run_to_their_ends(rt: HostRuntime) -> Result<(), Fail> {
     create(&mut device, &LIMITS)?;
     let mut world = opened(rt.alloc(), device)?;
     let put = world.put(0, entry(0x61, 1), 5);
-    assert!(rt; matches!(put, Ok(Answer::Added { action: 1, unfinished: None })));
+    assert!(rt;
+        matches!(
+            put,
+            Ok(Answer::Added {
+                action: 1,
+                unfinished: None
+            })
+        )
+    );
     assert!(rt; matches!(world.one(Event::Scan(1, ALL)), Answer::Begun));
     assert!(rt; matches!(world.finish(1, 0), Ok(Answer::Ready(1))));
     assert!(rt; world.give(1, 0)? == Some(entry(0x61, 1)));
