@@ -148,8 +148,7 @@ impl Engine {
     }
 
     /// Runs a session's scan to its end, handing over what it gives, and answers how many entries.
-    fn give_all<S: Sink>(&mut self, session: u32, sink: &mut S) -> io::Result<Result<u64, Fault>>
-    {
+    fn give_all<S: Sink>(&mut self, session: u32, sink: &mut S) -> io::Result<Result<u64, Fault>> {
         let mut count = 0u64;
         loop {
             match self.world.give(session, 0) {

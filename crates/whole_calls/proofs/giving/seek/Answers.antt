@@ -83,12 +83,12 @@ loop-answer-preserved g c =
       less = elim (c.in-Going.is) [
         | inl going ↦ (
             let down : work_left (g.S.PageStore.state c.advance.new.store).pages (slot_of c.advance.new.slots session) < work_left (g.S.PageStore.state c.loop-answer.store).pages (slot_of c.loop-answer.slots session) =
-              subst (GoesDownBy (g.S.PageStore.state c.loop-answer.store) (g.S.PageStore.state c.advance.new.store) (slot_of c.loop-answer.slots session) (slot_of c.advance.new.slots session)) (c.in-Ok.is ∙ ap (λ (a : Answer). Ok a) going) c.advance.ensures.less in
+            subst (GoesDownBy (g.S.PageStore.state c.loop-answer.store) (g.S.PageStore.state c.advance.new.store) (slot_of c.loop-answer.slots session) (slot_of c.advance.new.slots session)) (c.in-Ok.is ∙ ap (λ (a : Answer). Ok a) going) c.advance.ensures.less in
             let most = c.loop-answer.invariant.less in
             omega (arith, down, most))
         | inr ready ↦ (
             let down : work_left (g.S.PageStore.state c.advance.new.store).pages (slot_of c.advance.new.slots session) < work_left (g.S.PageStore.state c.loop-answer.store).pages (slot_of c.loop-answer.slots session) =
-              subst (GoesDownBy (g.S.PageStore.state c.loop-answer.store) (g.S.PageStore.state c.advance.new.store) (slot_of c.loop-answer.slots session) (slot_of c.advance.new.slots session)) (c.in-Ok.is ∙ ap (λ (a : Answer). Ok a) ready.1) c.advance.ensures.less in
+            subst (GoesDownBy (g.S.PageStore.state c.loop-answer.store) (g.S.PageStore.state c.advance.new.store) (slot_of c.loop-answer.slots session) (slot_of c.advance.new.slots session)) (c.in-Ok.is ∙ ap (λ (a : Answer). Ok a) ready.1) c.advance.ensures.less in
             let most = c.loop-answer.invariant.less in
             omega (arith, down, most))
       ];
