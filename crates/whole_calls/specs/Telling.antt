@@ -1,10 +1,13 @@
 -- What is told of one session's call, by the history and the calls before and after.
-use Rattle.std.specs.Prelude.{◌≡◌, ◌≢◌, ℕ, suc, Option, Some, None, Result, Ok, Err, [], ◌∷◌, ◌++◌, length, slice_set}
+use Rattle.std.specs.Prelude.{◌⊎◌, ◌≤◌, ◌≡◌, ◌≢◌, ℕ, suc, Option, Some, None, Result, Ok, Err, [], ◌∷◌, ◌++◌, length, slice_set}
 use Rattle.index_model.specs.Actions.{Effect, Add}
 use Rattle.index_model.specs.Calls.{Ask, AskInsert, AskScan, Added as EndsAdded, Failed, Call}
 use Rattle.index_model.specs.declared.fault.Fault.{Fault}
 use Rattle.index_model.specs.declared.fault.Fault.TheVariants.{NoSession, Exists}
 use Rattle.index_model.specs.declared.entry.Entry.{Entry}
+use Rattle.index_model.specs.declared.limits.Limits.{Limits}
+use Rattle.page_action.specs.Room.{HasWholeRoom}
+use Rattle.page_action.specs.States.{Backing}
 use Rattle.session_calls.specs.Ops.{asked_by}
 use Rattle.session_calls.specs.Sessions.{Told, MayDo, acts_of, begun_call, ended}
 use Rattle.session_calls.specs.declared.answer.Answer.{Answer}
@@ -148,3 +151,7 @@ InsertTold session entry (Err fault) old new = IsNotAdded session entry fault ol
 abbrev pub room_came : Result (Unit {0}) Fault → Option Answer
 room_came (Ok made) = None
 room_came (Err fault) = Some (Refused fault)
+
+-- there is room for so many images, or the log is empty
+abbrev pub RoomIsMade : ℕ → Limits → Backing → Type 0
+RoomIsMade least limits backing = (least ≤ backing.room) ⊎ HasWholeRoom limits backing

@@ -1,7 +1,7 @@
 //! Calls that run to their end. Before each step for which the log has room for fewer than `least_room` images a checkpoint is
 //! made; one that is refused counts as the refusal of the step. With 0 none is made.
 
-ghost use Rattle.std.specs.Prelude.{◌≡◌, ◌≢◌, ◌≤◌, length, ℕ, Ok, IfOk, IfErr, None};
+ghost use Rattle.std.specs.Prelude.{◌≡◌, ◌≢◌, ◌≤◌, length, ℕ, Ok, IfOk, OnOk, IfErr, None};
 ghost use Rattle.index_model.specs.Faults.{HasCause};
 ghost use Rattle.page_action.specs.Causes.{where_forced};
 ghost use Rattle.page_action.specs.States.{Continues};
@@ -11,7 +11,7 @@ ghost use Rattle.schedule.specs.Snapshots.{both, slot_of};
 ghost use Rattle.schedule.specs.Events.{OthersStay};
 ghost use Rattle.whole_calls.specs.Going.{CallGoes};
 ghost use Rattle.whole_calls.specs.Giving.{StepLeavesLess};
-ghost use Rattle.whole_calls.specs.Telling.{IsSilent, TellsStep, TellsEnd, HasCome, InsertTold, outcome_of, BeginTold, begun_of, step_came, begin_came, insert_came, room_came};
+ghost use Rattle.whole_calls.specs.Telling.{RoomIsMade, IsSilent, TellsStep, TellsEnd, HasCome, InsertTold, outcome_of, BeginTold, begun_of, step_came, begin_came, insert_came, room_came};
 
 use crate::inserted::Inserted;
 use index_model::{Entry, Fault};
@@ -29,6 +29,8 @@ fn make_room<S: PageStore>(
     ensures state { S.state store.new ≡ S.state store.old }
     ensures goes { (session : ℕ) → CallGoes S.PageStore session IsSilent (room_came result)
         (both store.old slots.now) (both store.new slots.now) }
+    ensures room { OnOk result
+        (RoomIsMade least_room (S.state store.old).limits (S.backing store.new)) }
     ensures cause { IfErr result
         (HasCause (where_forced (S.backing store.old) (S.backing store.new))) }
 {

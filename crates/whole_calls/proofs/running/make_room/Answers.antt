@@ -1,7 +1,8 @@
-use Rattle.std.proofs.Common.{Some, None, refl, subst}
+use Rattle.std.proofs.Common.{◌≡◌, ℕ, Some, None, refl, subst, inl, inr, rules}
+use Rattle.index_model.specs.declared.fault.Fault.{Fault}
 use Rattle.session_calls.specs.declared.answer.Answer.{Answer}
-use Rattle.session_calls.specs.declared.answer.Answer.TheVariants.{Refused}
-use Rattle.schedule.specs.Events.{Checkpoints}
+use Rattle.session_calls.specs.declared.answer.Answer.TheVariants.{Begun, Going, Added, Ready, Done, Finished, Gave, Ended, Forced, Flushed, Checkpointed, Refused}
+use Rattle.schedule.specs.Events.{Checkpoints, AnswersUpkeep}
 use Rattle.schedule.specs.Snapshots.{both}
 use Rattle.schedule.specs.declared.event.Event.TheVariants.{Checkpoint}
 use Rattle.whole_calls.specs.Going.{CameBy}
@@ -26,3 +27,23 @@ returns-in_default-clause-goes g c session =
     goes_told g.S.PageStore session IsSilent IsSilent (Some c.checkpoint.result) None _ _ (λ start answers x y at fits came silent. (tt, silent))
     (goes_by g.S.PageStore g.met.S.PageStore.laws session IsSilent Checkpoint c.checkpoint.result (both c.args.store.now c.args.slots.now) (both c.checkpoint.new.store c.args.slots.now) tt c.checkpoint.ensures.runs
     (λ start x y from to fits does. keeps_silent g.S.PageStore start Checkpoints c.checkpoint.result x y does))
+
+made : (Room : Type 0) (answer : Answer) → AnswersUpkeep Checkpoints answer → ((fault : Fault) → answer ≡ Refused fault → ⊥) → ((count : ℕ) → answer ≡ Checkpointed count → Room) → Room
+made Room (Checkpointed n) kind told room = room n refl
+made Room (Refused f) kind told room = absurd (told f refl)
+made Room Begun kind told room = absurd kind
+made Room Going kind told room = absurd kind
+made Room (Added a u) kind told room = absurd kind
+made Room (Ready r) kind told room = absurd kind
+made Room Done kind told room = absurd kind
+made Room (Finished s) kind told room = absurd kind
+made Room (Gave e) kind told room = absurd kind
+made Room Ended kind told room = absurd kind
+made Room (Forced n) kind told room = absurd kind
+made Room (Flushed b) kind told room = absurd kind
+
+pub returns-then-room-least_room-clause-room : goal.returns-then-room-least_room-clause-room
+returns-then-room-least_room-clause-room g c = inl (search rules)
+
+pub returns-in_default-clause-room : goal.returns-in_default-clause-room
+returns-in_default-clause-room g c = inr (made _ c.checkpoint.result c.checkpoint.ensures.answers (λ fault is. search rules) c.checkpoint.ensures.room)
