@@ -1,4 +1,4 @@
 pub mod Going
 pub mod Standing
 mod Noting
-mod Steps
+pub mod Steps

@@ -1,5 +1,5 @@
 -- One call more is recorded, and what the record says of crash images.
-use Rattle.std.proofs.Common.{◌≡◌, ◌⊎◌, inl, inr, ℕ, zero, suc, ◌+◌, ◌<◌, ◌≤◌, Bool, true, false, ◌&&◌, ◌||◌, IsTrue, List, [], ◌∷◌, ◌++◌, length, get_or, take, drop, refl, sym, ◌∙◌, ap, subst, arith, rules}
+use Rattle.std.proofs.Common.{◌≡◌, ◌⊎◌, inl, inr, ℕ, zero, suc, ◌+◌, ◌^◌, ◌<◌, ◌≤◌, Bool, true, false, ◌&&◌, ◌||◌, IsTrue, List, [], ◌∷◌, ◌++◌, length, get_or, take, drop, refl, sym, ◌∙◌, ap, subst, arith, rules}
 use Rattle.std.proofs.lemmas.Bool.{false≢true, cases_lt}
 use Rattle.std.proofs.lemmas.List.{places}
 use Rattle.std.proofs.lemmas.Grind.{common_steps}
@@ -43,21 +43,28 @@ sync_trace t old new is = ap (done t) is ∙ done-push t old Sync
 pub sync_inside : (n : ℕ) (old new : List Call) → new ≡ old ++ Sync ∷ [] → IsTrue (are_inside n old) → IsTrue (are_inside n new)
 sync_inside n old new is all = ap (are_inside n) is ∙ inside-push n old Sync all refl
 
--- what a device in memory keeps, when a write was recorded and done
-module _ (start bytes written piece : List ℕ) (at : ℕ) (old new : List Call) (n : Notes at piece old new) (is : bytes ≡ (done (first start) old).now.seen) (fits : at + length piece ≤ length bytes)
-    (there : written ≡ put bytes at piece) where
-  pub written_replayed : written ≡ (done (first start) new).now.seen
-  written_replayed =
-      there ∙ (ap (λ (l : List ℕ). put l at piece) is ∙ sym (ap (λ (x : Trace). x.now.seen) (note_trace 0 piece at old new n (first start))))
+-- what a device in memory keeps: its bytes are those of the calls, which lie inside of as many
+abbrev pub AreDone : List ℕ → List ℕ → List Call → Type 0
+AreDone start bytes calls = record {
+  replayed : bytes ≡ (done (first start) calls).now.seen;
+  inside : IsTrue (are_inside (length start) calls);
+  sized : length bytes ≡ length start;
+  small : length (done (first start) calls).now.seen < 2 ^ 63;
+}
 
-  pub written_sized : length bytes ≡ length start → length written ≡ length start
-  written_sized sized = ap length there ∙ length-put bytes at piece fits ∙ sized
-
-  pub written_inside : length bytes ≡ length start → IsTrue (are_inside (length start) old) → IsTrue (are_inside (length start) new)
-  written_inside sized inside = note_inside (length start) piece at old new n inside (omega (arith, fits, sized))
-
-  pub written_small : (most : ℕ) → length (done (first start) old).now.seen < most → length (done (first start) new).now.seen < most
-  written_small most small = omega (arith, ap length written_replayed, ap length there, length-put bytes at piece fits, ap length is, small)
+-- also when a write was recorded and done
+pub written_done : (start bytes written piece : List ℕ) (at : ℕ) (old new : List Call) → Notes at piece old new → at + length piece ≤ length bytes → written ≡ put bytes at piece
+    → AreDone start bytes old → AreDone start written new
+written_done start bytes written piece at old new n fits there are =
+    let replayed : written ≡ (done (first start) new).now.seen =
+    there ∙ (ap (λ (l : List ℕ). put l at piece) are.replayed ∙ sym (ap (λ (x : Trace). x.now.seen) (note_trace 0 piece at old new n (first start)))) in
+    let sized = ap length there ∙ length-put bytes at piece fits ∙ are.sized in
+    record {
+      replayed = replayed;
+      inside = note_inside (length start) piece at old new n are.inside (omega (arith, fits, are.sized));
+      sized = sized;
+      small = omega (arith, ap length replayed, sized, ap length are.replayed, are.sized, are.small);
+    }
 
 -- so many bytes, also after the writes
 and_true : (a b : Bool) → (a && b) ≡ true → (a ≡ true) × (b ≡ true)

@@ -1,32 +1,20 @@
-use Rattle.std.proofs.Common.{◌+◌, ◌≤◌, ap, inl, inr, refl, length, arith}
-use Rattle.device.proofs.Noting.{note_trace, written_replayed, written_sized, written_inside, written_small}
+use Rattle.std.proofs.Common.{ap, inl, inr, refl, length, arith}
+use Rattle.device.proofs.Noting.{AreDone, note_trace, written_done}
+use Rattle.device.proofs.memory.MemDeviceDevice.write_at.Goals.{In-Ok}
 use Rattle.device.proofs.memory.MemDeviceDevice.write_at.Goals as goal
 
-pub invariant_of-self-then-eq-2 : goal.invariant_of-self-then-eq-2
-invariant_of-self-then-eq-2 c =
+-- what was written is recorded
+recorded : (c : In-Ok) → AreDone c.args.self.now.start.items c.write_noted.new.bytes.items c.write_noted.new.calls.items
+recorded c =
     let s = c.args.self.now in
-    let n = c.in-Ok.ensures.noted in
-    let there = c.in-Ok.ensures.bytes in
-    let fits : c.args.at + length c.args.bytes.now ≤ length s.bytes.items = omega (arith, ap length s.replayed, c.requires.range) in
-    record {
-      replayed = written_replayed s.start.items _ _ _ _ _ _ n s.replayed fits there;
-      inside = written_inside s.start.items _ _ _ _ _ _ n s.replayed fits there s.sized s.inside;
-      sized = written_sized s.start.items _ _ _ _ _ _ n s.replayed fits there s.sized;
-      small = written_small s.start.items _ _ _ _ _ _ n s.replayed fits there _ s.small;
-    }
+    written_done s.start.items s.bytes.items _ c.args.bytes.now c.args.at s.calls.items _ c.in-Ok.ensures.noted (omega (arith, ap length s.replayed, c.requires.range)) c.in-Ok.ensures.bytes
+    (record { replayed = s.replayed; inside = s.inside; sized = s.sized; small = s.small })
+
+pub invariant_of-self-then-eq-2 : goal.invariant_of-self-then-eq-2
+invariant_of-self-then-eq-2 c = recorded (goal.at.invariant_of-self-then-eq-2 c).In-Ok
 
 pub invariant_of-self-else-eq-2 : goal.invariant_of-self-else-eq-2
-invariant_of-self-else-eq-2 c =
-    let s = c.args.self.now in
-    let n = c.in-Ok.ensures.noted in
-    let there = c.in-Ok.ensures.bytes in
-    let fits : c.args.at + length c.args.bytes.now ≤ length s.bytes.items = omega (arith, ap length s.replayed, c.requires.range) in
-    record {
-      replayed = written_replayed s.start.items _ _ _ _ _ _ n s.replayed fits there;
-      inside = written_inside s.start.items _ _ _ _ _ _ n s.replayed fits there s.sized s.inside;
-      sized = written_sized s.start.items _ _ _ _ _ _ n s.replayed fits there s.sized;
-      small = written_small s.start.items _ _ _ _ _ _ n s.replayed fits there _ s.small;
-    }
+invariant_of-self-else-eq-2 c = recorded (goal.at.invariant_of-self-else-eq-2 c).In-Ok
 
 pub returns-then-eq-2-clause-trace : goal.returns-then-eq-2-clause-trace
 returns-then-eq-2-clause-trace c = inr (c.args.bytes.now, refl, note_trace 0 _ c.args.at _ _ c.in-Ok.ensures.noted _)
