@@ -16,7 +16,7 @@ use Rattle.page_codec.proofs.Laws.{length-page}
 use Rattle.page_action.specs.Stored.{AreStored}
 use Rattle.page_action.proofs.StoredPages.{stored_page}
 use Rattle.redo_log.specs.Images.{last_image, later_of, images_of}
-use Rattle.redo_log.specs.Kept.{Keeps, RestartsOrEmpty, limits_of, is_stopped}
+use Rattle.redo_log.specs.Kept.{Keeps, RestartsOrEmpty, RestartsOrEmptyThroughout, ChangesItsRange, limits_of, is_stopped}
 use Rattle.redo_log.specs.declared.log.Log.{Log}
 use Rattle.redo_log.proofs.Keeping.{keeps_elsewhere}
 use Rattle.page_store.specs.Histories.{after_acts, pages_after, AreActs}
@@ -186,40 +186,48 @@ follows_written old trace honest failures alive all moments same more = record {
 }
 
 -- the log was closed, or that failed
-module _ (old : Held) (log : Log) (trace : Trace) (honest : Bool) (failures : ℕ) (marks : List Bool) (room promised : ℕ) (alive : is_stopped old.log ≡ false) (all : old.durable ≡ old.acts)
-    (limits : limits_of log ≡ limits_of old.log) (home : IsOwn old → AreHome (limits_of old.log) [] old.pages old.trace.now)
-    (moments : (acts : List (List Page)) (forced : ℕ) → Keeps old.log old.trace.now acts forced → Goes (RestartsOrEmpty (limits_of old.log) (take forced acts)) old.trace trace)
-    (outside : Goes (ChangesOnly 4096 (limits_of old.log).log_bytes old.trace.now) old.trace trace) (same : honest ≡ old.honest) (more : old.failures ≤ failures) (failed : is_stopped log ≡ true → old.failures < failures)
+pub record IsClosing (old : Held) (log : Log) (trace : Trace) (honest : Bool) (failures : ℕ) : Type 0 where
+  pub alive : is_stopped old.log ≡ false
+  pub all : old.durable ≡ old.acts
+  pub limits : limits_of log ≡ limits_of old.log
+  pub home : IsOwn old → AreHome (limits_of old.log) [] old.pages old.trace.now
+  pub moments : RestartsOrEmptyThroughout old.log old.trace trace
+  pub outside : ChangesItsRange (limits_of old.log) old.trace trace
+  pub same : honest ≡ old.honest
+  pub more : old.failures ≤ failures
+  pub failed : is_stopped log ≡ true → old.failures < failures
+
+module _ (old : Held) (log : Log) (trace : Trace) (honest : Bool) (failures : ℕ) (r : IsClosing old log trace honest failures) (marks : List Bool) (room promised : ℕ)
     (clear : is_stopped log ≡ false → (block : ℕ) → get_or marks block false ≡ false) (keeps : is_stopped log ≡ false → (acts : List (List Page)) (forced : ℕ) → Keeps old.log old.trace.now acts forced → Keeps log trace.now [] 0) where
   abbrev closed : Held
   closed = record old { log = log; trace = trace; honest = honest; failures = failures; marks = marks; room = room; promised = promised }
 
   only_now : ChangesOnly 4096 (limits_of old.log).log_bytes old.trace.now trace.now
-  only_now = goes_now _ old.trace trace outside (same_only 4096 (limits_of old.log).log_bytes old.trace.now)
+  only_now = goes_now _ old.trace trace r.outside (same_only 4096 (limits_of old.log).log_bytes old.trace.now)
 
   leaves_between : (own : IsOwn old) → Goes (LeavesPart (limits_of old.log) old.history old.durable) old.trace trace
-  leaves_between own = goes_weaker _ _ old.trace trace (λ m both. leaves_closing old own alive all m (home own) both)
-      (goes_both _ _ old.trace trace (moments (drop (own.kept alive).base old.history.acts) (own.kept alive).forced (own.kept alive).log_keeps) outside)
+  leaves_between own = goes_weaker _ _ old.trace trace (λ m both. leaves_closing old own r.alive r.all m (r.home own) both)
+      (goes_both _ _ old.trace trace (r.moments (drop (own.kept r.alive).base old.history.acts) (own.kept r.alive).forced (own.kept r.alive).log_keeps) r.outside)
 
   own_closed : IsOwn old → IsOwn closed
   own_closed own = record {
-    start_stored = subst (λ (x : Limits). AreStored x 0 old.history.start) (sym limits) own.start_stored;
-    start_few = subst (λ (x : Limits). length old.history.start ≤ x.pages) (sym limits) own.start_few;
-    long = subst (λ (x : Limits). place x x.pages ≤ length trace.now.seen) (sym limits) (long_at old own alive all trace.now only_now.same_length);
-    acts_are = subst (λ (x : Limits). AreActs x old.history.start old.history.acts) (sym limits) own.acts_are;
+    start_stored = subst (λ (x : Limits). AreStored x 0 old.history.start) (sym r.limits) own.start_stored;
+    start_few = subst (λ (x : Limits). length old.history.start ≤ x.pages) (sym r.limits) own.start_few;
+    long = subst (λ (x : Limits). place x x.pages ≤ length trace.now.seen) (sym r.limits) (long_at old own r.alive r.all trace.now only_now.same_length);
+    acts_are = subst (λ (x : Limits). AreActs x old.history.start old.history.acts) (sym r.limits) own.acts_are;
     counted = own.counted;
     pages_are = own.pages_are;
-    leaves = subst (λ (x : Limits). LeavesPart x old.history old.durable trace.now) (sym limits) (goes_now _ old.trace trace (leaves_between own) own.leaves);
-    kept = λ still. kept_closed old own alive all log trace.now marks limits only_now (home own)
-        (keeps still (drop (own.kept alive).base old.history.acts) (own.kept alive).forced (own.kept alive).log_keeps) (clear still);
+    leaves = subst (λ (x : Limits). LeavesPart x old.history old.durable trace.now) (sym r.limits) (goes_now _ old.trace trace (leaves_between own) own.leaves);
+    kept = λ still. kept_closed old own r.alive r.all log trace.now marks r.limits only_now (r.home own)
+        (keeps still (drop (own.kept r.alive).base old.history.acts) (own.kept r.alive).forced (own.kept r.alive).log_keeps) (clear still);
   }
 
   pub follows_closed : Follows old closed
   follows_closed = record {
-    later = record { failures = more; durable = omega arith; stopped = λ s. (let both : true ≡ false = sym s ∙ alive in absurd cc); stop_has_cause = λ s. inr (failed s); honest = λ s. sym same ∙ s };
+    later = record { failures = r.more; durable = omega arith; stopped = λ s. (let both : true ≡ false = sym s ∙ r.alive in absurd cc); stop_has_cause = λ s. inr (r.failed s); honest = λ s. sym r.same ∙ s };
     grows = λ own. record {
       own = own_closed own;
-      limits = limits;
+      limits = r.limits;
       start = refl;
       more = [];
       acts = sym (append-nil old.history.acts);

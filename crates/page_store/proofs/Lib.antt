@@ -1,4 +1,3 @@
-mod Steps
 pub mod Acting
 pub mod Images
 pub mod Restarting

@@ -1,5 +1,5 @@
 -- An empty body. The borrow is opened, and closed with one act more.
-use Rattle.page_store.proofs.Steps.{[], ◌∷◌, ◌++◌, refl, proved, id⊢, ftrue, flft, named, vunit, ‵, ◌⊛◌, ◌$◌, ◌∵◌, !, qed, done, move, keep, use1, split, join, fsplit3, feq_i, suffices, frame, group, enter, of_opd, unit_lit, returns, alloc_all, pass_all, free_all, look_at, sets, yes, ShrSlice, shr_slice_vals, shr_slice_Tells, MutRef, mut_vals, mut_Tells, plain, opens, closes, says, Stays, walk_of, stay_ref, Goes-ref, stay_none_slice, Goes-none_slice, ends_at}
+use Rattle.device.proofs.Steps.{[], ◌∷◌, ◌++◌, refl, proved, id⊢, ftrue, flft, named, vunit, ‵, ◌⊛◌, ◌$◌, ◌∵◌, !, qed, done, move, keep, use1, split, join, fsplit3, feq_i, suffices, frame, group, enter, of_opd, unit_lit, returns, alloc_all, pass_all, free_all, look_at, sets, yes, ShrSlice, shr_slice_vals, shr_slice_Tells, MutRef, mut_vals, mut_Tells, plain, opens, closes, says, Stays, walk_of, stay_ref, Goes-ref, stay_none_slice, Goes-none_slice, ends_at}
 use Rattle.page_codec.specs.contracts.page.Page.{the_row as P}
 use Rattle.page_store.specs.contracts.history.History.{the_row as R}
 use Rattle.page_store.specs.contracts.history.History.note as f

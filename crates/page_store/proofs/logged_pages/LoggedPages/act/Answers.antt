@@ -12,9 +12,9 @@ use Rattle.page_store.proofs.FollowLaws.{follows_log}
 use Rattle.page_store.proofs.logged_pages.LoggedPages.act.Goals as goal
 
 pub append-requires : goal.append-requires
-append-requires g c =
-    let held = c.args.self.now in
-    record { images = subst (λ (l : Limits). AreImages l c.args.pages.now) (sym held.log_limits) (are_images held.limits (length held.pages.items) c.args.pages.now c.requires.actable) }
+append-requires g c = record {
+  images = subst (λ (l : Limits). AreImages l c.args.pages.now) (sym c.args.self.now.log_limits) (are_images c.args.self.now.limits _ c.args.pages.now c.requires.actable);
+}
 
 pub invariant_of-self-2-clause-log_limits : goal.invariant_of-self-2-clause-log_limits
 invariant_of-self-2-clause-log_limits g c = c.in_ok-number.ensures.limits ∙ c.args.self.now.log_limits
@@ -33,13 +33,12 @@ returns-clause-steps g c =
 
 pub invariant_of-self-2-clause-marks : goal.invariant_of-self-2-clause-marks
 invariant_of-self-2-clause-marks g c =
-    let held = c.args.self.now in
-    ap length c.place_marks.ensures.marks ∙ (length-with_marks held.changed.items held.pages.items c.args.pages.now held.marks ∙ sym (ap length c.place_pages.ensures.pages))
+    ap length c.place_marks.ensures.marks ∙ (length-with_marks _ _ c.args.pages.now c.args.self.now.marks ∙ sym (ap length c.place_pages.ensures.pages))
 
 pub returns-clause-room : goal.returns-clause-room
 returns-clause-room g c =
-    let held = c.args.self.now in
-    let limits = sym (c.append.ensures.limits ∙ held.log_limits) in
-    room_left held.log c.append.new.self (length c.args.pages.now) held.room c.room-self.result
-    (λ some. subst (λ (l : Limits). end_with held.log held.room ≤ l.log_bytes) limits (held.fits (alive_of c.append.result _ _ c.in_ok-number.was c.append.ensures.stopped_first) some))
+    let own = c.args.self.now in
+    let limits = sym (c.append.ensures.limits ∙ own.log_limits) in
+    room_left own.log c.append.new.self (length c.args.pages.now) own.room c.room-self.result
+    (λ some. subst (λ (l : Limits). end_with own.log own.room ≤ l.log_bytes) limits (own.fits (alive_of c.append.result _ _ c.in_ok-number.was c.append.ensures.stopped_first) some))
     c.in_ok-number.ensures.room c.room-self.ensures.no_more

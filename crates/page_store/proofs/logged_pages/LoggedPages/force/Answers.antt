@@ -30,11 +30,11 @@ invariant_of-self-then-self-clause-kept_promise g c =
 
 pub returns-clause-steps : goal.returns-clause-steps
 returns-clause-steps g c =
-    let held = c.args.self.now in
+    let start = held_of g.D.Device c.args.self.now in
     elim c.if-self.branch [
-      | then-self+in_ok-force w ↦ subst (λ s. Follows (held_of g.D.Device held) (held_of g.D.Device s)) (sym w.self-is)
-          (follows_force (held_of g.D.Device held) w.force.new.self (g.D.Device.trace w.force.new.device) (g.D.Device.is_honest w.force.new.device) (g.D.Device.failures w.force.new.device)
+      | then-self+in_ok-force w ↦ subst (λ s. Follows start (held_of g.D.Device s)) (sym w.self-is)
+          (follows_force start w.force.new.self (g.D.Device.trace w.force.new.device) (g.D.Device.is_honest w.force.new.device) (g.D.Device.failures w.force.new.device)
           w.force.ensures.same.limits (sym c.is_stopped.ensures ∙ c.if-is_stopped.false) w.force.ensures.moments w.force.ensures.outside w.force.ensures.len w.force.ensures.honest
-          (failures_rise w.force.result _ _ _ w.force.ensures.cause) w.in_ok-force.ensures.keeps held.not_ahead w.min-self.result (w.force.ensures.stopped ∙ ap is_err w.in_ok-force.was))
-      | else-self w ↦ subst (λ s. Follows (held_of g.D.Device held) (held_of g.D.Device s)) (sym w.self-is) (follows_same (held_of g.D.Device held))
+          (failures_rise w.force.result _ _ _ w.force.ensures.cause) w.in_ok-force.ensures.keeps c.args.self.now.not_ahead w.min-self.result (w.force.ensures.stopped ∙ ap is_err w.in_ok-force.was))
+      | else-self w ↦ subst (λ s. Follows start (held_of g.D.Device s)) (sym w.self-is) (follows_same start)
     ]

@@ -13,12 +13,10 @@ invariant_of-self-clause-sized g c =
 
 pub returns-clause-steps : goal.returns-clause-steps
 returns-clause-steps g c =
-    let held = c.args.self.now in
-    follows_written (held_of g.D.Device held) (g.D.Device.trace c.write_home.new.device) (g.D.Device.is_honest c.write_home.new.device) (g.D.Device.failures c.write_home.new.device) c.requires.alive c.requires.all
-    (goes_marked _ _ _ _ _ _ held.log_limits c.deref-2.ensures.value c.write_home.ensures.moments) c.write_home.ensures.honest (counts_rise c.write_home.result _ _ c.write_home.ensures.failures)
+    follows_written (held_of g.D.Device c.args.self.now) (g.D.Device.trace c.write_home.new.device) (g.D.Device.is_honest c.write_home.new.device) (g.D.Device.failures c.write_home.new.device) c.requires.alive c.requires.all
+    (goes_marked _ _ _ _ _ _ c.args.self.now.log_limits c.deref-2.ensures.value c.write_home.ensures.moments) c.write_home.ensures.honest (counts_rise c.write_home.result _ _ c.write_home.ensures.failures)
 
 pub returns-clause-home : goal.returns-clause-home
 returns-clause-home g c =
-    let held = c.args.self.now in
-    on_ok_map c.write_home.result c.write_home.ensures.written
-    (λ written own. home_after _ held.limits c.deref-2.result.now c.deref.result.now c.requires.alive c.requires.all held.log_limits c.deref-2.ensures.value c.deref.ensures.value written own)
+    on_ok_map c.write_home.result c.write_home.ensures.written (λ written own.
+    home_after _ c.args.self.now.limits c.deref-2.result.now c.deref.result.now c.requires.alive c.requires.all c.args.self.now.log_limits c.deref-2.ensures.value c.deref.ensures.value written own)

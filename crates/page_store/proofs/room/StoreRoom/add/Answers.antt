@@ -15,5 +15,4 @@ invariant_of-self-clause-stored c =
 
 pub invariant_of-self-clause-unmarked : goal.invariant_of-self-clause-unmarked
 invariant_of-self-clause-unmarked c =
-    let room = c.args.self.now in
-    ap has_mark c.push_reserved-2.ensures.items ∙ (has_mark-add room.marks.items ∙ room.unmarked)
+    ap has_mark c.push_reserved-2.ensures.items ∙ (has_mark-add c.args.self.now.marks.items ∙ c.args.self.now.unmarked)
