@@ -121,31 +121,38 @@ named_from limits images images' t t' u e f moments =
     subst (λ (l : List Page). Goes (ChangesNamed limits l t.now) t u) f (subst (λ (x : Trace). Goes (ChangesNamed limits images' x.now) x u) e moments)
 
 -- a log that was just replayed over an index
-module _ (limits : Limits) (images pages : List Page) (log : Log) (t : Trace) (firm : IsSynced t.now) (restarts : RestartsTo limits t.now.seen pages) (opened : IsOpened limits log) (replays : Replays limits t.now log images)
-    (law : KeepsWhileUntouched log) (leaves : WhatItKeepsRestarts log) where
+pub record IsReplayed (limits : Limits) (images pages : List Page) (log : Log) (t : Trace) : Type 0 where
+  pub firm : IsSynced t.now
+  pub restarts : RestartsTo limits t.now.seen pages
+  pub opened : IsOpened limits log
+  pub replays : Replays limits t.now log images
+  pub law : KeepsWhileUntouched log
+  pub leaves : WhatItKeepsRestarts log
+
+module _ (limits : Limits) (images pages : List Page) (log : Log) (t : Trace) (r : IsReplayed limits images pages log t) where
   abbrev gs : List (List Page)
-  gs = replays.groups
+  gs = r.replays.groups
 
   pub started : Stands limits images pages t.now
   started =
-      let one : restarts.groups ≡ gs = replays.only restarts.groups restarts.spells in
-      subst (λ (l : List Page). Stands limits l pages t.now) (ap images_of one ∙ sym replays.images_are) (stands_at limits pages t.now firm restarts)
+      let one : r.restarts.groups ≡ gs = r.replays.only r.restarts.groups r.restarts.spells in
+      subst (λ (l : List Page). Stands limits l pages t.now) (ap images_of one ∙ sym r.replays.images_are) (stands_at limits pages t.now r.firm r.restarts)
 
   keeps : Keeps log t.now gs (length gs)
-  keeps = replays.keeps (record { firm = λ i lt. firm (4096 + i) })
+  keeps = r.replays.keeps (record { firm = λ i lt. r.firm (4096 + i) })
 
   same_images : (part : ℕ) (groups : List (List Page)) → length gs ≤ part → SameImages (images_of groups) (images_of (take part gs)) → (block : ℕ) → last_image (images_of groups) block ≡ last_image images block
   same_images part groups all same block =
-      same.each block ∙ ap (λ (l : List Page). last_image l block) (ap images_of (take_all part gs all) ∙ sym replays.images_are)
+      same.each block ∙ ap (λ (l : List Page). last_image l block) (ap images_of (take_all part gs all) ∙ sym r.replays.images_are)
 
   keeps_written : (m : Moment) → ChangesNamed limits images t.now m → Keeps log m gs (length gs)
   keeps_written m change =
-      law t.now m gs (length gs) (elsewhere_untouched (place limits 0) (4096 * limits.pages) 4096 (limits_of log).log_bytes t.now m change.only (inl (omega (arith, ap (λ (l : Limits). l.log_bytes) opened.limits_are)))) keeps
+      r.law t.now m gs (length gs) (elsewhere_untouched (place limits 0) (4096 * limits.pages) 4096 (limits_of log).log_bytes t.now m change.only (inl (omega (arith, ap (λ (l : Limits). l.log_bytes) r.opened.limits_are)))) keeps
 
   -- while its images are written
   pub written_leaves : (m : Moment) → ChangesNamed limits images t.now m → LeavesPages limits pages m
   written_leaves m change image left =
-      let h = subst (λ (l : Limits). Restarts l gs (length gs) m) opened.limits_are (leaves m gs (length gs) (keeps_written m change)) image left in
+      let h = subst (λ (l : Limits). Restarts l gs (length gs) m) r.opened.limits_are (r.leaves m gs (length gs) (keeps_written m change)) image left in
       stands_leaves limits images pages m (stands_named limits images pages t.now m change started) image left h.holds.groups h.holds.spells (same_images h.part h.holds.groups h.from h.holds.same)
 
   -- once they are written and synced, and while the log is closed
@@ -167,19 +174,19 @@ module _ (limits : Limits) (images pages : List Page) (log : Log) (t : Trace) (f
 
     module _ (closing : RestartsOrEmptyThroughout log u v) (outside : ChangesItsRange (limits_of log) u v) where
       outside_here : Goes (ChangesOnly 4096 limits.log_bytes u.now) u v
-      outside_here = subst (λ (l : Limits). ChangesItsRange l u v) opened.limits_are outside
+      outside_here = subst (λ (l : Limits). ChangesItsRange l u v) r.opened.limits_are outside
 
       pub closed_goes : Goes (LeavesPages limits pages) u v
       closed_goes =
-          let holds = subst (λ (l : Limits). Goes (RestartsOrEmpty l (take (length gs) gs)) u v) opened.limits_are (closing gs (length gs) (keeps_written u.now now_named)) in
+          let holds = subst (λ (l : Limits). Goes (RestartsOrEmpty l (take (length gs) gs)) u v) r.opened.limits_are (closing gs (length gs) (keeps_written u.now now_named)) in
           goes_weaker _ _ u v (λ m two. closing_leaves m two.0 two.1) (goes_both _ _ u v holds outside_here)
 
       pub closed_stands : (after : Log) → limits_of after ≡ limits_of log → waiting_count after ≡ waiting_count log → ForgetsForced log u.now after v.now → StandsOpened after v.now pages
       closed_stands after same waits forgets =
-          let l = same ∙ opened.limits_are in
+          let l = same ∙ r.opened.limits_are in
           let s = stands_logged limits [] pages u.now v.now (goes_now _ u v outside_here (same_only 4096 limits.log_bytes u.now)) at_home in
           record {
-            log_keeps = forgets_all log u.now after v.now forgets waits opened.waiting gs (length gs) (keeps_written u.now now_named);
+            log_keeps = forgets_all log u.now after v.now forgets waits r.opened.waiting gs (length gs) (keeps_written u.now now_named);
             home = subst (λ (x : Limits). AreHome x [] pages v.now) (sym l) (home_of limits pages v.now s);
             superblock_on = subst (λ (x : Limits). OnDisk 0 (superblock x) v.now) (sym l) s.superblock_on;
           }

@@ -1,28 +1,37 @@
-use Rattle.std.proofs.Common.{◌+◌, ◌*◌, arith}
+use Rattle.std.proofs.Common.{ℕ, ◌+◌, ◌*◌, arith}
+use Rattle.device.specs.Moments.{Goes}
+use Rattle.device.specs.Places.{ChangesOnly}
 use Rattle.device_layout.specs.Layout.{place}
+use Rattle.index_model.specs.declared.limits.Limits.{Limits}
 use Rattle.recovery.proofs.Creating.{only_now, wider_goes, more_goes, synced_goes, body_made}
+use Rattle.recovery.proofs.creation.place_body.Given.{Over}
+use Rattle.recovery.proofs.creation.place_body.Goals.{After-place, After-place_pages}
 use Rattle.recovery.proofs.creation.place_body.Goals as goal
 
-pub returns-in_err-place-clause-moments : goal.returns-in_err-place-clause-moments
-returns-in_err-place-clause-moments g c =
+-- the bytes behind the superblock
+abbrev behind : Limits → ℕ
+behind limits = limits.log_bytes + 4096 * limits.pages
+
+-- the gate is one of them
+gate_goes : (g : Over) (c : After-place g) → Goes (ChangesOnly 4096 (behind c.args.limits.now) (g.D.Device.trace c.args.device.now).now) (g.D.Device.trace c.args.device.now) (g.D.Device.trace c.place.new.device)
+gate_goes g c = wider_goes 4096 1 4096 (behind c.args.limits.now) _ _ (omega arith) (omega (arith, c.requires.allowed.log_from)) c.place.ensures.moments
+
+-- and so are the pages
+pages_go : (g : Over) (c : After-place_pages g) → Goes (ChangesOnly 4096 (behind c.args.limits.now) (g.D.Device.trace c.args.device.now).now) (g.D.Device.trace c.args.device.now) (g.D.Device.trace c.place_pages.new.device)
+pages_go g c =
     let limits = c.args.limits.now in
-    wider_goes 4096 1 4096 (limits.log_bytes + 4096 * limits.pages) _ _ (omega arith) (omega (arith, c.requires.allowed.log_from)) c.place.ensures.moments
+    more_goes (place limits 0) (4096 * limits.pages) 4096 (behind limits) _ _ _ (omega arith) (omega arith) (gate_goes g (goal.at.After-place_pages g c).After-place) c.place_pages.ensures.moments
+
+pub returns-in_err-place-clause-moments : goal.returns-in_err-place-clause-moments
+returns-in_err-place-clause-moments g c = gate_goes g (goal.at.returns-in_err-place-clause-moments g c).After-place
 
 pub returns-in_err-place_pages-clause-moments : goal.returns-in_err-place_pages-clause-moments
-returns-in_err-place_pages-clause-moments g c =
-    let limits = c.args.limits.now in
-    let n = limits.log_bytes + 4096 * limits.pages in
-    let gate = wider_goes 4096 1 4096 n _ _ (omega arith) (omega (arith, c.requires.allowed.log_from)) c.place.ensures.moments in
-    more_goes (place limits 0) (4096 * limits.pages) 4096 n _ _ _ (omega arith) (omega arith) gate c.place_pages.ensures.moments
+returns-in_err-place_pages-clause-moments g c = pages_go g (goal.at.returns-in_err-place_pages-clause-moments g c).After-place_pages
 
 pub returns-clause-there : goal.returns-clause-there
 returns-clause-there g c =
-    let limits = c.args.limits.now in
-    body_made limits c.sync.result _ _ _ c.in_ok-place.ensures.there (only_now (place limits 0) (4096 * limits.pages) _ _ c.place_pages.ensures.moments) c.in_ok-place_pages.ensures.there (omega (arith, c.requires.allowed.log_from)) c.sync.ensures.trace
+    body_made c.args.limits.now c.sync.result _ _ _ c.in_ok-place.ensures.there (only_now (place c.args.limits.now 0) (4096 * c.args.limits.now.pages) _ _ c.place_pages.ensures.moments) c.in_ok-place_pages.ensures.there
+    (omega (arith, c.requires.allowed.log_from)) c.sync.ensures.trace
 
 pub returns-clause-moments : goal.returns-clause-moments
-returns-clause-moments g c =
-    let limits = c.args.limits.now in
-    let n = limits.log_bytes + 4096 * limits.pages in
-    let gate = wider_goes 4096 1 4096 n _ _ (omega arith) (omega (arith, c.requires.allowed.log_from)) c.place.ensures.moments in
-    synced_goes 4096 n c.sync.result _ _ _ (more_goes (place limits 0) (4096 * limits.pages) 4096 n _ _ _ (omega arith) (omega arith) gate c.place_pages.ensures.moments) c.sync.ensures.trace
+returns-clause-moments g c = synced_goes 4096 (behind c.args.limits.now) c.sync.result _ _ _ (pages_go g (goal.at.returns-clause-moments g c).After-place_pages) c.sync.ensures.trace

@@ -1,19 +1,36 @@
-use Rattle.std.proofs.Common.{◌-◌, ◌*◌, arith}
+use Rattle.std.proofs.Common.{ℕ, ◌-◌, ◌*◌, ◌<◌, ◌≤◌, arith}
+use Rattle.device.specs.Disk.{Trace}
+use Rattle.device.specs.Moments.{Goes}
+use Rattle.device.specs.Places.{ChangesOnly}
 use Rattle.device_layout.specs.Layout.{place}
+use Rattle.index_model.specs.declared.limits.Limits.{Limits}
 use Rattle.recovery.proofs.Creating.{on_ok, only_now, wider_goes, more_goes, pages_made}
+use Rattle.recovery.proofs.creation.place_pages.Given.{Over}
+use Rattle.recovery.proofs.creation.place_pages.Goals.{After-place_zeros, After-place_page}
 use Rattle.recovery.proofs.creation.place_pages.Goals as goal
 
-pub returns-in_err-place_zeros-clause-moments : goal.returns-in_err-place_zeros-clause-moments
-returns-in_err-place_zeros-clause-moments g c =
+-- nothing but the places of the blocks changes
+abbrev PagesGo : Limits → Trace → Trace → Type 0
+PagesGo limits t u = Goes (ChangesOnly (place limits 0) (4096 * limits.pages) t.now) t u
+
+zeros_go : (g : Over) (c : After-place_zeros g) → PagesGo c.args.limits.now (g.D.Device.trace c.args.device.now) (g.D.Device.trace c.place_zeros.new.device)
+zeros_go g c =
     let limits = c.args.limits.now in
     wider_goes (place limits 2) (4096 * (limits.pages - 2)) (place limits 0) (4096 * limits.pages) _ _ (omega arith) (omega (arith, c.requires.allowed.pages_from)) c.place_zeros.ensures.moments
 
+-- also where one page more is written, at a block of the first two
+page_goes : (limits : Limits) (block : ℕ) (t u v : Trace) → block < 2 → 2 ≤ limits.pages → PagesGo limits t u → Goes (ChangesOnly (place limits block) 4096 u.now) u v → PagesGo limits t v
+page_goes limits block t u v below few = more_goes (place limits block) 4096 (place limits 0) (4096 * limits.pages) t u v (omega arith) (omega arith)
+
+meta_goes : (g : Over) (c : After-place_page g) → PagesGo c.args.limits.now (g.D.Device.trace c.args.device.now) (g.D.Device.trace c.place_page.new.device)
+meta_goes g c =
+    page_goes c.args.limits.now c.first_meta.result.block _ _ _ (omega (arith, c.first_meta.ensures.block)) (omega (arith, c.requires.allowed.pages_from)) (zeros_go g (goal.at.After-place_page g c).After-place_zeros) c.place_page.ensures.moments
+
+pub returns-in_err-place_zeros-clause-moments : goal.returns-in_err-place_zeros-clause-moments
+returns-in_err-place_zeros-clause-moments g c = zeros_go g (goal.at.returns-in_err-place_zeros-clause-moments g c).After-place_zeros
+
 pub returns-in_err-place_page-clause-moments : goal.returns-in_err-place_page-clause-moments
-returns-in_err-place_page-clause-moments g c =
-    let limits = c.args.limits.now in
-    let few = c.requires.allowed.pages_from in
-    let zeros = wider_goes (place limits 2) (4096 * (limits.pages - 2)) (place limits 0) (4096 * limits.pages) _ _ (omega arith) (omega (arith, few)) c.place_zeros.ensures.moments in
-    more_goes (place limits c.first_meta.result.block) 4096 (place limits 0) (4096 * limits.pages) _ _ _ (omega arith) (omega (arith, few, c.first_meta.ensures.block)) zeros c.place_page.ensures.moments
+returns-in_err-place_page-clause-moments g c = meta_goes g (goal.at.returns-in_err-place_page-clause-moments g c).After-place_page
 
 pub returns-clause-there : goal.returns-clause-there
 returns-clause-there g c = on_ok _ _ c.place_page-2.result
@@ -23,8 +40,5 @@ returns-clause-there g c = on_ok _ _ c.place_page-2.result
 
 pub returns-clause-moments : goal.returns-clause-moments
 returns-clause-moments g c =
-    let limits = c.args.limits.now in
-    let few = c.requires.allowed.pages_from in
-    let zeros = wider_goes (place limits 2) (4096 * (limits.pages - 2)) (place limits 0) (4096 * limits.pages) _ _ (omega arith) (omega (arith, few)) c.place_zeros.ensures.moments in
-    let meta = more_goes (place limits c.first_meta.result.block) 4096 (place limits 0) (4096 * limits.pages) _ _ _ (omega arith) (omega (arith, few, c.first_meta.ensures.block)) zeros c.place_page.ensures.moments in
-    more_goes (place limits c.first_leaf.result.block) 4096 (place limits 0) (4096 * limits.pages) _ _ _ (omega arith) (omega (arith, few, c.first_leaf.ensures.block)) meta c.place_page-2.ensures.moments
+    page_goes c.args.limits.now c.first_leaf.result.block _ _ _ (omega (arith, c.first_leaf.ensures.block)) (omega (arith, c.requires.allowed.pages_from)) (meta_goes g (goal.at.returns-clause-moments g c).After-place_page)
+    c.place_page-2.ensures.moments

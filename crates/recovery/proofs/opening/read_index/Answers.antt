@@ -1,11 +1,15 @@
-use Rattle.std.proofs.Common.{◌≤◌, ⊎_elim, inl, inr, length, sym, ap, subst, arith}
+use Rattle.std.proofs.Common.{◌≡◌, ◌≤◌, List, ⊎_elim, inl, inr, length, sym, ap, subst, arith}
 use Rattle.device.specs.Disk.{Trace}
 use Rattle.device.specs.Moments.{Goes}
 use Rattle.index_model.specs.declared.limits.Limits.{Limits}
 use Rattle.device_layout.specs.Layout.{place}
 use Rattle.page_store.specs.Restart.{LeavesPages, RestartsTo}
+use Rattle.page_codec.specs.declared.page.Page.{Page}
+use Rattle.recovery.specs.Index.{HasIndex}
 use Rattle.recovery.proofs.Blocks.{refused}
 use Rattle.recovery.proofs.Answering.{front_of, one_front, found_same, found_index, fails_behind, restore_refuses}
+use Rattle.recovery.proofs.opening.read_index.Given.{Over}
+use Rattle.recovery.proofs.opening.read_index.Goals.{After-restore}
 use Rattle.recovery.proofs.opening.read_index.Goals as goal
 
 pub returns-in_err-limits-clause-same : goal.returns-in_err-limits-clause-same
@@ -17,14 +21,18 @@ returns-in_err-limits-clause-cause g c =
     refused c.from_residual.result c.in_err-limits.field-0.0 _ _ c.from_residual.ensures.1
     (⊎_elim (λ io. inl io) (λ front. inr (inl (front.0, c.find_limits.ensures.calls.trace), front.1)) c.in_err-limits.ensures.cause)
 
+-- the index, by the sizes that were found
+index_found : (g : Over) (c : After-restore g) (limits : Limits) (pages : List Page) → c.in_ok-limits.limits ≡ limits → HasIndex limits pages (g.D.Device.trace c.args.device.now).now.seen
+    → RestartsTo c.in_ok-limits.limits (g.D.Device.trace c.find_limits.new.device).now.seen pages
+index_found g c limits pages is index =
+    subst (λ (u : Trace). RestartsTo c.in_ok-limits.limits u.now.seen pages) (sym c.find_limits.ensures.calls.trace)
+    (subst (λ (l : Limits). RestartsTo l (g.D.Device.trace c.args.device.now).now.seen pages) (sym is) index.restarts)
+
 pub returns-clause-same : goal.returns-clause-same
 returns-clause-same g c = λ honest frames limits pages index.
-    let t = g.D.Device.trace c.args.device.now in
-    let found = c.in_ok-limits.limits in
-    let is = c.in_ok-limits.ensures.only frames (c.restore.ensures.calls.honest honest) limits (front_of limits pages t.now.seen index) in
-    let restarts = subst (λ (l : Limits). RestartsTo l t.now.seen pages) (sym is) index.restarts in
-    found_same c.restore.result found limits pages (g.D.Device.is_honest c.restore.new.device) _ _ is c.restore.ensures.restored
-    (c.restore.ensures.same honest pages index.some (subst (λ (u : Trace). RestartsTo found u.now.seen pages) (sym c.find_limits.ensures.calls.trace) restarts))
+    let is = c.in_ok-limits.ensures.only frames (c.restore.ensures.calls.honest honest) limits (front_of limits pages _ index) in
+    found_same c.restore.result c.in_ok-limits.limits limits pages (g.D.Device.is_honest c.restore.new.device) _ _ is c.restore.ensures.restored
+    (c.restore.ensures.same honest pages index.some (index_found g (goal.at.returns-clause-same g c).After-restore limits pages is index))
 
 pub returns-clause-moments : goal.returns-clause-moments
 returns-clause-moments g c = λ honest limits pages index.
@@ -32,8 +40,7 @@ returns-clause-moments g c = λ honest limits pages index.
     let v = g.D.Device.trace c.restore.new.device in
     let found = c.in_ok-limits.limits in
     let is = one_front found limits t.now.seen (c.in_ok-limits.ensures.front (c.restore.ensures.calls.honest honest)) (front_of limits pages t.now.seen index) in
-    let restarts = subst (λ (l : Limits). RestartsTo l t.now.seen pages) (sym is) index.restarts in
-    let moments = c.restore.ensures.moments honest pages (subst (λ (u : Trace). RestartsTo found u.now.seen pages) (sym c.find_limits.ensures.calls.trace) restarts) in
+    let moments = c.restore.ensures.moments honest pages (index_found g (goal.at.returns-clause-moments g c).After-restore limits pages is index) in
     subst (λ (l : Limits). Goes (LeavesPages l pages) t v) is (subst (λ (u : Trace). Goes (LeavesPages found pages) u v) c.find_limits.ensures.calls.trace moments)
 
 pub returns-clause-cause : goal.returns-clause-cause

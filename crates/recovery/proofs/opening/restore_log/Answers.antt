@@ -1,10 +1,15 @@
 use Rattle.std.proofs.Common.{◌∙◌, IsTrue, Err, List, length, ap, subst, arith}
 use Rattle.device.specs.Disk.{Trace}
+use Rattle.device.specs.Moments.{Goes}
 use Rattle.device.proofs.Going.{goes_on, goes_weaker}
 use Rattle.index_model.specs.declared.limits.Limits.{Limits}
 use Rattle.page_codec.specs.declared.page.Page.{Page}
-use Rattle.recovery.specs.Homing.{AreHomed}
-use Rattle.recovery.proofs.Restoring.{named_from, written_leaves, closed_goes, closed_stands, replay_refuses}
+use Rattle.page_store.specs.Restart.{RestartsTo, LeavesPages}
+use Rattle.recovery.specs.Homing.{ChangesNamed, AreHomed}
+use Rattle.recovery.specs.Opening.{IsSynced}
+use Rattle.recovery.proofs.Restoring.{IsReplayed, named_from, written_leaves, closed_goes, closed_stands, replay_refuses}
+use Rattle.recovery.proofs.opening.restore_log.Given.{Over}
+use Rattle.recovery.proofs.opening.restore_log.Goals.{After-bring_home, After-reset, In_ok-bring_home}
 use Rattle.recovery.proofs.opening.restore_log.Goals as goal
 
 pub returns-in-Err-clause-same : goal.returns-in-Err-clause-same
@@ -14,58 +19,72 @@ returns-in-Err-clause-same g c = λ honest firm pages restarts.
 pub returns-in-Err-clause-damaged : goal.returns-in-Err-clause-damaged
 returns-in-Err-clause-damaged g c = λ is. (c.replay.ensures.trace, λ honest. c.replay.ensures.damaged (c.in-Err.is ∙ ap Err is) honest)
 
+-- an index whose log was replayed
+abbrev Index : (g : Over) → After-bring_home g → List Page → Type 0
+Index g c pages = IsReplayed c.args.limits c.in-Ok.found.images.items pages c.in-Ok.found.log (g.D.Device.trace c.args.device.now)
+
+index : (g : Over) (c : After-bring_home g) → IsTrue (g.D.Device.is_honest c.bring_home.new.device) → IsSynced (g.D.Device.trace c.args.device.now).now
+    → (pages : List Page) → RestartsTo c.args.limits (g.D.Device.trace c.args.device.now).now.seen pages → Index g c pages
+index g c honest firm pages restarts = record {
+  firm = firm;
+  restarts = restarts;
+  opened = c.in-Ok.ensures.opened;
+  replays = c.in-Ok.ensures.ok (subst IsTrue c.bring_home.ensures.calls.honest honest);
+  law = c.keeping_law.ensures.keeps;
+  leaves = c.keeping_law.ensures.restarts;
+}
+
+-- while its images are brought home only places of their blocks change
+named : (g : Over) (c : After-bring_home g)
+    → Goes (ChangesNamed c.args.limits c.in-Ok.found.images.items (g.D.Device.trace c.args.device.now).now) (g.D.Device.trace c.args.device.now) (g.D.Device.trace c.bring_home.new.device)
+named g c =
+    named_from c.args.limits c.in-Ok.found.images.items c.deref.result.now _ (g.D.Device.trace c.replay.new.device) _ c.replay.ensures.trace c.deref.ensures.value c.bring_home.ensures.moments
+
+-- so a crash leaves the index
+home_leaves : (g : Over) (c : After-bring_home g) (pages : List Page) → Index g c pages → Goes (LeavesPages c.args.limits pages) (g.D.Device.trace c.args.device.now) (g.D.Device.trace c.bring_home.new.device)
+home_leaves g c pages r = goes_weaker _ _ _ (g.D.Device.trace c.bring_home.new.device) (written_leaves _ _ _ _ _ r) (named g c)
+
 pub returns-in_err-bring_home-clause-moments : goal.returns-in_err-bring_home-clause-moments
 returns-in_err-bring_home-clause-moments g c = λ honest firm pages restarts.
-    let limits = c.args.limits in
-    let start = g.D.Device.trace c.args.device.now in
-    let images = c.in-Ok.found.images.items in
-    let middle = g.D.Device.trace c.bring_home.new.device in
-    let moments = named_from limits images c.deref.result.now start (g.D.Device.trace c.replay.new.device) middle c.replay.ensures.trace c.deref.ensures.value c.bring_home.ensures.moments in
-    let found = c.in-Ok.ensures.ok (subst IsTrue c.bring_home.ensures.calls.honest honest) in
-    goes_weaker _ _ start middle (written_leaves limits images pages c.in-Ok.found.log start firm restarts c.in-Ok.ensures.opened found c.keeping_law.ensures.keeps c.keeping_law.ensures.restarts) moments
+    let c' = (goal.at.returns-in_err-bring_home-clause-moments g c).After-bring_home in
+    home_leaves g c' pages (index g c' honest firm pages restarts)
 
 pub reset-requires : goal.reset-requires
 reset-requires g c =
     let is = c.in-Ok.ensures.opened.limits_are in
     record { range = omega (arith, ap (λ (l : Limits). l.log_bytes) is, c.bring_home.ensures.calls.len, ap (λ (t : Trace). length t.now.seen) c.replay.ensures.trace, c.requires.inside) }
 
+-- the same while the log is closed, and it stands then
+module _ (g : Over) (c : After-reset g) where
+  abbrev found : After-bring_home g
+  found = (goal.at.After-reset g c).After-bring_home
+
+  reset_index : IsTrue (g.D.Device.is_honest c.reset.new.device) → IsSynced (g.D.Device.trace c.args.device.now).now
+      → (pages : List Page) → RestartsTo c.args.limits (g.D.Device.trace c.args.device.now).now.seen pages → Index g found pages
+  reset_index honest = index g found (subst IsTrue c.reset.ensures.honest honest)
+
+  homed : AreHomed c.args.limits c.in-Ok.found.images.items (g.D.Device.trace c.bring_home.new.device).now
+  homed = subst (λ (l : List Page). AreHomed c.args.limits l (g.D.Device.trace c.bring_home.new.device).now) c.deref.ensures.value c.in_ok-bring_home.ensures.home
+
+  reset_leaves : (pages : List Page) → Index g found pages → Goes (LeavesPages c.args.limits pages) (g.D.Device.trace c.args.device.now) (g.D.Device.trace c.reset.new.device)
+  reset_leaves pages r =
+      goes_on _ _ (g.D.Device.trace c.bring_home.new.device) (g.D.Device.trace c.reset.new.device) (home_leaves g found pages r)
+      (closed_goes _ _ _ _ _ r (g.D.Device.trace c.bring_home.new.device) (g.D.Device.trace c.reset.new.device) (named g found) homed c.reset.ensures.moments c.reset.ensures.outside)
+
 pub returns-in_err-reset-clause-moments : goal.returns-in_err-reset-clause-moments
 returns-in_err-reset-clause-moments g c = λ honest firm pages restarts.
-    let limits = c.args.limits in
-    let start = g.D.Device.trace c.args.device.now in
-    let images = c.in-Ok.found.images.items in
-    let middle = g.D.Device.trace c.bring_home.new.device in
-    let moments = named_from limits images c.deref.result.now start (g.D.Device.trace c.replay.new.device) middle c.replay.ensures.trace c.deref.ensures.value c.bring_home.ensures.moments in
-    let found = c.in-Ok.ensures.ok (subst IsTrue (c.reset.ensures.honest ∙ c.bring_home.ensures.calls.honest) honest) in
-    let homed = subst (λ (l : List Page). AreHomed limits l middle.now) c.deref.ensures.value c.in_ok-bring_home.ensures.home in
-    goes_on _ start middle (g.D.Device.trace c.reset.new.device)
-    (goes_weaker _ _ start middle (written_leaves limits images pages c.in-Ok.found.log start firm restarts c.in-Ok.ensures.opened found c.keeping_law.ensures.keeps c.keeping_law.ensures.restarts) moments)
-    (closed_goes limits images pages c.in-Ok.found.log start firm restarts c.in-Ok.ensures.opened found c.keeping_law.ensures.keeps c.keeping_law.ensures.restarts middle (g.D.Device.trace c.reset.new.device) moments homed c.reset.ensures.moments c.reset.ensures.outside)
-
-pub returns-clause-same : goal.returns-clause-same
-returns-clause-same g c = λ honest firm pages restarts.
-    let limits = c.args.limits in
-    let start = g.D.Device.trace c.args.device.now in
-    let images = c.in-Ok.found.images.items in
-    let middle = g.D.Device.trace c.bring_home.new.device in
-    let moments = named_from limits images c.deref.result.now start (g.D.Device.trace c.replay.new.device) middle c.replay.ensures.trace c.deref.ensures.value c.bring_home.ensures.moments in
-    let found = c.in-Ok.ensures.ok (subst IsTrue (c.reset.ensures.honest ∙ c.bring_home.ensures.calls.honest) honest) in
-    let homed = subst (λ (l : List Page). AreHomed limits l middle.now) c.deref.ensures.value c.in_ok-bring_home.ensures.home in
-    closed_stands limits images pages c.in-Ok.found.log start firm restarts c.in-Ok.ensures.opened found c.keeping_law.ensures.keeps c.keeping_law.ensures.restarts middle (g.D.Device.trace c.reset.new.device) moments homed c.reset.ensures.moments c.reset.ensures.outside
-    c.reset.new.self c.reset.ensures.same.limits c.reset.ensures.waiting c.in_ok-reset.ensures.keeps
+    let c' = (goal.at.returns-in_err-reset-clause-moments g c).After-reset in
+    reset_leaves g c' pages (reset_index g c' honest firm pages restarts)
 
 pub returns-clause-moments : goal.returns-clause-moments
 returns-clause-moments g c = λ honest firm pages restarts.
-    let limits = c.args.limits in
-    let start = g.D.Device.trace c.args.device.now in
-    let images = c.in-Ok.found.images.items in
-    let middle = g.D.Device.trace c.bring_home.new.device in
-    let moments = named_from limits images c.deref.result.now start (g.D.Device.trace c.replay.new.device) middle c.replay.ensures.trace c.deref.ensures.value c.bring_home.ensures.moments in
-    let found = c.in-Ok.ensures.ok (subst IsTrue (c.reset.ensures.honest ∙ c.bring_home.ensures.calls.honest) honest) in
-    let homed = subst (λ (l : List Page). AreHomed limits l middle.now) c.deref.ensures.value c.in_ok-bring_home.ensures.home in
-    goes_on _ start middle (g.D.Device.trace c.reset.new.device)
-    (goes_weaker _ _ start middle (written_leaves limits images pages c.in-Ok.found.log start firm restarts c.in-Ok.ensures.opened found c.keeping_law.ensures.keeps c.keeping_law.ensures.restarts) moments)
-    (closed_goes limits images pages c.in-Ok.found.log start firm restarts c.in-Ok.ensures.opened found c.keeping_law.ensures.keeps c.keeping_law.ensures.restarts middle (g.D.Device.trace c.reset.new.device) moments homed c.reset.ensures.moments c.reset.ensures.outside)
+    (let c' = (goal.at.returns-clause-moments g c).After-reset in reset_leaves g c' pages (reset_index g c' honest firm pages restarts))
+
+pub returns-clause-same : goal.returns-clause-same
+returns-clause-same g c = λ honest firm pages restarts.
+    let c' = (goal.at.returns-clause-same g c).After-reset in
+    closed_stands _ _ _ _ _ (reset_index g c' honest firm pages restarts) (g.D.Device.trace c.bring_home.new.device) (g.D.Device.trace c.reset.new.device) (named g (found g c')) (homed g c')
+    c.reset.ensures.moments c.reset.ensures.outside c.reset.new.self c.reset.ensures.same.limits c.reset.ensures.waiting c.in_ok-reset.ensures.keeps
 
 pub returns-clause-undamaged : goal.returns-clause-undamaged
 returns-clause-undamaged g c = λ honest. (let found = c.in-Ok.ensures.ok (subst IsTrue (c.reset.ensures.honest ∙ c.bring_home.ensures.calls.honest) honest) in (found.groups, found.spells))

@@ -1,8 +1,10 @@
 use Rattle.std.proofs.Common.{rules, ◌≡◌, ◌∙◌, take, sym, ap, subst, Ok}
 use Rattle.index_model.specs.Limits.{AreLimits}
+use Rattle.index_model.specs.declared.limits.Limits.{Limits}
 use Rattle.recovery.specs.Superblock.{number_at}
 use Rattle.device_layout.specs.Layout.{magic, superblock}
 use Rattle.recovery.proofs.Spelling.{layout_spelled, sizes_read, magic_spelled}
+use Rattle.recovery.proofs.superblock.read_superblock.Goals.{After-number_at-4}
 use Rattle.recovery.proofs.superblock.read_superblock.Goals as goal
 
 pub returns-then-ne-clause-only : goal.returns-then-ne-clause-only
@@ -14,17 +16,19 @@ pub returns-then-number_at-ne1-clause-only : goal.returns-then-number_at-ne1-cla
 returns-then-number_at-ne1-clause-only c = λ limits are is.
     absurd (c.if-number_at-ne1.true (c.number_at.ensures ∙ (ap (number_at 8) is ∙ layout_spelled limits)))
 
+-- the sizes that were read
+read : (c : After-number_at-4) (limits : Limits) → AreLimits limits → c.args.bytes.now ≡ superblock limits → record { items = c.number_at-2.result; pages = c.number_at-3.result; log_bytes = c.number_at-4.result } ≡ limits
+read c limits are is = sizes_read c.args.bytes.now limits _ _ _ are is c.number_at-2.ensures c.number_at-3.ensures c.number_at-4.ensures
+
 pub returns-then-not-are_valid-clause-only : goal.returns-then-not-are_valid-clause-only
 returns-then-not-are_valid-clause-only c = λ limits are is.
-    let same = sizes_read c.args.bytes.now limits _ _ _ are is c.number_at-2.ensures c.number_at-3.ensures c.number_at-4.ensures in
-    let h = c.if-not-are_valid.ensures.1 (subst AreLimits (sym same) are) in cc
+    let h = c.if-not-are_valid.ensures.1 (subst AreLimits (sym (read (goal.at.returns-then-not-are_valid-clause-only c).After-number_at-4 limits are is)) are) in cc
 
 pub returns-then-ne-2-clause-only : goal.returns-then-ne-2-clause-only
 returns-then-ne-2-clause-only c = λ limits are is.
-    let same = sizes_read c.args.bytes.now limits _ _ _ are is c.number_at-2.ensures c.number_at-3.ensures c.number_at-4.ensures in
+    let same = read (goal.at.returns-then-ne-2-clause-only c).After-number_at-4 limits are is in
     let e : c.spell_superblock.new.out ≡ c.args.bytes.now = c.spell_superblock.ensures ∙ (ap superblock same ∙ sym is) in
     search rules
 
 pub returns-clause-only : goal.returns-clause-only
-returns-clause-only c = λ limits are is.
-    ap Ok (sizes_read c.args.bytes.now limits _ _ _ are is c.number_at-2.ensures c.number_at-3.ensures c.number_at-4.ensures)
+returns-clause-only c = λ limits are is. ap Ok (read (goal.at.returns-clause-only c).After-number_at-4 limits are is)
