@@ -84,10 +84,14 @@ last_or low (e ∷ es) = last_or (Some (bound_of e)) es
 
 -- a row as a pair of numbers, and an entry as the pair of its parts
 abbrev pub coded_row : Coded Row
-coded_row = code_by (ℕ × ℕ) (coded× coded_ℕ coded_ℕ) (λ r. (r.block, r.offset)) (λ p. record { block = p.0; offset = p.1 }) (λ _. refl)
+coded_row =
+    code_by (ℕ × ℕ) (coded× coded_ℕ coded_ℕ)
+    (λ r. (r.block, r.offset)) (λ p. record { block = p.0; offset = p.1 }) (λ _. refl)
 
 abbrev pub coded_entry : Coded Entry
-coded_entry = code_by (List ℕ × Row) (coded× (coded_list coded_ℕ) coded_row) (λ e. (e.key, e.row)) (λ p. record { key = p.0; row = p.1 }) (λ _. refl)
+coded_entry =
+    code_by (List ℕ × Row) (coded× (coded_list coded_ℕ) coded_row)
+    (λ e. (e.key, e.row)) (λ p. record { key = p.0; row = p.1 }) (λ _. refl)
 
 -- a set of entries
 abbrev pub EntrySet : Type 0

@@ -27,7 +27,8 @@ excludes Cleanup asked = true
 -- one of these latches excludes that latch of the block
 abbrev pub latches_exclude : List Latch → ℕ → Mode → Bool
 latches_exclude [] block asked = false
-latches_exclude (held ∷ latches) block asked = ((held.block == block) && excludes held.mode asked) || latches_exclude latches block asked
+latches_exclude (held ∷ latches) block asked =
+    ((held.block == block) && excludes held.mode asked) || latches_exclude latches block asked
 
 abbrev pub has_pin : List ℕ → ℕ → Bool
 has_pin [] block = false
@@ -41,13 +42,15 @@ pins_exclude pins block Cleanup = has_pin pins block
 
 -- what another session holds excludes that latch of the block
 abbrev pub holding_excludes : Holding → ℕ → Mode → Bool
-holding_excludes holding block asked = latches_exclude holding.latches block asked || pins_exclude holding.pins block asked
+holding_excludes holding block asked =
+    latches_exclude holding.latches block asked || pins_exclude holding.pins block asked
 
 -- one of these holdings, of the sessions from this number on, is another session's and excludes that latch
 abbrev pub others_exclude : ℕ → Table → ℕ → ℕ → Mode → Bool
 others_exclude from [] session block asked = false
 others_exclude from (holding ∷ table) session block asked =
-    (not (from == session) && holding_excludes holding block asked) || others_exclude (suc from) table session block asked
+    (not (from == session) && holding_excludes holding block asked)
+    || others_exclude (suc from) table session block asked
 
 -- another session's hold of the block conflicts with that latch
 abbrev pub is_held_by_another : Table → ℕ → ℕ → Mode → Bool
@@ -65,34 +68,48 @@ with_holding table session holding = slice_set table session holding
 abbrev pub latched : Table → ℕ → ℕ → Mode → Table
 latched table session block mode =
     let held = holding_of table session in
-    with_holding table session (record { latches = record { block = block; mode = mode } ∷ held.latches; pins = held.pins })
+    with_holding table session (record {
+      latches = record { block = block; mode = mode } ∷ held.latches;
+      pins = held.pins;
+    })
 
 -- without the newest latch of the block
 abbrev pub without_latch : List Latch → ℕ → List Latch
 without_latch [] block = []
-without_latch (held ∷ latches) block = if held.block == block then latches else held ∷ without_latch latches block
+without_latch (held ∷ latches) block =
+    if held.block == block then latches else held ∷ without_latch latches block
 
 abbrev pub without_pin : List ℕ → ℕ → List ℕ
 without_pin [] block = []
-without_pin (pinned ∷ pins) block = if pinned == block then pins else pinned ∷ without_pin pins block
+without_pin (pinned ∷ pins) block =
+    if pinned == block then pins else pinned ∷ without_pin pins block
 
 -- the session lets go its newest latch of the block, if it has one
 abbrev pub released : Table → ℕ → ℕ → Table
 released table session block =
     let held = holding_of table session in
-    with_holding table session (record { latches = without_latch held.latches block; pins = held.pins })
+    with_holding table session (record {
+      latches = without_latch held.latches block;
+      pins = held.pins;
+    })
 
 -- the session pins the block too; a third pin isn't taken
 abbrev pub pinned : Table → ℕ → ℕ → Table
 pinned table session block =
     let held = holding_of table session in
-    with_holding table session (record { latches = held.latches; pins = if nat_lt (length held.pins) 2 then block ∷ held.pins else held.pins })
+    with_holding table session (record {
+      latches = held.latches;
+      pins = if nat_lt (length held.pins) 2 then block ∷ held.pins else held.pins;
+    })
 
 -- the session lets go its newest pin of the block, if it has one
 abbrev pub unpinned : Table → ℕ → ℕ → Table
 unpinned table session block =
     let held = holding_of table session in
-    with_holding table session (record { latches = held.latches; pins = without_pin held.pins block })
+    with_holding table session (record {
+      latches = held.latches;
+      pins = without_pin held.pins block;
+    })
 
 -- the session may take one more latch
 abbrev pub HasRoom : Table → ℕ → Type 0

@@ -76,4 +76,5 @@ where_begun st old = record nothing_wrong { is_stopped = old.stopped || is_at_en
 
 -- the log is forced, or a checkpoint made
 abbrev pub where_forced : Backing → Backing → Circumstances
-where_forced old new = record nothing_wrong { device_failed = has_failed old new; is_stopped = old.stopped }
+where_forced old new =
+    record nothing_wrong { device_failed = has_failed old new; is_stopped = old.stopped }

@@ -35,11 +35,13 @@ IsEntry-prop e = hlevel props
 AreEntries-prop : (high : Option Bound) (es : List Entry) → IsProp (AreEntries high es)
 AreEntries-prop high es = hlevel (props, AscendsPast-prop None es, AllByRecursion-prop _ IsEntry-prop es, AllByRecursion-prop _ (IsUpTo-prop high) es)
 
-FollowedBy-prop : {A : Type 0} (R : A → A → Type 0) → ((a b : A) → IsProp (R a b)) → (a : A) (as' : List A) → IsProp (FollowedBy R a as')
+FollowedBy-prop : {A : Type 0} (R : A → A → Type 0) → ((a b : A) → IsProp (R a b))
+    → (a : A) (as' : List A) → IsProp (FollowedBy R a as')
 FollowedBy-prop R h a [] = Unit-prop
 FollowedBy-prop R h a (b ∷ bs) = ×_prop (h a b) (FollowedBy-prop R h b bs)
 
-Ascends-prop : {A : Type 0} (R : A → A → Type 0) → ((a b : A) → IsProp (R a b)) → (as' : List A) → IsProp (Ascends R as')
+Ascends-prop : {A : Type 0} (R : A → A → Type 0) → ((a b : A) → IsProp (R a b)) → (as' : List A)
+    → IsProp (Ascends R as')
 Ascends-prop R h [] = Unit-prop
 Ascends-prop R h (a ∷ rest) = FollowedBy-prop R h a rest
 
@@ -81,7 +83,8 @@ IsLeaf-prop : (p : Page) (es : List Entry) → IsProp (IsLeaf p es)
 IsLeaf-prop p es = hlevel (props, IsLeafIn-prop p.state p es)
 
 IsInternal-prop : (p : Page) (ds : List Downlink) → IsProp (IsInternal p ds)
-IsInternal-prop p ds = hlevel (props, state_set p.state Live, StartsLow-prop ds, AreLinks-prop p.high ds)
+IsInternal-prop p ds =
+    hlevel (props, state_set p.state Live, StartsLow-prop ds, AreLinks-prop p.high ds)
 
 IsOfKind-prop : (p : Page) (items : Items) → IsProp (IsOfKind p items)
 IsOfKind-prop p Meta = IsMeta-prop p
@@ -94,6 +97,8 @@ IsPage-prop p = hlevel (props, IsOfKind-prop p p.items)
 IsStored-prop : (limits : Limits) (block : ℕ) (p : Page) → IsProp (IsStored limits block p)
 IsStored-prop limits block p = hlevel (props, IsPage-prop p)
 
-pub AreStored-prop : (limits : Limits) (block : ℕ) (pages : List Page) → IsProp (AreStored limits block pages)
+pub AreStored-prop : (limits : Limits) (block : ℕ) (pages : List Page)
+    → IsProp (AreStored limits block pages)
 AreStored-prop limits block [] = Unit-prop
-AreStored-prop limits block (page ∷ pages) = ×_prop (IsStored-prop limits block page) (AreStored-prop limits (suc block) pages)
+AreStored-prop limits block (page ∷ pages) =
+    ×_prop (IsStored-prop limits block page) (AreStored-prop limits (suc block) pages)

@@ -58,7 +58,10 @@ Continues {S} follows old new = (first : S) → follows first old → follows fi
 
 -- the pages with this one at its block, which is in use or the next unused one
 abbrev pub with_page : List Page → Page → List Page
-with_page pages page = if nat_lt page.block (length pages) then slice_set pages page.block page else pages ++ page ∷ []
+with_page pages page =
+    if nat_lt page.block (length pages)
+    then slice_set pages page.block page
+    else pages ++ page ∷ []
 
 -- ... with each of these, one after the other
 abbrev pub with_pages : List Page → List Page → List Page
@@ -74,7 +77,9 @@ number_to_count Deleted number = number
 abbrev pub with_count : List ℕ → Page → List ℕ
 with_count counted page =
     let number = number_to_count page.state page.deletion in
-    if nat_lt page.block (length counted) then slice_set counted page.block number else counted ++ number ∷ []
+    if nat_lt page.block (length counted)
+    then slice_set counted page.block number
+    else counted ++ number ∷ []
 
 abbrev pub with_counts : List ℕ → List Page → List ℕ
 with_counts counted [] = counted
@@ -94,11 +99,17 @@ with_table st table = record st { table = table }
 
 -- after a call of the session has begun, whose start number is the count of calls begun before it
 abbrev pub after_begin : ℕ → State → State
-after_begin session st = record st { begun = suc st.begun; running = slice_set st.running session (Some st.begun) }
+after_begin session st = record st {
+  begun = suc st.begun;
+  running = slice_set st.running session (Some st.begun);
+}
 
 -- after the session's call has ended: it holds nothing
 abbrev pub after_end : ℕ → State → State
-after_end session st = record st { running = slice_set st.running session None; table = with_holding st.table session nothing_held }
+after_end session st = record st {
+  running = slice_set st.running session None;
+  table = with_holding st.table session nothing_held;
+}
 
 -- the number after a cycle number; behind the last comes 1
 abbrev pub next_cycle : ℕ → ℕ

@@ -18,7 +18,8 @@ pub record IsStored (limits : Limits) (block : ℕ) (page : Page) : Type 0 where
 -- each of these pages, from this block on, is stored at its block
 abbrev pub AreStored : Limits → ℕ → List Page → Type 0
 AreStored limits block [] = Unit {0}
-AreStored limits block (page ∷ pages) = IsStored limits block page × AreStored limits (suc block) pages
+AreStored limits block (page ∷ pages) =
+    IsStored limits block page × AreStored limits (suc block) pages
 
 -- none of these is of this block
 abbrev pub IsApartFrom : ℕ → List Page → Type 0
@@ -33,4 +34,5 @@ IsPlaceable limits used block = (block ≤ used) × (block < limits.pages)
 abbrev pub AreActable : Limits → ℕ → List Page → Type 0
 AreActable limits used [] = Unit {0}
 AreActable limits used (page ∷ pages) =
-    IsStorable limits page × IsPlaceable limits used page.block × IsApartFrom page.block pages × AreActable limits used pages
+    IsStorable limits page × IsPlaceable limits used page.block × IsApartFrom page.block pages
+    × AreActable limits used pages

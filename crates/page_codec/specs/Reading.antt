@@ -44,20 +44,24 @@ entry_at bytes = slot_at bytes >>= λ b. b >>= λ w. whole w
 
 -- the downlink in the first 75 bytes
 unfoldable pub downlink_at : List ℕ → Option Downlink
-downlink_at bytes = slot_at bytes >>= λ b. Some (record { bound = b; child = little_number 4 (drop 71 bytes) })
+downlink_at bytes =
+    slot_at bytes >>= λ b. Some (record { bound = b; child = little_number 4 (drop 71 bytes) })
 
 -- so many items, each in so many bytes
 unfoldable pub items_at : {A : Type 0} → (List ℕ → Option A) → ℕ → ℕ → List ℕ → Option (List A)
 items_at item width zero bytes = Some []
-items_at item width (suc n) bytes = item bytes >>= λ x. items_at item width n (drop width bytes) >>= λ xs. Some (x ∷ xs)
+items_at item width (suc n) bytes =
+    item bytes >>= λ x. items_at item width n (drop width bytes) >>= λ xs. Some (x ∷ xs)
 
 -- so many items of the kind that this byte names
 unfoldable pub items_of : ℕ → ℕ → List ℕ → Option Items
 items_of kind count bytes =
     if nat_lt 50 count then None
     else if kind == 1 then Some Meta
-    else if kind == 2 then (items_at entry_at 71 count bytes >>= λ es. Some (Entries (record { items = es })))
-    else if kind == 3 then (items_at downlink_at 75 count bytes >>= λ ds. Some (Downlinks (record { items = ds })))
+    else if kind == 2
+    then (items_at entry_at 71 count bytes >>= λ es. Some (Entries (record { items = es })))
+    else if kind == 3
+    then (items_at downlink_at 75 count bytes >>= λ ds. Some (Downlinks (record { items = ds })))
     else None
 
 -- the state that a byte names

@@ -81,7 +81,9 @@ unfoldable pub head_bytes : Page → List ℕ
 head_bytes p =
     (66 ∷ 76 ∷ 80 ∷ 49 ∷ []) ++ (little_bytes 4 p.block
     ++ ((kind_byte p.items ∷ p.level ∷ state_byte p.state ∷ (bit p.split + bit_of p.high) ∷ [])
-    ++ (little_bytes 4 (link_number p.left) ++ (little_bytes 4 (link_number p.right) ++ (little_bytes 4 p.cycle
+    ++ (little_bytes 4 (link_number p.left)
+    ++ (little_bytes 4 (link_number p.right)
+    ++ (little_bytes 4 p.cycle
     ++ (little_bytes 8 p.deletion ++ (little_bytes 2 (count_of p.items) ++ 0 ∷ 0 ∷ [])))))))
 
 -- the head, the high key and the items, without the zeros behind

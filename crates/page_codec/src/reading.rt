@@ -97,7 +97,8 @@ fn entries(count: usize, bytes: &[u8], into: &mut ArrayVec<Entry, 50>) -> bool
     requires count { count ≤ 50 }
     requires room { 71 * count ≤ length bytes.now }
     requires empty { into.old.items ≡ [] }
-    ensures { items_at entry_at 71 count bytes.now ≡ (if result then Some into.new.items else None) }
+    ensures { items_at entry_at 71 count bytes.now
+        ≡ (if result then Some into.new.items else None) }
 {
     let mut rest = bytes;
     for _ in 0..count {

@@ -5,7 +5,8 @@ use Rattle.std.proofs.lemmas.List.{append_cancel_right}
 use Rattle.device.specs.Disk.{Moment, Trace, MayLeave}
 use Rattle.device.specs.Moments.{AtSome, MayHaveLeft}
 
-split : (P : Moment → Type 0) (ms ns : List Moment) → AtSome P (ms ++ ns) → AtSome P ms ⊎ AtSome P ns
+split : (P : Moment → Type 0) (ms ns : List Moment) → AtSome P (ms ++ ns)
+    → AtSome P ms ⊎ AtSome P ns
 split P [] ns some = inr some
 split P (m ∷ ms) ns (inl p) = inl (inl p)
 split P (m ∷ ms) ns (inr some) = elim (split P ms ns some) [
@@ -23,7 +24,9 @@ behind P [] ns some = some
 behind P (m ∷ ms) ns some = inr (behind P ms ns some)
 
 -- the newest moment is the first of all since an earlier one
-newest : (P : Moment → Type 0) (first second : Trace) (early : List Moment) → second.now ∷ second.past ≡ early ++ first.now ∷ first.past → P second.now → AtSome P (early ++ first.now ∷ [])
+newest : (P : Moment → Type 0) (first second : Trace) (early : List Moment)
+    → second.now ∷ second.past ≡ early ++ first.now ∷ first.past → P second.now
+    → AtSome P (early ++ first.now ∷ [])
 newest P first second [] is p = let e : second.now ≡ first.now = cc in inl (subst P e p)
 newest P first second (m ∷ ms) is p = let e : second.now ≡ m = cc in inl (subst P e p)
 
@@ -42,7 +45,8 @@ module _ (first second third : Trace) (image : List ℕ) (early late : List Mome
   whole some = record { since = late ++ early; is = to_end; left = subst (AtSome may) (sym (append_assoc late early (first.now ∷ []))) some }
 
   -- what was left since the first, was left up to the second, or since that one
-  pub left_between : MayHaveLeft first third image → MayHaveLeft first second image ⊎ MayHaveLeft second third image
+  pub left_between : MayHaveLeft first third image
+      → MayHaveLeft first second image ⊎ MayHaveLeft second third image
   unfolding may
   left_between h =
       let all : h.since ≡ late ++ early = append_cancel_right h.since (late ++ early) (first.now ∷ first.past) (sym h.is ∙ to_end) in
@@ -56,13 +60,15 @@ module _ (first second third : Trace) (image : List ℕ) (early late : List Mome
   pub left_early : MayHaveLeft first second image → MayHaveLeft first third image
   unfolding may
   left_early h =
-      let all : h.since ≡ early = append_cancel_right h.since early (first.now ∷ first.past) (sym h.is ∙ to_second) in
+      let all : h.since ≡ early =
+      append_cancel_right h.since early (first.now ∷ first.past) (sym h.is ∙ to_second) in
       whole (behind may late (early ++ first.now ∷ []) (subst (λ (l : List Moment). AtSome may (l ++ first.now ∷ [])) all h.left))
 
   pub left_late : MayHaveLeft second third image → MayHaveLeft first third image
   unfolding may
   left_late h =
-      let all : h.since ≡ late = append_cancel_right h.since late (second.now ∷ second.past) (sym h.is ∙ to_third) in
+      let all : h.since ≡ late =
+      append_cancel_right h.since late (second.now ∷ second.past) (sym h.is ∙ to_third) in
       elim (split may late (second.now ∷ []) (subst (λ (l : List Moment). AtSome may (l ++ second.now ∷ [])) all h.left)) [
         | inl since ↦ whole (front may late (early ++ first.now ∷ []) since)
         | inr (inl here) ↦ whole (behind may late (early ++ first.now ∷ []) (newest may first second early to_second here))

@@ -17,12 +17,17 @@ use Rattle.page_store.specs.Following.{Follows}
 use Rattle.page_store.specs.declared.history.History.{History}
 
 -- the pages after a first part of the acts stay those with more acts
-pub pages_of_more : (h longer : History) (more : List (List Page)) (part : ℕ) → longer.start ≡ h.start → longer.acts ≡ h.acts ++ more → part ≤ length h.acts → pages_after longer part ≡ pages_after h part
+pub pages_of_more : (h longer : History) (more : List (List Page)) (part : ℕ)
+    → longer.start ≡ h.start → longer.acts ≡ h.acts ++ more → part ≤ length h.acts
+    → pages_after longer part ≡ pages_after h part
 pages_of_more h longer more part start acts le =
-    ap (λ (s : List Page). after_acts s (take part longer.acts)) start ∙ ap (λ (as' : List (List Page)). after_acts h.start as') (ap (take part) acts ∙ take-append-le part h.acts more le)
+    ap (λ (s : List Page). after_acts s (take part longer.acts)) start
+    ∙ ap (after_acts h.start) (ap (take part) acts ∙ take-append-le part h.acts more le)
 
 -- a first part of the acts is one of more acts
-pub part_of_more : (limits : Limits) (h longer : History) (more : List (List Page)) (low least : ℕ) (image : List ℕ) → longer.start ≡ h.start → longer.acts ≡ h.acts ++ more → low ≤ least
+pub part_of_more : (limits : Limits) (h longer : History) (more : List (List Page))
+    (low least : ℕ) (image : List ℕ)
+    → longer.start ≡ h.start → longer.acts ≡ h.acts ++ more → low ≤ least
     → RestartsToPart limits h least image → RestartsToPart limits longer low image
 part_of_more limits h longer more low least image start acts le r = record {
   part = r.part;
@@ -32,7 +37,8 @@ part_of_more limits h longer more low least image start acts le r = record {
 }
 
 -- a crash now leaves what it may leave at this moment
-pub left_now : (held : Held) (image : List ℕ) → MayLeave held.trace.now image → MayHaveLeft held.trace held.trace image
+pub left_now : (held : Held) (image : List ℕ) → MayLeave held.trace.now image
+    → MayHaveLeft held.trace held.trace image
 left_now held image may = record { since = []; is = refl; left = inl may }
 
 all : {A : Type 0} (xs : List A) → take (length xs) xs ≡ xs
@@ -48,7 +54,9 @@ module _ (first now : Held) (own : IsOwn first) (follows : Follows first now) wh
   pub own_now : IsOwn now
   own_now = (follows.grows own).own
 
-  pub crash_restarts : (limits : Limits) (image : List ℕ) → limits_of now.log ≡ limits → MayHaveLeft first.trace now.trace image → RestartsToPart limits now.history first.durable image
+  pub crash_restarts : (limits : Limits) (image : List ℕ) → limits_of now.log ≡ limits
+      → MayHaveLeft first.trace now.trace image
+      → RestartsToPart limits now.history first.durable image
   crash_restarts limits image is left =
       let on = follows.grows own in
       let l = limits_of first.log in
@@ -57,7 +65,8 @@ module _ (first now : Held) (own : IsOwn first) (follows : Follows first now) wh
       subst (λ (x : Limits). RestartsToPart x now.history first.durable image) (sym on.limits ∙ is) (here.1 image here.2)
 
   -- ... in the words of a store of pages
-  pub leaves_first : (limits : Limits) (image : List ℕ) → limits_of now.log ≡ limits → MayHaveLeft first.trace now.trace image
+  pub leaves_first : (limits : Limits) (image : List ℕ) → limits_of now.log ≡ limits
+      → MayHaveLeft first.trace now.trace image
       → LeavesFirstPart first.durable now.acts (pages_after now.history) (RestartsTo limits image)
   leaves_first limits image is left =
       let r = crash_restarts limits image is left in
@@ -68,7 +77,8 @@ module _ (first now : Held) (own : IsOwn first) (follows : Follows first now) wh
       let on = follows.grows own in
       omega (arith, own.counted, own_now.counted, ap length on.acts, length-append first.history.acts on.more)
 
-  pub pages_stay : (part : ℕ) → part ≤ first.acts → pages_after now.history part ≡ pages_after first.history part
+  pub pages_stay : (part : ℕ) → part ≤ first.acts
+      → pages_after now.history part ≡ pages_after first.history part
   pages_stay part le =
       let on = follows.grows own in
       pages_of_more first.history now.history on.more part on.start on.acts (omega (arith, own.counted, le))
@@ -77,18 +87,26 @@ module _ (first now : Held) (own : IsOwn first) (follows : Follows first now) wh
   pages_were = sym (pages_stay first.acts (omega arith) ∙ pages_now first own)
 
 -- what a crash left since the first, it left up to the second, or since that one
-module _ (first second third : Held) (own : IsOwn first) (follows : Follows first second) (then : Follows second third) (image : List ℕ) where
-  abbrev early : Goes (LeavesPart (limits_of first.log) second.history first.durable) first.trace second.trace
+module _ (first second third : Held) (own : IsOwn first) (follows : Follows first second)
+    (then : Follows second third) (image : List ℕ) where
+  abbrev early : Goes (LeavesPart (limits_of first.log) second.history first.durable)
+      first.trace second.trace
   early = (follows.grows own).moments
 
-  abbrev late : Goes (LeavesPart (limits_of second.log) third.history second.durable) second.trace third.trace
+  abbrev late : Goes (LeavesPart (limits_of second.log) third.history second.durable)
+      second.trace third.trace
   late = (then.grows (own_now first second own follows)).moments
 
-  pub leaves_between : MayHaveLeft first.trace third.trace image → MayHaveLeft first.trace second.trace image ⊎ MayHaveLeft second.trace third.trace image
+  pub leaves_between : MayHaveLeft first.trace third.trace image
+      → MayHaveLeft first.trace second.trace image ⊎ MayHaveLeft second.trace third.trace image
   leaves_between = left_between first.trace second.trace third.trace image early.since late.since early.is late.is
 
-  pub leaves_early : MayHaveLeft first.trace second.trace image → MayHaveLeft first.trace third.trace image
-  leaves_early = left_early first.trace second.trace third.trace image early.since late.since early.is late.is
+  pub leaves_early : MayHaveLeft first.trace second.trace image
+      → MayHaveLeft first.trace third.trace image
+  leaves_early =
+      left_early first.trace second.trace third.trace image early.since late.since early.is late.is
 
-  pub leaves_late : MayHaveLeft second.trace third.trace image → MayHaveLeft first.trace third.trace image
-  leaves_late = left_late first.trace second.trace third.trace image early.since late.since early.is late.is
+  pub leaves_late : MayHaveLeft second.trace third.trace image
+      → MayHaveLeft first.trace third.trace image
+  leaves_late =
+      left_late first.trace second.trace third.trace image early.since late.since early.is late.is

@@ -79,19 +79,23 @@ backing_of held = record {
 pub record AreHome (limits : Limits) (images pages : List Page) (m : Moment) : Type 0 where
   pub used : (block : ℕ) (page : Page) → slice_get pages block ≡ Some page → last_image images block ≡ None
       → OnDisk (place limits block) (page_bytes page) m
-  pub unused : (block : ℕ) → length pages ≤ block → block < limits.pages → last_image images block ≡ None
+  pub unused : (block : ℕ) → length pages ≤ block → block < limits.pages
+      → last_image images block ≡ None
       → OnDisk (place limits block) (replicate 4096 0) m
 
 -- the log keeps the acts behind the first so many, whose pages stand at home but for those that the log has an image of
-pub record IsKept (log : Log) (m : Moment) (marks : List Bool) (h : History) (durable : ℕ) : Type 0 where
+pub record IsKept (log : Log) (m : Moment) (marks : List Bool) (h : History) (durable : ℕ)
+    : Type 0 where
   pub base : ℕ
   pub forced : ℕ
   pub base_few : base ≤ length h.acts
   pub durable_is : durable ≡ base + forced
   pub log_keeps : Keeps log m (drop base h.acts) forced
-  pub home : AreHome (limits_of log) (images_of (take forced (drop base h.acts))) (pages_after h base) m
+  pub home : AreHome (limits_of log) (images_of (take forced (drop base h.acts)))
+      (pages_after h base) m
   pub superblock_on : OnDisk 0 (superblock (limits_of log)) m
-  pub marked : (block : ℕ) → get_or marks block false ≡ is_some (last_image (images_of (drop base h.acts)) block)
+  pub marked : (block : ℕ)
+      → get_or marks block false ≡ is_some (last_image (images_of (drop base h.acts)) block)
 
 -- the pages are those after all acts of the history, a crash leaves a first part of them with all durable ones, and
 -- while the log has not failed it keeps them

@@ -13,7 +13,8 @@ use Rattle.page_store.specs.Histories.{pages_after}
 use Rattle.page_store.specs.declared.history.History.{History}
 
 -- the block has no image among these, and these bytes stand at its place
-pub record StandsAtHome (limits : Limits) (images : List Page) (block : ℕ) (bytes image : List ℕ) : Type 0 where
+pub record StandsAtHome (limits : Limits) (images : List Page) (block : ℕ) (bytes image : List ℕ)
+    : Type 0 where
   pub unnamed : last_image images block ≡ None
   pub has : Has (place limits block) bytes image
 
@@ -27,12 +28,14 @@ pub record RestartsTo (limits : Limits) (image : List ℕ) (pages : List Page) :
   pub few : length pages ≤ limits.pages
   pub stored : AreStored limits 0 pages
   pub used : (block : ℕ) (page : Page) → slice_get pages block ≡ Some page
-      → (last_image (images_of groups) block ≡ Some page) ⊎ StandsAtHome limits (images_of groups) block (page_bytes page) image
+      → (last_image (images_of groups) block ≡ Some page)
+      ⊎ StandsAtHome limits (images_of groups) block (page_bytes page) image
   pub unused : (block : ℕ) → length pages ≤ block → block < limits.pages
       → StandsAtHome limits (images_of groups) block (replicate 4096 0) image
 
 -- they restart to the pages after some first part of the acts, of at least so many
-pub record RestartsToPart (limits : Limits) (h : History) (least : ℕ) (image : List ℕ) : Type 0 where
+pub record RestartsToPart (limits : Limits) (h : History) (least : ℕ) (image : List ℕ)
+    : Type 0 where
   pub part : ℕ
   pub from : least ≤ part
   pub to : part ≤ length h.acts
@@ -40,7 +43,8 @@ pub record RestartsToPart (limits : Limits) (h : History) (least : ℕ) (image :
 
 -- each image that a crash at this moment may leave does
 abbrev pub LeavesPart : Limits → History → ℕ → Moment → Type 0
-LeavesPart limits h least m = (image : List ℕ) → MayLeave m image → RestartsToPart limits h least image
+LeavesPart limits h least m =
+    (image : List ℕ) → MayLeave m image → RestartsToPart limits h least image
 
 -- each image that a crash at this moment may leave restarts to these pages
 abbrev pub LeavesPages : Limits → List Page → Moment → Type 0

@@ -15,7 +15,8 @@ pub record ChangesMarked (limits : Limits) (marks : List Bool) (old m : Moment) 
 
 -- of the blocks up to there each that is marked has its page at its place
 abbrev pub AreWritten : Limits → List Bool → List Page → ℕ → Moment → Type 0
-AreWritten limits marks pages end m = (block : ℕ) (page : Page) → block < end → slice_get pages block ≡ Some page
+AreWritten limits marks pages end m =
+    (block : ℕ) (page : Page) → block < end → slice_get pages block ≡ Some page
     → get_or marks block false ≡ true → Has (place limits block) (page_bytes page) m.seen
 
 -- and no crash changes it

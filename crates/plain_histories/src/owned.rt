@@ -17,7 +17,8 @@ use index_model::{Entry, RowAddr};
 
 #[tactic(auto, using(crate::proofs::Moments::length_history_of))]
 fn end_of(history: &[PlainAction], call: &PlainCall) -> usize
-    ensures { result ≡ spec_end_of (history_of history.now) (ending_of call.now.ending) call.now.until }
+    ensures { result
+        ≡ spec_end_of (history_of history.now) (ending_of call.now.ending) call.now.until }
 {
     match &call.ending {
         PlainEnding::Runs => history.len(),
