@@ -13,6 +13,7 @@ pub record Holding : Type 0 where
 abbrev pub Table : Type 0
 Table = List Holding
 
+-- no latch, no pin
 abbrev pub nothing_held : Holding
 nothing_held = record { latches = []; pins = [] }
 
@@ -30,6 +31,7 @@ latches_exclude [] block asked = false
 latches_exclude (held ∷ latches) block asked =
     ((held.block == block) && excludes held.mode asked) || latches_exclude latches block asked
 
+-- one of these pins is one of the block
 abbrev pub has_pin : List ℕ → ℕ → Bool
 has_pin [] block = false
 has_pin (pinned ∷ pins) block = (pinned == block) || has_pin pins block
@@ -79,6 +81,7 @@ without_latch [] block = []
 without_latch (held ∷ latches) block =
     if held.block == block then latches else held ∷ without_latch latches block
 
+-- without the newest pin of the block
 abbrev pub without_pin : List ℕ → ℕ → List ℕ
 without_pin [] block = []
 without_pin (pinned ∷ pins) block =

@@ -12,6 +12,7 @@ use Rattle.page_action.specs.Room.{whole_room}
 use Rattle.page_action.specs.Stored.{IsStored}
 use Rattle.page_action.specs.declared.map_store.MapStore.{MapStore}
 
+-- what a store in memory shows; it has a frame for each page
 abbrev pub map_state : MapStore → State
 map_state store =
     state_with store.limits store.limits.pages store.pages.items store.acts store.calls

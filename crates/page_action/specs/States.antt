@@ -74,6 +74,7 @@ number_to_count Live number = 0
 number_to_count HalfDead number = 0
 number_to_count Deleted number = number
 
+-- the deletion numbers that count, with that of this page at its block
 abbrev pub with_count : List ℕ → Page → List ℕ
 with_count counted page =
     let number = number_to_count page.state page.deletion in
@@ -81,6 +82,7 @@ with_count counted page =
     then slice_set counted page.block number
     else counted ++ number ∷ []
 
+-- ... with those of each of these, one after the other
 abbrev pub with_counts : List ℕ → List Page → List ℕ
 with_counts counted [] = counted
 with_counts counted (page ∷ changed) = with_counts (with_count counted page) changed
@@ -115,9 +117,10 @@ after_end session st = record st {
 abbrev pub next_cycle : ℕ → ℕ
 next_cycle counter = if counter == 4294967295 then 1 else suc counter
 
--- after a bulk delete has begun, and after it has ended
+-- after a bulk delete has begun
 abbrev pub after_start_cycle : State → State
 after_start_cycle st = record st { counter = next_cycle st.counter; cycle = next_cycle st.counter }
 
+-- after a bulk delete has ended
 abbrev pub after_stop_cycle : State → State
 after_stop_cycle st = record st { cycle = 0 }

@@ -11,8 +11,8 @@ use Rattle.page_codec.specs.declared.page.Items.{Items}
 use Rattle.page_codec.specs.declared.page.Items.TheVariants.{Meta, Entries, Downlinks}
 use Rattle.page_codec.specs.declared.page.Page.{Page}
 
--- what the second reads after the first, if both read something
 infixl 10 ◌>>=◌
+-- what the second reads after the first, if both read something
 abbrev pub ◌>>=◌ : {A B : Type 0} → Option A → (A → Option B) → Option B
 None >>= f = None
 (Some x) >>= f = f x

@@ -31,6 +31,7 @@ pub record Held : Type 0 where
   pub promised : ℕ
   pub history : History
 
+-- ... as these are
 abbrev pub held_of : {D : Type 0} (g : Ghosts D) → LoggedPages D g → Held
 held_of g logged = record {
   log = logged.log;
@@ -77,7 +78,8 @@ backing_of held = record {
 
 -- each block that has no image among these stands at its place: its page, or zeros where it has none
 pub record AreHome (limits : Limits) (images pages : List Page) (m : Moment) : Type 0 where
-  pub used : (block : ℕ) (page : Page) → slice_get pages block ≡ Some page → last_image images block ≡ None
+  pub used : (block : ℕ) (page : Page) → slice_get pages block ≡ Some page
+      → last_image images block ≡ None
       → OnDisk (place limits block) (page_bytes page) m
   pub unused : (block : ℕ) → length pages ≤ block → block < limits.pages
       → last_image images block ≡ None

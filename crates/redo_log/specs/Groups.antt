@@ -19,6 +19,7 @@ pub record IsImage (limits : Limits) (p : Page) : Type 0 where
   pub page : IsPage p
   pub within : IsWithin limits p
 
+-- each of them is an image
 abbrev pub AreImages : Limits → List Page → Type 0
 AreImages limits ps = AllByRecursion (IsImage limits) ps
 
@@ -28,6 +29,7 @@ pub record IsGroup (limits : Limits) (group : List Page) : Type 0 where
   pub few : length group < 2 ^ 32
   pub images : AreImages limits group
 
+-- each of them is a group
 abbrev pub AreGroups : Limits → List (List Page) → Type 0
 AreGroups limits groups = AllByRecursion (IsGroup limits) groups
 
