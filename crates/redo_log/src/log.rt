@@ -117,6 +117,7 @@ impl Log {
         ensures written { OnOk result (waiting_count self.new ≡ 0) }
         // It costs at most one image of room.
         ensures room { OnOk result ((n : ℕ) → end_with self.new n ≤ end_with self.old (suc n)) }
+        ensures refused { OnErr result ((n : ℕ) → end_with self.new n ≡ end_with self.old n) }
         ensures same { SameLog self.old self.new }
         ensures stopped { is_stopped self.new ≡ is_err result }
 
@@ -162,6 +163,7 @@ impl Log {
         ensures waiting { waiting_count self.new ≡ waiting_count self.old }
         ensures room { OnOk result ((n : ℕ)
             → end_with self.new n ≡ 6 + 4096 * (waiting_count self.old + n)) }
+        ensures refused { OnErr result ((n : ℕ) → end_with self.new n ≡ end_with self.old n) }
         ensures same { SameLog self.old self.new }
         ensures stopped { is_stopped self.new ≡ is_err result }
 
