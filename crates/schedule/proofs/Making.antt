@@ -8,7 +8,7 @@ use Rattle.index_model.specs.declared.entry.Entry.{Entry}
 use Rattle.index_model.specs.declared.fault.Fault.{Fault}
 use Rattle.index_model.specs.declared.fault.Fault.TheVariants.{Stopped}
 use Rattle.page_action.specs.Causes.{nothing_wrong, where_forced}
-use Rattle.page_action.specs.States.{State}
+use Rattle.page_action.specs.States.{State, with_table}
 use Rattle.page_action.specs.declared.page_store.PageStore.{Ghosts}
 use Rattle.session_calls.specs.Due.{IsDue, IsDueIn, CountsDown, HasSteps}
 use Rattle.session_calls.specs.Ops.{IsCaused, where_stepped, where_asked_next, where_beginning, AnswersStopped}
@@ -35,13 +35,13 @@ module _ {S : Type 0} (g : Ghosts S) (laws : Laws g) (old new : S) (follows : g.
   found_op = found_at ∙ ap (λ (o : Option Op). Some o) is
 
   pub step_makes : AnswersStep before slot answer → RefusalChangesNothing (g.state old) (g.state new) before slot answer → ((g.backing old).stopped ≡ true → AnswersStopped (slot_add before) answer)
-      → LeavesLess (g.state old) (g.state new) before slot answer → LeavesNoMore (g.state old) (g.state new) before slot
+      → LeavesLess (g.state old) (g.state new) before slot answer → (answer ≡ Going → g.state new ≡ with_table (g.state old) (g.state new).table) → LeavesNoMore (g.state old) (g.state new) before slot
       → ((g.backing new).honest ≡ true → (start : Entry → Bool) (history : List Action) (number : ℕ) (call : Call) → SlotFits (g.state old) start history number call before
       → SessionGoes (where_stepped call.ask (g.state old) (g.backing old) (g.backing new) call.session) (g.state old) (g.state new) start history number call slot answer)
       → ((g.backing new).honest ≡ true → (start : Entry → Bool) (history : List Action) (number : ℕ) (call : Call) → SlotFits (g.state old) start history number call before
       → (left : ℕ) → IsDueIn (g.state old) before (suc left) → CountsDown (g.state old) (g.state new) before slot left answer)
       → Makes g (Moves session Steps) answer (both old slots) (both new (slice_set slots session slot))
-  step_makes kind refused stopped less no_more goes due = record {
+  step_makes kind refused stopped less quiet no_more goes due = record {
     sessions = length_set slots session slot;
     always = always;
     does = λ honest start history calls fits.
@@ -60,6 +60,7 @@ module _ {S : Type 0} (g : Ghosts S) (laws : Laws g) (old new : S) (follows : g.
         refused = at_slots slots session before slot (λ x y. RefusalChangesNothing (g.state old) (g.state new) x y answer) found_at refused;
         stopped = λ h. subst (λ (x : Option Op). AnswersStopped (slot_add x) answer) (sym slot_was) (stopped h);
         less = at_slots slots session before slot (λ x y. LeavesLess (g.state old) (g.state new) x y answer) found_at less;
+        calm = λ going. ap (λ (st : State). st.acts) (quiet going);
         others = others_stay_set slots session slot;
         left = tt;
         causes = tt;
@@ -86,6 +87,7 @@ module _ {S : Type 0} (g : Ghosts S) (laws : Laws g) (old new : S) (follows : g.
         refused = λ fault h. absurd (let a : answer ≡ Ended = ended in cc);
         stopped = tt;
         less = tt;
+        calm = λ h. absurd (let a : answer ≡ Ended = ended in cc);
         others = others_stay_set slots session slot;
         left = record { over = at_slots slots session before slot (λ x y. y ≡ None) found_at over; backing = backing; begun = begun };
         causes = tt;
@@ -131,6 +133,7 @@ module _ {S : Type 0} (g : Ghosts S) (laws : Laws g) (store : S) (slots : List (
         };
         stopped = tt;
         less = at_slots slots session before slot (λ x y. GivesLess x y answer) found_at less;
+        calm = λ h. refl;
         others = others_stay_set slots session slot;
         left = refl;
         causes = tt;
@@ -165,6 +168,7 @@ module _ {S : Type 0} (g : Ghosts S) (laws : Laws g) (old new : S) (follows : g.
         refused = λ fault h. absurd (not_refused upkeep count fault h);
         stopped = λ h. absurd (alive h);
         less = tt;
+        calm = λ h. ap (λ (st : State). st.acts) same;
         others = λ s of other apart. refl;
         left = tt;
         causes = tt;
@@ -187,6 +191,7 @@ module _ {S : Type 0} (g : Ghosts S) (laws : Laws g) (old new : S) (follows : g.
         refused = λ f h. record { state_is = same; slots_is = refl };
         stopped = λ h. ap Refused (stopped h);
         less = tt;
+        calm = λ h. ap (λ (st : State). st.acts) same;
         others = λ s of other apart. refl;
         left = tt;
         causes = tt;
@@ -204,6 +209,7 @@ module _ {S : Type 0} (g : Ghosts S) (laws : Laws g) (old new : S) (follows : g.
     refused = λ fault e. absurd cc;
     stopped = λ is. absurd (true_false (sym is ∙ alive));
     less = tt;
+    calm = λ e. absurd cc;
     others = others_stay_set slots session slot;
     left = tt;
     causes = tt;
@@ -213,6 +219,7 @@ module _ {S : Type 0} (g : Ghosts S) (laws : Laws g) (old new : S) (follows : g.
     refused = λ f e. record { state_is = h.state; slots_is = ap (λ (x : Option Op). slice_set slots session x) (h.slot_is ∙ before_is) ∙ set_same slots session None free };
     stopped = λ is. absurd (true_false (sym is ∙ alive));
     less = tt;
+    calm = λ e. ap (λ (st : State). st.acts) h.state;
     others = others_stay_set slots session slot;
     left = tt;
     causes = subst (λ (o : Option (Option Op)). IsCaused (where_begun_at g old o) (Refused fault)) (sym free)
@@ -298,6 +305,7 @@ not_found_makes g laws store slots session request fault none = record {
       refused = λ f h. record { state_is = refl; slots_is = refl };
       stopped = not_found_first (g.backing store).stopped (slice_get slots session) session fault none;
       less = tt;
+      calm = λ h. refl;
       others = λ s of other apart. refl;
       left = tt;
       causes = not_found_why g store session (g.backing store).stopped (slice_get slots session) fault refl none;

@@ -14,7 +14,7 @@ use Rattle.session_calls.specs.Due.{IsDueIn, CountsDown, HasSteps}
 use Rattle.session_calls.specs.Ops.{asked_by, ask_of, where_stepped, where_asked_next, where_beginning, IsCaused, AnswersStopped}
 use Rattle.session_calls.specs.Sessions.{Told, IsAsked, acts_of, begun_call, is_busy, slot_add, LeavesLess, LeavesNoMore, GivesLess, AnswersStep, AnswersNext, AnswersEnd, RefusalChangesNothing}
 use Rattle.session_calls.specs.declared.answer.Answer.{Answer}
-use Rattle.session_calls.specs.declared.answer.Answer.TheVariants.{Begun, Forced, Checkpointed, Refused}
+use Rattle.session_calls.specs.declared.answer.Answer.TheVariants.{Begun, Going, Forced, Checkpointed, Refused}
 use Rattle.session_calls.specs.declared.op.Op.{Op}
 use Rattle.session_calls.specs.declared.request.Request.{Request}
 use Rattle.session_calls.specs.declared.request.Request.TheVariants.{Insert as ToInsert, Scan as ToScan}
@@ -247,6 +247,10 @@ session_at (Begins session request) = session
 session_at (Moves session move) = session
 session_at (Keeps upkeep) = 0
 
+-- an event that answers `Going` does no act: on one leaf, an insert's one act comes with its last step
+abbrev pub GoingIsCalm : Answer → State → State → Type 0
+GoingIsCalm answer old new = answer ≡ Going → new.acts ≡ old.acts
+
 -- a beginning that is refused has its cause
 abbrev pub BeginningIsCaused : {S : Type 0} → Ghosts S → Kind → Answer → StoreAndSlots S → Type 0
 BeginningIsCaused g (Begins session request) answer old =
@@ -254,13 +258,14 @@ BeginningIsCaused g (Begins session request) answer old =
 BeginningIsCaused g kind answer old = Unit {0}
 
 -- What holds of an event whatever the pages are: what it may answer; that a refusal changes nothing; that a stopped log
--- refuses it first; what is left to do for its call; that no other session's slot is changed; what it leaves; and that a
--- beginning that is refused has its cause.
+-- refuses it first; what is left to do for its call; that one that goes on does no act; that no other session's slot is
+-- changed; what it leaves; and that a beginning that is refused has its cause.
 pub record EventAlways {S : Type 0} (g : Ghosts S) (kind : Kind) (answer : Answer) (old new : StoreAndSlots S) : Type 0 where
   pub answers : AnswersEvent kind answer old.slots new.slots
   pub refused : RefusalKeeps g kind answer old new
   pub stopped : StopsFirst kind (g.backing old.store).stopped answer old.slots
   pub less : IsLessLeft kind answer (g.state old.store) (g.state new.store) (slot_of old.slots (session_at kind)) (slot_of new.slots (session_at kind))
+  pub calm : GoingIsCalm answer (g.state old.store) (g.state new.store)
   pub others : (session : ℕ) → IsOfKind session kind → OthersStay session old.slots new.slots
   pub left : IsLeft g kind old new
   pub causes : BeginningIsCaused g kind answer old

@@ -26,8 +26,6 @@ pub fn one<S: PageStore>(store: &mut S, slots: &mut [Option<Op>], event: Event) 
     ensures runs { Carries S.PageStore (both store.old slots.old) (both store.new slots.new)
         (Runs S.PageStore (both store.old slots.old) (both store.new slots.new) (event ∷ [])
         (result ∷ [])) }
-    // A step that goes on logs nothing yet, on one leaf.
-    ensures calm { result ≡ Answer.Going → (S.state store.new).acts ≡ (S.state store.old).acts }
 {
     pick(store, slots, event)
 }
@@ -73,7 +71,6 @@ fn pick<S: PageStore>(store: &mut S, slots: &mut [Option<Op>], event: Event) -> 
     ensures steps { Continues S.follows store.old store.new }
     ensures makes { Makes S.PageStore (kind_of event) result (both store.old slots.old)
         (both store.new slots.new) }
-    ensures calm { result ≡ Answer.Going → (S.state store.new).acts ≡ (S.state store.old).acts }
 {
     match event {
         Event::Insert(session, entry) => begin(store, slots, session, Request::Insert(entry)),
@@ -96,7 +93,6 @@ fn begin<S: PageStore>(
     ensures steps { Continues S.follows store.old store.new }
     ensures makes { Makes S.PageStore (Begins session request) result (both store.old slots.old)
         (both store.new slots.new) }
-    ensures calm { result ≡ Answer.Going → (S.state store.new).acts ≡ (S.state store.old).acts }
 {
     match find(store.is_stopped(), slots, session) {
         Ok(known) => session_calls::begin(store, known, request, &mut slots[session as usize]),
@@ -108,7 +104,6 @@ fn step<S: PageStore>(store: &mut S, slots: &mut [Option<Op>], session: u32) -> 
     ensures steps { Continues S.follows store.old store.new }
     ensures makes { Makes S.PageStore (Moves session Steps) result (both store.old slots.old)
         (both store.new slots.new) }
-    ensures calm { result ≡ Answer.Going → (S.state store.new).acts ≡ (S.state store.old).acts }
 {
     if !is_running(slots, session) {
         return refuse_idle(store.is_stopped());
@@ -130,7 +125,6 @@ fn end<S: PageStore>(store: &mut S, slots: &mut [Option<Op>], session: u32) -> A
     ensures steps { Continues S.follows store.old store.new }
     ensures makes { Makes S.PageStore (Moves session GivesUp) result (both store.old slots.old)
         (both store.new slots.new) }
-    ensures calm { result ≡ Answer.Going → (S.state store.new).acts ≡ (S.state store.old).acts }
 {
     if !is_running(slots, session) {
         return refuse_idle(false);
@@ -173,7 +167,6 @@ fn make_force<S: PageStore>(store: &mut S, slots: &[Option<Op>]) -> Answer
         (both store.new slots.now) }
     ensures kept { StoreIsKept S.PageStore Forces result store.old store.new }
     ensures answers { AnswersUpkeep Forces result }
-    ensures calm { result ≡ Answer.Going → (S.state store.new).acts ≡ (S.state store.old).acts }
 {
     match store.force() {
         Ok(count) => Answer::Forced(count),
@@ -189,7 +182,6 @@ fn make_checkpoint<S: PageStore>(store: &mut S, slots: &[Option<Op>]) -> Answer
     ensures answers { AnswersUpkeep Checkpoints result }
     ensures room { (count : ℕ) → result ≡ Answer.Checkpointed count
         → HasWholeRoom (S.state store.old).limits (S.backing store.new) }
-    ensures calm { result ≡ Answer.Going → (S.state store.new).acts ≡ (S.state store.old).acts }
 {
     match store.checkpoint() {
         Ok(count) => Answer::Checkpointed(count),

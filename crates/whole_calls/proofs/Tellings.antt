@@ -19,7 +19,7 @@ use Rattle.session_calls.specs.declared.op.Op.{Op}
 use Rattle.session_calls.specs.declared.op.Op.TheVariants.{Insert as Inserts, Scan as Scans}
 use Rattle.session_calls.specs.declared.request.Request.{Request}
 use Rattle.session_calls.specs.declared.request.Request.TheVariants.{Insert as ToInsert}
-use Rattle.schedule.specs.Snapshots.{StoreAndSlots, Snapshot, here_at, slot_of, IsRunningCall, SlotRuns, SlotMatches, Fits, has_call}
+use Rattle.schedule.specs.Snapshots.{Snapshot, slot_of, IsRunningCall, SlotRuns, SlotMatches, Fits, has_call}
 use Rattle.schedule.specs.Events.{Move, Steps, Takes, Upkeep, Keeps, Begins, Moves, GivesUp, CallGoesOn, CallBegins, Stays, MovesOn, MayBegin, where_begun_at, EventDoes, AnswersMove}
 use Rattle.schedule.proofs.Lists.{get_some, get_append_new, get_append_cases, same_some}
 use Rattle.whole_calls.specs.Telling.{IsSilent, MayAnswer, IsOwnEffect, IsTold, StepTold, TellsStep, StaysRunning, HasNone, HasBegun, begun_of, BeginTold, TellsEnd, CameTo, HasCome, outcome_of, step_came, insert_came, inserted_call, InsertTold}
@@ -68,10 +68,6 @@ module _ {S : Type 0} (g : Ghosts S) (start : Entry → Bool) (now : Snapshot S)
       let r = (runs_in_slot number call is).2 in
       let e : other ≡ number = r.only other c also ∙ sym (r.only number call is) in
       (e, same_some (slice_get now.calls number) c call (subst (λ (n : ℕ). slice_get now.calls n ≡ Some c) e also.found) is.found)
-
--- how many acts a moment's store has done
-pub acts_at : {S : Type 0} (g : Ghosts S) (x : Snapshot S) (a : StoreAndSlots S) → here_at x ≡ a → (g.state x.store).acts ≡ (g.state a.store).acts
-acts_at {S} g x a is = ap (λ (h : StoreAndSlots S). (g.state h.store).acts) is
 
 -- a step of what was asked may answer this, and so may asking it for its next entry
 step_may : (op : Op) (after : Option Op) (answer : Answer) → AnswersStep (Some op) after answer → MayAnswer (ask_of op) answer
@@ -139,9 +135,8 @@ may_of GivesUp of op after answer h = absurd of
 
 -- an event of a session that has a running call
 pub moves_tells : {S : Type 0} (g : Ghosts S) (start : Entry → Bool) (x y : Snapshot S) (session : ℕ) (move : Move) (answer : Answer) → GoesOnBy move → Fits g start x → EventDoes g start (Moves session move) answer x y
-    → (answer ≡ Going → (g.state y.store).acts ≡ (g.state x.store).acts)
     → (number : ℕ) (call : Call) → IsRunningCall x.calls session number call → IsTold number call answer x y
-moves_tells g start x y session move answer of fits does calm number call is =
+moves_tells g start x y session move answer of fits does number call is =
     let goes : CallGoesOn g start session answer x y = subst (λ (b : Bool). MovesOn g start b session answer x y) (runs_has_call g start x fits session number call is) does.happens in
     let same = one_runs g start x fits session number goes.number call goes.call is goes.is in
     let r = runs_in_slot g start x fits session number call is in
@@ -157,7 +152,7 @@ moves_tells g start x y session move answer of fits does calm number call is =
       calm = λ going. silent_history goes.number goes.effect goes.history_is (
           let a : (g.state y.store).acts ≡ length y.history = does.fits.matches.count in
           let b : (g.state x.store).acts ≡ length x.history = fits.matches.count in
-          let c : (g.state y.store).acts ≡ (g.state x.store).acts = calm going in
+          let c : (g.state y.store).acts ≡ (g.state x.store).acts = does.always.calm going in
           omega arith);
       history_is = subst (λ (n : ℕ). y.history ≡ x.history ++ acts_of n goes.effect) same.0 goes.history_is;
       calls_is = subst (λ (n : ℕ). y.calls ≡ slice_set x.calls n goes.after) same.0 goes.calls_is;

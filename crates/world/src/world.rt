@@ -17,9 +17,9 @@ use std::alloc::Global;
 ///
 /// Of what its clauses name: `steps`, that what its store followed it follows still; `sets` and `sessions`, that these
 /// stay; `always`, what holds of an event whatever the pages are (what it may answer, that a refusal changes nothing, that
-/// a stopped log refuses first, that a step leaves less to do, that no other session is touched, and what an end leaves);
-/// `runs`, the continuation, in which each event also says how many steps its call takes, and what it leaves as it was;
-/// `calm`, that a step that goes on does no act.
+/// a stopped log refuses first, that a step leaves less to do, and does no act where it goes on, that no other session is
+/// touched, and what an end leaves); `runs`, the continuation, in which each event also says this, how many steps its call
+/// takes, and what it leaves as it was.
 #[derive(Drop)]
 pub struct World<S, T> {
     pub(crate) store: S,
@@ -100,8 +100,6 @@ impl<S: PageStore, T: DeadRows + Drop> World<S, T> {
             (WorldRuns S.PageStore self.old self.new (event ∷ []) (result ∷ [])) }
         ensures always { EventAlways S.PageStore (kind_of event) result
             (inside self.old) (inside self.new) }
-        ensures calm { result ≡ Answer.Going
-            → (S.state self.new.store).acts ≡ (S.state self.old.store).acts }
     {
         schedule::one(&mut self.store, &mut self.slots, event)
     }
