@@ -43,7 +43,7 @@ impl<S: PageStore, T: DeadRows + Drop> World<S, T> {
     ghost use Rattle.page_action.specs.Causes.{where_read};
     ghost use Rattle.page_action.specs.Contents.{entry_on_live_leaf};
     ghost use Rattle.page_action.specs.States.{Continues};
-    ghost use Rattle.schedule.specs.Events.{Moves, GivesUp, EventAlways, IsUnchanged, kind_of};
+    ghost use Rattle.schedule.specs.Events.{MovesCall, GivesUp, EventAlways, IsUnchanged, kind_of};
     ghost use Rattle.schedule.specs.Runs.{answers_behind};
     ghost use Rattle.schedule.specs.Snapshots.{IsUnused, has_call};
     ghost use Rattle.world.specs.Worlds.{WorldFits, WorldKeeps, WorldIsSafe, WorldRuns, WorldCarries, inside};
@@ -150,7 +150,7 @@ impl<S: PageStore, T: DeadRows + Drop> World<S, T> {
         ensures sets { self.new.sets ≡ self.old.sets }
         ensures runs { WorldCarries S.PageStore self.old self.new
             (WorldRuns S.PageStore self.old self.new (Event.End session ∷ []) (result ∷ [])) }
-        ensures always { EventAlways S.PageStore (Moves session GivesUp) result
+        ensures always { EventAlways S.PageStore (MovesCall session GivesUp) result
             (inside self.old) (inside self.new) }
     {
         self.one(Event::End(session))
