@@ -4,7 +4,7 @@ use Rattle.index_model.specs.Faults.{HasCause}
 use Rattle.page_action.specs.Causes.{where_forced}
 use Rattle.session_calls.specs.declared.answer.Answer.{Answer}
 use Rattle.session_calls.specs.declared.answer.Answer.TheVariants.{Begun, Going, Added, Ready, Done, Finished, Gave, Ended, Forced, Flushed, Checkpointed, Refused}
-use Rattle.schedule.specs.Events.{Kind, Keeps, Upkeep, Forces, Checkpoints, kind_of, IsOfKind, AnswersUpkeep, StoreIsKept, EventDoes}
+use Rattle.schedule.specs.Events.{Kind, KeepsStore, Upkeep, Forces, Checkpoints, kind_of, IsOfSession, AnswersUpkeep, StoreIsKept, EventDoes}
 use Rattle.schedule.specs.Runs.{Carries, Runs}
 use Rattle.schedule.specs.declared.event.Event.{Event}
 use Rattle.schedule.proofs.Keeping.{Laws}
@@ -203,10 +203,10 @@ came_of Checkpoints (Checkpointed n) kind = refl
 came_of Checkpoints (Refused f) kind = refl
 
 -- it is a run of one event, of which nothing is told
-goes_kept : {S : Type 0} (g : Ghosts S) (laws : Laws g) (upkeep : Upkeep) (event : Event) (answer : Answer) (a b : StoreAndSlots S) → kind_of event ≡ Keeps upkeep → AnswersUpkeep upkeep answer
+goes_kept : {S : Type 0} (g : Ghosts S) (laws : Laws g) (upkeep : Upkeep) (event : Event) (answer : Answer) (a b : StoreAndSlots S) → kind_of event ≡ KeepsStore upkeep → AnswersUpkeep upkeep answer
     → Carries g a b (Runs g a b (event ∷ []) (answer ∷ [])) → CallGoes g 0 IsSilent (kept_came upkeep (counted answer)) a b
 goes_kept {S} g laws upkeep event answer a b kind answers runs = subst (λ (came : Option Answer). CallGoes g 0 IsSilent came a b) (sym (came_of upkeep answer answers))
-    (goes_by g laws 0 IsSilent event answer a b (subst (λ (k : Kind). IsOfKind 0 k) (sym kind) tt) runs
+    (goes_by g laws 0 IsSilent event answer a b (subst (λ (k : Kind). IsOfSession 0 k) (sym kind) tt) runs
     (λ start x y from to fits does. keeps_silent g start upkeep answer x y (subst (λ (k : Kind). EventDoes g start k answer x y) kind does)))
 
 -- a checkpoint leaves the whole room of the log
@@ -238,6 +238,6 @@ module _ {S : Type 0} (g : Ghosts S) (upkeep : Upkeep) (answer : Answer) (old ne
 pub room_told : (Room : Type 0) (answer : Answer) (result : Result ℕ Fault) → result ≡ counted answer → AnswersUpkeep Checkpoints answer → ((count : ℕ) → answer ≡ Checkpointed count → Room) → OnOk result Room
 room_told Room answer result is kind h = subst (λ (r : Result ℕ Fault). OnOk r Room) (sym is) (kept_room Room answer kind h)
 
-pub goes_told_kept : {S : Type 0} (g : Ghosts S) (laws : Laws g) (upkeep : Upkeep) (event : Event) (answer : Answer) (a b : StoreAndSlots S) (result : Result ℕ Fault) → result ≡ counted answer → kind_of event ≡ Keeps upkeep
+pub goes_told_kept : {S : Type 0} (g : Ghosts S) (laws : Laws g) (upkeep : Upkeep) (event : Event) (answer : Answer) (a b : StoreAndSlots S) (result : Result ℕ Fault) → result ≡ counted answer → kind_of event ≡ KeepsStore upkeep
     → AnswersUpkeep upkeep answer → Carries g a b (Runs g a b (event ∷ []) (answer ∷ [])) → CallGoes g 0 IsSilent (kept_came upkeep result) a b
 goes_told_kept g laws upkeep event answer a b result is kind answers runs = subst (λ (r : Result ℕ Fault). CallGoes g 0 IsSilent (kept_came upkeep r) a b) (sym is) (goes_kept g laws upkeep event answer a b kind answers runs)

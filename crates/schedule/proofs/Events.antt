@@ -15,7 +15,7 @@ use Rattle.page_action.specs.States.{State, IsLater, after_begin}
 use Rattle.page_action.specs.declared.page_store.PageStore.{Ghosts}
 use Rattle.descent.specs.Steps.{OthersRely}
 use Rattle.session_calls.specs.Due.{IsDueIn, HasSteps}
-use Rattle.session_calls.specs.Ops.{asked_by, ask_of, IsCaused}
+use Rattle.session_calls.specs.Ops.{asked_by, asked_of, IsCaused}
 use Rattle.session_calls.specs.Sessions.{Matches, OpRuns, CallFits, SlotFits, IsIdle, acts_of, begun_call, SessionGoes, SessionBegins}
 use Rattle.session_calls.specs.declared.answer.Answer.{Answer}
 use Rattle.session_calls.specs.declared.answer.Answer.TheVariants.{Begun, Refused}
@@ -25,8 +25,8 @@ use Rattle.session_calls.proofs.Meeting.{grown}
 use Rattle.session_calls.proofs.Telling.{told_same}
 use Rattle.session_calls.proofs.Undisturbed.{undisturbed, idle_undisturbed}
 use Rattle.schedule.specs.Snapshots.{Snapshot, here_at, slot_of, IsRunningCall, SlotRuns, IsFree, SlotMatches, Fits, slot_has_call, has_call}
-use Rattle.schedule.specs.Events.{Move, Steps, Takes, GivesUp, Upkeep, Forces, Checkpoints, Kind, Begins, Moves, Keeps, IsOfKind, Stays, kept_answer, MovesOn, MayBegin, session_to_begin, where_begun_at, where_moving, Happens, where_happening, OthersStay, session_at, EventAlways, CountsSteps, LeavesBe, IsDurable, EventDoes}
-use Rattle.schedule.specs.Runs.{Does}
+use Rattle.schedule.specs.Events.{Move, Steps, Takes, GivesUp, Upkeep, Forces, Checkpoints, Kind, BeginsCall, MovesCall, KeepsStore, IsOfSession, Stays, kept_answer, MovesOn, MayBegin, session_to_begin, where_begun_at, where_moving, Happens, where_happening, OthersStay, session_at, EventAlways, CountsSteps, LeavesBe, IsDurable, EventDoes}
+use Rattle.schedule.specs.Runs.{EventRuns}
 use Rattle.schedule.proofs.Frames.{goes_fits}
 use Rattle.schedule.proofs.Keeping.{no_growth}
 use Rattle.schedule.proofs.Lists.{get_set_same, get_set_other, length_set, get_within, get_append_some, get_append_new, get_append_cases, same_some}
@@ -51,7 +51,7 @@ slot_read slots session x lt read = slice_get_read slots (length slots) session 
 -- what an event leaves as it was: a call is due after as many steps on the same pages, within the same limits
 leaves_be : {S : Type 0} (g : Ghosts S) (kind : Kind) (old new : Snapshot S) → (g.state new.store).limits ≡ (g.state old.store).limits → (g.state new.store).frames ≡ (g.state old.store).frames
     → (new.history ≡ old.history → (g.state new.store).pages ≡ (g.state old.store).pages)
-    → ((session : ℕ) → IsOfKind session kind → OthersStay session old.slots new.slots) → LeavesBe g kind old new
+    → ((session : ℕ) → IsOfSession session kind → OthersStay session old.slots new.slots) → LeavesBe g kind old new
 leaves_be g kind old new limits frames pages others = record {
   limits = limits;
   frames = frames;
@@ -111,9 +111,9 @@ fits_still {S} g start old store same fits = record {
 module _ {S : Type 0} (g : Ghosts S) (start : Entry → Bool) (old : Snapshot S) (store : S) (session : ℕ) (op : Op) (slot : Option Op) (move : Move) (at : Ask → ℕ → Circumstances) (answer : Answer)
     (fits : Fits g start old) (found : slice_get old.slots session ≡ Some (Some op)) (follows : g.follows old.store store) (later : IsLater (g.backing old.store) (g.backing store))
     (goes : (number : ℕ) (call : Call) → SlotFits (g.state old.store) start old.history number call (Some op) → SessionGoes (at call.ask call.session) (g.state old.store) (g.state store) start old.history number call slot answer)
-    (where_is : where_moving g old.store store session move (Some (Some op)) ≡ at (ask_of op) session)
-    (always : EventAlways g (Moves session move) answer (here_at old) (record { store = store; slots = slice_set old.slots session slot }))
-    (counts : (start' : Entry → Bool) (l : List Action) (n : ℕ) (c : Call) → SlotFits (g.state old.store) start' l n c (Some op) → CountsSteps (Moves session move) answer (g.state old.store) (g.state store) (Some op) slot) where
+    (where_is : where_moving g old.store store session move (Some (Some op)) ≡ at (asked_of op) session)
+    (always : EventAlways g (MovesCall session move) answer (here_at old) (record { store = store; slots = slice_set old.slots session slot }))
+    (counts : (start' : Entry → Bool) (l : List Action) (n : ℕ) (c : Call) → SlotFits (g.state old.store) start' l n c (Some op) → CountsSteps (MovesCall session move) answer (g.state old.store) (g.state store) (Some op) slot) where
   runs : SlotRuns g start old session op
   runs = fits.running session (Some op) found
 
@@ -139,10 +139,10 @@ module _ {S : Type 0} (g : Ghosts S) (start : Entry → Bool) (old : Snapshot S)
   no_effect None same = refl
   no_effect (Some e) same = absurd (let none : acts_of runs.number (Some e) ≡ [] = append_cancel_left old.history (acts_of runs.number (Some e)) [] (same ∙ sym (append-nil old.history)) in cc)
 
-  caused : IsCaused (at (ask_of op) session) answer
-  caused = subst (λ (t : ℕ). IsCaused (at (ask_of op) t) answer) runs.is.session_is (subst (λ (a : Ask). IsCaused (at a runs.call.session) answer) runs.runs.ask one.caused)
+  caused : IsCaused (at (asked_of op) session) answer
+  caused = subst (λ (t : ℕ). IsCaused (at (asked_of op) t) answer) runs.is.session_is (subst (λ (a : Ask). IsCaused (at a runs.call.session) answer) runs.runs.ask one.caused)
 
-  move_does : EventDoes g start (Moves session move) answer old new
+  move_does : EventDoes g start (MovesCall session move) answer old new
   unfolding new
   move_does = record {
     always = always;
@@ -160,8 +160,8 @@ module _ {S : Type 0} (g : Ghosts S) (start : Entry → Bool) (old : Snapshot S)
     });
     grows = record { acts = acts_of runs.number one.effect; is = refl; few = acts_few runs.number one.effect };
     caused = subst (λ (o : Option (Option Op)). IsCaused (where_moving g old.store store session move o) answer) (sym found) (subst (λ (x : Circumstances). IsCaused x answer) (sym where_is) caused);
-    counts = at_slots old.slots session (Some op) slot (λ x y. CountsSteps (Moves session move) answer (g.state old.store) (g.state store) x y) found (counts start old.history runs.number runs.call fit);
-    quiet = leaves_be g (Moves session move) old new one.limits one.frames (λ same. one.pages (no_effect one.effect same)) (others_stay_set old.slots session slot);
+    counts = at_slots old.slots session (Some op) slot (λ x y. CountsSteps (MovesCall session move) answer (g.state old.store) (g.state store) x y) found (counts start old.history runs.number runs.call fit);
+    quiet = leaves_be g (MovesCall session move) old new one.limits one.frames (λ same. one.pages (no_effect one.effect same)) (others_stay_set old.slots session slot);
     durable = told_durable answer (g.backing store).durable (length old.history) one.effect runs.call one.after one.told;
     follows = follows;
     later = later;
@@ -169,7 +169,7 @@ module _ {S : Type 0} (g : Ghosts S) (start : Entry → Bool) (old : Snapshot S)
   }
 
   -- there is a continuation by this move
-  pub moves_on : Does g (here_at old) (record { store = store; slots = slice_set old.slots session slot }) (Moves session move) answer start old.history old.calls
+  pub moves_on : EventRuns g (here_at old) (record { store = store; slots = slice_set old.slots session slot }) (MovesCall session move) answer start old.history old.calls
   unfolding new
   moves_on = record { then_history = old.history ++ acts_of runs.number one.effect; then_calls = slice_set old.calls runs.number one.after; does = move_does }
 
@@ -182,16 +182,16 @@ module _ {S : Type 0} (g : Ghosts S) (start : Entry → Bool) (old : Snapshot S)
   stays : Stays g (Refused fault) old then_now
   stays = record { fault = fault; refused = refl; still = record { state_is = same; slots_is = refl; history_is = refl; calls_is = refl } }
 
-  not_counted : (kind : Kind) (before : Option Op) → (move : (session : ℕ) → kind ≡ Moves session Steps → before ≡ None) → CountsSteps kind (Refused fault) (g.state old.store) (g.state store) before before
-  not_counted (Begins session request) before move = λ begun. absurd cc
-  not_counted (Moves session Steps) before move = subst (λ (slot : Option Op). CountsSteps (Moves session Steps) (Refused fault) (g.state old.store) (g.state store) slot slot) (sym (move session refl))
+  not_counted : (kind : Kind) (before : Option Op) → (move : (session : ℕ) → kind ≡ MovesCall session Steps → before ≡ None) → CountsSteps kind (Refused fault) (g.state old.store) (g.state store) before before
+  not_counted (BeginsCall session request) before move = λ begun. absurd cc
+  not_counted (MovesCall session Steps) before move = subst (λ (slot : Option Op). CountsSteps (MovesCall session Steps) (Refused fault) (g.state old.store) (g.state store) slot slot) (sym (move session refl))
       (record { due = λ left due. absurd due; no_more = λ acts. omega arith })
-  not_counted (Moves session Takes) before move = λ steps due. rw same due
-  not_counted (Moves session GivesUp) before move = tt
-  not_counted (Keeps upkeep) before move = tt
+  not_counted (MovesCall session Takes) before move = λ steps due. rw same due
+  not_counted (MovesCall session GivesUp) before move = tt
+  not_counted (KeepsStore upkeep) before move = tt
 
   stay_with : (kind : Kind) → Happens g start kind (Refused fault) old then_now → EventAlways g kind (Refused fault) (here_at old) (here_at then_now) → IsCaused (where_happening g kind (here_at old) (here_at then_now)) (Refused fault)
-      → ((session : ℕ) → kind ≡ Moves session Steps → slot_of old.slots (session_at kind) ≡ None)
+      → ((session : ℕ) → kind ≡ MovesCall session Steps → slot_of old.slots (session_at kind) ≡ None)
       → EventDoes g start kind (Refused fault) old then_now
   stay_with kind happens always caused idle = record {
     always = always;
@@ -208,8 +208,8 @@ module _ {S : Type 0} (g : Ghosts S) (start : Entry → Bool) (old : Snapshot S)
 
   -- there is a continuation by what is refused, which is none
   pub stays_on : (kind : Kind) → Happens g start kind (Refused fault) old then_now → EventAlways g kind (Refused fault) (here_at old) (here_at then_now) → IsCaused (where_happening g kind (here_at old) (here_at then_now)) (Refused fault)
-      → ((session : ℕ) → kind ≡ Moves session Steps → slot_of old.slots (session_at kind) ≡ None)
-      → Does g (here_at old) (here_at then_now) kind (Refused fault) start old.history old.calls
+      → ((session : ℕ) → kind ≡ MovesCall session Steps → slot_of old.slots (session_at kind) ≡ None)
+      → EventRuns g (here_at old) (here_at then_now) kind (Refused fault) start old.history old.calls
   stays_on kind happens always caused idle = record { then_history = old.history; then_calls = old.calls; does = stay_with kind happens always caused idle }
 
   pub refused_stay : Stays g (Refused fault) old then_now
@@ -227,8 +227,8 @@ module _ {S : Type 0} (g : Ghosts S) (start : Entry → Bool) (old : Snapshot S)
   kept_caused Checkpoints count at = tt
 
   pub keeps_on_store : (count : ℕ) → count ≡ (g.state old.store).acts → (g.backing store).durable ≡ (g.state old.store).acts
-      → EventAlways g (Keeps upkeep) (kept_answer upkeep count) (here_at old) (record { store = store; slots = old.slots })
-      → Does g (here_at old) (record { store = store; slots = old.slots }) (Keeps upkeep) (kept_answer upkeep count) start old.history old.calls
+      → EventAlways g (KeepsStore upkeep) (kept_answer upkeep count) (here_at old) (record { store = store; slots = old.slots })
+      → EventRuns g (here_at old) (record { store = store; slots = old.slots }) (KeepsStore upkeep) (kept_answer upkeep count) start old.history old.calls
   keeps_on_store count number durable always =
       let then : Snapshot S = record { store = store; slots = old.slots; history = old.history; calls = old.calls } in
       record {
@@ -244,7 +244,7 @@ module _ {S : Type 0} (g : Ghosts S) (start : Entry → Bool) (old : Snapshot S)
           grows = no_growth old.history;
           caused = kept_caused upkeep count (where_forced (g.backing old.store) (g.backing store));
           counts = tt;
-          quiet = stays_be g (Keeps upkeep) old then same refl;
+          quiet = stays_be g (KeepsStore upkeep) old then same refl;
           durable = kept_durable upkeep count (g.backing store).durable (let n : count ≡ (g.state old.store).acts = number in let d : (g.backing store).durable ≡ (g.state old.store).acts = durable in omega arith);
           follows = follows;
           later = later;
@@ -319,8 +319,8 @@ module _ {S : Type 0} (g : Ghosts S) (start : Entry → Bool) (old : Snapshot S)
       }
 
   pub begins_on : g.state store ≡ after_begin session (g.state old.store) → g.follows old.store store → IsLater (g.backing old.store) (g.backing store) → HasSteps (g.state old.store) (g.state store) request (Some op)
-      → EventAlways g (Begins session request) Begun (here_at old) (record { store = store; slots = slice_set old.slots session (Some op) })
-      → Does g (here_at old) (record { store = store; slots = slice_set old.slots session (Some op) }) (Begins session request) Begun start old.history old.calls
+      → EventAlways g (BeginsCall session request) Begun (here_at old) (record { store = store; slots = slice_set old.slots session (Some op) })
+      → EventRuns g (here_at old) (record { store = store; slots = slice_set old.slots session (Some op) }) (BeginsCall session request) Begun start old.history old.calls
   begins_on state follows later counts always = record {
     then_history = old.history;
     then_calls = old.calls ++ call ∷ [];
@@ -331,7 +331,7 @@ module _ {S : Type 0} (g : Ghosts S) (start : Entry → Bool) (old : Snapshot S)
       grows = no_growth old.history;
       caused = tt;
       counts = λ told. subst (λ (x : Option Op). HasSteps (g.state old.store) (g.state store) request x) (sym (slot_set old.slots session (Some op) (get_within old.slots session None free))) counts;
-      quiet = leaves_be g (Begins session request) old begun (ap (λ (st : State). st.limits) state) (ap (λ (st : State). st.frames) state) (λ same. ap (λ (st : State). st.pages) state) (others_stay_set old.slots session (Some op));
+      quiet = leaves_be g (BeginsCall session request) old begun (ap (λ (st : State). st.limits) state) (ap (λ (st : State). st.frames) state) (λ same. ap (λ (st : State). st.pages) state) (others_stay_set old.slots session (Some op));
       durable = tt;
       follows = follows;
       later = later;

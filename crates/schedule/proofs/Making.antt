@@ -8,7 +8,7 @@ use Rattle.index_model.specs.declared.entry.Entry.{Entry}
 use Rattle.index_model.specs.declared.fault.Fault.{Fault}
 use Rattle.index_model.specs.declared.fault.Fault.TheVariants.{Stopped}
 use Rattle.page_action.specs.Causes.{nothing_wrong, where_forced}
-use Rattle.page_action.specs.States.{State}
+use Rattle.page_action.specs.States.{State, with_table}
 use Rattle.page_action.specs.declared.page_store.PageStore.{Ghosts}
 use Rattle.session_calls.specs.Due.{IsDue, IsDueIn, CountsDown, HasSteps}
 use Rattle.session_calls.specs.Ops.{IsCaused, where_stepped, where_asked_next, where_beginning, AnswersStopped}
@@ -19,8 +19,8 @@ use Rattle.session_calls.specs.declared.op.Op.{Op}
 use Rattle.session_calls.specs.declared.request.Request.{Request}
 use Rattle.page_codec.specs.declared.page.Page.{Page}
 use Rattle.schedule.specs.Snapshots.{both, snapshot_of, slot_of, Fits}
-use Rattle.schedule.specs.Events.{Steps, Takes, GivesUp, Upkeep, Forces, Checkpoints, Begins, Moves, Keeps, kept_answer, session_to_begin, where_begun_at, EventAlways, AnswersUpkeep}
-use Rattle.schedule.specs.Runs.{Does, Makes}
+use Rattle.schedule.specs.Events.{Steps, Takes, GivesUp, Upkeep, Forces, Checkpoints, BeginsCall, MovesCall, KeepsStore, kept_answer, session_to_begin, where_begun_at, EventAlways, AnswersUpkeep}
+use Rattle.schedule.specs.Runs.{EventRuns, Makes}
 use Rattle.schedule.proofs.Events.{at_slots, others_stay_set, moves_on, stays_on, refused_stay, keeps_on_store, begins_on, not_begun, not_found_why, not_found_first, set_same}
 use Rattle.schedule.proofs.Keeping.{Laws}
 use Rattle.schedule.proofs.Lists.{length_set}
@@ -35,13 +35,13 @@ module _ {S : Type 0} (g : Ghosts S) (laws : Laws g) (old new : S) (follows : g.
   found_op = found_at ∙ ap (λ (o : Option Op). Some o) is
 
   pub step_makes : AnswersStep before slot answer → RefusalChangesNothing (g.state old) (g.state new) before slot answer → ((g.backing old).stopped ≡ true → AnswersStopped (slot_add before) answer)
-      → LeavesLess (g.state old) (g.state new) before slot answer → LeavesNoMore (g.state old) (g.state new) before slot
+      → LeavesLess (g.state old) (g.state new) before slot answer → (answer ≡ Going → g.state new ≡ with_table (g.state old) (g.state new).table) → LeavesNoMore (g.state old) (g.state new) before slot
       → ((g.backing new).honest ≡ true → (start : Entry → Bool) (history : List Action) (number : ℕ) (call : Call) → SlotFits (g.state old) start history number call before
       → SessionGoes (where_stepped call.ask (g.state old) (g.backing old) (g.backing new) call.session) (g.state old) (g.state new) start history number call slot answer)
       → ((g.backing new).honest ≡ true → (start : Entry → Bool) (history : List Action) (number : ℕ) (call : Call) → SlotFits (g.state old) start history number call before
       → (left : ℕ) → IsDueIn (g.state old) before (suc left) → CountsDown (g.state old) (g.state new) before slot left answer)
-      → Makes g (Moves session Steps) answer (both old slots) (both new (slice_set slots session slot))
-  step_makes kind refused stopped less no_more goes due = record {
+      → Makes g (MovesCall session Steps) answer (both old slots) (both new (slice_set slots session slot))
+  step_makes kind refused stopped less quiet no_more goes due = record {
     sessions = length_set slots session slot;
     always = always;
     does = λ honest start history calls fits.
@@ -54,12 +54,13 @@ module _ {S : Type 0} (g : Ghosts S) (laws : Laws g) (old new : S) (follows : g.
         });
   }
     where
-      always : EventAlways g (Moves session Steps) answer (both old slots) (both new (slice_set slots session slot))
+      always : EventAlways g (MovesCall session Steps) answer (both old slots) (both new (slice_set slots session slot))
       always = record {
         answers = at_slots slots session before slot (λ x y. AnswersStep x y answer) found_at kind;
         refused = at_slots slots session before slot (λ x y. RefusalChangesNothing (g.state old) (g.state new) x y answer) found_at refused;
         stopped = λ h. subst (λ (x : Option Op). AnswersStopped (slot_add x) answer) (sym slot_was) (stopped h);
         less = at_slots slots session before slot (λ x y. LeavesLess (g.state old) (g.state new) x y answer) found_at less;
+        calm = λ going. ap (λ (st : State). st.acts) (quiet going);
         others = others_stay_set slots session slot;
         left = tt;
         causes = tt;
@@ -67,7 +68,7 @@ module _ {S : Type 0} (g : Ghosts S) (laws : Laws g) (old new : S) (follows : g.
 
   pub end_makes : AnswersEnd before answer → slot ≡ None → g.backing new ≡ g.backing old → (g.state new).begun ≡ (g.state old).begun
       → ((start : Entry → Bool) (history : List Action) (number : ℕ) (call : Call) → SlotFits (g.state old) start history number call before → SessionGoes nothing_wrong (g.state old) (g.state new) start history number call slot answer)
-      → Makes g (Moves session GivesUp) answer (both old slots) (both new (slice_set slots session slot))
+      → Makes g (MovesCall session GivesUp) answer (both old slots) (both new (slice_set slots session slot))
   end_makes kind over backing begun goes = record {
     sessions = length_set slots session slot;
     always = always;
@@ -80,12 +81,13 @@ module _ {S : Type 0} (g : Ghosts S) (laws : Laws g) (old new : S) (follows : g.
       ended : answer ≡ Ended
       ended = subst (λ (x : Option Op). AnswersEnd x answer) is kind
 
-      always : EventAlways g (Moves session GivesUp) answer (both old slots) (both new (slice_set slots session slot))
+      always : EventAlways g (MovesCall session GivesUp) answer (both old slots) (both new (slice_set slots session slot))
       always = record {
         answers = at_slots slots session before slot (λ x y. AnswersEnd x answer) found_at kind;
         refused = λ fault h. absurd (let a : answer ≡ Ended = ended in cc);
         stopped = tt;
         less = tt;
+        calm = λ h. absurd (let a : answer ≡ Ended = ended in cc);
         others = others_stay_set slots session slot;
         left = record { over = at_slots slots session before slot (λ x y. y ≡ None) found_at over; backing = backing; begun = begun };
         causes = tt;
@@ -111,7 +113,7 @@ module _ {S : Type 0} (g : Ghosts S) (laws : Laws g) (store : S) (slots : List (
   pub next_makes : AnswersNext before answer → GivesLess before slot answer
       → ((st : State) (start : Entry → Bool) (history : List Action) (number : ℕ) (call : Call) → SlotFits st start history number call before → SessionGoes (where_asked_next call.ask) st st start history number call slot answer)
       → ((items : ℕ) (pages : List Page) (steps : ℕ) → IsDue items pages before steps → IsDue items pages slot steps)
-      → Makes g (Moves session Takes) answer (both store slots) (both store (slice_set slots session slot))
+      → Makes g (MovesCall session Takes) answer (both store slots) (both store (slice_set slots session slot))
   next_makes kind less goes due = record {
     sessions = length_set slots session slot;
     always = always;
@@ -122,7 +124,7 @@ module _ {S : Type 0} (g : Ghosts S) (laws : Laws g) (store : S) (slots : List (
         (λ s l n c runs steps h. due (g.state store).limits.items (g.state store).pages steps (subst (λ (x : Option Op). IsDueIn (g.state store) x steps) (sym is) h));
   }
     where
-      always : EventAlways g (Moves session Takes) answer (both store slots) (both store (slice_set slots session slot))
+      always : EventAlways g (MovesCall session Takes) answer (both store slots) (both store (slice_set slots session slot))
       always = record {
         answers = at_slots slots session before slot (λ x y. AnswersNext x answer) found_at kind;
         refused = λ fault h. record {
@@ -131,6 +133,7 @@ module _ {S : Type 0} (g : Ghosts S) (laws : Laws g) (store : S) (slots : List (
         };
         stopped = tt;
         less = at_slots slots session before slot (λ x y. GivesLess x y answer) found_at less;
+        calm = λ h. refl;
         others = others_stay_set slots session slot;
         left = refl;
         causes = tt;
@@ -151,7 +154,7 @@ module _ {S : Type 0} (g : Ghosts S) (laws : Laws g) (old new : S) (follows : g.
   refused_so Checkpoints fault = tt
 
   pub kept_makes : (count : ℕ) → count ≡ (g.state old).acts → (g.backing new).durable ≡ (g.state old).acts → ((g.backing old).stopped ≡ true → ⊥)
-      → Makes g (Keeps upkeep) (kept_answer upkeep count) (both old slots) (both new slots)
+      → Makes g (KeepsStore upkeep) (kept_answer upkeep count) (both old slots) (both new slots)
   kept_makes count number durable alive = record {
     sessions = refl;
     always = always;
@@ -159,34 +162,36 @@ module _ {S : Type 0} (g : Ghosts S) (laws : Laws g) (old new : S) (follows : g.
         keeps_on_store g start (snapshot_of (both old slots) history calls) new upkeep fits same follows (laws.follows_later old new follows) count number durable always;
   }
     where
-      always : EventAlways g (Keeps upkeep) (kept_answer upkeep count) (both old slots) (both new slots)
+      always : EventAlways g (KeepsStore upkeep) (kept_answer upkeep count) (both old slots) (both new slots)
       always = record {
         answers = told_so upkeep count;
         refused = λ fault h. absurd (not_refused upkeep count fault h);
         stopped = λ h. absurd (alive h);
         less = tt;
+        calm = λ h. ap (λ (st : State). st.acts) same;
         others = λ s of other apart. refl;
         left = tt;
         causes = tt;
       }
 
   pub not_kept_makes : (fault : Fault) → ((g.backing old).stopped ≡ true → fault ≡ Stopped) → HasCause (where_forced (g.backing old) (g.backing new)) fault
-      → Makes g (Keeps upkeep) (Refused fault) (both old slots) (both new slots)
+      → Makes g (KeepsStore upkeep) (Refused fault) (both old slots) (both new slots)
   not_kept_makes fault stopped cause = record {
     sessions = refl;
     always = always;
     does = λ honest start history calls fits.
         (let before = snapshot_of (both old slots) history calls in
         let later = laws.follows_later old new follows in
-        stays_on g start before new fault fits same follows later (Keeps upkeep) (inr (refused_stay g start before new fault fits same follows later)) always cause (λ s h. absurd cc));
+        stays_on g start before new fault fits same follows later (KeepsStore upkeep) (inr (refused_stay g start before new fault fits same follows later)) always cause (λ s h. absurd cc));
   }
     where
-      always : EventAlways g (Keeps upkeep) (Refused fault) (both old slots) (both new slots)
+      always : EventAlways g (KeepsStore upkeep) (Refused fault) (both old slots) (both new slots)
       always = record {
         answers = refused_so upkeep fault;
         refused = λ f h. record { state_is = same; slots_is = refl };
         stopped = λ h. ap Refused (stopped h);
         less = tt;
+        calm = λ h. ap (λ (st : State). st.acts) same;
         others = λ s of other apart. refl;
         left = tt;
         causes = tt;
@@ -198,12 +203,13 @@ module _ {S : Type 0} (g : Ghosts S) (laws : Laws g) (old new : S) (follows : g.
   true_false : true ≡ false → ⊥
   true_false h = cc
 
-  always_of : (a : Answer) → BeginsBy (g.state old) (g.backing old) (g.state new) session request before slot a → EventAlways g (Begins session request) a (both old slots) (both new (slice_set slots session slot))
+  always_of : (a : Answer) → BeginsBy (g.state old) (g.backing old) (g.state new) session request before slot a → EventAlways g (BeginsCall session request) a (both old slots) (both new (slice_set slots session slot))
   always_of Begun h = record {
     answers = tt;
     refused = λ fault e. absurd cc;
     stopped = λ is. absurd (true_false (sym is ∙ alive));
     less = tt;
+    calm = λ e. absurd cc;
     others = others_stay_set slots session slot;
     left = tt;
     causes = tt;
@@ -213,6 +219,7 @@ module _ {S : Type 0} (g : Ghosts S) (laws : Laws g) (old new : S) (follows : g.
     refused = λ f e. record { state_is = h.state; slots_is = ap (λ (x : Option Op). slice_set slots session x) (h.slot_is ∙ before_is) ∙ set_same slots session None free };
     stopped = λ is. absurd (true_false (sym is ∙ alive));
     less = tt;
+    calm = λ e. ap (λ (st : State). st.acts) h.state;
     others = others_stay_set slots session slot;
     left = tt;
     causes = subst (λ (o : Option (Option Op)). IsCaused (where_begun_at g old o) (Refused fault)) (sym free)
@@ -231,14 +238,14 @@ module _ {S : Type 0} (g : Ghosts S) (laws : Laws g) (old new : S) (follows : g.
 
   module _ (begins : (start : Entry → Bool) (history : List Action) (number : ℕ) → answer ≡ Begun → Matches (g.state old) start history → IsIdle (g.state old) session → SessionBegins (g.state old) (g.state new) start history number session request slot)
       (counts : answer ≡ Begun → HasSteps (g.state old) (g.state new) request slot) (start : Entry → Bool) (history : List Action) (calls : List Call) (fits : Fits g start (snapshot_of (both old slots) history calls)) where
-    does_of : (a : Answer) → answer ≡ a → BeginsBy (g.state old) (g.backing old) (g.state new) session request before slot a → Does g (both old slots) (both new (slice_set slots session slot)) (Begins session request) a start history calls
+    does_of : (a : Answer) → answer ≡ a → BeginsBy (g.state old) (g.backing old) (g.state new) session request before slot a → EventRuns g (both old slots) (both new (slice_set slots session slot)) (BeginsCall session request) a start history calls
     does_of Begun is h =
         let idle : IsIdle (g.state old) session = (fits.running session None free).idle in
         begun_with slot h (always_of Begun h) (begins start history (length calls) is fits.matches idle) (counts is)
       where
-        begun_with : (o : Option Op) → IsBegun (g.state old) (g.state new) session request before o → EventAlways g (Begins session request) Begun (both old slots) (both new (slice_set slots session o))
+        begun_with : (o : Option Op) → IsBegun (g.state old) (g.state new) session request before o → EventAlways g (BeginsCall session request) Begun (both old slots) (both new (slice_set slots session o))
             → SessionBegins (g.state old) (g.state new) start history (length calls) session request o → HasSteps (g.state old) (g.state new) request o
-            → Does g (both old slots) (both new (slice_set slots session o)) (Begins session request) Begun start history calls
+            → EventRuns g (both old slots) (both new (slice_set slots session o)) (BeginsCall session request) Begun start history calls
         begun_with None b always began steps = absurd (began.holds.0 refl)
         begun_with (Some op) b always began steps =
             begins_on g start (snapshot_of (both old slots) history calls) new session request op fits free began b.state follows (laws.follows_later old new follows) steps always
@@ -247,10 +254,10 @@ module _ {S : Type 0} (g : Ghosts S) (laws : Laws g) (old new : S) (follows : g.
         let snap = snapshot_of (both old slots) history calls in
         let later = laws.follows_later old new follows in
         let cause = subst (λ (o : Option Op). HasCause (where_beginning (g.state old) (g.backing old) (is_busy o)) fault) before_is h.cause in
-        subst (λ (s : List (Option Op)). Does g (both old slots) (both new s) (Begins session request) (Refused fault) start history calls) (sym slots_is)
-        (stays_on g start snap new fault fits h.state follows later (Begins session request)
+        subst (λ (s : List (Option Op)). EventRuns g (both old slots) (both new s) (BeginsCall session request) (Refused fault) start history calls) (sym slots_is)
+        (stays_on g start snap new fault fits h.state follows later (BeginsCall session request)
         (not_begun g (slice_get slots session) session request (Refused fault) snap _ (refused_stay g start snap new fault fits h.state follows later))
-        (subst (λ (s : List (Option Op)). EventAlways g (Begins session request) (Refused fault) (both old slots) (both new s)) slots_is (always_of (Refused fault) h))
+        (subst (λ (s : List (Option Op)). EventAlways g (BeginsCall session request) (Refused fault) (both old slots) (both new s)) slots_is (always_of (Refused fault) h))
         (subst (λ (o : Option (Option Op)). HasCause (where_of o) fault) (sym free) cause)
         (λ s e. absurd cc))
       where
@@ -270,7 +277,7 @@ module _ {S : Type 0} (g : Ghosts S) (laws : Laws g) (old new : S) (follows : g.
   pub begin_makes : BeginsBy (g.state old) (g.backing old) (g.state new) session request before slot answer
       → ((start : Entry → Bool) (history : List Action) (number : ℕ) → answer ≡ Begun → Matches (g.state old) start history → IsIdle (g.state old) session → SessionBegins (g.state old) (g.state new) start history number session request slot)
       → (answer ≡ Begun → HasSteps (g.state old) (g.state new) request slot)
-      → Makes g (Begins session request) answer (both old slots) (both new (slice_set slots session slot))
+      → Makes g (BeginsCall session request) answer (both old slots) (both new (slice_set slots session slot))
   begin_makes by begins counts = record {
     sessions = length_set slots session slot;
     always = always_of answer by;
@@ -279,7 +286,7 @@ module _ {S : Type 0} (g : Ghosts S) (laws : Laws g) (old new : S) (follows : g.
 
 -- a beginning that finds no session
 pub not_found_makes : {S : Type 0} (g : Ghosts S) (laws : Laws g) (store : S) (slots : List (Option Op)) (session : ℕ) (request : Request) (fault : Fault)
-    → Err fault ≡ session_to_begin (g.backing store).stopped (slice_get slots session) session → Makes g (Begins session request) (Refused fault) (both store slots) (both store slots)
+    → Err fault ≡ session_to_begin (g.backing store).stopped (slice_get slots session) session → Makes g (BeginsCall session request) (Refused fault) (both store slots) (both store slots)
 not_found_makes g laws store slots session request fault none = record {
   sessions = refl;
   always = always;
@@ -287,17 +294,18 @@ not_found_makes g laws store slots session request fault none = record {
       (let snap = snapshot_of (both store slots) history calls in
       let follows = laws.follows_same store in
       let later = laws.follows_later store store follows in
-      stays_on g start snap store fault fits refl follows later (Begins session request)
+      stays_on g start snap store fault fits refl follows later (BeginsCall session request)
       (not_begun g (slice_get slots session) session request (Refused fault) snap _ (refused_stay g start snap store fault fits refl follows later)) always
       (not_found_why g store session (g.backing store).stopped (slice_get slots session) fault refl none) (λ s e. absurd cc));
 }
   where
-    always : EventAlways g (Begins session request) (Refused fault) (both store slots) (both store slots)
+    always : EventAlways g (BeginsCall session request) (Refused fault) (both store slots) (both store slots)
     always = record {
       answers = tt;
       refused = λ f h. record { state_is = refl; slots_is = refl };
       stopped = not_found_first (g.backing store).stopped (slice_get slots session) session fault none;
       less = tt;
+      calm = λ h. refl;
       others = λ s of other apart. refl;
       left = tt;
       causes = not_found_why g store session (g.backing store).stopped (slice_get slots session) fault refl none;

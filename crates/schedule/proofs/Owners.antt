@@ -61,9 +61,9 @@ apt_of was is same (Add e) h = same e ∙ h
 apt_of was is same (Remove es) h = (h.0, h.1, λ e among. same e ∙ h.2 e among)
 apt_of was is same Shape h = tt
 
-pub asked_of : (was is : Entry → Bool) → ((e : Entry) → is e ≡ was e) → (ask : Ask) (added : Option ℕ) (effect : Option Effect) → IsAsked was ask added effect → IsAsked is ask added effect
-asked_of was is same ask added None h = tt
-asked_of was is same ask added (Some effect) h = (h.0, apt_of was is same effect h.1)
+pub asked_same : (was is : Entry → Bool) → ((e : Entry) → is e ≡ was e) → (ask : Ask) (added : Option ℕ) (effect : Option Effect) → IsAsked was ask added effect → IsAsked is ask added effect
+asked_same was is same ask added None h = tt
+asked_same was is same ask added (Some effect) h = (h.0, apt_of was is same effect h.1)
 
 -- the one action that an event appends is its call's own
 pub own_action : (start : Entry → Bool) (history : List Action) (number : ℕ) (ask : Ask) (added : Option ℕ) (effect : Option Effect) → IsAsked (contents_after start history) ask added effect
@@ -75,7 +75,7 @@ own_action start history number ask added (Some effect) asked k a h =
       at.0,
       sym (ap (λ (x : Action). x.by) at.1),
       subst (λ (x : Action). MayAct there_then (suc (length history)) x.effect ask (add_after added (suc (length history)) (Some effect))) at.1
-          (may_act there_then ask added (suc (length history)) effect (asked_of (contents_after start history) there_then same_then ask added (Some effect) asked)),
+          (may_act there_then ask added (suc (length history)) effect (asked_same (contents_after start history) there_then same_then ask added (Some effect) asked)),
     )
   where
     act : Action

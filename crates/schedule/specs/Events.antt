@@ -11,10 +11,10 @@ use Rattle.page_action.specs.States.{State, IsLater}
 use Rattle.page_action.specs.declared.page_store.PageStore.{Ghosts}
 use Rattle.descent.specs.Steps.{OthersRely}
 use Rattle.session_calls.specs.Due.{IsDueIn, CountsDown, HasSteps}
-use Rattle.session_calls.specs.Ops.{asked_by, ask_of, where_stepped, where_asked_next, where_beginning, IsCaused, AnswersStopped}
+use Rattle.session_calls.specs.Ops.{asked_by, asked_of, where_stepped, where_asked_next, where_beginning, IsCaused, AnswersStopped}
 use Rattle.session_calls.specs.Sessions.{Told, IsAsked, acts_of, begun_call, is_busy, slot_add, LeavesLess, LeavesNoMore, GivesLess, AnswersStep, AnswersNext, AnswersEnd, RefusalChangesNothing}
 use Rattle.session_calls.specs.declared.answer.Answer.{Answer}
-use Rattle.session_calls.specs.declared.answer.Answer.TheVariants.{Begun, Forced, Checkpointed, Refused}
+use Rattle.session_calls.specs.declared.answer.Answer.TheVariants.{Begun, Going, Forced, Checkpointed, Refused}
 use Rattle.session_calls.specs.declared.op.Op.{Op}
 use Rattle.session_calls.specs.declared.request.Request.{Request}
 use Rattle.session_calls.specs.declared.request.Request.TheVariants.{Insert as ToInsert, Scan as ToScan}
@@ -35,28 +35,28 @@ pub data Upkeep : Type 0 where
 
 -- an event begins a session's call, moves its running call, or is of the store
 pub data Kind : Type 0 where
-  Begins : ℕ → Request → Kind
-  Moves : ℕ → Move → Kind
-  Keeps : Upkeep → Kind
+  BeginsCall : ℕ → Request → Kind
+  MovesCall : ℕ → Move → Kind
+  KeepsStore : Upkeep → Kind
 
 abbrev pub kind_of : Event → Kind
-kind_of (Insert session e) = Begins session (ToInsert e)
-kind_of (Scan session range) = Begins session (ToScan range)
-kind_of (Step session) = Moves session Steps
-kind_of (Next session) = Moves session Takes
-kind_of (End session) = Moves session GivesUp
-kind_of Force = Keeps Forces
-kind_of Checkpoint = Keeps Checkpoints
+kind_of (Insert session e) = BeginsCall session (ToInsert e)
+kind_of (Scan session range) = BeginsCall session (ToScan range)
+kind_of (Step session) = MovesCall session Steps
+kind_of (Next session) = MovesCall session Takes
+kind_of (End session) = MovesCall session GivesUp
+kind_of Force = KeepsStore Forces
+kind_of Checkpoint = KeepsStore Checkpoints
 
 -- the kind is of this session, or of no session
-abbrev pub IsOfKind : ℕ → Kind → Type 0
-IsOfKind session (Begins of request) = of ≡ session
-IsOfKind session (Moves of move) = of ≡ session
-IsOfKind session (Keeps upkeep) = Unit {0}
+abbrev pub IsOfSession : ℕ → Kind → Type 0
+IsOfSession session (BeginsCall of request) = of ≡ session
+IsOfSession session (MovesCall of move) = of ≡ session
+IsOfSession session (KeepsStore upkeep) = Unit {0}
 
 -- the event is one of this session, or one of the store
 abbrev pub IsOf : ℕ → Event → Type 0
-IsOf session event = IsOfKind session (kind_of event)
+IsOf session event = IsOfSession session (kind_of event)
 
 -- ... each of these
 abbrev pub AreOf : ℕ → List Event → Type 0
@@ -103,7 +103,7 @@ kept_answer Forces count = Forced count
 kept_answer Checkpoints count = Checkpointed count
 
 -- all actions are durable, and so many; nothing else is changed
-pub record IsKept {S : Type 0} (g : Ghosts S) (upkeep : Upkeep) (answer : Answer) (old new : Snapshot S) : Type 0 where
+pub record UpkeepIsDone {S : Type 0} (g : Ghosts S) (upkeep : Upkeep) (answer : Answer) (old new : Snapshot S) : Type 0 where
   pub told : answer ≡ kept_answer upkeep (length old.history)
   pub durable : (g.backing new.store).durable ≡ length old.history
   pub still : IsStill g old new
@@ -129,9 +129,9 @@ MayBegin g (Some (Some op)) session request answer old new = Stays g answer old 
 
 -- what an event of this kind does to the history and to the calls, by what it answers
 abbrev pub Happens : {S : Type 0} → Ghosts S → (Entry → Bool) → Kind → Answer → Snapshot S → Snapshot S → Type 0
-Happens g start (Begins session request) answer old new = MayBegin g (slice_get old.slots session) session request answer old new
-Happens g start (Moves session move) answer old new = MovesOn g start (has_call old.slots session) session answer old new
-Happens g start (Keeps upkeep) answer old new = IsKept g upkeep answer old new ⊎ Stays g answer old new
+Happens g start (BeginsCall session request) answer old new = MayBegin g (slice_get old.slots session) session request answer old new
+Happens g start (MovesCall session move) answer old new = MovesOn g start (has_call old.slots session) session answer old new
+Happens g start (KeepsStore upkeep) answer old new = UpkeepIsDone g upkeep answer old new ⊎ Stays g answer old new
 
 -- the circumstances where there is no such session, or no call in it
 abbrev pub where_no_call : Bool → Circumstances
@@ -149,7 +149,7 @@ session_to_begin false (Some (Some op)) session = Err SessionBusy
 abbrev pub where_moved : Circumstances → (Ask → Circumstances) → Option (Option Op) → Circumstances
 where_moved idle running None = idle
 where_moved idle running (Some None) = idle
-where_moved idle running (Some (Some op)) = running (ask_of op)
+where_moved idle running (Some (Some op)) = running (asked_of op)
 
 -- the circumstances of a beginning
 abbrev pub where_begun_at : {S : Type 0} → Ghosts S → S → Option (Option Op) → Circumstances
@@ -165,9 +165,9 @@ where_moving g old new session GivesUp slot = where_moved (where_no_call false) 
 
 -- the circumstances of an event
 abbrev pub where_happening : {S : Type 0} → Ghosts S → Kind → StoreAndSlots S → StoreAndSlots S → Circumstances
-where_happening g (Begins session request) old new = where_begun_at g old.store (slice_get old.slots session)
-where_happening g (Moves session move) old new = where_moving g old.store new.store session move (slice_get old.slots session)
-where_happening g (Keeps upkeep) old new = where_forced (g.backing old.store) (g.backing new.store)
+where_happening g (BeginsCall session request) old new = where_begun_at g old.store (slice_get old.slots session)
+where_happening g (MovesCall session move) old new = where_moving g old.store new.store session move (slice_get old.slots session)
+where_happening g (KeepsStore upkeep) old new = where_forced (g.backing old.store) (g.backing new.store)
 
 -- a beginning is told as begun, or refused
 abbrev pub AnswersBeginning : Answer → Type 0
@@ -190,9 +190,9 @@ AnswersMove GivesUp before after answer = AnswersEnd before answer
 
 -- what an event may answer
 abbrev pub AnswersEvent : Kind → Answer → List (Option Op) → List (Option Op) → Type 0
-AnswersEvent (Begins session request) answer old new = AnswersBeginning answer
-AnswersEvent (Moves session move) answer old new = AnswersMove move (slot_of old session) (slot_of new session) answer
-AnswersEvent (Keeps upkeep) answer old new = AnswersUpkeep upkeep answer
+AnswersEvent (BeginsCall session request) answer old new = AnswersBeginning answer
+AnswersEvent (MovesCall session move) answer old new = AnswersMove move (slot_of old session) (slot_of new session) answer
+AnswersEvent (KeepsStore upkeep) answer old new = AnswersUpkeep upkeep answer
 
 -- where the log failed before, this is refused with Stopped, whatever else is so
 abbrev pub RefusesStopped : Bool → Answer → Type 0
@@ -201,11 +201,11 @@ RefusesStopped is_stopped answer = is_stopped ≡ true → answer ≡ Refused St
 -- on a stopped log every beginning, step, force and checkpoint is refused with Stopped before all else; the step of an
 -- insert whose entry is logged ends as added, with that fault
 abbrev pub StopsFirst : Kind → Bool → Answer → List (Option Op) → Type 0
-StopsFirst (Begins session request) is_stopped answer slots = RefusesStopped is_stopped answer
-StopsFirst (Moves session Steps) is_stopped answer slots = is_stopped ≡ true → AnswersStopped (slot_add (slot_of slots session)) answer
-StopsFirst (Moves session Takes) is_stopped answer slots = Unit {0}
-StopsFirst (Moves session GivesUp) is_stopped answer slots = Unit {0}
-StopsFirst (Keeps upkeep) is_stopped answer slots = RefusesStopped is_stopped answer
+StopsFirst (BeginsCall session request) is_stopped answer slots = RefusesStopped is_stopped answer
+StopsFirst (MovesCall session Steps) is_stopped answer slots = is_stopped ≡ true → AnswersStopped (slot_add (slot_of slots session)) answer
+StopsFirst (MovesCall session Takes) is_stopped answer slots = Unit {0}
+StopsFirst (MovesCall session GivesUp) is_stopped answer slots = Unit {0}
+StopsFirst (KeepsStore upkeep) is_stopped answer slots = RefusesStopped is_stopped answer
 
 -- neither the pages, calls and holdings of the store nor a slot are changed
 pub record IsUnchanged {S : Type 0} (g : Ghosts S) (old new : StoreAndSlots S) : Type 0 where
@@ -214,14 +214,14 @@ pub record IsUnchanged {S : Type 0} (g : Ghosts S) (old new : StoreAndSlots S) :
 
 -- a refused event changes nothing, but that a step that wasn't blocked ends its call
 abbrev pub RefusalKeeps : {S : Type 0} → Ghosts S → Kind → Answer → StoreAndSlots S → StoreAndSlots S → Type 0
-RefusalKeeps g (Moves session Steps) answer old new =
+RefusalKeeps g (MovesCall session Steps) answer old new =
     RefusalChangesNothing (g.state old.store) (g.state new.store) (slot_of old.slots session) (slot_of new.slots session) answer
 RefusalKeeps g kind answer old new = (fault : Fault) → answer ≡ Refused fault → IsUnchanged g old new
 
 -- while no act is done, a step that ends no call leaves less to do, and so does an entry that is given
 abbrev pub IsLessLeft : Kind → Answer → State → State → Option Op → Option Op → Type 0
-IsLessLeft (Moves session Steps) answer old new before after = LeavesLess old new before after answer
-IsLessLeft (Moves session Takes) answer old new before after = GivesLess before after answer
+IsLessLeft (MovesCall session Steps) answer old new before after = LeavesLess old new before after answer
+IsLessLeft (MovesCall session Takes) answer old new before after = GivesLess before after answer
 IsLessLeft kind answer old new before after = Unit {0}
 
 -- behind an `End` the session runs nothing; nothing of the log, and no count of calls, is changed
@@ -233,8 +233,8 @@ pub record IsEnded {S : Type 0} (g : Ghosts S) (session : ℕ) (old new : StoreA
 -- what is so behind an event: an end leaves its session nothing to run; asking for the next entry leaves the pages, calls and
 -- holdings of the store as they were
 abbrev pub IsLeft : {S : Type 0} → Ghosts S → Kind → StoreAndSlots S → StoreAndSlots S → Type 0
-IsLeft g (Moves session GivesUp) old new = IsEnded g session old new
-IsLeft g (Moves session Takes) old new = g.state new.store ≡ g.state old.store
+IsLeft g (MovesCall session GivesUp) old new = IsEnded g session old new
+IsLeft g (MovesCall session Takes) old new = g.state new.store ≡ g.state old.store
 IsLeft g kind old new = Unit {0}
 
 -- what the other sessions run is as it was
@@ -243,25 +243,30 @@ OthersStay session old new = (other : ℕ) → other ≢ session → slice_get n
 
 -- the session of an event
 abbrev pub session_at : Kind → ℕ
-session_at (Begins session request) = session
-session_at (Moves session move) = session
-session_at (Keeps upkeep) = 0
+session_at (BeginsCall session request) = session
+session_at (MovesCall session move) = session
+session_at (KeepsStore upkeep) = 0
+
+-- an event that answers `Going` does no act: on one leaf, an insert's one act comes with its last step
+abbrev pub GoingIsCalm : Answer → State → State → Type 0
+GoingIsCalm answer old new = answer ≡ Going → new.acts ≡ old.acts
 
 -- a beginning that is refused has its cause
 abbrev pub BeginningIsCaused : {S : Type 0} → Ghosts S → Kind → Answer → StoreAndSlots S → Type 0
-BeginningIsCaused g (Begins session request) answer old =
+BeginningIsCaused g (BeginsCall session request) answer old =
     IsCaused (where_begun_at g old.store (slice_get old.slots session)) answer
 BeginningIsCaused g kind answer old = Unit {0}
 
 -- What holds of an event whatever the pages are: what it may answer; that a refusal changes nothing; that a stopped log
--- refuses it first; what is left to do for its call; that no other session's slot is changed; what it leaves; and that a
--- beginning that is refused has its cause.
+-- refuses it first; what is left to do for its call; that one that goes on does no act; that no other session's slot is
+-- changed; what it leaves; and that a beginning that is refused has its cause.
 pub record EventAlways {S : Type 0} (g : Ghosts S) (kind : Kind) (answer : Answer) (old new : StoreAndSlots S) : Type 0 where
   pub answers : AnswersEvent kind answer old.slots new.slots
   pub refused : RefusalKeeps g kind answer old new
   pub stopped : StopsFirst kind (g.backing old.store).stopped answer old.slots
   pub less : IsLessLeft kind answer (g.state old.store) (g.state new.store) (slot_of old.slots (session_at kind)) (slot_of new.slots (session_at kind))
-  pub others : (session : ℕ) → IsOfKind session kind → OthersStay session old.slots new.slots
+  pub calm : GoingIsCalm answer (g.state old.store) (g.state new.store)
+  pub others : (session : ℕ) → IsOfSession session kind → OthersStay session old.slots new.slots
   pub left : IsLeft g kind old new
   pub causes : BeginningIsCaused g kind answer old
 
@@ -278,11 +283,11 @@ StaysAsDue old new before after = (steps : ℕ) → IsDueIn old before steps →
 -- how many steps a call takes, by its event: a beginning says after how many it is due, each step is counted, and a `next`
 -- costs none
 abbrev pub CountsSteps : Kind → Answer → State → State → Option Op → Option Op → Type 0
-CountsSteps (Begins session request) answer old new before after = answer ≡ Begun → HasSteps old new request after
-CountsSteps (Moves session Steps) answer old new before after = StepIsCounted old new before after answer
-CountsSteps (Moves session Takes) answer old new before after = StaysAsDue old new before after
-CountsSteps (Moves session GivesUp) answer old new before after = Unit {0}
-CountsSteps (Keeps upkeep) answer old new before after = Unit {0}
+CountsSteps (BeginsCall session request) answer old new before after = answer ≡ Begun → HasSteps old new request after
+CountsSteps (MovesCall session Steps) answer old new before after = StepIsCounted old new before after answer
+CountsSteps (MovesCall session Takes) answer old new before after = StaysAsDue old new before after
+CountsSteps (MovesCall session GivesUp) answer old new before after = Unit {0}
+CountsSteps (KeepsStore upkeep) answer old new before after = Unit {0}
 
 -- What an event leaves as it was: the limits and the number of frames; and where it appends no action, the pages. So an event
 -- of others that appends no action costs a call that is due no step.
@@ -290,7 +295,7 @@ pub record LeavesBe {S : Type 0} (g : Ghosts S) (kind : Kind) (old new : Snapsho
   pub limits : (g.state new.store).limits ≡ (g.state old.store).limits
   pub frames : (g.state new.store).frames ≡ (g.state old.store).frames
   pub pages : new.history ≡ old.history → (g.state new.store).pages ≡ (g.state old.store).pages
-  pub due : new.history ≡ old.history → (session other : ℕ) → IsOfKind session kind → other ≢ session
+  pub due : new.history ≡ old.history → (session other : ℕ) → IsOfSession session kind → other ≢ session
       → StaysAsDue (g.state old.store) (g.state new.store) (slot_of old.slots other) (slot_of new.slots other)
 
 -- a number of actions that was answered as durable is not above this

@@ -49,7 +49,7 @@ Carries g old new goes =
     → Fits g start (snapshot_of old history calls) → goes start history calls
 
 -- there is a continuation of the history and of the calls, as an event of this kind with this answer makes it
-pub record Does {S : Type 0} (g : Ghosts S) (old new : StoreAndSlots S) (kind : Kind) (answer : Answer) (start : Entry → Bool) (history : List Action) (calls : List Call) : Type 0 where
+pub record EventRuns {S : Type 0} (g : Ghosts S) (old new : StoreAndSlots S) (kind : Kind) (answer : Answer) (start : Entry → Bool) (history : List Action) (calls : List Call) : Type 0 where
   pub then_history : List Action
   pub then_calls : List Call
   pub does : EventDoes g start kind answer (snapshot_of old history calls) (snapshot_of new then_history then_calls)
@@ -58,7 +58,7 @@ pub record Does {S : Type 0} (g : Ghosts S) (old new : StoreAndSlots S) (kind : 
 pub record Makes {S : Type 0} (g : Ghosts S) (kind : Kind) (answer : Answer) (old new : StoreAndSlots S) : Type 0 where
   pub sessions : length new.slots ≡ length old.slots
   pub always : EventAlways g kind answer old new
-  pub does : Carries g old new (Does g old new kind answer)
+  pub does : Carries g old new (EventRuns g old new kind answer)
 
 -- there is a continuation of the history and of the calls that fits now, by a run of these events with these answers
 pub record Runs {S : Type 0} (g : Ghosts S) (old new : StoreAndSlots S) (events : List Event) (answers : List Answer) (start : Entry → Bool) (history : List Action) (calls : List Call) : Type 0 where

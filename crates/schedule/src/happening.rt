@@ -6,7 +6,7 @@ ghost use Rattle.page_action.specs.States.{Continues};
 ghost use Rattle.session_calls.specs.Sessions.{no_call};
 ghost use Rattle.session_calls.specs.declared.op.Op.{Op};
 ghost use Rattle.schedule.specs.Snapshots.{both, has_call};
-ghost use Rattle.schedule.specs.Events.{Begins, Moves, Steps, Takes, GivesUp, Keeps, Forces, Checkpoints, kind_of, session_to_begin, AnswersUpkeep, StoreIsKept, EventAlways};
+ghost use Rattle.schedule.specs.Events.{BeginsCall, MovesCall, Steps, Takes, GivesUp, KeepsStore, Forces, Checkpoints, kind_of, session_to_begin, AnswersUpkeep, StoreIsKept, EventAlways};
 ghost use Rattle.schedule.specs.Runs.{Carries, Runs, Makes, answers_behind};
 
 use crate::event::Event;
@@ -26,8 +26,6 @@ pub fn one<S: PageStore>(store: &mut S, slots: &mut [Option<Op>], event: Event) 
     ensures runs { Carries S.PageStore (both store.old slots.old) (both store.new slots.new)
         (Runs S.PageStore (both store.old slots.old) (both store.new slots.new) (event ∷ [])
         (result ∷ [])) }
-    // A step that goes on logs nothing yet, on one leaf.
-    ensures calm { result ≡ Answer.Going → (S.state store.new).acts ≡ (S.state store.old).acts }
 {
     pick(store, slots, event)
 }
@@ -73,7 +71,6 @@ fn pick<S: PageStore>(store: &mut S, slots: &mut [Option<Op>], event: Event) -> 
     ensures steps { Continues S.follows store.old store.new }
     ensures makes { Makes S.PageStore (kind_of event) result (both store.old slots.old)
         (both store.new slots.new) }
-    ensures calm { result ≡ Answer.Going → (S.state store.new).acts ≡ (S.state store.old).acts }
 {
     match event {
         Event::Insert(session, entry) => begin(store, slots, session, Request::Insert(entry)),
@@ -94,9 +91,8 @@ fn begin<S: PageStore>(
 ) -> Answer
     requires few { length slots.old ≤ 64 }
     ensures steps { Continues S.follows store.old store.new }
-    ensures makes { Makes S.PageStore (Begins session request) result (both store.old slots.old)
+    ensures makes { Makes S.PageStore (BeginsCall session request) result (both store.old slots.old)
         (both store.new slots.new) }
-    ensures calm { result ≡ Answer.Going → (S.state store.new).acts ≡ (S.state store.old).acts }
 {
     match find(store.is_stopped(), slots, session) {
         Ok(known) => session_calls::begin(store, known, request, &mut slots[session as usize]),
@@ -106,9 +102,8 @@ fn begin<S: PageStore>(
 
 fn step<S: PageStore>(store: &mut S, slots: &mut [Option<Op>], session: u32) -> Answer
     ensures steps { Continues S.follows store.old store.new }
-    ensures makes { Makes S.PageStore (Moves session Steps) result (both store.old slots.old)
+    ensures makes { Makes S.PageStore (MovesCall session Steps) result (both store.old slots.old)
         (both store.new slots.new) }
-    ensures calm { result ≡ Answer.Going → (S.state store.new).acts ≡ (S.state store.old).acts }
 {
     if !is_running(slots, session) {
         return refuse_idle(store.is_stopped());
@@ -117,7 +112,7 @@ fn step<S: PageStore>(store: &mut S, slots: &mut [Option<Op>], session: u32) -> 
 }
 
 fn next<S: PageStore>(store: &S, slots: &mut [Option<Op>], session: u32) -> Answer
-    ensures makes { Makes S.PageStore (Moves session Takes) result (both store.now slots.old)
+    ensures makes { Makes S.PageStore (MovesCall session Takes) result (both store.now slots.old)
         (both store.now slots.new) }
 {
     if !is_running(slots, session) {
@@ -128,9 +123,8 @@ fn next<S: PageStore>(store: &S, slots: &mut [Option<Op>], session: u32) -> Answ
 
 fn end<S: PageStore>(store: &mut S, slots: &mut [Option<Op>], session: u32) -> Answer
     ensures steps { Continues S.follows store.old store.new }
-    ensures makes { Makes S.PageStore (Moves session GivesUp) result (both store.old slots.old)
+    ensures makes { Makes S.PageStore (MovesCall session GivesUp) result (both store.old slots.old)
         (both store.new slots.new) }
-    ensures calm { result ≡ Answer.Going → (S.state store.new).acts ≡ (S.state store.old).acts }
 {
     if !is_running(slots, session) {
         return refuse_idle(false);
@@ -169,11 +163,10 @@ pub fn checkpoint<S: PageStore>(store: &mut S, slots: &[Option<Op>]) -> Answer
 
 fn make_force<S: PageStore>(store: &mut S, slots: &[Option<Op>]) -> Answer
     ensures steps { Continues S.follows store.old store.new }
-    ensures makes { Makes S.PageStore (Keeps Forces) result (both store.old slots.now)
+    ensures makes { Makes S.PageStore (KeepsStore Forces) result (both store.old slots.now)
         (both store.new slots.now) }
     ensures kept { StoreIsKept S.PageStore Forces result store.old store.new }
     ensures answers { AnswersUpkeep Forces result }
-    ensures calm { result ≡ Answer.Going → (S.state store.new).acts ≡ (S.state store.old).acts }
 {
     match store.force() {
         Ok(count) => Answer::Forced(count),
@@ -183,13 +176,12 @@ fn make_force<S: PageStore>(store: &mut S, slots: &[Option<Op>]) -> Answer
 
 fn make_checkpoint<S: PageStore>(store: &mut S, slots: &[Option<Op>]) -> Answer
     ensures steps { Continues S.follows store.old store.new }
-    ensures makes { Makes S.PageStore (Keeps Checkpoints) result (both store.old slots.now)
+    ensures makes { Makes S.PageStore (KeepsStore Checkpoints) result (both store.old slots.now)
         (both store.new slots.now) }
     ensures kept { StoreIsKept S.PageStore Checkpoints result store.old store.new }
     ensures answers { AnswersUpkeep Checkpoints result }
     ensures room { (count : ℕ) → result ≡ Answer.Checkpointed count
         → HasWholeRoom (S.state store.old).limits (S.backing store.new) }
-    ensures calm { result ≡ Answer.Going → (S.state store.new).acts ≡ (S.state store.old).acts }
 {
     match store.checkpoint() {
         Ok(count) => Answer::Checkpointed(count),

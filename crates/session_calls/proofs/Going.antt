@@ -10,7 +10,7 @@ use Rattle.page_action.specs.Contents.{entry_on_live_leaf}
 use Rattle.page_action.specs.States.{State, after_end}
 use Rattle.descent.specs.Steps.{Does}
 use Rattle.descent.proofs.Quiet.{does_nothing, pages_stay}
-use Rattle.session_calls.specs.Ops.{session_of, ask_of, add_of, OpFits, OpKnows, IsCaused, IsFaultCaused, is_last, ends_call}
+use Rattle.session_calls.specs.Ops.{session_of, asked_of, add_of, OpFits, OpKnows, IsCaused, IsFaultCaused, is_last, ends_call}
 use Rattle.session_calls.specs.Sessions.{Matches, OpRuns, CallFits, acts_of, act_count, IsAsked, add_after, noted, ended, Told, SessionGoes, OpGoes, HoldsOn}
 use Rattle.session_calls.specs.declared.answer.Answer.{Answer}
 use Rattle.session_calls.specs.declared.answer.Answer.TheVariants.{Going, Added, Ready, Ended, Refused}
@@ -119,7 +119,7 @@ event_of_nothing at old new start history number call after op answer m same tol
 
 -- the steps of an operation that runs a call
 module _ (at : Circumstances) (old new : State) (start : Entry → Bool) (history : List Action) (number : ℕ) (call : Call) (before after : Op)
-    (fits : CallFits old start history number call before) (session : session_of after ≡ session_of before) (ask : ask_of after ≡ ask_of before) where
+    (fits : CallFits old start history number call before) (session : session_of after ≡ session_of before) (ask : asked_of after ≡ asked_of before) where
   -- one that goes on
   pub step_goes_on : (effect : Option Effect) → Does (session_of before) effect old new → IsAsked (contents_after start history) call.ask call.added effect
       → add_of after ≡ add_after (add_of before) (suc (length history)) effect → OpFits new after → OpKnows start (history ++ acts_of number effect) call.began call.given after
@@ -174,7 +174,7 @@ module _ (at : Circumstances) (old new : State) (start : Entry → Bool) (histor
       }
 
   -- an insert that is over with its Add, which it may make now
-  pub step_adds : (e : Entry) (action : ℕ) (unfinished : Option Fault) (effect : Option Effect) → ask_of before ≡ AskInsert e → Does (session_of before) effect old new
+  pub step_adds : (e : Entry) (action : ℕ) (unfinished : Option Fault) (effect : Option Effect) → asked_of before ≡ AskInsert e → Does (session_of before) effect old new
       → IsAsked (contents_after start history) call.ask call.added effect → add_after (add_of before) (suc (length history)) effect ≡ Some action → IsFaultCaused at unfinished
       → OpGoes at old new start history number call after (Added action unfinished)
   step_adds e action unfinished effect inserts does asked add caused =
@@ -195,7 +195,7 @@ module _ (at : Circumstances) (old new : State) (start : Entry → Bool) (histor
 
   -- one that is refused
   pub step_is_refused : (fault : Fault) → new ≡ old → after ≡ before → HasCause at fault → add_of before ≡ None
-      → ((e : Entry) → ask_of before ≡ AskInsert e → at.entry_was_there ≡ true → entry_on_live_leaf old.pages e ≡ true)
+      → ((e : Entry) → asked_of before ≡ AskInsert e → at.entry_was_there ≡ true → entry_on_live_leaf old.pages e ≡ true)
       → OpGoes at old new start history number call after (Refused fault)
   step_is_refused fault same same_op cause none there = by_end (ends_call fault) refl
     where

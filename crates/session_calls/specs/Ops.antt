@@ -39,9 +39,9 @@ session_of (Insert op) = op.session
 session_of (Scan op) = op.session
 
 -- what it was asked
-abbrev pub ask_of : Op → Ask
-ask_of (Insert op) = AskInsert op.entry
-ask_of (Scan op) = AskScan op.range
+abbrev pub asked_of : Op → Ask
+asked_of (Insert op) = AskInsert op.entry
+asked_of (Scan op) = AskScan op.range
 
 -- the number of its Add, if it has one: an insert of one leaf ends with it
 abbrev pub add_of : Op → Option ℕ

@@ -13,7 +13,7 @@ use Rattle.page_action.specs.States.{State, Backing, Continues, after_begin, aft
 use Rattle.page_action.specs.declared.page_store.PageStore.{Ghosts}
 use Rattle.page_codec.specs.declared.page.Page.{Page}
 use Rattle.descent.specs.Steps.{IsInOrder, IsApt, Does, OthersRely}
-use Rattle.session_calls.specs.Ops.{asked_by, op_before, session_of, ask_of, add_of, ready_of, OpFits, OpKnows, where_beginning, IsCaused, ends_call, is_last, OpAnswers, AnswersStopped, op_work}
+use Rattle.session_calls.specs.Ops.{asked_by, op_before, session_of, asked_of, add_of, ready_of, OpFits, OpKnows, where_beginning, IsCaused, ends_call, is_last, OpAnswers, AnswersStopped, op_work}
 use Rattle.session_calls.specs.declared.answer.Answer.{Answer}
 use Rattle.session_calls.specs.declared.answer.Answer.TheVariants.{Begun, Going, Added, Ready, Done, Finished, Gave, Ended, Forced, Flushed, Checkpointed, Refused}
 use Rattle.session_calls.specs.declared.op.Op.{Op}
@@ -42,7 +42,7 @@ pub record HasStarted (st : State) (session : ℕ) : Type 0 where
 
 -- what holds of a running call between its events
 pub record OpRuns (st : State) (start : Entry → Bool) (history : List Action) (call : Call) (op : Op) : Type 0 where
-  pub ask : call.ask ≡ ask_of op
+  pub ask : call.ask ≡ asked_of op
   pub session : session_of op ≡ call.session
   pub added : call.added ≡ add_of op
   pub started : HasStarted st call.session

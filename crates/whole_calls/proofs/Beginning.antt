@@ -9,7 +9,7 @@ use Rattle.session_calls.specs.declared.answer.Answer.{Answer}
 use Rattle.session_calls.specs.declared.answer.Answer.TheVariants.{Begun, Going, Added, Ready, Done, Finished, Gave, Ended, Forced, Flushed, Checkpointed, Refused}
 use Rattle.session_calls.specs.declared.request.Request.{Request}
 use Rattle.schedule.specs.Snapshots.{StoreAndSlots}
-use Rattle.schedule.specs.Events.{Kind, Begins, kind_of, IsOf, IsOfKind, AnswersBeginning, EventDoes}
+use Rattle.schedule.specs.Events.{Kind, BeginsCall, kind_of, IsOf, IsOfSession, AnswersBeginning, EventDoes}
 use Rattle.schedule.specs.Runs.{Carries, Runs}
 use Rattle.schedule.specs.declared.event.Event.{Event}
 use Rattle.schedule.proofs.Keeping.{Laws}
@@ -34,7 +34,7 @@ begun_by (Flushed b) answers kind h = absurd kind
 begun_by (Checkpointed n) answers kind h = absurd kind
 
 pub goes_begun : {S : Type 0} (g : Ghosts S) (laws : Laws g) (session : ℕ) (request : Request) (event : Event) (answer : Answer) (result : Result (Unit {0}) Fault) (a b : StoreAndSlots S)
-    → kind_of event ≡ Begins session request → result ≡ begun_of answer → AnswersBeginning answer → Carries g a b (Runs g a b (event ∷ []) (answer ∷ []))
+    → kind_of event ≡ BeginsCall session request → result ≡ begun_of answer → AnswersBeginning answer → Carries g a b (Runs g a b (event ∷ []) (answer ∷ []))
     → CallGoes g session (BeginTold session request result) (begin_came result) a b
 goes_begun {S} g laws session request event answer result a b kind is answers runs =
     subst (λ (r : Result (Unit {0}) Fault). CallGoes g session (BeginTold session request r) (begin_came r) a b) (sym is)
@@ -43,8 +43,8 @@ goes_begun {S} g laws session request event answer result a b kind is answers ru
     (goes_by g laws session (BeginTold session request (begun_of answer)) event answer a b (of_session kind) runs
     (λ start x y from to fits does. begins_told g start session request answer x y (subst (λ (k : Kind). EventDoes g start k answer x y) kind does))))
   where
-    of_session : kind_of event ≡ Begins session request → IsOf session event
-    of_session k = subst (λ (x : Kind). IsOfKind session x) (sym k) refl
+    of_session : kind_of event ≡ BeginsCall session request → IsOf session event
+    of_session k = subst (λ (x : Kind). IsOfSession session x) (sym k) refl
 
 -- a beginning that is refused has its cause
 begun_cause : (at : Circumstances) (answer : Answer) → AnswersBeginning answer → IsCaused at answer → IfErr (begun_of answer) (HasCause at)

@@ -7,7 +7,7 @@ use Rattle.index_model.specs.declared.entry.Entry.{Entry}
 use Rattle.index_model.specs.declared.fault.Fault.{Fault}
 use Rattle.page_action.specs.States.{State}
 use Rattle.page_action.specs.declared.page_store.PageStore.{Ghosts}
-use Rattle.session_calls.specs.Sessions.{IsDrained, LeavesLess, GivesLess, AnswersStep, AnswersNext, work_left, given_one, ended}
+use Rattle.session_calls.specs.Sessions.{IsDrained, GivesLess, AnswersStep, AnswersNext, work_left, given_one, ended}
 use Rattle.session_calls.specs.declared.answer.Answer.{Answer}
 use Rattle.session_calls.specs.declared.answer.Answer.TheVariants.{Begun, Going, Added, Ready, Done, Finished, Gave, Ended, Forced, Flushed, Checkpointed, Refused}
 use Rattle.session_calls.specs.declared.op.Op.{Op}
@@ -18,21 +18,6 @@ use Rattle.whole_calls.specs.Going.{CameBy}
 use Rattle.whole_calls.specs.Giving.{GoesDown, GoesDownBy, AnswerLeavesLess, StepLeavesLess, AnswersAdvance, AnswersSeek, given_of, give_came, Becomes, GivenTold, TellsGiven}
 use Rattle.whole_calls.specs.Telling.{StepTold, TellsStep, HasNone, TellsEnd, step_came}
 use Rattle.whole_calls.proofs.Tellings.{one_runs, same_history}
-
--- a step that was made leaves less to do
-pub made_less : (old new : State) (before after : Option Op) (answer : Answer) → LeavesLess old new before after answer → (answer ≡ Going → new.acts ≡ old.acts) → AnswerLeavesLess old new before after answer
-made_less old new before after Begun h calm = tt
-made_less old new before after Going h calm = h (calm refl)
-made_less old new before after (Added a u) h calm = tt
-made_less old new before after (Ready r) h calm = h
-made_less old new before after Done h calm = tt
-made_less old new before after (Finished s) h calm = tt
-made_less old new before after (Gave e) h calm = tt
-made_less old new before after Ended h calm = tt
-made_less old new before after (Forced n) h calm = tt
-made_less old new before after (Flushed b) h calm = tt
-made_less old new before after (Checkpointed n) h calm = tt
-made_less old new before after (Refused f) h calm = tt
 
 -- behind a `next` that gave none, a step leaves less to do
 no_gave : (mid after : Option Op) (entry : Option Entry) → AnswersStep mid after (Gave entry) → ⊥

@@ -11,7 +11,7 @@ use Rattle.index_model.specs.declared.fault.Fault.TheVariants.{Exists, NoSession
 use Rattle.page_action.specs.Causes.{where_forced}
 use Rattle.page_action.specs.States.{Backing}
 use Rattle.page_action.specs.declared.page_store.PageStore.{Ghosts}
-use Rattle.session_calls.specs.Ops.{asked_by, ask_of, IsCaused, ends_call}
+use Rattle.session_calls.specs.Ops.{asked_by, asked_of, IsCaused, ends_call}
 use Rattle.session_calls.specs.Sessions.{Told, IsAsked, acts_of, act_count, add_after, noted, begun_call, ended, AnswersStep, AnswersNext, AnswersEnd}
 use Rattle.session_calls.specs.declared.answer.Answer.{Answer}
 use Rattle.session_calls.specs.declared.answer.Answer.TheVariants.{Begun, Going, Added, Ready, Done, Finished, Gave, Ended, Forced, Flushed, Checkpointed, Refused}
@@ -19,8 +19,8 @@ use Rattle.session_calls.specs.declared.op.Op.{Op}
 use Rattle.session_calls.specs.declared.op.Op.TheVariants.{Insert as Inserts, Scan as Scans}
 use Rattle.session_calls.specs.declared.request.Request.{Request}
 use Rattle.session_calls.specs.declared.request.Request.TheVariants.{Insert as ToInsert}
-use Rattle.schedule.specs.Snapshots.{StoreAndSlots, Snapshot, here_at, slot_of, IsRunningCall, SlotRuns, SlotMatches, Fits, has_call}
-use Rattle.schedule.specs.Events.{Move, Steps, Takes, Upkeep, Keeps, Begins, Moves, GivesUp, CallGoesOn, CallBegins, Stays, MovesOn, MayBegin, where_begun_at, EventDoes, AnswersMove}
+use Rattle.schedule.specs.Snapshots.{Snapshot, slot_of, IsRunningCall, SlotRuns, SlotMatches, Fits, has_call}
+use Rattle.schedule.specs.Events.{Move, Steps, Takes, Upkeep, KeepsStore, BeginsCall, MovesCall, GivesUp, CallGoesOn, CallBegins, Stays, MovesOn, MayBegin, where_begun_at, EventDoes, AnswersMove}
 use Rattle.schedule.proofs.Lists.{get_some, get_append_new, get_append_cases, same_some}
 use Rattle.whole_calls.specs.Telling.{IsSilent, MayAnswer, IsOwnEffect, IsTold, StepTold, TellsStep, StaysRunning, HasNone, HasBegun, begun_of, BeginTold, TellsEnd, CameTo, HasCome, outcome_of, step_came, insert_came, inserted_call, InsertTold}
 use Rattle.whole_calls.specs.Going.{CameBy}
@@ -69,12 +69,8 @@ module _ {S : Type 0} (g : Ghosts S) (start : Entry → Bool) (now : Snapshot S)
       let e : other ≡ number = r.only other c also ∙ sym (r.only number call is) in
       (e, same_some (slice_get now.calls number) c call (subst (λ (n : ℕ). slice_get now.calls n ≡ Some c) e also.found) is.found)
 
--- how many acts a moment's store has done
-pub acts_at : {S : Type 0} (g : Ghosts S) (x : Snapshot S) (a : StoreAndSlots S) → here_at x ≡ a → (g.state x.store).acts ≡ (g.state a.store).acts
-acts_at {S} g x a is = ap (λ (h : StoreAndSlots S). (g.state h.store).acts) is
-
 -- a step of what was asked may answer this, and so may asking it for its next entry
-step_may : (op : Op) (after : Option Op) (answer : Answer) → AnswersStep (Some op) after answer → MayAnswer (ask_of op) answer
+step_may : (op : Op) (after : Option Op) (answer : Answer) → AnswersStep (Some op) after answer → MayAnswer (asked_of op) answer
 step_may (Inserts op) after Going h = tt
 step_may (Inserts op) after (Added a u) h = tt
 step_may (Inserts op) after (Refused f) h = tt
@@ -100,7 +96,7 @@ step_may (Scans op) after (Forced n) h = absurd h
 step_may (Scans op) after (Flushed b) h = absurd h
 step_may (Scans op) after (Checkpointed n) h = absurd h
 
-next_may : (op : Op) (answer : Answer) → AnswersNext (Some op) answer → MayAnswer (ask_of op) answer
+next_may : (op : Op) (answer : Answer) → AnswersNext (Some op) answer → MayAnswer (asked_of op) answer
 next_may (Inserts op) (Refused f) h = tt
 next_may (Inserts op) Going h = absurd h
 next_may (Inserts op) (Added a u) h = absurd h
@@ -132,16 +128,15 @@ GoesOnBy Steps = Unit {0}
 GoesOnBy Takes = Unit {0}
 GoesOnBy GivesUp = ⊥
 
-may_of : (move : Move) → GoesOnBy move → (op : Op) (after : Option Op) (answer : Answer) → AnswersMove move (Some op) after answer → MayAnswer (ask_of op) answer
+may_of : (move : Move) → GoesOnBy move → (op : Op) (after : Option Op) (answer : Answer) → AnswersMove move (Some op) after answer → MayAnswer (asked_of op) answer
 may_of Steps of op after answer h = step_may op after answer h
 may_of Takes of op after answer h = next_may op answer h
 may_of GivesUp of op after answer h = absurd of
 
 -- an event of a session that has a running call
-pub moves_tells : {S : Type 0} (g : Ghosts S) (start : Entry → Bool) (x y : Snapshot S) (session : ℕ) (move : Move) (answer : Answer) → GoesOnBy move → Fits g start x → EventDoes g start (Moves session move) answer x y
-    → (answer ≡ Going → (g.state y.store).acts ≡ (g.state x.store).acts)
+pub moves_tells : {S : Type 0} (g : Ghosts S) (start : Entry → Bool) (x y : Snapshot S) (session : ℕ) (move : Move) (answer : Answer) → GoesOnBy move → Fits g start x → EventDoes g start (MovesCall session move) answer x y
     → (number : ℕ) (call : Call) → IsRunningCall x.calls session number call → IsTold number call answer x y
-moves_tells g start x y session move answer of fits does calm number call is =
+moves_tells g start x y session move answer of fits does number call is =
     let goes : CallGoesOn g start session answer x y = subst (λ (b : Bool). MovesOn g start b session answer x y) (runs_has_call g start x fits session number call is) does.happens in
     let same = one_runs g start x fits session number goes.number call goes.call is goes.is in
     let r = runs_in_slot g start x fits session number call is in
@@ -157,7 +152,7 @@ moves_tells g start x y session move answer of fits does calm number call is =
       calm = λ going. silent_history goes.number goes.effect goes.history_is (
           let a : (g.state y.store).acts ≡ length y.history = does.fits.matches.count in
           let b : (g.state x.store).acts ≡ length x.history = fits.matches.count in
-          let c : (g.state y.store).acts ≡ (g.state x.store).acts = calm going in
+          let c : (g.state y.store).acts ≡ (g.state x.store).acts = does.always.calm going in
           omega arith);
       history_is = subst (λ (n : ℕ). y.history ≡ x.history ++ acts_of n goes.effect) same.0 goes.history_is;
       calls_is = subst (λ (n : ℕ). y.calls ≡ slice_set x.calls n goes.after) same.0 goes.calls_is;
@@ -246,7 +241,7 @@ pub kept_not_exists : (old new : Backing) (fault : Fault) → HasCause (where_fo
 kept_not_exists old new fault cause e = let c : HasCause (where_forced old new) Exists = subst (λ (f : Fault). HasCause (where_forced old new) f) e cause in absurd (true_false (sym c))
 
 -- a beginning
-pub begins_told : {S : Type 0} (g : Ghosts S) (start : Entry → Bool) (session : ℕ) (request : Request) (answer : Answer) (x y : Snapshot S) → EventDoes g start (Begins session request) answer x y → BeginTold session request (begun_of answer) x y
+pub begins_told : {S : Type 0} (g : Ghosts S) (start : Entry → Bool) (session : ℕ) (request : Request) (answer : Answer) (x y : Snapshot S) → EventDoes g start (BeginsCall session request) answer x y → BeginTold session request (begun_of answer) x y
 begins_told {S} g start session request answer x y does = of (slice_get x.slots session) does.happens (begin_not_exists g x.store (slice_get x.slots session))
   where
     stays : ((fault : Fault) → HasCause (where_begun_at g x.store (slice_get x.slots session)) fault → fault ≢ Exists) → Stays g answer x y → BeginTold session request (begun_of answer) x y
@@ -264,14 +259,14 @@ begins_told {S} g start session request answer x y does = of (slice_get x.slots 
     of (Some (Some op)) h why = stays why h
 
 -- what is done for the store tells nothing
-pub keeps_silent : {S : Type 0} (g : Ghosts S) (start : Entry → Bool) (upkeep : Upkeep) (answer : Answer) (x y : Snapshot S) → EventDoes g start (Keeps upkeep) answer x y → IsSilent x y
+pub keeps_silent : {S : Type 0} (g : Ghosts S) (start : Entry → Bool) (upkeep : Upkeep) (answer : Answer) (x y : Snapshot S) → EventDoes g start (KeepsStore upkeep) answer x y → IsSilent x y
 keeps_silent g start upkeep answer x y does = elim does.happens [
   | inl kept ↦ record { history_is = kept.still.history_is; calls_is = kept.still.calls_is }
   | inr stays ↦ record { history_is = stays.still.history_is; calls_is = stays.still.calls_is }
 ]
 
 -- an end
-pub ends_tells : {S : Type 0} (g : Ghosts S) (start : Entry → Bool) (x y : Snapshot S) (session : ℕ) (answer : Answer) → EventDoes g start (Moves session GivesUp) answer x y → TellsEnd session x y
+pub ends_tells : {S : Type 0} (g : Ghosts S) (start : Entry → Bool) (x y : Snapshot S) (session : ℕ) (answer : Answer) → EventDoes g start (MovesCall session GivesUp) answer x y → TellsEnd session x y
 ends_tells {S} g start x y session answer does = of (has_call x.slots session) refl does.happens
   where
     ended_of : (o : Option Op) → AnswersEnd o answer → (answer ≡ Ended) ⊎ (answer ≡ Refused NoSession)

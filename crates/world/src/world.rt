@@ -17,9 +17,9 @@ use std::alloc::Global;
 ///
 /// Of what its clauses name: `steps`, that what its store followed it follows still; `sets` and `sessions`, that these
 /// stay; `always`, what holds of an event whatever the pages are (what it may answer, that a refusal changes nothing, that
-/// a stopped log refuses first, that a step leaves less to do, that no other session is touched, and what an end leaves);
-/// `runs`, the continuation, in which each event also says how many steps its call takes, and what it leaves as it was;
-/// `calm`, that a step that goes on does no act.
+/// a stopped log refuses first, that a step leaves less to do, and does no act where it goes on, that no other session is
+/// touched, and what an end leaves); `runs`, the continuation, in which each event also says this, how many steps its call
+/// takes, and what it leaves as it was.
 #[derive(Drop)]
 pub struct World<S, T> {
     pub(crate) store: S,
@@ -43,7 +43,7 @@ impl<S: PageStore, T: DeadRows + Drop> World<S, T> {
     ghost use Rattle.page_action.specs.Causes.{where_read};
     ghost use Rattle.page_action.specs.Contents.{entry_on_live_leaf};
     ghost use Rattle.page_action.specs.States.{Continues};
-    ghost use Rattle.schedule.specs.Events.{Moves, GivesUp, EventAlways, IsUnchanged, kind_of};
+    ghost use Rattle.schedule.specs.Events.{MovesCall, GivesUp, EventAlways, IsUnchanged, kind_of};
     ghost use Rattle.schedule.specs.Runs.{answers_behind};
     ghost use Rattle.schedule.specs.Snapshots.{IsUnused, has_call};
     ghost use Rattle.world.specs.Worlds.{WorldFits, WorldKeeps, WorldIsSafe, WorldRuns, WorldCarries, inside};
@@ -100,8 +100,6 @@ impl<S: PageStore, T: DeadRows + Drop> World<S, T> {
             (WorldRuns S.PageStore self.old self.new (event ∷ []) (result ∷ [])) }
         ensures always { EventAlways S.PageStore (kind_of event) result
             (inside self.old) (inside self.new) }
-        ensures calm { result ≡ Answer.Going
-            → (S.state self.new.store).acts ≡ (S.state self.old.store).acts }
     {
         schedule::one(&mut self.store, &mut self.slots, event)
     }
@@ -152,7 +150,7 @@ impl<S: PageStore, T: DeadRows + Drop> World<S, T> {
         ensures sets { self.new.sets ≡ self.old.sets }
         ensures runs { WorldCarries S.PageStore self.old self.new
             (WorldRuns S.PageStore self.old self.new (Event.End session ∷ []) (result ∷ [])) }
-        ensures always { EventAlways S.PageStore (Moves session GivesUp) result
+        ensures always { EventAlways S.PageStore (MovesCall session GivesUp) result
             (inside self.old) (inside self.new) }
     {
         self.one(Event::End(session))

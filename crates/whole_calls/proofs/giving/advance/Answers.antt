@@ -1,4 +1,4 @@
-use Rattle.std.proofs.Common.{rules, ◌≡◌, Ok, Some, None, refl, sym, subst, ◌∙◌}
+use Rattle.std.proofs.Common.{rules, ◌≡◌, Ok, Some, None, refl, subst}
 use Rattle.page_action.specs.States.{State}
 use Rattle.session_calls.specs.Sessions.{AnswersNext, GivesLess}
 use Rattle.session_calls.specs.declared.answer.Answer.{Answer}
@@ -10,7 +10,7 @@ use Rattle.whole_calls.specs.Telling.{TellsStep, step_came}
 use Rattle.whole_calls.specs.Giving.{GoesDownBy}
 use Rattle.whole_calls.proofs.Composing.{goes_then, goes_by}
 use Rattle.whole_calls.proofs.Given.{next_down, next_kind, step_down, step_kind}
-use Rattle.whole_calls.proofs.Tellings.{acts_at, moves_tells, none_stays, silent_then}
+use Rattle.whole_calls.proofs.Tellings.{moves_tells, none_stays, silent_then}
 use Rattle.whole_calls.proofs.giving.advance.Goals as goal
 
 pub returns-in_default-clause-goes : goal.returns-in_default-clause-goes
@@ -20,8 +20,7 @@ returns-in_default-clause-goes g c =
     let here = both c.args.store.now c.args.slots.now in
     let there = both c.one-answer.new.store c.one-answer.new.slots in
     goes_by g.S.PageStore g.met.S.PageStore.laws session (TellsStep session (Ok answer)) (Next session) answer here there refl c.one-answer.ensures.runs
-    (λ start x y from to fits does. moves_tells g.S.PageStore start x y session Takes answer tt fits does
-    (λ going. acts_at g.S.PageStore y there to ∙ c.one-answer.ensures.calm going ∙ sym (acts_at g.S.PageStore x here from)))
+    (λ start x y from to fits does. moves_tells g.S.PageStore start x y session Takes answer tt fits does)
 
 pub returns-in_default-clause-less : goal.returns-in_default-clause-less
 returns-in_default-clause-less g c = next_down (g.S.PageStore.state c.args.store.now) (g.S.PageStore.state c.one-answer.new.store) _ _ c.one-answer.result c.one-answer.ensures.always.answers c.one-answer.ensures.always.less c.one-answer.ensures.always.left
@@ -40,8 +39,7 @@ returns-clause-goes g c =
     let whole : c.one-answer.result ≡ Gave None = search rules in
     goes_then g.S.PageStore g.met.S.PageStore.laws session (TellsStep session (Ok answer)) (TellsStep session result) (TellsStep session result) (Some answer) (step_came result) start here there c.one-answer.ensures.steps c.step.ensures.steps
     (goes_by g.S.PageStore g.met.S.PageStore.laws session (TellsStep session (Ok answer)) (Next session) answer start here refl c.one-answer.ensures.runs
-    (λ s x y from to fits does. moves_tells g.S.PageStore s x y session Takes answer tt fits does
-    (λ going. acts_at g.S.PageStore y here to ∙ c.one-answer.ensures.calm going ∙ sym (acts_at g.S.PageStore x start from))))
+    (λ s x y from to fits does. moves_tells g.S.PageStore s x y session Takes answer tt fits does))
     c.step.ensures.goes
     (λ s x y z at fx fy fz one two. silent_then session result x y z (none_stays session x y (subst (λ (a : Answer). TellsStep session (Ok a) x y) whole one)) two)
 

@@ -1,10 +1,10 @@
-use Rattle.std.proofs.Common.{Some, Ok, Err, refl, sym, ◌∙◌}
+use Rattle.std.proofs.Common.{Some, Ok, Err, refl}
 use Rattle.schedule.specs.Events.{Steps}
 use Rattle.schedule.specs.Snapshots.{both}
 use Rattle.schedule.specs.declared.event.Event.TheVariants.{Step}
 use Rattle.whole_calls.specs.Telling.{IsSilent, TellsStep, room_came}
 use Rattle.whole_calls.proofs.Composing.{goes_then, goes_by, goes_told}
-use Rattle.whole_calls.proofs.Tellings.{acts_at, moves_tells, silent_then, kept_not_exists}
+use Rattle.whole_calls.proofs.Tellings.{moves_tells, silent_then, kept_not_exists}
 use Rattle.session_calls.specs.declared.answer.Answer.TheVariants.{Refused}
 use Rattle.whole_calls.proofs.running.step.Goals as goal
 
@@ -18,8 +18,7 @@ returns-in-Ok-clause-goes g c =
     goes_then g.S.PageStore laws session IsSilent (TellsStep session (Ok answer)) (TellsStep session (Ok answer)) (room_came c.make_room.result) (Some answer) (both c.args.store.now c.args.slots.now) here there c.make_room.ensures.steps c.one.ensures.steps
     (c.make_room.ensures.goes session)
     (goes_by g.S.PageStore laws session (TellsStep session (Ok answer)) (Step session) answer here there refl c.one.ensures.runs
-    (λ start x y from to fits does. moves_tells g.S.PageStore start x y session Steps answer tt fits does
-    (λ going. acts_at g.S.PageStore y there to ∙ c.one.ensures.calm going ∙ sym (acts_at g.S.PageStore x here from))))
+    (λ start x y from to fits does. moves_tells g.S.PageStore start x y session Steps answer tt fits does))
     (λ start x y z at fx fy fz one two. silent_then session (Ok answer) x y z (λ n call is. one) two)
 
 pub returns-in-Err-clause-goes : goal.returns-in-Err-clause-goes
