@@ -1,2 +1,6 @@
 pub mod Leaf
 pub mod Tree
+pub mod Nodes
+pub mod Chains
+pub mod Edits
+pub mod Walks
