@@ -21,3 +21,6 @@ pub mod ParentSplitTree
 pub mod RootSplit
 pub mod Descent
 pub mod Fits
+pub mod Places
+pub mod Insertion
+pub mod Held
