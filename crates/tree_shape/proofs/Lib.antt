@@ -24,3 +24,4 @@ pub mod Fits
 pub mod Places
 pub mod Insertion
 pub mod Held
+pub mod Reading
