@@ -25,3 +25,5 @@ pub mod Places
 pub mod Insertion
 pub mod Held
 pub mod Reading
+pub mod Parents
+pub mod Chains

@@ -7,7 +7,7 @@ use Rattle.index_model.specs.declared.entry.Entry.{Entry}
 use Rattle.page_codec.specs.declared.page.Downlink.{Downlink}
 use Rattle.page_codec.specs.declared.page.PageState.TheVariants.{Live, HalfDead, Deleted}
 use Rattle.tree_shape.specs.Nodes.{Node}
-use Rattle.tree_shape.specs.Chains.{IsBeyond, IsNoGreater, IsAtMost}
+use Rattle.tree_shape.specs.Chains.{IsBeyond, IsNoGreater, Rises}
 
 -- the entry stands before the first of these, if there is one
 abbrev pub IsBeforeFirst : Entry → List Entry → Type 0
@@ -97,6 +97,22 @@ pub record IsLinkAdded (p new : ℕ) (separator : Bound) (links added : List Dow
   pub after : List Downlink
   pub links_are : links ≡ before ++ record { bound = bound; child = p } ∷ after
   pub added_are : added ≡ before ++ record { bound = bound; child = p } ∷ record { bound = Some separator; child = new } ∷ after
+
+-- the bound is less than that one, which isn't minus infinity
+abbrev pub IsBelowBound : Bound → Option Bound → Type 0
+IsBelowBound s None = ⊥
+IsBelowBound s (Some n) = IsBefore s n
+
+-- the bound is less than that of the first of these, if there is one
+abbrev pub IsBelowNext : Bound → List Downlink → Type 0
+IsBelowNext s [] = Unit {0}
+IsBelowNext s (i ∷ is) = IsBelowBound s i.bound
+
+-- a separator stands between the bound before it, the one behind it and the high key
+pub record IsBetween (bound : Option Bound) (s : Bound) (after : List Downlink) (high : Option Bound) : Type 0 where
+  pub beyond : IsBeyond bound s
+  pub below_next : IsBelowNext s after
+  pub below_high : Rises (Some s) high
 
 -- The split of page p is finished in its parent q, which has room.
 pub record IsFinish (at at' : ℕ → Node) (p q : ℕ) : Type 0 where
