@@ -27,3 +27,4 @@ pub mod Held
 pub mod Reading
 pub mod Parents
 pub mod Chains
+pub mod Keeps

@@ -1,0 +1,122 @@
+-- Each edit leaves a tree, and each kept number good.
+use Rattle.std.proofs.Common.{◌≡◌, ◌≢◌, ◌⊎◌, ℕ, zero, suc, ◌<◌, ◌≤◌, max, inl, inr, Bool, true, false, not, List, [], ◌∷◌, ◌++◌, Option, Some, None, is_some, refl, sym, ap, subst, ◌∙◌, arith}
+use Rattle.std.proofs.lemmas.Bool.{cases_eq}
+use Rattle.std.specs.Ordering.{is_lt}
+use Rattle.index_model.specs.Order.{bound_cmp, bound_of, is_past}
+use Rattle.index_model.specs.declared.bound.Bound.{Bound}
+use Rattle.index_model.specs.declared.entry.Entry.{Entry}
+use Rattle.page_codec.specs.declared.page.PageState.{PageState}
+use Rattle.page_codec.specs.declared.page.PageState.TheVariants.{Live, HalfDead, Deleted}
+use Rattle.tree_shape.specs.Nodes.{Node}
+use Rattle.tree_shape.specs.Chains.{IsRunOf, Spot, spot_after, first_spot, first_or, IsIn, AreDistinct, IsBeyond, IsAtMost, IsRootLevel, IsTreeOf}
+use Rattle.tree_shape.specs.Edits.{IsInsertion, IsLeafSplit, IsFree, IsFinish, IsParentSplit, IsRootSplit}
+use Rattle.tree_shape.specs.Walks.{entry_aim, bound_aim, is_beyond, is_within, is_fit, IsFitOn, IsKeptBack, KeepsPlaces}
+use Rattle.tree_shape.specs.Laws.{TreeGoesOn, IsReusable, InsertionKeeps, LeafSplitKeeps, FinishKeeps, ParentSplitKeeps, RootSplitKeeps}
+use Rattle.tree_shape.proofs.Runs.{run_back, SplitAt, split_at}
+use Rattle.tree_shape.proofs.Members.{member, in_append_left, in_append_right, apart_sides, apart_back, not_in_apart}
+use Rattle.tree_shape.proofs.Links.{link_cases}
+use Rattle.tree_shape.proofs.LeafSplit.{first_in}
+use Rattle.tree_shape.proofs.LeafSplitTree.{leaf_split_tree, put_chain, put_chain_same, put_chain_other}
+use Rattle.tree_shape.proofs.Insertion.{insertion_tree}
+use Rattle.tree_shape.proofs.Clear.{flagged_alive}
+use Rattle.tree_shape.proofs.Finish.{upper_live}
+use Rattle.tree_shape.proofs.FinishTree.{finish_tree}
+use Rattle.tree_shape.proofs.ParentSplitTree.{parent_split_tree}
+use Rattle.tree_shape.proofs.RootSplit.{root_split_tree}
+use Rattle.tree_shape.proofs.Fits.{root_from_fit, fit_beyond, fit_clear}
+use Rattle.tree_shape.proofs.Places.{IsPassedAlike, alike_from, ArePassedAlike, IsSpliced, DeletedStay, places_alike, places_spliced, IsFitAt, fit_at}
+use Rattle.tree_shape.proofs.Parents.{beyond_from, within_from, IsFlaggedAt, flagged_at}
+
+clash : {st : PageState} → st ≡ Live → st ≡ Deleted → ⊥
+clash a b = cc
+
+-- a page of a chain is on its level, in use, and not deleted
+record IsMember (at : ℕ → Node) (used level c : ℕ) : Type 0 where
+  level_is : (at c).level ≡ level
+  alive : (at c).state ≢ Deleted
+  above : 0 < c
+  inside : c < used
+
+on_chain_of : (at : ℕ → Node) (used root top : ℕ) (chain : ℕ → List ℕ) → IsTreeOf at used root top chain → (level c : ℕ) → level ≤ top → IsIn c (chain level) → IsMember at used level c
+on_chain_of at used root top chain tree level c in_top i =
+    let m = member at level first_spot (chain level) None c (tree.runs level in_top) i in
+    let u = tree.in_use level c in_top i in
+    record { level_is = m.0; alive = m.1; above = u.0; inside = u.1 }
+
+pub insertion_keeps : InsertionKeeps
+insertion_keeps at at' number number' used root top chain least b e clear tree h fit within counts = record {
+  chain' = chain;
+  tree = insertion_tree at at' used root top chain b e f.front f.back tree f.is h (beyond_from (bound_of e) (spot_after at first_spot f.front).low (fit_beyond (entry_aim e) clear (spot_after at first_spot f.front) f.passes))
+    (within_from (bound_of e) (at b).high within);
+  places = λ start is level in_top. places_alike at at' number number' (chain level) start (λ c i. alike c) (stay start);
+}
+  where
+    f : IsFitAt at first_spot (chain 0) (is_fit (entry_aim e) clear) b
+    f = fit_at at first_spot (chain 0) (is_fit (entry_aim e) clear) b fit
+    alike : (c : ℕ) → IsPassedAlike (at c) (at' c)
+    alike c = elim (cases_eq c b) [
+      | inl is_b ↦ rw is_b (rw h.leaf_is (record { state = refl; high = refl; split = inr refl }))
+      | inr not_b ↦ alike_from (at c) (at' c) (h.others c not_b)
+    ]
+    stay : (start : ℕ) → DeletedStay at at' number number' start
+    stay start c kept =
+        let not_b : c ≢ b = λ same. clash h.alive (subst (λ (d : ℕ). (at d).state ≡ Deleted) same kept.gone) in
+        (h.others c not_b, counts c not_b)
+
+pub leaf_split_keeps : LeafSplitKeeps
+leaf_split_keeps at at' number number' used root top chain least b new e tree h free reusable fit within counts = record {
+  chain' = put_chain chain 0 (f.front ++ b ∷ new ∷ f.back);
+  tree = leaf_split_tree at at' used root top chain b new e f.front f.back tree f.is h free
+    (beyond_from (bound_of e) spot.low (fit_beyond (entry_aim e) true spot f.passes)) (within_from (bound_of e) (at b).high within)
+    (λ z. root_from_fit at root b f.front f.back (subst (IsRootLevel at root) f.is (subst (λ (k : ℕ). IsRootLevel at root (chain k)) z tree.root_level)) (fit_clear (entry_aim e) spot f.passes));
+  places = λ start is level in_top. kept start is level in_top (cases_eq level 0);
+}
+  where
+    f : IsFitAt at first_spot (chain 0) (is_fit (entry_aim e) true) b
+    f = fit_at at first_spot (chain 0) (is_fit (entry_aim e) true) b fit
+    spot : Spot
+    spot = spot_after at first_spot f.front
+    run : IsRunOf at 0 first_spot (f.front ++ b ∷ f.back) None
+    run = rw (f.is) at (tree.runs 0 (omega arith))
+    not_new : (level c : ℕ) → level ≤ top → IsIn c (chain level) → c ≢ new
+    not_new level c in_top i same =
+        let m = on_chain_of at used root top chain tree level c in_top i in
+        m.alive (rw same (free.not_in_use (rw (← same) m.inside)))
+    right_in : (c : ℕ) → (at b).right ≡ Some c → IsIn c (chain 0)
+    right_in c same =
+        let here = run_back at 0 first_spot f.front (b ∷ f.back) None run in
+        subst (IsIn c) (sym f.is) (in_append_right c f.front (b ∷ f.back) (inr (first_in c f.back (sym here.0.right_is ∙ same))))
+    alike : (c : ℕ) → c ≢ b → c ≢ new → IsPassedAlike (at c) (at' c)
+    alike c not_b not_new = elim (link_cases (at b).right c) [
+      | inl is_right ↦ rw (h.neighbour_is c is_right) (record { state = refl; high = refl; split = inr refl })
+      | inr not_right ↦ alike_from (at c) (at' c) (h.others c not_b not_new not_right)
+    ]
+    stay : (start : ℕ) → least ≤ start → DeletedStay at at' number number' start
+    stay start is c kept =
+        let not_b : c ≢ b = λ same. clash h.alive (subst (λ (d : ℕ). (at d).state ≡ Deleted) same kept.gone) in
+        let not_new : c ≢ new = λ same. late (reusable (subst (λ (d : ℕ). (at d).state ≡ Deleted) same kept.gone)) (subst (λ (d : ℕ). start < number d) same kept.late) in
+        let not_right : (at b).right ≢ Some c = λ same. (on_chain_of at used root top chain tree 0 c (omega arith) (right_in c same)).alive kept.gone in
+        (h.others c not_b not_new not_right, counts c not_b not_new not_right)
+      where
+        late : {n : ℕ} → n ≤ least → start < n → ⊥
+        late p q = omega arith
+    kept : (start : ℕ) → least ≤ start → (level : ℕ) → level ≤ top → (level ≡ 0) ⊎ (level ≢ 0)
+        → KeepsPlaces at at' number number' (chain level) (put_chain chain 0 (f.front ++ b ∷ new ∷ f.back) level) start
+    kept start is level in_top (inr upper) = rw (put_chain_other chain 0 (f.front ++ b ∷ new ∷ f.back) level upper)
+        (places_alike at at' number number' (chain level) start
+          (λ c i. alike c (λ same. upper (sym (on_chain_of at used root top chain tree level c in_top i).level_is ∙ subst (λ (d : ℕ). (at d).level ≡ 0) (sym same) h.leaf)) (not_new level c in_top i))
+          (stay start is))
+    kept start is level in_top (inl z) = rw z (rw (put_chain_same chain 0 (f.front ++ b ∷ new ∷ f.back))
+        (subst (λ (xs : List ℕ). KeepsPlaces at at' number number' xs (f.front ++ b ∷ new ∷ f.back) start) (sym f.is)
+          (places_spliced at at' number number' f.front b new f.back start
+            (λ c i. alike c (apart_front c i) (not_new 0 c (omega arith) (subst (IsIn c) (sym f.is) (in_append_left c f.front (b ∷ f.back) i))))
+            (record { alive = h.alive; new_alive = rw h.halves.right_is refl; high = rw h.halves.right_is refl; split = rw h.halves.right_is refl })
+            (λ c i. alike c (apart_back_of c i) (not_new 0 c (omega arith) (subst (IsIn c) (sym f.is) (in_append_right c f.front (b ∷ f.back) (inr i)))))
+            (stay start is))))
+      where
+        distinct : AreDistinct (f.front ++ b ∷ f.back)
+        distinct = rw (f.is) at (tree.distinct 0 (omega arith))
+        apart_front : (c : ℕ) → IsIn c f.front → c ≢ b
+        apart_front c i = apart_sides f.front (b ∷ f.back) c b distinct i (inl refl)
+        apart_back_of : (c : ℕ) → IsIn c f.back → c ≢ b
+        apart_back_of c i same = not_in_apart b c f.back (apart_back f.front (b ∷ f.back) distinct).0 i (sym same)
