@@ -9,6 +9,7 @@ use Rattle.page_codec.specs.declared.page.PageState.TheVariants.{Live, HalfDead,
 use Rattle.tree_shape.specs.Nodes.{Node}
 use Rattle.tree_shape.specs.Chains.{first_spot, IsRunOf, IsPlaced, Spot, first_or, past, low_past, spot_after, due_links, due_link, downlinks, from_low, IsBeyond, IsNoGreater, IsAtMost, Rises, IsBoundWithin, BoundsWithin, LinksWithin, IsIn, AreDistinct, FitsState, HasItems, IsTreeOf, IsRootLevel}
 use Rattle.tree_shape.specs.Walks.{is_beyond, IsFitOn}
+use Rattle.tree_shape.specs.Laws.{HasLink}
 use Rattle.tree_shape.proofs.Order.{before_weak, before_trans, upto_before, before_not}
 use Rattle.tree_shape.proofs.Runs.{Agree, run_back, run_front, downlinks_append}
 use Rattle.tree_shape.proofs.Locate.{children, target_cases, targets_apart, SameSplit, same_split, LowSplit, low_split}
@@ -66,13 +67,7 @@ descend at used root top chain tree level in_top left q right upper_is before bo
       (subst (IsItemIn (record { bound = low.mark; child = child })) (sym is) (item_right _ (downlinks at first_spot left ++ low.front) _ (inl refl))) p
 
 -- the item of a flagged page stands on the page that covers its separator
-pub record IsSplitAt (child : ℕ) (items : List Downlink) : Type 0 where
-  pub before : List Downlink
-  pub bound : Option Bound
-  pub after : List Downlink
-  pub is : items ≡ before ++ record { bound = bound; child = child } ∷ after
-
-find_child : (p : ℕ) (items : List Downlink) → IsIn p (children items) → IsSplitAt p items
+find_child : (p : ℕ) (items : List Downlink) → IsIn p (children items) → HasLink p items
 find_child p [] i = absurd i
 find_child p (x ∷ xs) (inl e) = record { before = []; bound = x.bound; after = xs; is = ap (λ c. record { bound = x.bound; child = c } ∷ xs) (sym e) }
 find_child p (x ∷ xs) (inr i) = let r = find_child p xs i in record { before = x ∷ r.before; bound = r.bound; after = r.after; is = ap (λ l. x ∷ l) r.is }
@@ -165,7 +160,7 @@ pub item_on_cover : (at : ℕ → Node) (level : ℕ) (front : List ℕ) (p new 
     → AreDistinct (front ++ p ∷ new ∷ rest) → (spot_after at first_spot front).behind ≡ false
     → (left : List ℕ) (q : ℕ) (right : List ℕ) → IsRunOf at (suc level) first_spot (left ++ q ∷ right) None
     → downlinks at first_spot (left ++ q ∷ right) ≡ due_links at first_spot (front ++ p ∷ new ∷ rest)
-    → IsBeyond (spot_after at first_spot left).low separator → IsAtMost separator (at q).high → IsSplitAt p (at q).links
+    → IsBeyond (spot_after at first_spot left).low separator → IsAtMost separator (at q).high → HasLink p (at q).links
 item_on_cover at level front p new separator rest f apart first left q right run old low up =
     elim (children_cases (downlinks at first_spot left) _ p (subst (λ l. IsIn p (children l)) (sym (sym parts ∙ old ∙ t)) (child_in (due_links at first_spot front) _ _))) [
       | inl in_left ↦ absurd (not_left (find_child p (downlinks at first_spot left) in_left))
@@ -201,13 +196,13 @@ item_on_cover at level front p new separator rest f apart first left q right run
     same_at : (xs : List Downlink) (b : Option Bound) (ys : List Downlink) → xs ++ record { bound = b; child = p } ∷ ys ≡ downlinks at first_spot (left ++ q ∷ right)
         → SameSplit xs ys (due_links at first_spot front) behind (record { bound = b; child = p }) (record { bound = (spot_after at first_spot front).low; child = p })
     same_at xs b ys is = same_split xs _ ys _ _ behind (is ∙ old ∙ t) refl (subst (λ l. AreDistinct (children l)) t (targets_apart at first_spot _ apart))
-    not_left : IsSplitAt p (downlinks at first_spot left) → ⊥
+    not_left : HasLink p (downlinks at first_spot left) → ⊥
     not_left l =
         let s = same_at l.before l.bound (l.after ++ (from_low spot.low (at q).links ++ downlinks at (past q (at q) spot) right))
           (sym (append_assoc l.before _ _) ∙ ap (λ w. w ++ (from_low spot.low (at q).links ++ downlinks at (past q (at q) spot) right)) (sym l.is) ∙ sym parts) in
         first_low separator spot.low (at q).high (at q).links fits.1
           (above_front separator (from_low spot.low (at q).links) _ (above_back separator l.after _ (subst (AreAbove separator) (sym s.back) above))) low
-    not_right : IsSplitAt p (downlinks at (past q (at q) spot) right) → ⊥
+    not_right : HasLink p (downlinks at (past q (at q) spot) right) → ⊥
     not_right r =
         let s = same_at (downlinks at first_spot left ++ (from_low spot.low (at q).links ++ r.before)) r.bound r.after
           (append_assoc (downlinks at first_spot left) _ _

@@ -11,8 +11,6 @@ use Rattle.tree_shape.specs.Edits.{with_left, IsLeafSplit, IsPutIn, left_half, r
 use Rattle.tree_shape.proofs.Runs.{Agree, run_append, run_front, run_back, run_same, spot_same, targets_same, downlinks_same, targets_append, downlinks_append}
 use Rattle.tree_shape.proofs.Members.{member, agree_from, apart_sides, apart_back, not_in_apart, in_append_left, in_append_right}
 use Rattle.tree_shape.proofs.Entries.{entries_front, entries_behind, entries_put, left_rise, right_rise}
-use Rattle.tree_shape.specs.Walks.{IsEased, IsFitOn, IsKeptBack, KeepsPlaces}
-use Rattle.tree_shape.proofs.Walks.{fit_append, fit_left, fit_right, fit_same, fit_mended}
 use Rattle.tree_shape.proofs.Splice.{IsMended, run_mended, targets_mended, downlinks_mended}
 
 past_last : (low : Option Bound) (xs : List Entry) (e : Entry) → IsBeyond low (bound_of e) → IsBeyond (last_or None xs) (bound_of e) → IsBeyond (last_or low xs) (bound_of e)
@@ -110,31 +108,3 @@ leaf_split_targets at at' b new e s front back split sides =
     inner : (spot : Spot) → due_links at' spot (b ∷ new ∷ back) ≡ due_links at spot (b ∷ back)
     inner spot = rw (split.halves.left_is, split.halves.right_is) (rw (split.alive, split.whole)
       (ap (λ t. due_link Live spot.behind spot.low b ++ t) (targets_mended at at' (record { low = (at b).high; left = Some b; behind = false }) (Some new) back sides.after)))
-
--- no low rises, and no deleted page that is kept from reuse is changed
-pub leaf_split_places : (at at' : ℕ → Node) (number number' : ℕ → ℕ) (b new : ℕ) (e : Entry) (front back : List ℕ) (start : ℕ) → IsLeafSplit at at' b new e → Around at at' b new front back
-    → ((c : ℕ) → IsIn c back → (at c).state ≢ Deleted) → (at b).right ≡ first_or back None → ((at new).state ≡ Deleted → number new ≤ start)
-    → ((c : ℕ) → IsKeptBack at number start c → c ≢ new → number' c ≡ number c)
-    → KeepsPlaces at at' number number' (front ++ b ∷ back) (front ++ b ∷ new ∷ back) start
-leaf_split_places at at' number number' b new e front back start split sides alive right reusable counted = record {
-  lows = λ fit eased c i. inl (elim (fit_append at first_spot front (b ∷ back) fit c i) [
-    | inl l ↦ fit_left at' first_spot front (b ∷ new ∷ back) fit c (fit_same at at' first_spot front fit c sides.before l)
-    | inr r ↦ fit_right at' first_spot front (b ∷ new ∷ back) fit c (rw (spot_same at at' first_spot front sides.before) (behind (spot_after at first_spot front) fit c eased r))
-  ]);
-  deleted_stay = λ c kept.
-      let not_new : c ≢ new = λ same. late (reusable (rw (← same) kept.gone)) (rw same at kept.late) in
-      (split.others c
-        (λ same. clash (sym split.alive ∙ rw (← same) kept.gone))
-        not_new
-        (λ same. alive c (first_in c back (sym right ∙ same)) kept.gone),
-      counted c kept not_new);
-}
-  where
-    clash : Live ≡ Deleted → ⊥
-    clash q = cc
-    late : {n : ℕ} → n ≤ start → start < n → ⊥
-    late p q = omega arith
-    behind : (spot : Spot) (fit : Spot → Bool) (c : ℕ) → IsEased fit → IsFitOn at spot (b ∷ back) fit c → IsFitOn at' spot (b ∷ new ∷ back) fit c
-    behind spot fit c eased (inl h) = inl h
-    behind spot fit c eased (inr i) = inr (inr (rw (split.halves.left_is, split.halves.right_is)
-      (fit_mended at at' (record { low = (at b).high; left = Some b; behind = false }) (Some new) back fit c eased sides.after (rw (split.alive, split.whole) at i))))

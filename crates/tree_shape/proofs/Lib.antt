@@ -28,3 +28,4 @@ pub mod Reading
 pub mod Parents
 pub mod Chains
 pub mod Keeps
+pub mod Told

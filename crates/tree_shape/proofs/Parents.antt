@@ -10,12 +10,13 @@ use Rattle.tree_shape.specs.Nodes.{Node}
 use Rattle.tree_shape.specs.Chains.{IsRunOf, FitsState, Spot, past, spot_after, first_spot, first_or, downlinks, due_links, IsIn, AreDistinct, IsBeyond, IsAtMost, IsNoGreater, Rises, IsBoundWithin, BoundsWithin, LinksWithin, IsTreeOf}
 use Rattle.tree_shape.specs.Edits.{IsLinkAdded, IsBelowBound, IsBelowNext, IsBetween, cleared}
 use Rattle.tree_shape.specs.Walks.{bound_aim, is_beyond, is_within, is_fit, IsFitOn, IsCoverOn}
+use Rattle.tree_shape.specs.Laws.{HasLink}
 use Rattle.tree_shape.proofs.Runs.{Agree, run_back}
 use Rattle.tree_shape.proofs.Members.{agree_from, apart_sides, apart_back, not_in_apart}
 use Rattle.tree_shape.proofs.Clear.{IsFlagged, live_fits, AreAbove}
 use Rattle.tree_shape.proofs.Finish.{Meeting, meeting, items_put, upper_alive, below_high}
 use Rattle.tree_shape.proofs.Locate.{low_split}
-use Rattle.tree_shape.proofs.Descent.{IsSplitAt, item_on_cover}
+use Rattle.tree_shape.proofs.Descent.{item_on_cover}
 use Rattle.tree_shape.proofs.Fits.{fit_clear}
 use Rattle.tree_shape.proofs.Places.{IsFitAt, fit_at, IsCoverAt, cover_at}
 
@@ -69,7 +70,7 @@ flagged_at at level xs p s run fit split high = go (fit_at at first_spot xs (is_
 
 -- the page that covers the separator has an item for the left half
 pub has_link : (at : ℕ → Node) (used root top : ℕ) (chain : ℕ → List ℕ) (level p q : ℕ) (s : Bound) → IsTreeOf at used root top chain → level < top
-    → IsFitOn at first_spot (chain level) (is_fit (bound_aim s) true) p → (at p).split ≡ true → (at p).high ≡ Some s → IsCoverOn at first_spot (chain (suc level)) (bound_aim s) q → IsSplitAt p (at q).links
+    → IsFitOn at first_spot (chain level) (is_fit (bound_aim s) true) p → (at p).split ≡ true → (at p).high ≡ Some s → IsCoverOn at first_spot (chain (suc level)) (bound_aim s) q → HasLink p (at q).links
 has_link at used root top chain level p q s tree in_top fit split high covers =
     let f = flagged_at at level (chain level) p s (tree.runs level (omega arith)) fit split high in
     let c = cover_at at first_spot (chain (suc level)) (bound_aim s) q covers in

@@ -10,6 +10,7 @@ use Rattle.page_codec.specs.declared.page.PageState.TheVariants.{Live, HalfDead,
 use Rattle.tree_shape.specs.Nodes.{Node, entries_alive, holds, IsHeld}
 use Rattle.tree_shape.specs.Chains.{IsRunOf, IsPlaced, FitsState, Spot, past, spot_after, first_spot, first_or, low_past, IsIn, IsBeyond, IsAtMost, IsNoGreater, AscendWithin, IsRootLevel, IsTreeOf}
 use Rattle.tree_shape.specs.Walks.{entry_aim, frontier_aim, is_beyond, is_within, is_fit, IsFitOn, IsCoverOn, IsKeptBack, IsPlace, on_chain, by_deleted}
+use Rattle.tree_shape.specs.Laws.{IsPassedBy, LeadsRight, OnlyLeavesHold}
 use Rattle.tree_shape.proofs.Order.{before_trans, before_or, upto_before}
 use Rattle.tree_shape.proofs.Members.{member}
 use Rattle.tree_shape.proofs.Walks.{cover_unique}
@@ -31,17 +32,6 @@ root_fits at used root top chain aim clear tree = go (chain top) tree.root_level
     go (b ∷ []) r = inl (sym r, passes clear)
     go (b ∷ c ∷ []) r = inl (sym (r.0), passes clear)
     go (b ∷ c ∷ d ∷ ds) r = absurd r
-
--- the page has to be passed: it isn't live, or what is looked for lies beyond its high key; and it isn't flagged, where that counts
-pub record IsPassedBy (aim : Bound → Bool) (clear : Bool) (node : Node) : Type 0 where
-  pub why : (node.state ≢ Live) ⊎ (is_within aim node.high ≡ false)
-  pub whole : clear ≡ true → node.split ≡ false
-
--- its right link is a place
-pub record LeadsRight (at : ℕ → Node) (number : ℕ → ℕ) (chain : List ℕ) (start : ℕ) (fit : Spot → Bool) (b : ℕ) : Type 0 where
-  pub to : ℕ
-  pub right_is : (at b).right ≡ Some to
-  pub place : IsPlace at number chain start fit to
 
 pub record FitsRight (at : ℕ → Node) (s : Spot) (xs : List ℕ) (fit : Spot → Bool) (b : ℕ) : Type 0 where
   pub to : ℕ
@@ -168,10 +158,6 @@ entry_covered at s (c ∷ cs) next x b run (inl same) alive on =
     let w = entry_within s.low (at c).entries (at c).high x fits.1 (rw same at on) in
     inl (same, alive', beyond_is x s.low w.0, within_is x (at c).high w.1)
 entry_covered at s (c ∷ cs) next x b run (inr i) alive on = inr (entry_covered at (past c (at c) s) cs next x b run.1 i alive on)
-
--- only leaves, of blocks from 1 on, hold entries
-abbrev pub OnlyLeavesHold : (ℕ → Node) → Type 0
-OnlyLeavesHold at = (c : ℕ) (x : Entry) → holds (at c) x ≡ true → (0 < c) × ((at c).level ≡ 0)
 
 alive_where : (node : Node) (x : Entry) → holds node x ≡ true → (node.state ≡ Live) × (is_among node.entries x ≡ true)
 alive_where node x h = go node.state refl h

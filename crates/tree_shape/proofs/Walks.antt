@@ -9,6 +9,7 @@ use Rattle.tree_shape.specs.Nodes.{Node}
 use Rattle.tree_shape.specs.Chains.{IsRunOf, IsPlaced, FitsState, Spot, first_or, past, low_past, spot_after, first_spot, IsBeyond, IsNoGreater, Rises}
 use Rattle.tree_shape.specs.Edits.{with_left}
 use Rattle.tree_shape.specs.Walks.{IsAim, is_beyond, is_within, is_fit, IsNoHigher, IsEased, IsFitOn, IsCoverOn, IsKeptBack, LeadsOn, here, step, IsPlace, on_chain, by_deleted, HasGone, KeepsPlaces}
+use Rattle.tree_shape.specs.Laws.{IsLed}
 use Rattle.tree_shape.proofs.Order.{upto_self, before_weak}
 use Rattle.tree_shape.proofs.Runs.{Agree}
 use Rattle.tree_shape.proofs.Splice.{IsMended}
@@ -29,30 +30,6 @@ place_stays at at' number number' chain chain' start fit b eased keeps (by_delet
     by_deleted r (record { gone = rw (same.0) kept.gone; late = rw (same.1) kept.late }) (rw (same.0) right)
       (place_stays at at' number number' chain chain' start fit r eased keeps rest)
 
-pub fit_same : (at at' : ℕ → Node) (s : Spot) (xs : List ℕ) (fit : Spot → Bool) (c : ℕ) → Agree at at' xs → IsFitOn at s xs fit c → IsFitOn at' s xs fit c
-fit_same at at' s [] fit c same i = absurd i
-fit_same at at' s (b ∷ bs) fit c same (inl h) = inl h
-fit_same at at' s (b ∷ bs) fit c same (inr i) = inr (rw same.0 (fit_same at at' (past b (at b) s) bs fit c same.1 i))
-
-pub fit_append : (at : ℕ → Node) (s : Spot) (xs ys : List ℕ) (fit : Spot → Bool) (c : ℕ) → IsFitOn at s (xs ++ ys) fit c → IsFitOn at s xs fit c ⊎ IsFitOn at (spot_after at s xs) ys fit c
-fit_append at s [] ys fit c i = inr i
-fit_append at s (b ∷ bs) ys fit c (inl h) = inl (inl h)
-fit_append at s (b ∷ bs) ys fit c (inr i) = elim (fit_append at (past b (at b) s) bs ys fit c i) [ inl l ↦ inl (inr l) | inr r ↦ inr r ]
-
-pub fit_left : (at : ℕ → Node) (s : Spot) (xs ys : List ℕ) (fit : Spot → Bool) (c : ℕ) → IsFitOn at s xs fit c → IsFitOn at s (xs ++ ys) fit c
-fit_left at s [] ys fit c i = absurd i
-fit_left at s (b ∷ bs) ys fit c (inl h) = inl h
-fit_left at s (b ∷ bs) ys fit c (inr i) = inr (fit_left at (past b (at b) s) bs ys fit c i)
-
-pub fit_right : (at : ℕ → Node) (s : Spot) (xs ys : List ℕ) (fit : Spot → Bool) (c : ℕ) → IsFitOn at (spot_after at s xs) ys fit c → IsFitOn at s (xs ++ ys) fit c
-fit_right at s [] ys fit c i = i
-fit_right at s (b ∷ bs) ys fit c i = inr (fit_right at (past b (at b) s) bs ys fit c i)
-
-pub fit_mended : (at at' : ℕ → Node) (s : Spot) (l : Option ℕ) (xs : List ℕ) (fit : Spot → Bool) (c : ℕ) → IsEased fit → IsMended at at' l xs → IsFitOn at s xs fit c → IsFitOn at' (record s { left = l }) xs fit c
-fit_mended at at' s l [] fit c eased m i = absurd i
-fit_mended at at' s l (b ∷ bs) fit c eased m (inl h) = inl (h.0, eased.eases s _ (no_higher_self s.low) (inr refl) h.1)
-fit_mended at at' s l (b ∷ bs) fit c eased m (inr i) = inr (rw m.0 (fit_same at at' (past b (at b) s) bs fit c m.1 i))
-
 -- along a run each page whose low is below what is looked for leads to the one that covers it
 within_cases : (aim : Bound → Bool) (high : Option Bound) → (is_within aim high ≡ true) ⊎ ((is_some high ≡ true) × (is_beyond aim high ≡ true))
 within_cases aim None = inl refl
@@ -61,11 +38,6 @@ within_cases aim (Some h) = go (aim h) refl
     go : (w : Bool) → aim h ≡ w → (not (aim h) ≡ true) ⊎ ((true ≡ true) × (aim h ≡ true))
     go true e = inr (refl, e)
     go false e = inl (ap not e)
-
-pub record IsLed (at : ℕ → Node) (number : ℕ → ℕ) (s : Spot) (xs : List ℕ) (start : ℕ) (aim : Bound → Bool) (b : ℕ) : Type 0 where
-  pub page : ℕ
-  pub covers : IsCoverOn at s xs aim page
-  pub walk : LeadsOn at number start b page
 
 not_deleted : (st : PageState) → (st ≡ Live) ⊎ (st ≡ HalfDead) → st ≡ Deleted → ⊥
 not_deleted st (inl a) d = cc
