@@ -1,20 +1,18 @@
-use Rattle.std.proofs.Common.{◌≡◌, ◌≢◌, ℕ, suc, zero, ◌+◌, ◌<◌, ◌≤◌, ◌⊎◌, ◌↔◌, max, inl, inr, Bool, true, false, List, [], ◌∷◌, ◌++◌, Option, Some, None, is_some, refl, sym, ap, ap₂, subst, ◌∙◌, append_assoc, append-nil, arith}
-use Rattle.std.proofs.lemmas.Bool.{cases_eq, cases_lt}
-use Rattle.index_model.specs.Order.{bound_of, last_or, IsBefore}
+use Rattle.std.proofs.Common.{◌≡◌, ℕ, suc, ◌<◌, ◌⊎◌, inl, inr, Bool, true, false, List, [], ◌∷◌, ◌++◌, Option, Some, None, is_some, refl, sym, ap, subst, ◌∙◌, append_assoc}
+use Rattle.index_model.specs.Order.{IsBefore}
 use Rattle.index_model.specs.declared.bound.Bound.{Bound}
-use Rattle.index_model.specs.declared.entry.Entry.{Entry}
 use Rattle.page_codec.specs.declared.page.Downlink.{Downlink}
 use Rattle.page_codec.specs.declared.page.PageState.{PageState}
 use Rattle.page_codec.specs.declared.page.PageState.TheVariants.{Live, HalfDead, Deleted}
 use Rattle.tree_shape.specs.Nodes.{Node}
-use Rattle.tree_shape.specs.Chains.{first_spot, IsRunOf, IsPlaced, Spot, first_or, past, low_past, spot_after, due_links, due_link, downlinks, from_low, IsBeyond, IsNoGreater, IsAtMost, Rises, IsBoundWithin, BoundsWithin, LinksWithin, IsIn, AreDistinct, FitsState, HasItems, IsTreeOf, IsRootLevel}
+use Rattle.tree_shape.specs.Chains.{first_spot, IsRunOf, Spot, past, spot_after, due_links, due_link, downlinks, from_low, IsBeyond, IsNoGreater, IsAtMost, Rises, IsBoundWithin, BoundsWithin, LinksWithin, IsIn, AreDistinct, FitsState, IsTreeOf}
 use Rattle.tree_shape.specs.Walks.{is_beyond, IsFitOn}
 use Rattle.tree_shape.specs.Laws.{HasLink}
-use Rattle.tree_shape.proofs.Order.{before_weak, before_trans, upto_before, before_not}
-use Rattle.tree_shape.proofs.Runs.{Agree, run_back, run_front, downlinks_append}
-use Rattle.tree_shape.proofs.Locate.{children, target_cases, targets_apart, SameSplit, same_split, LowSplit, low_split}
+use Rattle.tree_shape.proofs.Order.{before_weak, upto_before, before_not}
+use Rattle.tree_shape.proofs.Runs.{run_back, downlinks_append}
+use Rattle.tree_shape.proofs.Locate.{children, target_cases, targets_apart, SameSplit, same_split, low_split}
 use Rattle.tree_shape.proofs.Downlinks.{downlinks_at}
-use Rattle.tree_shape.proofs.Clear.{IsFlagged, live_fits, flagged_alive, new_alive, AreAbove, IsAbove, above_front, above_back, rest_above, low_is, flagged_targets}
+use Rattle.tree_shape.proofs.Clear.{IsFlagged, live_fits, flagged_alive, AreAbove, above_front, above_back, rest_above, low_is, flagged_targets}
 use Rattle.tree_shape.proofs.Finish.{upper_live, upper_alive}
 
 abbrev pub IsItemIn : Downlink → List Downlink → Type 0
@@ -64,7 +62,7 @@ descend at used root top chain tree level in_top left q right upper_is before bo
     let was = downlinks_at at first_spot left q right before bound child after low items in
     let is = sym (rw upper_is at (tree.parents level in_top)) ∙ was in
     target_before at first_spot (chain level) aim fit aimed (record { bound = low.mark; child = child })
-      (subst (IsItemIn (record { bound = low.mark; child = child })) (sym is) (item_right _ (downlinks at first_spot left ++ low.front) _ (inl refl))) p
+    (subst (IsItemIn (record { bound = low.mark; child = child })) (sym is) (item_right _ (downlinks at first_spot left ++ low.front) _ (inl refl))) p
 
 -- the item of a flagged page stands on the page that covers its separator
 find_child : (p : ℕ) (items : List Downlink) → IsIn p (children items) → HasLink p items
@@ -123,8 +121,8 @@ least_downlinks at level s spot (b ∷ c ∷ cs) run a =
     let alive = upper_live (at b).state level spot (at b) run.0.fits in
     let fits = live_fits (at b).state (suc level) spot (at b) alive run.0.fits in
     least_append s (from_low spot.low (at b).links) _ (least_items s spot.low (at b).links (at b).high a fits.1)
-      (least_downlinks at level s (past b (at b) spot) (c ∷ cs) run.1
-        (subst (AtLeast s) (sym (low_is (at b).state spot.low (at b).high alive)) (least_rise s spot.low (at b).high a fits.0 run.0.high_is)))
+    (least_downlinks at level s (past b (at b) spot) (c ∷ cs) run.1
+    (subst (AtLeast s) (sym (low_is (at b).state spot.low (at b).high alive)) (least_rise s spot.low (at b).high a fits.0 run.0.high_is)))
 
 -- an item of a list whose bounds are all s or more, and one below s
 least_not_in : (s : Bound) (xs : List Downlink) (i : Downlink) (ys : List Downlink) → AllAtLeast s (xs ++ i ∷ ys) → IsBeyond i.bound s → ⊥
@@ -143,7 +141,7 @@ right_least : (at : ℕ → Node) (level : ℕ) (s : Bound) (spot : Spot) (q : �
 right_least at level s spot q [] run up = tt
 right_least at level s spot q (z ∷ zs) run up =
     least_downlinks at level s (past q (at q) spot) (z ∷ zs) run.1
-      (subst (AtLeast s) (sym (low_is (at q).state spot.low (at q).high (upper_live (at q).state level spot (at q) run.0.fits))) (upto_least s (at q).high up run.0.high_is))
+    (subst (AtLeast s) (sym (low_is (at q).state spot.low (at q).high (upper_live (at q).state level spot (at q) run.0.fits))) (upto_least s (at q).high up run.0.high_is))
 
 -- the first downlink of a page is its low
 first_low : (s : Bound) (low high : Option Bound) (items : List Downlink) → LinksWithin low items high → AreAbove s (from_low low items) → IsBeyond low s → ⊥
@@ -152,6 +150,7 @@ first_low s low high (x ∷ xs) i a p = clash low a.0.number a.0.is a.0.above p
   where
     same : (a b : Bound) → Some a ≡ Some b → a ≡ b
     same a b e = cc
+
     clash : (low : Option Bound) (n : Bound) → low ≡ Some n → IsBefore s n → IsBeyond low s → ⊥
     clash None n e lt p = cc
     clash (Some l) n e lt p = before_not l s p (before_weak s l (subst (IsBefore s) (sym (same l n e)) lt))
@@ -172,40 +171,53 @@ item_on_cover at level front p new separator rest f apart first left q right run
   where
     spot : Spot
     spot = spot_after at first_spot left
+
     here0 : IsRunOf at level (spot_after at first_spot front) (p ∷ new ∷ rest) None
     here0 = run_back at level first_spot front (p ∷ new ∷ rest) None f.run
+
     here1 : IsRunOf at (suc level) spot (q ∷ right) None
     here1 = run_back at (suc level) first_spot left (q ∷ right) None run
+
     alive : (at p).state ≡ Live
     alive = flagged_alive at level first_spot front p new separator rest f
+
     low_p : IsBeyond (spot_after at first_spot front).low separator
     low_p = subst (Rises (spot_after at first_spot front).low) f.high (live_fits (at p).state level (spot_after at first_spot front) (at p) alive here0.0.fits).0
+
     fits : FitsState Live (suc level) spot (at q)
     fits = live_fits (at q).state (suc level) spot (at q) (upper_alive at level first_spot left q right run) here1.0.fits
+
     parts : downlinks at first_spot (left ++ q ∷ right) ≡ downlinks at first_spot left ++ (from_low spot.low (at q).links ++ downlinks at (past q (at q) spot) right)
     parts = downlinks_append at first_spot left (q ∷ right)
+
     child_in : (xs : List Downlink) (i : Downlink) (ys : List Downlink) → IsIn i.child (children (xs ++ i ∷ ys))
     child_in [] i ys = inl refl
     child_in (x ∷ xs) i ys = inr (child_in xs i ys)
+
     behind : List Downlink
     behind = due_links at (record { low = (at new).high; left = Some new; behind = (at new).split }) rest
+
     t : due_links at first_spot (front ++ p ∷ new ∷ rest) ≡ due_links at first_spot front ++ record { bound = (spot_after at first_spot front).low; child = p } ∷ behind
     t = flagged_targets at level first_spot front p new separator rest f first
+
     above : AreAbove separator behind
     above = rest_above at level first_spot front p new separator rest f
+
     same_at : (xs : List Downlink) (b : Option Bound) (ys : List Downlink) → xs ++ record { bound = b; child = p } ∷ ys ≡ downlinks at first_spot (left ++ q ∷ right)
         → SameSplit xs ys (due_links at first_spot front) behind (record { bound = b; child = p }) (record { bound = (spot_after at first_spot front).low; child = p })
     same_at xs b ys is = same_split xs _ ys _ _ behind (is ∙ old ∙ t) refl (subst (λ l. AreDistinct (children l)) t (targets_apart at first_spot _ apart))
+
     not_left : HasLink p (downlinks at first_spot left) → ⊥
     not_left l =
         let s = same_at l.before l.bound (l.after ++ (from_low spot.low (at q).links ++ downlinks at (past q (at q) spot) right))
-          (sym (append_assoc l.before _ _) ∙ ap (λ w. w ++ (from_low spot.low (at q).links ++ downlinks at (past q (at q) spot) right)) (sym l.is) ∙ sym parts) in
+        (sym (append_assoc l.before _ _) ∙ ap (λ w. w ++ (from_low spot.low (at q).links ++ downlinks at (past q (at q) spot) right)) (sym l.is) ∙ sym parts) in
         first_low separator spot.low (at q).high (at q).links fits.1
-          (above_front separator (from_low spot.low (at q).links) _ (above_back separator l.after _ (subst (AreAbove separator) (sym s.back) above))) low
+        (above_front separator (from_low spot.low (at q).links) _ (above_back separator l.after _ (subst (AreAbove separator) (sym s.back) above))) low
+
     not_right : HasLink p (downlinks at (past q (at q) spot) right) → ⊥
     not_right r =
         let s = same_at (downlinks at first_spot left ++ (from_low spot.low (at q).links ++ r.before)) r.bound r.after
-          (append_assoc (downlinks at first_spot left) _ _
-            ∙ ap (λ w. downlinks at first_spot left ++ w) (append_assoc (from_low spot.low (at q).links) r.before _ ∙ ap (λ w. from_low spot.low (at q).links ++ w) (sym r.is)) ∙ sym parts) in
+        (append_assoc (downlinks at first_spot left) _ _
+        ∙ ap (λ w. downlinks at first_spot left ++ w) (append_assoc (from_low spot.low (at q).links) r.before _ ∙ ap (λ w. from_low spot.low (at q).links ++ w) (sym r.is)) ∙ sym parts) in
         least_not_in separator r.before (record { bound = r.bound; child = p }) r.after (subst (AllAtLeast separator) r.is (right_least at level separator spot q right here1 up))
-          (subst (λ b. IsBeyond b separator) (sym (ap (λ i. i.bound) s.item)) low_p)
+        (subst (λ b. IsBeyond b separator) (sym (ap (λ i. i.bound) s.item)) low_p)

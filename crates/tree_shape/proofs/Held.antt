@@ -1,5 +1,5 @@
 -- The entries that live pages hold, before and after each edit.
-use Rattle.std.proofs.Common.{◌≡◌, ◌≢◌, ◌⊎◌, ◌↔◌, ℕ, suc, ◌<◌, ◌≤◌, max, inl, inr, Bool, true, false, ◌||◌, List, [], ◌∷◌, ◌++◌, Option, Some, None, refl, sym, ap, subst, ◌∙◌, arith}
+use Rattle.std.proofs.Common.{◌≡◌, ◌≢◌, ◌⊎◌, ℕ, suc, ◌<◌, max, inl, inr, Bool, true, false, ◌||◌, List, [], ◌∷◌, refl, sym, ap, subst, ◌∙◌, arith}
 use Rattle.std.proofs.lemmas.Bool.{cases_eq}
 use Rattle.index_model.specs.Order.{is_among, same_entry}
 use Rattle.index_model.specs.declared.entry.Entry.{Entry}
@@ -57,6 +57,7 @@ insertion_adds at at' used b e h b_used x = (there, back)
   where
     now : holds (at' b) x ≡ (same_entry e x || holds (at b) x)
     now = rw (h.leaf_is, h.alive) (put_among e (at b).entries h.after x h.put)
+
     there : IsHeld at' used x → IsHeld at used x ⊎ (same_entry e x ≡ true)
     there i = elim (cases_eq i.block b) [
       | inl is_b ↦ elim (or_cases (same_entry e x) (holds (at b) x) (sym now ∙ subst (λ (c : ℕ). holds (at' c) x ≡ true) is_b i.on)) [
@@ -65,6 +66,7 @@ insertion_adds at at' used b e h b_used x = (there, back)
       ]
       | inr not_b ↦ inl (record { block = i.block; in_use = i.in_use; on = subst (λ (n : Node). holds n x ≡ true) (h.others i.block not_b) i.on })
     ]
+
     back : IsHeld at used x ⊎ (same_entry e x ≡ true) → IsHeld at' used x
     back (inr e') = record { block = b; in_use = b_used; on = now ∙ or_left (same_entry e x) (holds (at b) x) e' }
     back (inl i) = elim (cases_eq i.block b) [
@@ -77,25 +79,32 @@ leaf_split_adds at at' used b new e h free b_used x = (there, back)
   where
     left : List Entry
     left = h.halves.first ∷ h.halves.front
+
     right : List Entry
     right = h.halves.middle ∷ h.halves.back
+
     on_left : holds (at' b) x ≡ is_among (h.halves.first ∷ h.halves.front) x
     on_left = rw h.halves.left_is refl
+
     on_right : holds (at' new) x ≡ is_among (h.halves.middle ∷ h.halves.back) x
     on_right = rw h.halves.right_is refl
+
     both : is_among (h.halves.first ∷ h.halves.front) x || is_among (h.halves.middle ∷ h.halves.back) x ≡ (same_entry e x || holds (at b) x)
     both = sym (is_among-append (h.halves.first ∷ h.halves.front) (h.halves.middle ∷ h.halves.back) x)
-      ∙ put_among e (at b).entries _ x h.halves.put ∙ ap (λ (w : Bool). same_entry e x || w) (sym (holds_alive (at b) x h.alive))
+        ∙ put_among e (at b).entries _ x h.halves.put ∙ ap (λ (w : Bool). same_entry e x || w) (sym (holds_alive (at b) x h.alive))
+
     old_or_new : is_among (h.halves.first ∷ h.halves.front) x || is_among (h.halves.middle ∷ h.halves.back) x ≡ true → IsHeld at used x ⊎ (same_entry e x ≡ true)
     old_or_new w = elim (or_cases (same_entry e x) (holds (at b) x) (sym both ∙ w)) [
       | inl e' ↦ inr e'
       | inr old ↦ inl (record { block = b; in_use = b_used; on = old })
     ]
+
     on_either : same_entry e x || holds (at b) x ≡ true → IsHeld at' (max used (suc new)) x
     on_either w = elim (or_cases _ _ (both ∙ w)) [
       | inl l ↦ record { block = b; in_use = omega arith; on = on_left ∙ l }
       | inr r ↦ record { block = new; in_use = omega arith; on = on_right ∙ r }
     ]
+
     there : IsHeld at' (max used (suc new)) x → IsHeld at used x ⊎ (same_entry e x ≡ true)
     there i = elim (cases_eq i.block b) [
       | inl is_b ↦ old_or_new (or_left _ _ (sym on_left ∙ subst (λ (c : ℕ). holds (at' c) x ≡ true) is_b i.on))
@@ -109,6 +118,7 @@ leaf_split_adds at at' used b new e h free b_used x = (there, back)
             ]
       ]
     ]
+
     back : IsHeld at used x ⊎ (same_entry e x ≡ true) → IsHeld at' (max used (suc new)) x
     back (inr e') = on_either (or_left (same_entry e x) (holds (at b) x) e')
     back (inl i) = elim (cases_eq i.block b) [
@@ -173,6 +183,7 @@ root_split_holds at at' used p top fresh h free none' none2 = held_with at at' u
         go : (w : Bool) → holds node x ≡ w → holds node x ≡ false
         go true h = absurd (nothing_held node x e h)
         go false h = h
+
     same : (c : ℕ) → c ≢ fresh → (x : Entry) → holds (at' c) x ≡ holds (at c) x
     same c not_new x = elim (cases_eq c p) [
       | inl is_p ↦ rw is_p (rw h.cleared_is refl)

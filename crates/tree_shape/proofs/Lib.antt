@@ -29,3 +29,4 @@ pub mod Parents
 pub mod Chains
 pub mod Keeps
 pub mod Told
+pub mod First

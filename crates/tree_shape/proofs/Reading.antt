@@ -1,15 +1,14 @@
 -- What a page tells a call that comes to it from a place.
-use Rattle.std.proofs.Common.{◌≡◌, ◌≢◌, ◌⊎◌, ◌↔◌, ℕ, suc, ◌<◌, ◌≤◌, inl, inr, Bool, true, false, not, ◌&&◌, List, [], ◌∷◌, ◌++◌, Option, Some, None, is_some, refl, sym, ap, subst, ◌∙◌, arith}
-use Rattle.std.proofs.lemmas.Bool.{cases_eq}
-use Rattle.index_model.specs.Order.{bound_cmp, bound_of, is_among, is_past, same_entry, IsBefore}
+use Rattle.std.proofs.Common.{◌≡◌, ◌⊎◌, ◌↔◌, ℕ, ◌<◌, inl, inr, Bool, true, false, not, ◌&&◌, List, [], ◌∷◌, Option, Some, None, is_some, refl, sym, ap, subst, ◌∙◌, arith}
+use Rattle.index_model.specs.Order.{bound_of, is_among, is_past, same_entry, IsBefore}
 use Rattle.index_model.specs.declared.bound.Bound.{Bound}
 use Rattle.index_model.specs.declared.entry.Entry.{Entry}
 use Rattle.index_model.proofs.Ascending.{same_entry-is}
 use Rattle.page_codec.specs.declared.page.PageState.{PageState}
 use Rattle.page_codec.specs.declared.page.PageState.TheVariants.{Live, HalfDead, Deleted}
 use Rattle.tree_shape.specs.Nodes.{Node, entries_alive, holds, IsHeld}
-use Rattle.tree_shape.specs.Chains.{IsRunOf, IsPlaced, FitsState, Spot, past, spot_after, first_spot, first_or, low_past, IsIn, IsBeyond, IsAtMost, IsNoGreater, AscendWithin, IsRootLevel, IsTreeOf}
-use Rattle.tree_shape.specs.Walks.{entry_aim, frontier_aim, is_beyond, is_within, is_fit, IsFitOn, IsCoverOn, IsKeptBack, IsPlace, on_chain, by_deleted}
+use Rattle.tree_shape.specs.Chains.{IsRunOf, FitsState, Spot, past, first_spot, IsIn, IsBeyond, IsAtMost, AscendWithin, IsRootLevel, IsTreeOf}
+use Rattle.tree_shape.specs.Walks.{entry_aim, frontier_aim, is_beyond, is_within, is_fit, IsFitOn, IsCoverOn, IsPlace, on_chain, by_deleted}
 use Rattle.tree_shape.specs.Laws.{IsPassedBy, LeadsRight, OnlyLeavesHold}
 use Rattle.tree_shape.proofs.Order.{before_trans, before_or, upto_before}
 use Rattle.tree_shape.proofs.Members.{member}
@@ -27,6 +26,7 @@ root_fits at used root top chain aim clear tree = go (chain top) tree.root_level
     passes : (c : Bool) → is_fit aim c first_spot ≡ true
     passes true = refl
     passes false = refl
+
     go : (xs : List ℕ) → IsRootLevel at root xs → IsFitOn at first_spot xs (is_fit aim clear) root
     go [] r = absurd r
     go (b ∷ []) r = inl (sym r, passes clear)
@@ -61,6 +61,7 @@ passed_fit aim clear Live level s b node is f p fit = rw is (elim p.why [
         go : (w : Bool) → not w ≡ false → w ≡ true
         go true e = refl
         go false e = absurd (no_high (sym e))
+
     both : (c w : Bool) → (c ≡ true → w ≡ false) → is_beyond aim node.high ≡ true → not (c && w) && is_beyond aim node.high ≡ true
     both false w h q = q
     both true false h q = q
@@ -77,7 +78,7 @@ fits_right : (at : ℕ → Node) (level : ℕ) (s : Spot) (xs : List ℕ) (aim :
 fits_right at level s [] aim clear b run i p = absurd i
 fits_right at level s (x ∷ []) aim clear b run (inl h) p =
     absurd (no_high (sym run.0.high_is ∙ subst (λ (c : ℕ). is_some (at c).high ≡ true) (h.0)
-      (passed_high aim clear (at b).state level s (at b) refl (subst (λ (c : ℕ). FitsState (at c).state level s (at c)) (sym (h.0)) run.0.fits) p)))
+    (passed_high aim clear (at b).state level s (at b) refl (subst (λ (c : ℕ). FitsState (at c).state level s (at c)) (sym (h.0)) run.0.fits) p)))
 fits_right at level s (x ∷ []) aim clear b run (inr i) p = absurd i
 fits_right at level s (x ∷ y ∷ ys) aim clear b run (inl h) p =
     let here = subst (λ (c : ℕ). IsPassedBy aim clear (at c)) (h.0) p in
@@ -136,6 +137,7 @@ entry_within low (e ∷ es) high x sorted i = go (entry_within (Some (bound_of e
     up : (low : Option Bound) → IsBeyond low (bound_of e) → IsBefore (bound_of e) (bound_of x) → IsBeyond low (bound_of x)
     up None p lt = tt
     up (Some l) p lt = before_trans l (bound_of e) (bound_of x) p lt
+
     go : (is_among es x ≡ true → IsBeyond (Some (bound_of e)) (bound_of x) × IsAtMost (bound_of x) high) → (w : Bool) → same_entry e x ≡ w → is_among (e ∷ es) x ≡ true
         → IsBeyond low (bound_of x) × IsAtMost (bound_of x) high
     go rest true same i = subst (λ (y : Entry). IsBeyond low (bound_of y) × IsAtMost (bound_of y) high) (same_entry-is e x same) (sorted.0, sorted.1)
@@ -173,6 +175,7 @@ held_on_cover at used root top chain x b tree only covers alive inside = (there,
   where
     run : IsRunOf at 0 first_spot (chain 0) None
     run = tree.runs 0 (omega arith)
+
     there : IsHeld at used x → is_among (at b).entries x ≡ true
     there h =
         let a = alive_where (at h.block) x h.on in
@@ -183,8 +186,10 @@ held_on_cover at used root top chain x b tree only covers alive inside = (there,
       where
         at_0 : ℕ → ℕ
         at_0 c = 0
+
         clash : Live ≡ Deleted → ⊥
         clash e = cc
+
     back : is_among (at b).entries x ≡ true → IsHeld at used x
     back i = record { block = b; in_use = inside; on = rw alive i }
 

@@ -1,11 +1,11 @@
 -- What each edit leaves of a tree, and what a page tells a call that comes to it from a place.
-use Rattle.std.specs.Prelude.{◌≡◌, ◌≢◌, ◌⊎◌, ◌↔◌, ℕ, zero, suc, ◌<◌, ◌≤◌, max, Bool, true, false, Option, Some, None, is_some, List, [], ◌∷◌, ◌++◌}
+use Rattle.std.specs.Prelude.{◌≡◌, ◌≢◌, ◌⊎◌, ◌↔◌, ℕ, suc, ◌<◌, ◌≤◌, max, Bool, true, false, Option, Some, List, [], ◌∷◌, ◌++◌}
 use Rattle.index_model.specs.Order.{is_among, is_past}
 use Rattle.index_model.specs.declared.bound.Bound.{Bound}
 use Rattle.index_model.specs.declared.entry.Entry.{Entry}
 use Rattle.page_codec.specs.declared.page.Downlink.{Downlink}
-use Rattle.page_codec.specs.declared.page.PageState.TheVariants.{Live, HalfDead, Deleted}
-use Rattle.tree_shape.specs.Nodes.{Node, holds, IsHeld, HoldsTheSame, HoldsOneMore}
+use Rattle.page_codec.specs.declared.page.PageState.TheVariants.{Live, Deleted}
+use Rattle.tree_shape.specs.Nodes.{Node, no_node, holds, IsHeld, HoldsTheSame, HoldsOneMore}
 use Rattle.tree_shape.specs.Chains.{Spot, IsIn, IsTreeOf, first_spot}
 use Rattle.tree_shape.specs.Edits.{IsInsertion, IsLeafSplit, IsFree, IsFinish, IsParentSplit, IsRootSplit, IsLinkAdded, IsBetween}
 use Rattle.tree_shape.specs.Walks.{IsAim, entry_aim, bound_aim, frontier_aim, is_beyond, is_within, is_fit, IsFitOn, IsCoverOn, LeadsOn, IsPlace, KeepsPlaces}
@@ -213,3 +213,35 @@ PlacesStay =
     (at at' : ℕ → Node) (number number' : ℕ → ℕ) (chain chain' : List ℕ) (start : ℕ) (aim : Bound → Bool) (clear : Bool) (b : ℕ)
     → IsAim aim → KeepsPlaces at at' number number' chain chain' start
     → IsPlace at number chain start (is_fit aim clear) b → IsPlace at' number' chain' start (is_fit aim clear) b
+
+-- what is looked for lies below every lesser bound too
+abbrev pub AimsFall : Type 0
+AimsFall = ((s : Bound) → IsAim (bound_aim s)) × ((f : Bound) → IsAim (frontier_aim f))
+
+-- the tree of one empty leaf
+abbrev pub FirstIsATree : Type 0
+FirstIsATree = (at : ℕ → Node) → at 1 ≡ no_node → IsTreeOf at 2 1 0 (λ level. 1 ∷ [])
+
+-- each edit, and the entries that the leaves hold then
+abbrev pub InsertionAdds : Type 0
+InsertionAdds = (at at' : ℕ → Node) (used b : ℕ) (e : Entry) → IsInsertion at at' b e → b < used → HoldsOneMore at at' used used e
+
+abbrev pub LeafSplitAdds : Type 0
+LeafSplitAdds =
+    (at at' : ℕ → Node) (used b new : ℕ) (e : Entry)
+    → IsLeafSplit at at' b new e → IsFree at used new → b < used → HoldsOneMore at at' used (max used (suc new)) e
+
+abbrev pub FinishHolds : Type 0
+FinishHolds = (at at' : ℕ → Node) (used p q : ℕ) → IsFinish at at' p q → HoldsTheSame at at' used used
+
+abbrev pub ParentSplitHolds : Type 0
+ParentSplitHolds =
+    (at at' : ℕ → Node) (used p q sibling : ℕ)
+    → IsParentSplit at at' p q sibling → IsFree at used sibling → (at q).state ≡ Live → (at q).entries ≡ []
+    → HoldsTheSame at at' used (max used (suc sibling))
+
+abbrev pub RootSplitHolds : Type 0
+RootSplitHolds =
+    (at at' : ℕ → Node) (used p top fresh : ℕ)
+    → IsRootSplit at at' p top fresh → IsFree at used fresh → (at 0).entries ≡ [] → (at' 0).entries ≡ []
+    → HoldsTheSame at at' used (max used (suc fresh))

@@ -1,10 +1,10 @@
 -- What a call looks for, the walks to the right that lead there, and what a page number that a call keeps is good for.
-use Rattle.std.specs.Prelude.{◌≡◌, ◌≢◌, ◌⊎◌, ℕ, ◌<◌, ◌≤◌, Bool, true, false, not, ◌&&◌, ◌||◌, Option, Some, None, List, [], ◌∷◌}
+use Rattle.std.specs.Prelude.{◌≡◌, ◌⊎◌, ℕ, ◌<◌, Bool, true, false, not, ◌&&◌, Option, Some, None, List, [], ◌∷◌}
 use Rattle.std.specs.Ordering.{is_lt}
-use Rattle.index_model.specs.Order.{bound_cmp, is_past, IsBefore}
+use Rattle.index_model.specs.Order.{bound_cmp, is_past}
 use Rattle.index_model.specs.declared.bound.Bound.{Bound}
 use Rattle.index_model.specs.declared.entry.Entry.{Entry}
-use Rattle.page_codec.specs.declared.page.PageState.TheVariants.{Live, HalfDead, Deleted}
+use Rattle.page_codec.specs.declared.page.PageState.TheVariants.{Live, Deleted}
 use Rattle.tree_shape.specs.Nodes.{Node}
 use Rattle.tree_shape.specs.Chains.{IsNoGreater, Spot, past, first_spot}
 
