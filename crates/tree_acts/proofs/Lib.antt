@@ -1,2 +1,4 @@
 pub mod Overlays
 pub mod Words
+pub mod Lasting
+pub mod Entering
