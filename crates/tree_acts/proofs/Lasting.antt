@@ -15,10 +15,13 @@ use Rattle.page_action.specs.Stored.{AreStored, AreActable}
 use Rattle.page_action.proofs.StoredPages.{stored-with_page, stored_page, length-with_counts}
 use Rattle.tree_shape.specs.Tree.{IsMetaOf}
 use Rattle.tree_shape.specs.Nodes.{node_from, nodes_of}
-use Rattle.tree_shape.specs.Chains.{Spot, IsIn, first_spot}
+use Rattle.tree_shape.specs.Chains.{Spot, IsIn, IsRunOf, first_spot}
 use Rattle.tree_shape.specs.Edits.{IsFree}
 use Rattle.tree_shape.specs.Laws.{TreeGoesOn, IsReusable}
 use Rattle.tree_shape.specs.Walks.{IsAim, is_fit, IsFitOn}
+use Rattle.tree_shape.proofs.LeafSplit.{first_in}
+use Rattle.tree_shape.proofs.Members.{in_append_right}
+use Rattle.tree_shape.proofs.Runs.{run_back, split_at}
 use Rattle.tree_shape.proofs.Told.{places_stay, live_places_stand, places_keep_their_level}
 use Rattle.tree_acts.specs.Trees.{IsTree, HasTree, HasPlace, IsStart, PlacesLast}
 use Rattle.tree_acts.specs.Acts.{TreeLasts}
@@ -131,6 +134,14 @@ stands st tree start level aim clear block place alive =
     go in_tree fits (inr on) =
         let u = tree.is.in_use level block in_tree on.1 in
         record { in_tree = in_tree; fits = fits; on_chain = on.1; level_is = on.0; above = u.0; inside = u.1 }
+
+-- the right link of a page of a chain names a page of that chain
+pub right_on_chain : (st : State) (tree : IsTree st.pages) (level b r : ℕ) → level ≤ tree.meta.level → IsIn b (tree.chain level) → (nodes_of st.pages b).right ≡ Some r → IsIn r (tree.chain level)
+right_on_chain st tree level b r in_top i right =
+    let w = split_at b (tree.chain level) i in
+    let run = subst (λ (xs : List ℕ). IsRunOf (nodes_of st.pages) level first_spot xs None) w.is (tree.is.runs level in_top) in
+    let here = run_back (nodes_of st.pages) level first_spot w.front (b ∷ w.back) None run in
+    subst (IsIn r) (sym w.is) (in_append_right r w.front (b ∷ w.back) (inr (first_in r w.back (sym here.0.right_is ∙ right))))
 
 -- the metapage as it is after the act
 pub record MetaIs (pages : List Page) (root top : ℕ) : Type 0 where

@@ -1,4 +1,5 @@
 pub mod Overlays
 pub mod Words
 pub mod Lasting
+pub mod Mending
 pub mod Entering

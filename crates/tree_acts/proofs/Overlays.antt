@@ -118,3 +118,25 @@ counts_other limits used counted pages (page ∷ changed) b same h le apart =
           let end : length counted ≡ page.block = omega (arith, same) in
           rw (le-ltb page.block (length counted) ge) (more_other counted b (number_to_count page.state page.deletion) (λ e. apart.0 (sym end ∙ e)))
     ]
+
+-- each of the pages that are written is there: the second, and so on
+longer : (pages : List Page) (page : Page) (used : ℕ) → page.block ≤ used → used ≤ length pages → used ≤ length (with_page pages page)
+longer pages page used place le = let l = page_length pages page (omega arith) in omega arith
+
+pub pages_second : (limits : Limits) (used : ℕ) (pages : List Page) (a b : Page) (changed : List Page) → AreActable limits used (a ∷ b ∷ changed) → used ≤ length pages
+    → slice_get (with_pages pages (a ∷ b ∷ changed)) b.block ≡ Some b
+pages_second limits used pages a b changed h le = pages_first limits used (with_page pages a) b changed h.3 (longer pages a used h.1.0 le)
+
+pub pages_third : (limits : Limits) (used : ℕ) (pages : List Page) (a b c : Page) (changed : List Page) → AreActable limits used (a ∷ b ∷ c ∷ changed) → used ≤ length pages
+    → slice_get (with_pages pages (a ∷ b ∷ c ∷ changed)) c.block ≡ Some c
+pages_third limits used pages a b c changed h le = pages_second limits used (with_page pages a) b c changed h.3 (longer pages a used h.1.0 le)
+
+pub pages_fourth : (limits : Limits) (used : ℕ) (pages : List Page) (a b c d : Page) (changed : List Page) → AreActable limits used (a ∷ b ∷ c ∷ d ∷ changed) → used ≤ length pages
+    → slice_get (with_pages pages (a ∷ b ∷ c ∷ d ∷ changed)) d.block ≡ Some d
+pages_fourth limits used pages a b c d changed h le = pages_third limits used (with_page pages a) b c d changed h.3 (longer pages a used h.1.0 le)
+
+-- a page in use is inside
+pub inside : (pages : List Page) (b : ℕ) (page : Page) → slice_get pages b ≡ Some page → b < length pages
+inside [] b page found = cc
+inside (p ∷ pages) zero page found = omega arith
+inside (p ∷ pages) (suc b) page found = omega (arith, inside pages b page found)
