@@ -20,7 +20,7 @@ use Rattle.tree_shape.specs.Edits.{IsFree}
 use Rattle.tree_shape.specs.Laws.{TreeGoesOn, IsReusable}
 use Rattle.tree_shape.specs.Walks.{IsAim, is_fit, IsFitOn}
 use Rattle.tree_shape.proofs.LeafSplit.{first_in}
-use Rattle.tree_shape.proofs.Members.{in_append_right}
+use Rattle.tree_shape.proofs.Members.{in_append_right, member}
 use Rattle.tree_shape.proofs.Runs.{run_back, split_at}
 use Rattle.tree_shape.proofs.Told.{places_stay, live_places_stand, places_keep_their_level}
 use Rattle.tree_acts.specs.Trees.{IsTree, HasTree, HasPlace, IsStart, PlacesLast}
@@ -142,6 +142,10 @@ right_on_chain st tree level b r in_top i right =
     let run = subst (λ (xs : List ℕ). IsRunOf (nodes_of st.pages) level first_spot xs None) w.is (tree.is.runs level in_top) in
     let here = run_back (nodes_of st.pages) level first_spot w.front (b ∷ w.back) None run in
     subst (IsIn r) (sym w.is) (in_append_right r w.front (b ∷ w.back) (inr (first_in r w.back (sym here.0.right_is ∙ right))))
+
+-- a page of a chain says its level
+pub on_level : (st : State) (tree : IsTree st.pages) (level b : ℕ) → level ≤ tree.meta.level → IsIn b (tree.chain level) → (nodes_of st.pages b).level ≡ level
+on_level st tree level b in_top i = (member (nodes_of st.pages) level first_spot (tree.chain level) None b (tree.is.runs level in_top) i).0
 
 -- the metapage as it is after the act
 pub record MetaIs (pages : List Page) (root top : ℕ) : Type 0 where

@@ -3,3 +3,4 @@ pub mod Words
 pub mod Lasting
 pub mod Mending
 pub mod Entering
+pub mod Finishing
