@@ -53,7 +53,7 @@ upper_empty page level admitted is = by page.items refl admitted.kind
     by (Downlinks v) same h = ap entries_of same
     by (Entries v) same h = absurd (let z : page.level ≡ 0 = h.level in omega arith)
 
-covered : (st : State) (tree : IsTree st.pages) (level : ℕ) (aim : Bound → Bool) (block : ℕ) → HasCover st level aim block → (level ≤ tree.meta.level) × IsIn block (tree.chain level) × ((nodes_of st.pages block).state ≡ Live)
+pub covered : (st : State) (tree : IsTree st.pages) (level : ℕ) (aim : Bound → Bool) (block : ℕ) → HasCover st level aim block → (level ≤ tree.meta.level) × IsIn block (tree.chain level) × ((nodes_of st.pages block).state ≡ Live)
 covered st tree level aim block h =
     let c = cover_in st tree level aim block h in
     let w = cover_at (nodes_of st.pages) first_spot (tree.chain level) aim block c.covers in

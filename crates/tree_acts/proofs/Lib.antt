@@ -4,3 +4,4 @@ pub mod Lasting
 pub mod Mending
 pub mod Entering
 pub mod Finishing
+pub mod Telling

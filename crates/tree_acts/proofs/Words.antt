@@ -106,7 +106,7 @@ pub contents_held : (pages : List Page) (x : Entry) → (entry_on_live_leaf page
 contents_held pages x = (held_from pages x, (λ h. held_to pages x h.block h.in_use h.on))
 
 -- two tests that pass alike are one
-same_test : (a b : Bool) → (a ≡ true → b ≡ true) → (b ≡ true → a ≡ true) → a ≡ b
+pub same_test : (a b : Bool) → (a ≡ true → b ≡ true) → (b ≡ true → a ≡ true) → a ≡ b
 same_test true b to from = sym (to refl)
 same_test false true to from = from refl
 same_test false false to from = refl
