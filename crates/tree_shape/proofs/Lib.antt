@@ -21,3 +21,5 @@ pub mod ParentSplitTree
 pub mod RootSplit
 pub mod Descent
 pub mod Fits
+pub mod Halves
+pub mod LeafHalves

@@ -4,3 +4,4 @@ pub mod Nodes
 pub mod Chains
 pub mod Edits
 pub mod Walks
+pub mod Halves

@@ -2,8 +2,11 @@
 #![tactic(auto)]
 
 mod leaf;
+mod leaf_edits;
+mod parting;
 
 pub use leaf::{find, matches_beyond, may_hold, put};
+pub use leaf_edits::{separator, split_leaf};
 
 #[cfg(test)]
 mod tests;
