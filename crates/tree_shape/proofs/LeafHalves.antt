@@ -1,5 +1,6 @@
 -- The halves of a leaf that is split.
 use Rattle.std.proofs.Common.{◌≡◌, ℕ, zero, suc, ◌+◌, ◌/◌, ◌^◌, ◌<◌, ◌≤◌, true, false, Option, Some, None, List, [], ◌∷◌, ◌++◌, length, take, drop, get_or, refl, sym, ap, ap₂, subst, ◌∙◌, arith, rules, length-append, length-take-le, take-append-drop}
+use Rattle.std.proofs.lemmas.List.Edits.{length-insert}
 use Rattle.std.specs.Prelude.{insert}
 use Rattle.std.specs.List.{AllByRecursion}
 use Rattle.index_model.specs.Order.{bound_of, is_past, last_or, IsUpTo, AscendsPast, IsAscending, IsEntry}
@@ -79,10 +80,6 @@ parts node b new e cut (x ∷ xs) (y ∷ ys) put l r up beyond = record {
   left_is = refl;
   right_is = refl;
 }
-
-pub length_put : (xs : List Entry) (at : ℕ) (e : Entry) → length (insert xs at e) ≡ length xs + 1
-length_put xs at e =
-    omega (arith, length-append (take at xs) (e ∷ drop at xs), ap length (take-append-drop at xs), length-append (take at xs) (drop at xs))
 
 within : (cut : Bound) (xs : List Entry) → AreUpTo cut xs → AllByRecursion (IsUpTo (Some cut)) xs
 within cut [] h = tt
@@ -207,10 +204,10 @@ module _ (page : Page) (at : ℕ) (e : Entry) (valid : IsEntry e) (h : IsPage pa
     pub front_count : length front ≡ kept (entries_of page.items)
     front_count =
         ap length front_is
-        ∙ length-take-le (kept (entries_of page.items)) (insert (entries_of page.items) at e) (omega (arith, length_put (entries_of page.items) at e))
+        ∙ length-take-le (kept (entries_of page.items)) (insert (entries_of page.items) at e) (omega (arith, length-insert (entries_of page.items) at e place.within))
 
     pub back_count : length front + length back ≡ length (entries_of page.items) + 1
-    back_count = sym (length-append front back) ∙ ap length both ∙ length_put (entries_of page.items) at e
+    back_count = sym (length-append front back) ∙ ap length both ∙ length-insert (entries_of page.items) at e place.within
 
     module _ (new cycle : ℕ) (block : IsBlock new) (fits : cycle < 2 ^ 32) (cut : Bound) (up : AreUpTo cut front) (beyond : LiesBefore cut back) (whole : IsWhole cut) where
       pub left_page : IsPage (left_leaf page new cycle cut front)

@@ -23,3 +23,4 @@ pub mod Descent
 pub mod Fits
 pub mod Halves
 pub mod LeafHalves
+pub mod LinkHalves

@@ -5,3 +5,4 @@ pub mod Chains
 pub mod Edits
 pub mod Walks
 pub mod Halves
+pub mod LinkPlaces
