@@ -24,3 +24,4 @@ pub mod Fits
 pub mod Halves
 pub mod LeafHalves
 pub mod LinkHalves
+pub mod Aims

@@ -27,7 +27,7 @@ use Rattle.tree_shape.specs.LinkPlaces.{HasLinks, child_at, bound_at, IsBelowFir
 abbrev pub link_to : Bound → ℕ → Downlink
 link_to separator child = record { bound = Some separator; child = child }
 
-links_apart : (links : List Downlink) (at : ℕ) → at < length links → links ≡ take at links ++ record { bound = bound_at links at; child = child_at links at } ∷ drop (suc at) links
+pub links_apart : (links : List Downlink) (at : ℕ) → at < length links → links ≡ take at links ++ record { bound = bound_at links at; child = child_at links at } ∷ drop (suc at) links
 links_apart [] at lt = absurd (omega arith)
 links_apart (d ∷ ds) zero lt = refl
 links_apart (d ∷ ds) (suc at) lt = ap (λ l. d ∷ l) (links_apart ds at (omega arith))

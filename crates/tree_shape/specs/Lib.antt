@@ -6,3 +6,5 @@ pub mod Edits
 pub mod Walks
 pub mod Halves
 pub mod LinkPlaces
+pub mod Aims
+pub mod Mending
