@@ -30,3 +30,7 @@ pub mod Chains
 pub mod Keeps
 pub mod Told
 pub mod First
+pub mod Halves
+pub mod LeafHalves
+pub mod LinkHalves
+pub mod Aims

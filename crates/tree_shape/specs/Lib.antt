@@ -5,3 +5,7 @@ pub mod Chains
 pub mod Edits
 pub mod Walks
 pub mod Laws
+pub mod Halves
+pub mod LinkPlaces
+pub mod Aims
+pub mod Mending
