@@ -7,7 +7,7 @@ use Rattle.page_codec.specs.declared.page.PageState.{PageState}
 use Rattle.page_codec.specs.declared.page.PageState.TheVariants.{Live, Deleted}
 use Rattle.tree_shape.specs.Nodes.{Node}
 use Rattle.tree_shape.specs.Chains.{IsRunOf, Spot, spot_after, first_spot, IsIn, AreDistinct, IsRootLevel, IsTreeOf}
-use Rattle.tree_shape.specs.Walks.{entry_aim, bound_aim, is_fit, IsFitOn, KeepsPlaces}
+use Rattle.tree_shape.specs.Walks.{entry_aim, bound_aim, is_fit, IsFitOn, KeepsPlaces, KeepsOrder}
 use Rattle.tree_shape.specs.Laws.{InsertionKeeps, LeafSplitKeeps, FinishKeeps, ParentSplitKeeps, RootSplitKeeps}
 use Rattle.tree_shape.proofs.Runs.{run_back, SplitAt, split_at}
 use Rattle.tree_shape.proofs.Members.{member, in_append_left, in_append_right, apart_sides, apart_back, not_in_apart}
@@ -22,6 +22,7 @@ use Rattle.tree_shape.proofs.ParentSplitTree.{parent_split_tree}
 use Rattle.tree_shape.proofs.RootSplit.{root_split_tree}
 use Rattle.tree_shape.proofs.Fits.{root_from_fit, fit_beyond, fit_clear}
 use Rattle.tree_shape.proofs.Places.{IsPassedAlike, alike_from, DeletedStay, places_alike, places_spliced, IsFitAt, fit_at}
+use Rattle.tree_shape.proofs.Trails.{order_same, order_put}
 use Rattle.tree_shape.proofs.Parents.{beyond_from, within_from, IsFlaggedAt, flagged_at}
 
 clash : {st : PageState} → st ≡ Live → st ≡ Deleted → ⊥
@@ -46,6 +47,7 @@ insertion_keeps at at' number number' used root top chain least b e clear tree h
   tree = insertion_tree at at' used root top chain b e f.front f.back tree f.is h (beyond_from (bound_of e) (spot_after at first_spot f.front).low (fit_beyond (entry_aim e) clear (spot_after at first_spot f.front) f.passes))
       (within_from (bound_of e) (at b).high within);
   places = λ start is level in_top. places_alike at at' number number' (chain level) start (λ c i. alike c) (stay start);
+  order = λ level in_top. order_same (chain level);
 }
   where
     f : IsFitAt at first_spot (chain 0) (is_fit (entry_aim e) clear) b
@@ -62,6 +64,13 @@ insertion_keeps at at' number number' used root top chain least b e clear tree h
         let not_b : c ≢ b = λ same. clash h.alive (subst (λ (d : ℕ). (at d).state ≡ Deleted) same kept.gone) in
         (h.others c not_b, counts c not_b)
 
+-- a chain into which a block is put keeps its order, and so do the others
+order_of : (chain : ℕ → List ℕ) (at_level : ℕ) (front : List ℕ) (b new : ℕ) (back : List ℕ) → chain at_level ≡ front ++ b ∷ back → (level : ℕ) → (level ≡ at_level) ⊎ (level ≢ at_level)
+    → KeepsOrder (chain level) (put_chain chain at_level (front ++ b ∷ new ∷ back) level)
+order_of chain at_level front b new back is level (inl here) =
+    rw here (rw (put_chain_same chain at_level (front ++ b ∷ new ∷ back)) (subst (λ (xs : List ℕ). KeepsOrder xs (front ++ b ∷ new ∷ back)) (sym is) (order_put front b new back)))
+order_of chain at_level front b new back is level (inr other) = rw (put_chain_other chain at_level (front ++ b ∷ new ∷ back) level other) (order_same (chain level))
+
 pub leaf_split_keeps : LeafSplitKeeps
 leaf_split_keeps at at' number number' used root top chain least b new e tree h free reusable fit within counts = record {
   chain' = put_chain chain 0 (f.front ++ b ∷ new ∷ f.back);
@@ -69,6 +78,7 @@ leaf_split_keeps at at' number number' used root top chain least b new e tree h 
       (beyond_from (bound_of e) spot.low (fit_beyond (entry_aim e) true spot f.passes)) (within_from (bound_of e) (at b).high within)
       (λ z. root_from_fit at root b f.front f.back (subst (IsRootLevel at root) f.is (subst (λ (k : ℕ). IsRootLevel at root (chain k)) z tree.root_level)) (fit_clear (entry_aim e) spot f.passes));
   places = λ start is level in_top. kept start is level in_top (cases_eq level 0);
+  order = λ level in_top. order_of chain 0 f.front b new f.back f.is level (cases_eq level 0);
 }
   where
     f : IsFitAt at first_spot (chain 0) (is_fit (entry_aim e) true) b
@@ -169,6 +179,7 @@ finish_keeps at at' number number' used root top chain least level p q s tree ta
   chain' = chain;
   tree = finish_tree at at' used root top chain p q level w.front w.rest w.left w.right h tree w.level_is w.lower_is w.upper_is tall;
   places = λ start is k in_top. places_alike at at' number number' (chain k) start (λ c i. alike c) (stay start);
+  order = λ k in_top. order_same (chain k);
 }
   where
     w : Standing at chain level p h.new q
@@ -199,6 +210,7 @@ parent_split_keeps at at' number number' used root top chain least level p q sib
   chain' = put_chain chain (suc level) (w.left ++ q ∷ sibling ∷ w.right);
   tree = parent_split_tree at at' used root top chain p q sibling level w.front w.rest w.left w.right h tree free w.level_is w.lower_is w.upper_is tall at_root;
   places = λ start is k in_top. kept start is k in_top (cases_eq k (suc level));
+  order = λ k in_top. order_of chain (suc level) w.left q sibling w.right w.upper_is k (cases_eq k (suc level));
 }
   where
     w : Standing at chain level p h.new q
@@ -275,6 +287,7 @@ root_split_keeps at at' number number' used p top fresh chain least tree h free 
   tree = root_split_tree at at' used p top fresh chain h tree free;
   places = λ start is k in_top. rw (put_chain_other chain (suc top) (fresh ∷ []) k (omega arith))
       (places_alike at at' number number' (chain k) start (λ c i. let m = on_chain_of at used p top chain tree k c in_top i in alike c m.above (not_new k c in_top i)) (stay start is));
+  order = λ k in_top. rw (put_chain_other chain (suc top) (fresh ∷ []) k (omega arith)) (order_same (chain k));
 }
   where
     not_new : (k c : ℕ) → k ≤ top → IsIn c (chain k) → c ≢ fresh

@@ -8,13 +8,14 @@ use Rattle.page_codec.specs.declared.page.PageState.TheVariants.{Live, Deleted}
 use Rattle.tree_shape.specs.Nodes.{Node, no_node, holds, IsHeld, HoldsTheSame, HoldsOneMore}
 use Rattle.tree_shape.specs.Chains.{Spot, IsIn, IsTreeOf, first_spot}
 use Rattle.tree_shape.specs.Edits.{IsInsertion, IsLeafSplit, IsFree, IsFinish, IsParentSplit, IsRootSplit, IsLinkAdded, IsBetween}
-use Rattle.tree_shape.specs.Walks.{IsAim, entry_aim, bound_aim, frontier_aim, is_beyond, is_within, is_fit, IsFitOn, IsCoverOn, LeadsOn, IsPlace, KeepsPlaces}
+use Rattle.tree_shape.specs.Walks.{IsAim, entry_aim, bound_aim, frontier_aim, is_beyond, is_within, is_fit, IsFitOn, IsCoverOn, LeadsOn, IsPlace, KeepsPlaces, KeepsOrder}
 
 -- The pages are a tree again, and each number that a call keeps is still good, if its start number isn't below this one.
 pub record TreeGoesOn (at at' : ℕ → Node) (number number' : ℕ → ℕ) (used' root' top top' : ℕ) (chain : ℕ → List ℕ) (least : ℕ) : Type 0 where
   pub chain' : ℕ → List ℕ
   pub tree : IsTreeOf at' used' root' top' chain'
   pub places : (start : ℕ) → least ≤ start → (level : ℕ) → level ≤ top → KeepsPlaces at at' number number' (chain level) (chain' level) start
+  pub order : (level : ℕ) → level ≤ top → KeepsOrder (chain level) (chain' level)
 
 -- a deleted block that is taken was deleted before each call with such a start number began
 abbrev pub IsReusable : (ℕ → Node) → (ℕ → ℕ) → ℕ → ℕ → Type 0

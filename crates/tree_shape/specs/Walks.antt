@@ -1,12 +1,12 @@
 -- What a call looks for, the walks to the right that lead there, and what a page number that a call keeps is good for.
-use Rattle.std.specs.Prelude.{◌≡◌, ◌⊎◌, ℕ, ◌<◌, Bool, true, false, not, ◌&&◌, Option, Some, None, List, [], ◌∷◌}
+use Rattle.std.specs.Prelude.{◌≡◌, ◌⊎◌, ℕ, suc, ◌<◌, Bool, true, false, not, ◌&&◌, Option, Some, None, List, [], ◌∷◌, ◌++◌}
 use Rattle.std.specs.Ordering.{is_lt}
 use Rattle.index_model.specs.Order.{bound_cmp, is_past}
 use Rattle.index_model.specs.declared.bound.Bound.{Bound}
 use Rattle.index_model.specs.declared.entry.Entry.{Entry}
 use Rattle.page_codec.specs.declared.page.PageState.TheVariants.{Live, Deleted}
 use Rattle.tree_shape.specs.Nodes.{Node}
-use Rattle.tree_shape.specs.Chains.{IsNoGreater, Spot, past, first_spot}
+use Rattle.tree_shape.specs.Chains.{IsNoGreater, Spot, past, first_spot, IsIn, IsNotIn}
 
 -- what a call looks for, by whether it lies beyond a bound: beyond a bound, it lies beyond every lesser one
 pub record IsAim (lies_beyond : Bound → Bool) : Type 0 where
@@ -91,3 +91,28 @@ pub record KeepsPlaces (at at' : ℕ → Node) (number number' : ℕ → ℕ) (c
   pub lows : (fit : Spot → Bool) → IsEased fit → (b : ℕ) → IsFitOn at first_spot chain fit b
       → IsFitOn at' first_spot chain' fit b ⊎ HasGone at' number' chain' start fit b
   pub deleted_stay : (b : ℕ) → IsKeptBack at number start b → (at' b ≡ at b) × (number' b ≡ number b)
+
+-- the first block stands left of the second on the chain
+pub record IsLeftOf (chain : List ℕ) (c b : ℕ) : Type 0 where
+  pub front : List ℕ
+  pub back : List ℕ
+  pub is : chain ≡ front ++ b ∷ back
+  pub on_front : IsIn c front
+
+-- each of these blocks was left behind: it stands left of the block, or it is deleted and kept from reuse
+abbrev pub AreLeftBehind : (ℕ → Node) → (ℕ → ℕ) → List ℕ → ℕ → ℕ → List ℕ → Type 0
+AreLeftBehind at number chain start b [] = Unit {0}
+AreLeftBehind at number chain start b (c ∷ cs) =
+    (IsLeftOf chain c b ⊎ IsKeptBack at number start c) × AreLeftBehind at number chain start b cs
+
+-- right links lead from the block to the chain, over so many deleted pages that are kept from reuse; these blocks were left
+-- behind, and none of them is met again
+pub data IsTrail (at : ℕ → Node) (number : ℕ → ℕ) (chain : List ℕ) (start : ℕ) (passed : List ℕ) : ℕ → ℕ → Type 0 where
+  reached : {b : ℕ} → IsIn b chain → AreLeftBehind at number chain start b passed → IsTrail at number chain start passed 0 b
+  over : {n b : ℕ} (r : ℕ) → IsKeptBack at number start b → (at b).right ≡ Some r → IsNotIn b passed → IsTrail at number chain start passed n r
+      → IsTrail at number chain start passed (suc n) b
+
+-- the chain keeps its blocks, and which stands left of which
+pub record KeepsOrder (chain chain' : List ℕ) : Type 0 where
+  pub stays : (b : ℕ) → IsIn b chain → IsIn b chain'
+  pub order : (c b : ℕ) → IsLeftOf chain c b → IsLeftOf chain' c b
