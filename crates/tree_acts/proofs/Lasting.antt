@@ -22,11 +22,12 @@ use Rattle.tree_shape.specs.Walks.{IsAim, is_fit, IsFitOn}
 use Rattle.tree_shape.proofs.LeafSplit.{first_in}
 use Rattle.tree_shape.proofs.Members.{in_append_right, member}
 use Rattle.tree_shape.proofs.Runs.{run_back, split_at}
+use Rattle.tree_shape.proofs.Trails.{trail_stays}
 use Rattle.tree_shape.proofs.Told.{places_stay, live_places_stand, places_keep_their_level}
 use Rattle.tree_acts.specs.Trees.{IsTree, HasTree, HasPlace, IsStart, PlacesLast}
 use Rattle.tree_acts.specs.Acts.{TreeLasts}
 use Rattle.tree_acts.proofs.Overlays.{page_length}
-use Rattle.tree_acts.proofs.Words.{PlaceIn, place_in}
+use Rattle.tree_acts.proofs.Words.{PlaceIn, place_in, TrailIn, trail_in}
 
 pub stored_after : (limits : Limits) (used : ℕ) (pages changed : List Page) → AreActable limits used changed → used ≤ length pages → AreStored limits 0 pages → AreStored limits 0 (with_pages pages changed)
 stored_after limits used pages [] h le stored = stored
@@ -41,6 +42,23 @@ meta_lives st h =
     let s = stored_page st.limits 0 st.pages h.tree.meta h.stored h.tree.meta_at in
     let kind : IsMeta h.tree.meta = subst (IsOfKind h.tree.meta) h.tree.names_root.kind s.storable.admitted.kind in
     kind.state
+
+-- a deleted page is in use, and isn't the metapage
+pub deleted_in_use : (st : State) (h : HasTree st) → (c : ℕ) → (nodes_of st.pages c).state ≡ Deleted → (0 < c) × (c < length st.pages)
+deleted_in_use st h c gone = (positive c refl, elim (cases_lt c (length st.pages)) [
+  | inl lt ↦ lt
+  | inr ge ↦ absurd (clash (sym (ap (λ (o : Option Page). (node_from o).state) (past st.pages c ge)) ∙ gone))
+])
+  where
+    clash : Live ≡ Deleted → ⊥
+    clash e = cc
+    past : (pages : List Page) (b : ℕ) → length pages ≤ b → slice_get pages b ≡ None
+    past [] b le = refl
+    past (p ∷ pages) zero le = absurd (omega arith)
+    past (p ∷ pages) (suc b) le = past pages b (omega arith)
+    positive : (n : ℕ) → c ≡ n → 0 < n
+    positive (suc n) is = omega arith
+    positive zero is = absurd (clash (sym (meta_lives st h) ∙ ap (λ (o : Option Page). (node_from o).state) (sym h.tree.meta_at) ∙ subst (λ (b : ℕ). (nodes_of st.pages b).state ≡ Deleted) is gone))
 
 deleted_from : (o : Option Page) → is_deleted_page o ≡ true → (node_from o).state ≡ Deleted
 deleted_from None h = cc
@@ -173,6 +191,19 @@ lasts st changed h may Ok one ok running root' top' taller meta goes = record {
         in_tree = rw (meta.level_is) (let q = p.in_tree in omega arith);
         place = places_stay (nodes_of st.pages) (nodes_of (with_pages st.pages changed)) (slice_index st.counted) (slice_index (after_act changed st).counted)
           (h.tree.chain level) ((goes start good).chain' level) start aim clear block falls ((goes start good).places start (omega arith) level p.in_tree) p.place;
+      };
+  trails = λ start level block moves is trail.
+      let t = trail_in st h.tree start level block moves trail in
+      let good = running start is in
+      record {
+        tree = tree_of start good;
+        in_tree = rw (meta.level_is) (let q = t.in_tree in omega arith);
+        passed = t.passed;
+        count = t.count;
+        distinct = t.distinct;
+        steps = t.steps;
+        trail = trail_stays (nodes_of st.pages) (nodes_of (with_pages st.pages changed)) (slice_index st.counted) (slice_index (after_act changed st).counted)
+          (h.tree.chain level) ((goes start good).chain' level) start t.passed t.steps block ((goes start good).order level t.in_tree) ((goes start good).places start (omega arith) level t.in_tree) t.trail;
       };
 }
   where

@@ -17,13 +17,14 @@ use Rattle.tree_shape.specs.Laws.{IsPassedBy, HasLink}
 use Rattle.tree_shape.specs.Walks.{entry_aim, bound_aim, frontier_aim, is_within, is_fit, IsFitOn, IsPlace, on_chain}
 use Rattle.tree_shape.proofs.Places.{cover_at}
 use Rattle.tree_shape.proofs.Members.{in_append_right}
+use Rattle.tree_shape.proofs.Trails.{trail_begins, trail_goes_on, here_apart, trail_is_short}
 use Rattle.tree_shape.proofs.Told.{root_is_a_place, places_go_right, places_cover, covers_lead_down, held_on_its_cover, frontier_covers_entries, flagged_has_its_link, separator_fits_behind, only_the_root_is_clear}
 use Rattle.tree_acts.specs.Trees.{IsTree, HasTree, HasPlace, HasCover}
 use Rattle.tree_acts.specs.Acts.{IsUnfinished}
-use Rattle.tree_acts.specs.Ways.{RootIsThere, MetapageTells, RightIsThere, PassedTells, IsArrival, LiveTells, InternalTells, LeafTells, FrontierTells, ParentTells, SeparatorTells, RootTells, UnfinishedIsBelow}
+use Rattle.tree_acts.specs.Ways.{RootIsThere, MetapageTells, RightIsThere, PassedTells, IsArrival, LiveTells, InternalTells, LeafTells, FrontierTells, ParentTells, SeparatorTells, RootTells, UnfinishedIsBelow, TrailBegins, TrailGoesRight, TrailIsShort}
 use Rattle.tree_acts.proofs.Overlays.{node_there}
-use Rattle.tree_acts.proofs.Words.{place_in, cover_in, contents_held, only_leaves, same_test}
-use Rattle.tree_acts.proofs.Lasting.{Stands, stands, on_level}
+use Rattle.tree_acts.proofs.Words.{place_in, cover_in, contents_held, only_leaves, same_test, trail_in}
+use Rattle.tree_acts.proofs.Lasting.{Stands, stands, on_level, deleted_in_use}
 use Rattle.tree_acts.proofs.Finishing.{p_here, p_lives, p_on, covered}
 
 meta_is : (st : State) (h : HasTree st) (meta : Page) → slice_get st.pages 0 ≡ Some meta → h.tree.meta ≡ meta
@@ -138,3 +139,31 @@ unfinished_is_below st start level s meta p new h found u =
     let same = meta_is st h meta found in
     let on = p_on st start level s p new h u in
     subst (λ (m : Page). level ≤ m.level) same on.in_tree
+
+pub trail_begins_here : TrailBegins
+trail_begins_here st start level aim clear block h place =
+    let p = place_in st h.tree start level aim clear block place in
+    let t = trail_begins (nodes_of st.pages) (slice_index st.counted) (h.tree.chain level) start (is_fit aim clear) block p.place in
+    record { tree = h.tree; in_tree = p.in_tree; passed = []; count = refl; distinct = tt; steps = t.steps; trail = t.trail }
+
+pub trail_goes_right : TrailGoesRight
+trail_goes_right st start level moves to page h found right trail =
+    let here = node_there st.pages page.block page found in
+    let t = trail_in st h.tree start level page.block moves trail in
+    let g = trail_goes_on (nodes_of st.pages) (slice_index st.counted) (length st.pages) h.tree.root h.tree.meta.level h.tree.chain h.tree.is level start t.in_tree t.passed t.steps page.block to t.trail
+      (ap (λ (n : Node). n.right) here ∙ right) in
+    record {
+      tree = h.tree;
+      in_tree = t.in_tree;
+      passed = page.block ∷ t.passed;
+      count = ap suc t.count;
+      distinct = (here_apart (nodes_of st.pages) (slice_index st.counted) (length st.pages) h.tree.root h.tree.meta.level h.tree.chain h.tree.is level start t.in_tree t.passed t.steps page.block t.trail, t.distinct);
+      steps = g.steps;
+      trail = g.trail;
+    }
+
+pub trail_is_short_here : TrailIsShort
+trail_is_short_here st start level block moves h trail =
+    let t = trail_in st h.tree start level block moves trail in
+    let s = trail_is_short (nodes_of st.pages) (slice_index st.counted) (length st.pages) h.tree.root h.tree.meta.level h.tree.chain h.tree.is level start t.in_tree (deleted_in_use st h) t.passed t.steps block t.distinct t.trail in
+    subst (λ (n : ℕ). suc n < length st.pages) t.count s

@@ -17,11 +17,11 @@ use Rattle.page_action.specs.States.{State}
 use Rattle.page_action.specs.Stored.{IsStored, AreStored}
 use Rattle.page_action.proofs.StoredPages.{stored_page}
 use Rattle.tree_shape.specs.Nodes.{Node, node_of, node_from, nodes_of, entries_alive, holds, IsHeld}
-use Rattle.tree_shape.specs.Chains.{IsTreeOf, first_spot}
+use Rattle.tree_shape.specs.Chains.{IsTreeOf, AreDistinct, first_spot}
 use Rattle.tree_shape.specs.Laws.{OnlyLeavesHold}
-use Rattle.tree_shape.specs.Walks.{is_fit, IsCoverOn, IsPlace}
+use Rattle.tree_shape.specs.Walks.{is_fit, IsCoverOn, IsPlace, IsTrail}
 use Rattle.tree_shape.proofs.Chains.{chain_unique}
-use Rattle.tree_acts.specs.Trees.{IsTree, HasTree, HasPlace, HasCover}
+use Rattle.tree_acts.specs.Trees.{IsTree, HasTree, HasPlace, HasCover, HasTrail}
 
 -- two trees of the same pages have one metapage, one root, and the same chains
 pub same_meta : (pages : List Page) (t w : IsTree pages) → t.meta ≡ w.meta
@@ -60,6 +60,26 @@ cover_in st tree level aim block h =
     record {
       in_tree = in_tree;
       covers = subst (λ (xs : List ℕ). IsCoverOn (nodes_of st.pages) first_spot xs aim block) (same_chain st.pages h.tree tree level in_tree) h.covers;
+    }
+
+pub record TrailIn (st : State) (tree : IsTree st.pages) (start level block moves : ℕ) : Type 0 where
+  pub in_tree : level ≤ tree.meta.level
+  pub passed : List ℕ
+  pub count : length passed ≡ moves
+  pub distinct : AreDistinct passed
+  pub steps : ℕ
+  pub trail : IsTrail (nodes_of st.pages) (slice_index st.counted) (tree.chain level) start passed steps block
+
+pub trail_in : (st : State) (tree : IsTree st.pages) (start level block moves : ℕ) → HasTrail st start level block moves → TrailIn st tree start level block moves
+trail_in st tree start level block moves h =
+    let in_tree : level ≤ tree.meta.level = subst (λ (p : Page). level ≤ p.level) (same_meta st.pages h.tree tree) h.in_tree in
+    record {
+      in_tree = in_tree;
+      passed = h.passed;
+      count = h.count;
+      distinct = h.distinct;
+      steps = h.steps;
+      trail = subst (λ (xs : List ℕ). IsTrail (nodes_of st.pages) (slice_index st.counted) xs start h.passed h.steps block) (same_chain st.pages h.tree tree level in_tree) h.trail;
     }
 
 -- the contents of pages are what their nodes hold

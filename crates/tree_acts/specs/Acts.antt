@@ -15,7 +15,7 @@ use Rattle.tree_shape.specs.Tree.{IsMetaOf}
 use Rattle.tree_shape.specs.Nodes.{node_of, links_of}
 use Rattle.tree_shape.specs.Edits.{IsPutIn, LeafHalves, IsLinkAdded, LinkHalves, with_leaf, with_left, with_links, cleared, new_root}
 use Rattle.tree_shape.specs.Walks.{entry_aim, bound_aim, is_within}
-use Rattle.tree_acts.specs.Trees.{HasTree, HasPlace, HasCover, PlacesLast}
+use Rattle.tree_acts.specs.Trees.{HasTree, HasPlace, HasCover, PlacesLast, TrailsLast}
 
 -- the act may be done with these pages
 abbrev pub MayAct : State → List Page → Type 0
@@ -108,6 +108,7 @@ pub record RootIsSplit (st : State) (start : ℕ) (s : Bound) (meta meta_after p
 pub record TreeLasts (old new : State) : Type 0 where
   pub has : HasTree new
   pub places : PlacesLast old new
+  pub trails : TrailsLast old new
 
 -- the contents are as they were
 abbrev pub ContentsStay : State → State → Type 0

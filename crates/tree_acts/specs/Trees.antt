@@ -8,8 +8,8 @@ use Rattle.page_action.specs.States.{State}
 use Rattle.page_action.specs.Stored.{AreStored}
 use Rattle.tree_shape.specs.Tree.{IsMetaOf}
 use Rattle.tree_shape.specs.Nodes.{nodes_of}
-use Rattle.tree_shape.specs.Chains.{IsTreeOf, first_spot}
-use Rattle.tree_shape.specs.Walks.{IsAim, is_fit, IsCoverOn, IsPlace}
+use Rattle.tree_shape.specs.Chains.{IsTreeOf, AreDistinct, first_spot}
+use Rattle.tree_shape.specs.Walks.{IsAim, is_fit, IsCoverOn, IsPlace, IsTrail}
 
 -- the pages are a B-link tree of any size, under the metapage
 pub record IsTree (pages : List Page) : Type 0 where
@@ -48,3 +48,18 @@ abbrev pub PlacesLast : State → State → Type 0
 PlacesLast old new =
     (start level : ℕ) (aim : Bound → Bool) (clear : Bool) (block : ℕ)
     → IsStart old.running start → IsAim aim → HasPlace old start level aim clear block → HasPlace new start level aim clear block
+
+-- a walk to the right on this level has come to the block with so many moves: it left so many different blocks behind
+pub record HasTrail (st : State) (start level block moves : ℕ) : Type 0 where
+  pub tree : IsTree st.pages
+  pub in_tree : level ≤ tree.meta.level
+  pub passed : List ℕ
+  pub count : length passed ≡ moves
+  pub distinct : AreDistinct passed
+  pub steps : ℕ
+  pub trail : IsTrail (nodes_of st.pages) (slice_index st.counted) (tree.chain level) start passed steps block
+
+-- where a running call's walk has come to, it still has come to
+abbrev pub TrailsLast : State → State → Type 0
+TrailsLast old new =
+    (start level block moves : ℕ) → IsStart old.running start → HasTrail old start level block moves → HasTrail new start level block moves

@@ -14,7 +14,7 @@ use Rattle.tree_shape.specs.Nodes.{node_of, links_of}
 use Rattle.tree_shape.specs.Edits.{IsLinkAdded, IsBetween}
 use Rattle.tree_shape.specs.Laws.{IsPassedBy, HasLink}
 use Rattle.tree_shape.specs.Walks.{entry_aim, bound_aim, frontier_aim, is_beyond, is_within}
-use Rattle.tree_acts.specs.Trees.{IsTree, HasTree, HasPlace, HasCover}
+use Rattle.tree_acts.specs.Trees.{IsTree, HasTree, HasPlace, HasCover, HasTrail}
 use Rattle.tree_acts.specs.Acts.{IsUnfinished}
 
 -- the metapage names the root, a place on its level for whatever a call looks for
@@ -101,3 +101,20 @@ abbrev pub UnfinishedIsBelow : Type 0
 UnfinishedIsBelow =
     (st : State) (start level : ℕ) (s : Bound) (meta p : Page) (new : ℕ)
     → HasTree st → slice_get st.pages 0 ≡ Some meta → IsUnfinished st start level s p new → level ≤ meta.level
+
+-- a walk that begins at a place has left no block behind
+abbrev pub TrailBegins : Type 0
+TrailBegins =
+    (st : State) (start level : ℕ) (aim : Bound → Bool) (clear : Bool) (block : ℕ)
+    → HasTree st → HasPlace st start level aim clear block → HasTrail st start level block 0
+
+-- ... and each move right leaves one more behind
+abbrev pub TrailGoesRight : Type 0
+TrailGoesRight =
+    (st : State) (start level moves to : ℕ) (page : Page)
+    → HasTree st → slice_get st.pages page.block ≡ Some page → page.right ≡ Some to → HasTrail st start level page.block moves
+    → HasTrail st start level to (suc moves)
+
+-- so there are fewer moves than pages in use
+abbrev pub TrailIsShort : Type 0
+TrailIsShort = (st : State) (start level block moves : ℕ) → HasTree st → HasTrail st start level block moves → suc moves < length st.pages

@@ -1,7 +1,7 @@
 //! The laws.
 
 ghost use Rattle.tree_acts.specs.Acts.{PuttingLasts, LeafSplitLasts, FinishLasts, ParentSplitLasts, RootSplitLasts};
-ghost use Rattle.tree_acts.specs.Ways.{MetapageTells, PassedTells, LiveTells, InternalTells, LeafTells, FrontierTells, ParentTells, SeparatorTells, RootTells, UnfinishedIsBelow};
+ghost use Rattle.tree_acts.specs.Ways.{MetapageTells, PassedTells, LiveTells, InternalTells, LeafTells, FrontierTells, ParentTells, SeparatorTells, RootTells, UnfinishedIsBelow, TrailBegins, TrailGoesRight, TrailIsShort};
 
 /// Does nothing: its clauses say that each act which edits a tree leaves a tree, the places that running calls keep, and
 /// the contents as they were, but for the entry that is put.
@@ -21,6 +21,9 @@ pub fn pages_tell_the_way()
     ensures internal { InternalTells }
     ensures leaf { LeafTells }
     ensures frontier { FrontierTells }
+    ensures begins { TrailBegins }
+    ensures goes_on { TrailGoesRight }
+    ensures short { TrailIsShort }
 {}
 
 /// Does nothing: its clauses say what is so of a split that is to be finished.
