@@ -7,7 +7,7 @@ use Rattle.page_action.specs.States.{State}
 use Rattle.tree_shape.specs.Aims.{aim_of, IsToward}
 use Rattle.tree_shape.specs.Nodes.{links_of}
 use Rattle.tree_shape.specs.declared.aim.Aim.{Aim}
-use Rattle.tree_acts.specs.Trees.{HasPlace, HasCover}
+use Rattle.tree_acts.specs.Trees.{HasPlace, HasCover, HasTrail}
 use Rattle.descent.specs.declared.way.Onward.{Onward}
 use Rattle.descent.specs.declared.way.Onward.TheVariants.{Going, Here}
 use Rattle.descent.specs.declared.way.Way.{Way}
@@ -36,16 +36,18 @@ DownTo page way aim (Some down) =
     (suc down.level ≡ way.level) × (down.moves ≡ 0)
     × (Ascends LinkBefore (links_of page.items) → StartsLow (links_of page.items) → IsToward (links_of page.items) (aim_of aim) down.block)
 
--- a call on its way to a level of the tree: the block is a place to go on from to what it looks for
+-- a call on its way to a level of the tree: the block is a place to go on from to what it looks for, and no page was met
+-- twice on its level
 pub record IsOnWay (st : State) (start : ℕ) (aim : Bound → Bool) (clear : Bool) (to : ℕ) (way : Way) : Type 0 where
   pub not_below : to ≤ way.level
   pub place : HasPlace st start way.level aim clear way.block
+  pub trail : HasTrail st start way.level way.block way.moves
 
--- in a tree the way leads on, or the page covers what is looked for; it ends only where so many moves right were made
-abbrev pub LeadsOnward : State → ℕ → (Bound → Bool) → Bool → ℕ → ℕ → Way → Option Onward → Type 0
-LeadsOnward st start aim clear to most way (Some (Going on)) = IsOnWay st start aim clear to on
-LeadsOnward st start aim clear to most way (Some Here) = (way.level ≡ to) × HasCover st to aim way.block
-LeadsOnward st start aim clear to most way None = most ≤ way.moves
+-- in a tree the way leads on, or the page covers what is looked for
+abbrev pub LeadsOnward : State → ℕ → (Bound → Bool) → Bool → ℕ → Way → Option Onward → Type 0
+LeadsOnward st start aim clear to way (Some (Going on)) = IsOnWay st start aim clear to on
+LeadsOnward st start aim clear to way (Some Here) = (way.level ≡ to) × HasCover st to aim way.block
+LeadsOnward st start aim clear to way None = ⊥
 
 -- one level down, or one move right, of which there are so many
 pub record IsShorter (to most : ℕ) (way on : Way) : Type 0 where

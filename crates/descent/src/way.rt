@@ -1,6 +1,6 @@
 //! The way from the root down to a page of a level, one page a step.
 
-ghost use Rattle.std.specs.Prelude.{◌≡◌, ◌≢◌, ◌⊎◌, ◌≤◌, ◌<◌, ◌↔◌, IsTrue, ℕ, Bool, true, false, Some, slice_get};
+ghost use Rattle.std.specs.Prelude.{◌≡◌, ◌≢◌, ◌⊎◌, ◌≤◌, ◌<◌, ◌↔◌, IsTrue, ℕ, Bool, true, false, Some, length, slice_get};
 ghost use Rattle.page_action.specs.States.{State};
 ghost use Rattle.tree_shape.specs.Aims.{aim_of};
 ghost use Rattle.tree_shape.specs.Tree.{IsMetaOf};
@@ -113,8 +113,8 @@ pub fn lead(page: &Page, way: &Way, aim: &Aim, to: u8, most: u32) -> Option<Onwa
     ensures goes { (st : State) (start : ℕ) (clear : Bool) → HasTree st
         → slice_get st.pages way.now.block ≡ Some page.now
         → IsOnWay st start (aim_of aim.now) clear to way.now
-        → (clear ≡ true → page.now.split ≡ false)
-        → LeadsOnward st start (aim_of aim.now) clear to most way.now result }
+        → (clear ≡ true → page.now.split ≡ false) → length st.pages ≤ most
+        → LeadsOnward st start (aim_of aim.now) clear to way.now result }
     ensures less { LeavesLess to most way.now result }
 {
     if is_astray(page, way) {
