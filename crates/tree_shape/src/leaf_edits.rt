@@ -9,6 +9,7 @@ ghost use Rattle.tree_shape.specs.Nodes.{node_of};
 ghost use Rattle.tree_shape.specs.Edits.{AreUpTo, LeafHalves};
 ghost use Rattle.tree_shape.specs.Halves.{LiesBefore};
 
+use crate::items::entries_on;
 use crate::parting::put_and_part;
 use arrayvec::ArrayVec;
 use index_model::{Bound, Entry};
@@ -24,15 +25,6 @@ pub fn separator(left: &[Entry], right: &[Entry]) -> Bound
     let last = &left[left.len() - 1];
     last.seen();
     last.bound()
-}
-
-fn entries(page: &Page) -> &[Entry]
-    ensures { result.now ≡ entries_of page.now.items }
-{
-    match &page.items {
-        Items::Entries(entries) => entries.as_slice(),
-        Items::Meta | Items::Downlinks(_) => &[],
-    }
 }
 
 fn part_entries(page: &mut Page, at: usize, entry: Entry) -> ArrayVec<Entry, 50>
@@ -109,7 +101,7 @@ pub fn split_leaf(page: &mut Page, at: usize, entry: Entry, new: u32, cycle: u32
 {
     entry.seen();
     let behind = part_entries(page, at, entry);
-    let cut = separator(entries(page), behind.as_slice());
+    let cut = separator(entries_on(page), behind.as_slice());
     page.cycle = cycle;
     let right = right_half(page, Items::Entries(behind), new);
     end_at(page, cut, new);

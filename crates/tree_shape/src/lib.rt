@@ -2,6 +2,7 @@
 #![tactic(auto)]
 
 mod aim;
+mod items;
 mod leaf;
 mod leaf_edits;
 mod link_edits;
@@ -9,6 +10,7 @@ mod marks;
 mod parting;
 
 pub use aim::{Aim, child_toward};
+pub use items::{entries_on, has_links, links_on};
 pub use leaf::{find, matches_beyond, may_hold, put};
 pub use leaf_edits::{separator, split_leaf};
 pub use link_edits::{add_link, find_child, fits_behind, split_links};

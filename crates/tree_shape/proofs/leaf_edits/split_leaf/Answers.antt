@@ -28,10 +28,10 @@ module _ (c : After-end_at) where
       c.right_half-right.ensures
       ∙ ap (λ (p : Page). right_leaf p c.args.new c.args.cycle back) c.part_entries-behind.ensures.kept
 
-  front_seen : c.entries.result.now ≡ front
-  front_seen = c.entries.ensures ∙ ap (λ (p : Page). entries_of p.items) c.part_entries-behind.ensures.kept
+  front_seen : c.entries_on.result.now ≡ front
+  front_seen = c.entries_on.ensures ∙ ap (λ (p : Page). entries_of p.items) c.part_entries-behind.ensures.kept
 
-  ascending : IsAscending (c.entries.result.now ++ c.as_slice.result.now)
+  ascending : IsAscending (c.entries_on.result.now ++ c.as_slice.result.now)
   ascending =
       subst IsAscending (sym (ap₂ (λ l r. l ++ r) front_seen c.as_slice.ensures.value))
       (ascends c.args.page.now c.args.at c.args.entry c.seen.ensures c.requires.page c.requires.may c.requires.place c.requires.some front back refl c.part_entries-behind.ensures.behind)
