@@ -25,3 +25,4 @@ pub mod Halves
 pub mod LeafHalves
 pub mod LinkHalves
 pub mod Aims
+pub mod FitsBehind
