@@ -1,5 +1,5 @@
 -- The halves of a leaf that is split.
-use Rattle.std.proofs.Common.{◌≡◌, ℕ, zero, suc, ◌+◌, ◌/◌, ◌^◌, ◌<◌, ◌≤◌, true, false, Option, Some, None, List, [], ◌∷◌, ◌++◌, length, take, drop, get_or, refl, sym, ap, ap₂, subst, ◌∙◌, arith, rules, length-append, length-take-le, take-append-drop}
+use Rattle.std.proofs.Common.{◌≡◌, ℕ, zero, suc, ◌+◌, ◌^◌, ◌<◌, ◌≤◌, true, false, Option, Some, None, List, [], ◌∷◌, ◌++◌, length, take, drop, get_or, refl, sym, ap, ap₂, subst, ◌∙◌, arith, rules, length-append, length-take-le, take-append-drop}
 use Rattle.std.proofs.lemmas.List.Edits.{length-insert}
 use Rattle.std.specs.Prelude.{insert}
 use Rattle.std.specs.List.{AllByRecursion}
@@ -18,7 +18,7 @@ use Rattle.tree_shape.specs.Leaf.{IsPlaceOf, MayHold}
 use Rattle.tree_shape.specs.Nodes.{Node, node_of, links_of}
 use Rattle.tree_shape.specs.Chains.{IsBeyond}
 use Rattle.tree_shape.specs.Edits.{AreUpTo, IsBeforeFirst, IsPutIn, LeafHalves, left_half, right_half}
-use Rattle.tree_shape.specs.Halves.{LiesBefore}
+use Rattle.tree_shape.specs.Halves.{left_count, LiesBefore}
 use Rattle.tree_shape.proofs.Order.{upto_self, before_upto, before_weak}
 use Rattle.tree_shape.proofs.Puts.{entries_put}
 use Rattle.tree_shape.proofs.Splits.{ascends_from}
@@ -184,27 +184,23 @@ no_links Meta leaf = absurd leaf
 no_links (Downlinks v) leaf = absurd leaf
 no_links (Entries v) leaf = refl
 
--- how many of the entries the left half keeps
-abbrev pub kept : List Entry → ℕ
-kept es = (length es + 2) / 2
-
 module _ (page : Page) (at : ℕ) (e : Entry) (valid : IsEntry e) (h : IsPage page) (may : MayHold page e) (place : IsPlaceOf e (entries_of page.items) at)
     (some : 2 ≤ length (entries_of page.items)) where
   pub put_entries : AreEntries page.high (insert (entries_of page.items) at e)
   put_entries = entries_put page.high (entries_of page.items) at e (live_of page e h may).live.entries valid may.within place
 
-  module _ (front back : List Entry) (front_is : front ≡ take (kept (entries_of page.items)) (insert (entries_of page.items) at e))
-      (back_is : back ≡ drop (kept (entries_of page.items)) (insert (entries_of page.items) at e)) where
+  module _ (front back : List Entry) (front_is : front ≡ take (left_count (length (entries_of page.items))) (insert (entries_of page.items) at e))
+      (back_is : back ≡ drop (left_count (length (entries_of page.items))) (insert (entries_of page.items) at e)) where
     pub both : front ++ back ≡ insert (entries_of page.items) at e
-    both = rw (front_is, back_is) (take-append-drop (kept (entries_of page.items)) (insert (entries_of page.items) at e))
+    both = rw (front_is, back_is) (take-append-drop (left_count (length (entries_of page.items))) (insert (entries_of page.items) at e))
 
     pub ascends : IsAscending (front ++ back)
     ascends = rw both put_entries.ascends
 
-    pub front_count : length front ≡ kept (entries_of page.items)
+    pub front_count : length front ≡ left_count (length (entries_of page.items))
     front_count =
         ap length front_is
-        ∙ length-take-le (kept (entries_of page.items)) (insert (entries_of page.items) at e) (omega (arith, length-insert (entries_of page.items) at e place.within))
+        ∙ length-take-le (left_count (length (entries_of page.items))) (insert (entries_of page.items) at e) (omega (arith, length-insert (entries_of page.items) at e place.within))
 
     pub back_count : length front + length back ≡ length (entries_of page.items) + 1
     back_count = sym (length-append front back) ∙ ap length both ∙ length-insert (entries_of page.items) at e place.within
@@ -214,12 +210,12 @@ module _ (page : Page) (at : ℕ) (e : Entry) (valid : IsEntry e) (h : IsPage pa
       left_page = left_is_page page (entries_of page.items) (live_of page e h may) new cycle block fits cut front whole
           (omega (arith, front_count, (live_of page e h may).leaf.count))
           (subst (AreEntries (Some cut)) (sym front_is)
-          (front_entries page.high (insert (entries_of page.items) at e) (kept (entries_of page.items)) put_entries cut (subst (AreUpTo cut) front_is up)))
+          (front_entries page.high (insert (entries_of page.items) at e) (left_count (length (entries_of page.items))) put_entries cut (subst (AreUpTo cut) front_is up)))
 
       pub right_page : IsPage (right_leaf page new cycle back)
       right_page = right_is_page page (entries_of page.items) (live_of page e h may) new cycle block fits back
           (omega (arith, front_count, back_count, (live_of page e h may).leaf.count))
-          (subst (AreEntries page.high) (sym back_is) (back_entries page.high (insert (entries_of page.items) at e) (kept (entries_of page.items)) put_entries))
+          (subst (AreEntries page.high) (sym back_is) (back_entries page.high (insert (entries_of page.items) at e) (left_count (length (entries_of page.items))) put_entries))
 
       pub leaf_halves : LeafHalves (node_of page) page.block new e (node_of (left_leaf page new cycle cut front)) (node_of (right_leaf page new cycle back))
       leaf_halves =

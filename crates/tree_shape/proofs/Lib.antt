@@ -35,3 +35,4 @@ pub mod LeafHalves
 pub mod LinkHalves
 pub mod Aims
 pub mod Trails
+pub mod FitsBehind

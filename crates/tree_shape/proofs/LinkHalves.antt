@@ -1,5 +1,5 @@
 -- Downlinks with one put in, and in two halves.
-use Rattle.std.proofs.Common.{◌≡◌, ℕ, zero, suc, ◌+◌, ◌/◌, ◌<◌, ◌≤◌, true, false, Option, Some, None, List, [], ◌∷◌, ◌++◌, length, take, drop, unwrap_or, refl, sym, ap, ap₂, subst, ◌∙◌, arith, rules, add-one, IfSome, length-append, length-take-le, take-append-drop}
+use Rattle.std.proofs.Common.{◌≡◌, ℕ, zero, suc, ◌+◌, ◌<◌, ◌≤◌, true, false, Option, Some, None, List, [], ◌∷◌, ◌++◌, length, take, drop, unwrap_or, refl, sym, ap, ap₂, subst, ◌∙◌, arith, rules, add-one, IfSome, length-append, length-take-le, take-append-drop}
 use Rattle.std.proofs.lemmas.List.Edits.{length-insert}
 use Rattle.std.specs.Prelude.{insert}
 use Rattle.std.specs.List.{AllByRecursion}
@@ -21,7 +21,8 @@ use Rattle.page_codec.specs.Edits.{entries_of}
 use Rattle.tree_shape.specs.Nodes.{Node, node_of, links_of}
 use Rattle.tree_shape.specs.Chains.{IsBeyond, Rises, from_low}
 use Rattle.tree_shape.specs.Edits.{IsLinkAdded, LinkHalves, left_links, right_links}
-use Rattle.tree_shape.specs.LinkPlaces.{HasLinks, child_at, bound_at, IsBelowFirst, FitsBehind, LinkSplit}
+use Rattle.tree_shape.specs.Halves.{left_count}
+use Rattle.tree_shape.specs.LinkPlaces.{with_downlinks, HasLinks, child_at, bound_at, IsBelowFirst, FitsBehind, LinkSplit}
 
 -- a downlink with this bound
 abbrev pub link_to : Bound → ℕ → Downlink
@@ -213,10 +214,7 @@ as_inner page (Downlinks v) h inner same kind = record { admitted = h; inner = k
 pub inner_of : (page : Page) → IsPage page → HasLinks page.items → IsInner page (links_of page.items)
 inner_of page h inner = as_inner page page.items h inner refl h.kind
 
--- the page with other downlinks, the left half of a page, and the right half
-abbrev pub with_downlinks : Page → List Downlink → Page
-with_downlinks page ds = record page { items = Downlinks (record { items = ds }) }
-
+-- the left half of a page, and the right half
 abbrev pub left_inner : Page → ℕ → Bound → List Downlink → Page
 left_inner page new cut front = record (with_downlinks page front) { split = true; right = Some new; high = Some cut }
 
@@ -300,7 +298,7 @@ module _ (page : Page) (at : ℕ) (separator : Bound) (child : ℕ) (h : IsPage 
   all = insert (links_of page.items) (suc at) (link_to separator child)
 
   abbrev pub keep : ℕ
-  keep = (length (links_of page.items) + 2) / 2
+  keep = left_count (length (links_of page.items))
 
   abbrev pub front : List Downlink
   front = take keep all

@@ -1,14 +1,15 @@
 //! Leaves that are split.
 
-ghost use Rattle.std.specs.Prelude.{◌≡◌, ◌<◌, ◌≤◌, ◌+◌, ◌/◌, ◌++◌, true, false, Some, length, insert, take, drop};
+ghost use Rattle.std.specs.Prelude.{◌≡◌, ◌<◌, ◌≤◌, ◌+◌, ◌++◌, true, false, Some, length, insert, take, drop};
 ghost use Rattle.index_model.specs.Order.{IsAscending};
 ghost use Rattle.page_codec.specs.Grammar.{IsBlock, IsPage, IsWhole};
 ghost use Rattle.page_codec.specs.Edits.{entries_of, HasEntries, with_entries};
 ghost use Rattle.tree_shape.specs.Leaf.{IsPlaceOf, MayHold};
 ghost use Rattle.tree_shape.specs.Nodes.{node_of};
 ghost use Rattle.tree_shape.specs.Edits.{AreUpTo, LeafHalves};
-ghost use Rattle.tree_shape.specs.Halves.{LiesBefore};
+ghost use Rattle.tree_shape.specs.Halves.{left_count, LiesBefore};
 
+use crate::items::entries_on;
 use crate::parting::put_and_part;
 use arrayvec::ArrayVec;
 use index_model::{Bound, Entry};
@@ -26,23 +27,16 @@ pub fn separator(left: &[Entry], right: &[Entry]) -> Bound
     last.bound()
 }
 
-fn entries(page: &Page) -> &[Entry]
-    ensures { result.now ≡ entries_of page.now.items }
-{
-    match &page.items {
-        Items::Entries(entries) => entries.as_slice(),
-        Items::Meta | Items::Downlinks(_) => &[],
-    }
-}
-
 fn part_entries(page: &mut Page, at: usize, entry: Entry) -> ArrayVec<Entry, 50>
     requires leaf { HasEntries page.old.items }
     requires place { at ≤ length (entries_of page.old.items) }
     requires some { 2 ≤ length (entries_of page.old.items) }
     ensures kept { page.new ≡ with_entries page.old
-        (take ((length (entries_of page.old.items) + 2) / 2) (insert (entries_of page.old.items) at entry)) }
+        (take (left_count (length (entries_of page.old.items)))
+        (insert (entries_of page.old.items) at entry)) }
     ensures behind { result.items
-        ≡ drop ((length (entries_of page.old.items) + 2) / 2) (insert (entries_of page.old.items) at entry) }
+        ≡ drop (left_count (length (entries_of page.old.items)))
+        (insert (entries_of page.old.items) at entry) }
 {
     if let Items::Entries(entries) = &mut page.items {
         let keep = (entries.len() + 2) / 2;
@@ -54,7 +48,12 @@ fn part_entries(page: &mut Page, at: usize, entry: Entry) -> ArrayVec<Entry, 50>
 
 /// The right half of a page: what stands on it, on a new block.
 pub fn right_half(page: &Page, items: Items, new: u32) -> Page
-    ensures { result ≡ record page.now { block = new; split = false; left = Some page.now.block; items = items } }
+    ensures { result ≡ record page.now {
+      block = new;
+      split = false;
+      left = Some page.now.block;
+      items = items;
+    } }
 {
     Page {
         block: new,
@@ -79,9 +78,10 @@ pub fn end_at(page: &mut Page, cut: Bound, new: u32)
     page.high = Some(cut);
 }
 
-/// Splits a live leaf of M entries, 2 to 50, with one entry put at the place that `find` gave: the page keeps the
-/// first (M + 2) / 2 of them, and the answer is its right half, on the block `new`, 1 to 65,535. Both halves carry
-/// `cycle`. The left link of the old right neighbour is left to the caller.
+/// Splits a live leaf of M entries, 2 to 50, with one entry put at the place that `find` gave: the
+/// page keeps the first (M + 2) / 2 of them, and the answer is its right half, on the block `new`,
+/// 1 to 65,535. Both halves carry `cycle`. The left link of the old right neighbour is left to the
+/// caller.
 pub fn split_leaf(page: &mut Page, at: usize, entry: Entry, new: u32, cycle: u32) -> Page
     requires page { IsPage page.old }
     requires may { MayHold page.old entry }
@@ -89,8 +89,10 @@ pub fn split_leaf(page: &mut Page, at: usize, entry: Entry, new: u32, cycle: u32
     requires some { 2 ≤ length (entries_of page.old.items) }
     requires block { IsBlock new }
 
-    ensures halves { LeafHalves (node_of page.old) page.old.block new entry (node_of page.new) (node_of result) }
-    ensures kept { length (entries_of page.new.items) ≡ (length (entries_of page.old.items) + 2) / 2 }
+    ensures halves { LeafHalves (node_of page.old) page.old.block new entry
+        (node_of page.new) (node_of result) }
+    ensures kept { length (entries_of page.new.items)
+        ≡ left_count (length (entries_of page.old.items)) }
     ensures moved { length (entries_of page.new.items) + length (entries_of result.items)
         ≡ length (entries_of page.old.items) + 1 }
 
@@ -109,7 +111,7 @@ pub fn split_leaf(page: &mut Page, at: usize, entry: Entry, new: u32, cycle: u32
 {
     entry.seen();
     let behind = part_entries(page, at, entry);
-    let cut = separator(entries(page), behind.as_slice());
+    let cut = separator(entries_on(page), behind.as_slice());
     page.cycle = cycle;
     let right = right_half(page, Items::Entries(behind), new);
     end_at(page, cut, new);

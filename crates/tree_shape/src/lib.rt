@@ -2,6 +2,7 @@
 #![tactic(auto)]
 
 mod aim;
+mod items;
 mod laws;
 mod leaf;
 mod leaf_edits;
@@ -9,10 +10,11 @@ mod link_edits;
 mod marks;
 mod parting;
 
+pub use aim::{Aim, child_toward};
+pub use items::{entries_on, has_links, links_on};
 pub use laws::{
     edits_keep_the_entries, edits_keep_the_tree, places_lead_on, splits_can_be_finished,
 };
-pub use aim::{Aim, child_toward};
 pub use leaf::{find, matches_beyond, may_hold, put};
 pub use leaf_edits::{separator, split_leaf};
 pub use link_edits::{add_link, find_child, fits_behind, split_links};

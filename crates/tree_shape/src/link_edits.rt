@@ -1,11 +1,12 @@
 //! Downlinks on an internal page, which may have to be split.
 
-ghost use Rattle.std.specs.Prelude.{◌≡◌, ◌≢◌, ◌<◌, ◌≤◌, ◌+◌, ◌/◌, ◌↔◌, IsTrue, true, false, Some, None, IfSome, IfNone, All, length, insert, take, drop, unwrap_or};
+ghost use Rattle.std.specs.Prelude.{◌≡◌, ◌≢◌, ◌<◌, ◌≤◌, ◌+◌, ◌↔◌, IsTrue, true, false, Some, None, IfSome, IfNone, All, length, insert, take, drop, unwrap_or};
 ghost use Rattle.page_codec.specs.Grammar.{IsBlock, IsPage, IsWhole};
 ghost use Rattle.tree_shape.specs.Nodes.{node_of, links_of};
 ghost use Rattle.tree_shape.specs.Chains.{from_low, IsBeyond, Rises};
 ghost use Rattle.tree_shape.specs.Edits.{IsLinkAdded, with_links};
-ghost use Rattle.tree_shape.specs.LinkPlaces.{child_at, bound_at, HasLinks, IsBelowFirst, FitsBehind, LinkSplit};
+ghost use Rattle.tree_shape.specs.Halves.{left_count};
+ghost use Rattle.tree_shape.specs.LinkPlaces.{child_at, bound_at, with_downlinks, HasLinks, IsBelowFirst, FitsBehind, LinkSplit};
 
 use crate::leaf_edits::{end_at, right_half};
 use crate::parting::put_and_part;
@@ -60,8 +61,8 @@ fn tail(links: &[Downlink], at: usize) -> &[Downlink]
     &links[at..]
 }
 
-/// Whether a downlink with the separator for its bound may stand right behind the one at `at`, on a page with this
-/// high key.
+/// Whether a downlink with the separator for its bound may stand right behind the one at `at`, on a
+/// page with this high key.
 pub fn fits_behind(links: &[Downlink], at: usize, separator: &Bound, high: &Option<Bound>) -> bool
     requires { at < length links.now }
     ensures { IsTrue result ↔ FitsBehind links.now at separator.now high.now }
@@ -75,7 +76,8 @@ pub fn fits_behind(links: &[Downlink], at: usize, separator: &Bound, high: &Opti
     is_below(separator, high)
 }
 
-/// Puts a downlink to the page `new`, with the separator for its bound, right behind the one at `at`.
+/// Puts a downlink to the page `new`, 1 to 65,535, with the separator for its bound, right behind
+/// the one at `at`.
 pub fn add_link(page: &mut Page, at: usize, separator: Bound, new: u32)
     requires internal { HasLinks page.old.items }
     requires room { length (links_of page.old.items) < 50 }
@@ -83,6 +85,7 @@ pub fn add_link(page: &mut Page, at: usize, separator: Bound, new: u32)
     ensures added { IsLinkAdded (child_at (links_of page.old.items) at) new separator
         (links_of page.old.items) (links_of page.new.items) }
     ensures node { node_of page.new ≡ with_links (node_of page.old) (links_of page.new.items) }
+    ensures only { page.new ≡ with_downlinks page.old (links_of page.new.items) }
     ensures block { page.new.block ≡ page.old.block }
     ensures count { length (links_of page.new.items) ≡ length (links_of page.old.items) + 1 }
     ensures still_internal { HasLinks page.new.items }
@@ -102,14 +105,11 @@ fn part_links(page: &mut Page, at: usize, link: Downlink) -> ArrayVec<Downlink, 
     requires internal { HasLinks page.old.items }
     requires place { at ≤ length (links_of page.old.items) }
     requires some { 2 ≤ length (links_of page.old.items) }
-    ensures kept { page.new ≡ record page.old {
-      items = Items.Downlinks (record {
-        items =
-            take ((length (links_of page.old.items) + 2) / 2) (insert (links_of page.old.items) at link);
-      });
-    } }
+    ensures kept { page.new ≡ with_downlinks page.old (take (left_count (length (links_of page.old.items)))
+        (insert (links_of page.old.items) at link)) }
     ensures behind { result.items
-        ≡ drop ((length (links_of page.old.items) + 2) / 2) (insert (links_of page.old.items) at link) }
+        ≡ drop (left_count (length (links_of page.old.items)))
+        (insert (links_of page.old.items) at link) }
 {
     if let Items::Downlinks(links) = &mut page.items {
         let keep = (links.len() + 2) / 2;
@@ -133,10 +133,10 @@ fn begin_low(links: &mut ArrayVec<Downlink, 50>, otherwise: &Bound) -> Bound
     }
 }
 
-/// Splits an internal page of M downlinks, 2 to 50, with one to `child` put right behind the one at `at`, the
-/// separator for its bound: the page keeps the first (M + 2) / 2 of them, and the answer is its right half, on the
-/// block `new`, 1 to 65,535. The bound of the right half's first downlink becomes the left half's high key. The left
-/// link of the old right neighbour is left to the caller.
+/// Splits an internal page of M downlinks, 2 to 50, with one to `child` put right behind the one at
+/// `at`, the separator for its bound: the page keeps the first (M + 2) / 2 of them, and the answer
+/// is its right half, on the block `new`, 1 to 65,535. The bound of the right half's first downlink
+/// becomes the left half's high key. The left link of the old right neighbour is left to the caller.
 pub fn split_links(page: &mut Page, at: usize, separator: Bound, child: u32, new: u32) -> Page
     requires page { IsPage page.old }
     requires internal { HasLinks page.old.items }
@@ -147,15 +147,20 @@ pub fn split_links(page: &mut Page, at: usize, separator: Bound, child: u32, new
     requires child { IsBlock child }
     requires block { IsBlock new }
 
-    ensures split { LinkSplit (node_of page.old) page.old.block new (child_at (links_of page.old.items) at)
-        child separator (node_of page.new) (node_of result) }
-    ensures kept { length (links_of page.new.items) ≡ (length (links_of page.old.items) + 2) / 2 }
+    ensures split { LinkSplit (node_of page.old) page.old.block new
+        (child_at (links_of page.old.items) at) child separator (node_of page.new) (node_of result) }
+    ensures kept { length (links_of page.new.items)
+        ≡ left_count (length (links_of page.old.items)) }
     ensures moved { length (links_of page.new.items) + length (links_of result.items)
         ≡ length (links_of page.old.items) + 1 }
 
     // The fields that a tree doesn't see.
     ensures left_block { page.new.block ≡ page.old.block }
     ensures right_block { result.block ≡ new }
+    ensures left_cycle { page.new.cycle ≡ 0 }
+    ensures right_cycle { result.cycle ≡ 0 }
+    ensures left_deletion { page.new.deletion ≡ 0 }
+    ensures right_deletion { result.deletion ≡ 0 }
 
     ensures left_internal { HasLinks page.new.items }
     ensures right_internal { HasLinks result.items }

@@ -37,8 +37,8 @@ pub fn clear_split(page: &mut Page)
     page.split = false;
 }
 
-/// A root over the halves `left` and `right` of the root before it, which the separator parts: its level is 1 to 31,
-/// and each block 1 to 65,535.
+/// A root over the halves `left` and `right` of the root before it, which the separator parts: its
+/// level is 1 to 31, and each block 1 to 65,535.
 pub fn root_over(block: u32, level: u8, left: u32, separator: Bound, right: u32) -> Page
     ensures node { node_of result ≡ new_root level left separator right }
     ensures block { result.block ≡ block }

@@ -13,8 +13,9 @@ fn copy_of<T: Copy + Default + Drop>(items: &[T]) -> ArrayVec<T, 50>
     copy
 }
 
-/// Puts an item at a place, 0 to the number of the items; the first `keep` of them all stay, and the rest are the
-/// answer. `keep` is 1 to the number of the items before. At no time are there more than 50.
+/// Puts an item at a place, 0 to the number of the items; the first `keep` of them all stay, and the
+/// rest are the answer. `keep` is 1 to the number of the items before. At no time does one list have
+/// more than 50.
 pub fn put_and_part<T: Copy + Default + Drop>(
     items: &mut ArrayVec<T, 50>,
     at: usize,

@@ -1,4 +1,4 @@
-use Rattle.std.proofs.Common.{◌≡◌, ◌++◌, true, Some, List, take, refl, ap, ap₂, sym, subst, ◌∙◌}
+use Rattle.std.proofs.Common.{length, ◌≡◌, ◌++◌, true, Some, List, take, refl, ap, ap₂, sym, subst, ◌∙◌}
 use Rattle.std.specs.Prelude.{insert}
 use Rattle.index_model.specs.Order.{IsAscending}
 use Rattle.index_model.specs.declared.entry.Entry.{Entry}
@@ -6,14 +6,14 @@ use Rattle.page_codec.specs.Grammar.{IsPage}
 use Rattle.page_codec.specs.declared.page.Page.{Page}
 use Rattle.page_codec.specs.Edits.{entries_of}
 use Rattle.tree_shape.specs.Edits.{AreUpTo}
-use Rattle.tree_shape.specs.Halves.{LiesBefore}
-use Rattle.tree_shape.proofs.LeafHalves.{kept, left_leaf, right_leaf, left_page, right_page, leaf_halves, ascends, back_count}
+use Rattle.tree_shape.specs.Halves.{left_count, LiesBefore}
+use Rattle.tree_shape.proofs.LeafHalves.{left_leaf, right_leaf, left_page, right_page, leaf_halves, ascends, back_count}
 use Rattle.tree_shape.proofs.leaf_edits.split_leaf.Goals as goal
 use Rattle.tree_shape.proofs.leaf_edits.split_leaf.Goals.{After-end_at}
 
 module _ (c : After-end_at) where
   abbrev front : List Entry
-  front = take (kept (entries_of c.args.page.now.items)) (insert (entries_of c.args.page.now.items) c.args.at c.args.entry)
+  front = take (left_count (length (entries_of c.args.page.now.items))) (insert (entries_of c.args.page.now.items) c.args.at c.args.entry)
 
   abbrev back : List Entry
   back = c.part_entries-behind.result.items
@@ -28,10 +28,10 @@ module _ (c : After-end_at) where
       c.right_half-right.ensures
       ∙ ap (λ (p : Page). right_leaf p c.args.new c.args.cycle back) c.part_entries-behind.ensures.kept
 
-  front_seen : c.entries.result.now ≡ front
-  front_seen = c.entries.ensures ∙ ap (λ (p : Page). entries_of p.items) c.part_entries-behind.ensures.kept
+  front_seen : c.entries_on.result.now ≡ front
+  front_seen = c.entries_on.ensures ∙ ap (λ (p : Page). entries_of p.items) c.part_entries-behind.ensures.kept
 
-  ascending : IsAscending (c.entries.result.now ++ c.as_slice.result.now)
+  ascending : IsAscending (c.entries_on.result.now ++ c.as_slice.result.now)
   ascending =
       subst IsAscending (sym (ap₂ (λ l r. l ++ r) front_seen c.as_slice.ensures.value))
       (ascends c.args.page.now c.args.at c.args.entry c.seen.ensures c.requires.page c.requires.may c.requires.place c.requires.some front back refl c.part_entries-behind.ensures.behind)

@@ -4,9 +4,9 @@ use Rattle.std.specs.Prelude.{insert}
 use Rattle.page_codec.specs.Grammar.{IsPage}
 use Rattle.page_codec.specs.declared.page.Items.{Items}
 use Rattle.tree_shape.specs.Nodes.{links_of}
-use Rattle.tree_shape.specs.LinkPlaces.{child_at}
+use Rattle.tree_shape.specs.LinkPlaces.{with_downlinks, child_at}
 use Rattle.tree_shape.specs.Edits.{IsLinkAdded}
-use Rattle.tree_shape.proofs.LinkHalves.{is_added, link_to, links_put, starts_put, inner_of, with_downlinks, with_is_page}
+use Rattle.tree_shape.proofs.LinkHalves.{is_added, link_to, links_put, starts_put, inner_of, with_is_page}
 use Rattle.tree_shape.proofs.link_edits.add_link.Goals as goal
 use Rattle.tree_shape.proofs.link_edits.add_link.Goals.{After-insert}
 

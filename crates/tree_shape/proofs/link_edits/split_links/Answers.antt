@@ -1,4 +1,4 @@
-use Rattle.std.proofs.Common.{◌≡◌, ℕ, true, Some, None, suc, ◌+◌, ◌/◌, List, length, take, drop, unwrap_or, ap, ap₂, sym, subst, ◌∙◌, add-one}
+use Rattle.std.proofs.Common.{◌≡◌, ℕ, true, Some, None, suc, ◌+◌, List, length, take, drop, unwrap_or, ap, ap₂, sym, subst, ◌∙◌, add-one}
 use Rattle.std.specs.Prelude.{insert}
 use Rattle.index_model.specs.declared.bound.Bound.{Bound}
 use Rattle.page_codec.specs.Grammar.{IsPage}
@@ -6,8 +6,9 @@ use Rattle.page_codec.specs.declared.page.Downlink.{Downlink}
 use Rattle.page_codec.specs.declared.page.Page.{Page}
 use Rattle.tree_shape.specs.Nodes.{links_of}
 use Rattle.tree_shape.specs.Chains.{from_low}
-use Rattle.tree_shape.specs.LinkPlaces.{bound_at}
-use Rattle.tree_shape.proofs.LinkHalves.{link_to, left_inner, right_inner, with_downlinks, back_count, left_page, right_page, link_split}
+use Rattle.tree_shape.specs.Halves.{left_count}
+use Rattle.tree_shape.specs.LinkPlaces.{with_downlinks, bound_at}
+use Rattle.tree_shape.proofs.LinkHalves.{link_to, left_inner, right_inner, back_count, left_page, right_page, link_split}
 use Rattle.tree_shape.proofs.link_edits.split_links.Goals as goal
 use Rattle.tree_shape.proofs.link_edits.split_links.Goals.{After-end_at}
 
@@ -16,7 +17,7 @@ module _ (c : After-end_at) where
   those = insert (links_of c.args.page.now.items) (suc c.args.at) (link_to c.args.separator c.args.child)
 
   abbrev count : ℕ
-  count = (length (links_of c.args.page.now.items) + 2) / 2
+  count = left_count (length (links_of c.args.page.now.items))
 
   those_are : insert (links_of c.args.page.now.items) (c.args.at + 1) (link_to c.args.separator c.args.child) ≡ those
   those_are = ap (λ at. insert (links_of c.args.page.now.items) at (link_to c.args.separator c.args.child)) (add-one c.args.at)
