@@ -1,18 +1,15 @@
 -- Where a page leads a call, in a tree.
-use Rattle.std.proofs.Common.{◌≡◌, ◌≢◌, ◌⊎◌, ℕ, zero, suc, ◌<◌, ◌≤◌, inl, inr, Bool, true, false, not, List, [], ◌∷◌, ◌++◌, nat_lt, slice_get, length, Option, Some, None, refl, sym, ap, subst, ◌∙◌, arith}
+use Rattle.std.proofs.Common.{◌≡◌, ◌≢◌, ◌⊎◌, ℕ, zero, suc, ◌<◌, ◌≤◌, Bool, true, false, slice_get, length, Option, Some, None, refl, sym, subst, ◌∙◌, arith}
 use Rattle.std.proofs.lemmas.Bool.{lt-ltb}
-use Rattle.index_model.specs.declared.bound.Bound.{Bound}
-use Rattle.page_codec.specs.Grammar.{Ascends, LinkBefore, StartsLow, IsPage, IsOfKind, IsMeta, IsLeaf, IsInternal}
+use Rattle.page_codec.specs.Grammar.{Ascends, LinkBefore, StartsLow, IsPage, IsOfKind}
 use Rattle.page_codec.specs.declared.page.Items.{Items}
 use Rattle.page_codec.specs.declared.page.Items.TheVariants.{Meta, Entries, Downlinks}
 use Rattle.page_codec.specs.declared.page.Page.{Page}
 use Rattle.page_codec.specs.declared.page.PageState.TheVariants.{Live}
 use Rattle.page_action.specs.States.{State}
-use Rattle.page_action.specs.Stored.{IsStored}
 use Rattle.page_action.proofs.StoredPages.{stored_page}
 use Rattle.tree_shape.specs.Aims.{aim_of, IsToward}
-use Rattle.tree_shape.specs.Laws.{IsPassedBy}
-use Rattle.tree_shape.specs.Nodes.{node_of, links_of}
+use Rattle.tree_shape.specs.Nodes.{links_of}
 use Rattle.tree_shape.specs.Walks.{is_within}
 use Rattle.tree_shape.specs.declared.aim.Aim.{Aim}
 use Rattle.tree_acts.specs.Trees.{HasTree, HasPlace, HasCover, HasTrail}
@@ -20,8 +17,6 @@ use Rattle.tree_acts.specs.Ways.{RightIsThere, IsArrival}
 use Rattle.tree_acts.proofs.Telling.{passed_tells, live_tells, internal_tells, trail_begins_here, trail_goes_right, trail_is_short_here}
 use Rattle.tree_acts.proofs.Finishing.{covered}
 use Rattle.descent.specs.Onward.{IsOnWay, LeadsOnward, right_from, right_of, going, DownTo}
-use Rattle.descent.specs.declared.way.Onward.{Onward}
-use Rattle.descent.specs.declared.way.Onward.TheVariants.{Going, Here}
 use Rattle.descent.specs.declared.way.Way.{Way}
 
 -- an internal page of the format has downlinks that ascend from minus infinity

@@ -1,26 +1,22 @@
 -- An entry is put on a leaf, or the leaf is split with it.
-use Rattle.std.proofs.Common.{◌≡◌, ◌≢◌, ◌⊎◌, ◌↔◌, ℕ, zero, suc, ◌<◌, ◌≤◌, max, inl, inr, Bool, true, false, List, [], ◌∷◌, length, slice_get, slice_index, Option, Some, None, refl, sym, ap, subst, ◌∙◌, arith}
+use Rattle.std.proofs.Common.{◌≡◌, ◌≢◌, ◌⊎◌, ◌↔◌, ℕ, suc, max, true, List, [], ◌∷◌, length, slice_index, Some, refl, sym, ap, subst, ◌∙◌, arith}
 use Rattle.index_model.specs.Order.{same_entry}
-use Rattle.index_model.specs.declared.bound.Bound.{Bound}
 use Rattle.index_model.specs.declared.entry.Entry.{Entry}
 use Rattle.page_codec.specs.Edits.{entries_of}
 use Rattle.page_codec.specs.declared.page.Page.{Page}
-use Rattle.page_codec.specs.declared.page.PageState.TheVariants.{Live, HalfDead, Deleted}
 use Rattle.page_action.specs.States.{State, after_act, with_pages}
-use Rattle.page_action.specs.Stored.{AreActable, IsApartFrom}
-use Rattle.tree_shape.specs.Nodes.{Node, node_of, node_from, nodes_of, IsHeld}
-use Rattle.tree_shape.specs.Edits.{IsInsertion, IsLeafSplit, IsFree, with_leaf, with_left}
-use Rattle.tree_shape.specs.Chains.{first_spot}
+use Rattle.page_action.specs.Stored.{IsApartFrom}
+use Rattle.tree_shape.specs.Nodes.{Node, node_of, nodes_of, IsHeld}
+use Rattle.tree_shape.specs.Edits.{IsInsertion, IsLeafSplit, IsFree, with_leaf}
 use Rattle.tree_shape.specs.Laws.{TreeGoesOn, IsReusable}
-use Rattle.tree_shape.specs.Walks.{entry_aim, is_within, is_fit, IsFitOn}
+use Rattle.tree_shape.specs.Walks.{entry_aim, is_within, is_fit}
 use Rattle.tree_shape.proofs.Held.{insertion_adds, leaf_split_adds}
 use Rattle.tree_shape.proofs.Keeps.{insertion_keeps, leaf_split_keeps}
-use Rattle.tree_shape.proofs.Told.{live_places_stand}
-use Rattle.tree_acts.specs.Trees.{HasTree, HasPlace}
-use Rattle.tree_acts.specs.Acts.{EntryIsPut, IsMended, rightmost, neighbour, LeafIsSplit, TreeLasts, ContentsGain, PuttingLasts, LeafSplitLasts}
+use Rattle.tree_acts.specs.Trees.{HasTree}
+use Rattle.tree_acts.specs.Acts.{EntryIsPut, LeafIsSplit, TreeLasts, ContentsGain, PuttingLasts, LeafSplitLasts}
 use Rattle.tree_acts.proofs.Overlays.{pages_length, pages_other, pages_first, pages_second, counts_other, node_there, node_same, inside}
 use Rattle.tree_acts.proofs.Mending.{mended_apart, mended_there, mended_used}
-use Rattle.tree_acts.proofs.Words.{place_in, contents_more}
+use Rattle.tree_acts.proofs.Words.{contents_more}
 use Rattle.tree_acts.proofs.Lasting.{lasts, fresh_free, fresh_reusable, Stands, stands, right_on_chain, MetaIs}
 
 module _ (st : State) (start : ℕ) (e : Entry) (page after : Page) (has : HasTree st) (h : EntryIsPut st start e page after) where

@@ -1,11 +1,9 @@
 -- What an act leaves, from what the tree's law says of it.
-use Rattle.std.proofs.Common.{◌≡◌, ◌≢◌, ◌⊎◌, ℕ, zero, suc, ◌<◌, ◌≤◌, ◌&&◌, ◌||◌, inl, inr, Bool, true, false, List, [], ◌∷◌, length, slice_get, slice_index, nat_le, Option, Some, None, refl, sym, ap, subst, ◌∙◌, arith}
+use Rattle.std.proofs.Common.{◌≡◌, ◌⊎◌, ℕ, zero, suc, ◌<◌, ◌≤◌, ◌&&◌, inl, inr, Bool, true, false, List, [], ◌∷◌, length, slice_get, slice_index, nat_le, Option, Some, None, refl, sym, ap, subst, ◌∙◌, arith}
 use Rattle.std.proofs.lemmas.Bool.{cases_lt, lt-leb}
 use Rattle.index_model.specs.declared.bound.Bound.{Bound}
 use Rattle.index_model.specs.declared.limits.Limits.{Limits}
-use Rattle.page_codec.specs.Grammar.{IsPage, IsOfKind, IsMeta, IsLeafIn, IsInternal}
-use Rattle.page_codec.specs.declared.page.Items.{Items}
-use Rattle.page_codec.specs.declared.page.Items.TheVariants.{Meta, Entries, Downlinks}
+use Rattle.page_codec.specs.Grammar.{IsOfKind, IsMeta}
 use Rattle.page_codec.specs.declared.page.Page.{Page}
 use Rattle.page_codec.specs.declared.page.PageState.{PageState}
 use Rattle.page_codec.specs.declared.page.PageState.TheVariants.{Live, HalfDead, Deleted}
@@ -18,16 +16,16 @@ use Rattle.tree_shape.specs.Nodes.{node_from, nodes_of}
 use Rattle.tree_shape.specs.Chains.{Spot, IsIn, IsRunOf, first_spot}
 use Rattle.tree_shape.specs.Edits.{IsFree}
 use Rattle.tree_shape.specs.Laws.{TreeGoesOn, IsReusable}
-use Rattle.tree_shape.specs.Walks.{IsAim, is_fit, IsFitOn}
+use Rattle.tree_shape.specs.Walks.{is_fit, IsFitOn}
 use Rattle.tree_shape.proofs.LeafSplit.{first_in}
 use Rattle.tree_shape.proofs.Members.{in_append_right, member}
 use Rattle.tree_shape.proofs.Runs.{run_back, split_at}
 use Rattle.tree_shape.proofs.Trails.{trail_stays}
 use Rattle.tree_shape.proofs.Told.{places_stay, live_places_stand, places_keep_their_level}
-use Rattle.tree_acts.specs.Trees.{IsTree, HasTree, HasPlace, IsStart, PlacesLast}
+use Rattle.tree_acts.specs.Trees.{IsTree, HasTree, HasPlace, IsStart}
 use Rattle.tree_acts.specs.Acts.{TreeLasts}
 use Rattle.tree_acts.proofs.Overlays.{page_length}
-use Rattle.tree_acts.proofs.Words.{PlaceIn, place_in, TrailIn, trail_in}
+use Rattle.tree_acts.proofs.Words.{place_in, trail_in}
 
 pub stored_after : (limits : Limits) (used : ℕ) (pages changed : List Page) → AreActable limits used changed → used ≤ length pages → AreStored limits 0 pages → AreStored limits 0 (with_pages pages changed)
 stored_after limits used pages [] h le stored = stored

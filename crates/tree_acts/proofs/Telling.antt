@@ -1,31 +1,25 @@
 -- What a page tells, on the pages of a store.
-use Rattle.std.proofs.Common.{◌≡◌, ◌≢◌, ◌⊎◌, ◌↔◌, ℕ, zero, suc, ◌<◌, ◌≤◌, inl, inr, Bool, true, false, List, [], ◌∷◌, ◌++◌, length, slice_get, slice_index, Option, Some, None, refl, sym, ap, subst, ◌∙◌, arith}
+use Rattle.std.proofs.Common.{◌≡◌, ℕ, suc, ◌<◌, ◌≤◌, true, [], ◌∷◌, length, slice_get, slice_index, Option, Some, refl, sym, ap, subst, ◌∙◌, arith}
 use Rattle.index_model.specs.Order.{is_among}
 use Rattle.index_model.specs.declared.bound.Bound.{Bound}
-use Rattle.index_model.specs.declared.entry.Entry.{Entry}
 use Rattle.page_codec.specs.Edits.{entries_of}
-use Rattle.page_codec.specs.declared.page.Downlink.{Downlink}
 use Rattle.page_codec.specs.declared.page.Page.{Page}
-use Rattle.page_codec.specs.declared.page.PageState.TheVariants.{Live, Deleted}
 use Rattle.page_action.specs.Contents.{entry_on_live_leaf}
 use Rattle.page_action.specs.States.{State}
 use Rattle.tree_shape.specs.Tree.{IsMetaOf}
-use Rattle.tree_shape.specs.Nodes.{Node, node_of, nodes_of, links_of, IsHeld}
+use Rattle.tree_shape.specs.Nodes.{Node, nodes_of}
 use Rattle.tree_shape.specs.Chains.{IsIn, first_spot}
 use Rattle.tree_shape.specs.Edits.{IsBetween}
-use Rattle.tree_shape.specs.Laws.{IsPassedBy, HasLink}
+use Rattle.tree_shape.specs.Laws.{HasLink}
 use Rattle.tree_shape.specs.Walks.{entry_aim, bound_aim, frontier_aim, is_within, is_fit, IsFitOn, IsPlace, on_chain}
-use Rattle.tree_shape.proofs.Places.{cover_at}
-use Rattle.tree_shape.proofs.Members.{in_append_right}
 use Rattle.tree_shape.proofs.Trails.{trail_begins, trail_goes_on, here_apart, trail_is_short}
 use Rattle.tree_shape.proofs.Told.{root_is_a_place, places_go_right, places_cover, covers_lead_down, held_on_its_cover, frontier_covers_entries, flagged_has_its_link, separator_fits_behind, only_the_root_is_clear}
-use Rattle.tree_acts.specs.Trees.{IsTree, HasTree, HasPlace, HasCover}
-use Rattle.tree_acts.specs.Acts.{IsUnfinished}
-use Rattle.tree_acts.specs.Ways.{RootIsThere, MetapageTells, RightIsThere, PassedTells, IsArrival, LiveTells, InternalTells, LeafTells, FrontierTells, ParentTells, SeparatorTells, RootTells, UnfinishedIsBelow, TrailBegins, TrailGoesRight, TrailIsShort}
+use Rattle.tree_acts.specs.Trees.{HasTree}
+use Rattle.tree_acts.specs.Ways.{MetapageTells, PassedTells, LiveTells, InternalTells, LeafTells, FrontierTells, ParentTells, SeparatorTells, RootTells, UnfinishedIsBelow, TrailBegins, TrailGoesRight, TrailIsShort}
 use Rattle.tree_acts.proofs.Overlays.{node_there}
 use Rattle.tree_acts.proofs.Words.{place_in, cover_in, contents_held, only_leaves, same_test, trail_in}
-use Rattle.tree_acts.proofs.Lasting.{Stands, stands, on_level, deleted_in_use}
-use Rattle.tree_acts.proofs.Finishing.{p_here, p_lives, p_on, covered}
+use Rattle.tree_acts.proofs.Lasting.{Stands, stands, deleted_in_use}
+use Rattle.tree_acts.proofs.Finishing.{p_here, p_on, covered}
 
 meta_is : (st : State) (h : HasTree st) (meta : Page) → slice_get st.pages 0 ≡ Some meta → h.tree.meta ≡ meta
 meta_is st h meta found = (let k : Some h.tree.meta ≡ Some meta = sym h.tree.meta_at ∙ found in cc)

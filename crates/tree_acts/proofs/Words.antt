@@ -1,6 +1,5 @@
 -- What the words of trees in a store say of each other.
-use Rattle.std.proofs.Common.{◌≡◌, ◌≢◌, ◌⊎◌, ◌↔◌, ℕ, zero, suc, ◌<◌, ◌≤◌, inl, inr, Bool, true, false, ◌||◌, List, [], ◌∷◌, length, slice_get, slice_index, Option, Some, None, refl, sym, ap, subst, ◌∙◌, arith}
-use Rattle.std.proofs.lemmas.Bool.{cases_Bool}
+use Rattle.std.proofs.Common.{◌≡◌, ◌⊎◌, ◌↔◌, ℕ, zero, suc, ◌<◌, ◌≤◌, inl, inr, Bool, true, false, ◌||◌, List, [], ◌∷◌, length, slice_get, slice_index, Option, Some, None, refl, sym, ap, subst, ◌∙◌, arith}
 use Rattle.index_model.specs.Order.{is_among}
 use Rattle.index_model.specs.declared.bound.Bound.{Bound}
 use Rattle.index_model.specs.declared.entry.Entry.{Entry}
@@ -21,7 +20,7 @@ use Rattle.tree_shape.specs.Chains.{IsTreeOf, AreDistinct, first_spot}
 use Rattle.tree_shape.specs.Laws.{OnlyLeavesHold}
 use Rattle.tree_shape.specs.Walks.{is_fit, IsCoverOn, IsPlace, IsTrail}
 use Rattle.tree_shape.proofs.Chains.{chain_unique}
-use Rattle.tree_acts.specs.Trees.{IsTree, HasTree, HasPlace, HasCover, HasTrail}
+use Rattle.tree_acts.specs.Trees.{IsTree, HasPlace, HasCover, HasTrail}
 
 -- two trees of the same pages have one metapage, one root, and the same chains
 pub same_meta : (pages : List Page) (t w : IsTree pages) → t.meta ≡ w.meta

@@ -1,12 +1,12 @@
 -- What a page that a call reads in a tree tells it, by where the call came from.
-use Rattle.std.specs.Prelude.{◌≡◌, ◌≢◌, ◌⊎◌, ℕ, suc, ◌<◌, ◌≤◌, Bool, true, false, Option, Some, None, List, [], ◌∷◌, ◌++◌, length, slice_get}
+use Rattle.std.specs.Prelude.{◌≡◌, ℕ, suc, ◌<◌, ◌≤◌, Bool, true, Option, Some, List, ◌∷◌, ◌++◌, length, slice_get}
 use Rattle.index_model.specs.Order.{is_among, is_past}
 use Rattle.index_model.specs.declared.bound.Bound.{Bound}
 use Rattle.index_model.specs.declared.entry.Entry.{Entry}
 use Rattle.page_codec.specs.Edits.{entries_of}
 use Rattle.page_codec.specs.declared.page.Downlink.{Downlink}
 use Rattle.page_codec.specs.declared.page.Page.{Page}
-use Rattle.page_codec.specs.declared.page.PageState.TheVariants.{Live, Deleted}
+use Rattle.page_codec.specs.declared.page.PageState.TheVariants.{Live}
 use Rattle.page_action.specs.Contents.{entry_on_live_leaf}
 use Rattle.page_action.specs.States.{State}
 use Rattle.tree_shape.specs.Tree.{IsMetaOf}
@@ -14,7 +14,7 @@ use Rattle.tree_shape.specs.Nodes.{node_of, links_of}
 use Rattle.tree_shape.specs.Edits.{IsLinkAdded, IsBetween}
 use Rattle.tree_shape.specs.Laws.{IsPassedBy, HasLink}
 use Rattle.tree_shape.specs.Walks.{entry_aim, bound_aim, frontier_aim, is_beyond, is_within}
-use Rattle.tree_acts.specs.Trees.{IsTree, HasTree, HasPlace, HasCover, HasTrail}
+use Rattle.tree_acts.specs.Trees.{HasTree, HasPlace, HasCover, HasTrail}
 use Rattle.tree_acts.specs.Acts.{IsUnfinished}
 
 -- the metapage names the root, a place on its level for whatever a call looks for

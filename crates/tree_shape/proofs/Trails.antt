@@ -1,13 +1,12 @@
 -- The blocks that a walk to the right has left behind.
-use Rattle.std.proofs.Common.{◌≡◌, ◌≢◌, ◌⊎◌, ℕ, zero, suc, ◌+◌, ◌<◌, ◌≤◌, inl, inr, Bool, true, false, List, [], ◌∷◌, ◌++◌, length, length-append, append_assoc, Option, Some, None, refl, sym, ap, subst, ◌∙◌, arith}
+use Rattle.std.proofs.Common.{◌≡◌, ◌≢◌, ◌⊎◌, ℕ, zero, suc, ◌<◌, ◌≤◌, inl, inr, Bool, List, [], ◌∷◌, ◌++◌, length, length-append, append_assoc, Some, None, refl, sym, ap, subst, ◌∙◌, arith}
 use Rattle.std.proofs.lemmas.Bool.{cases_eq}
-use Rattle.page_codec.specs.declared.page.PageState.{PageState}
 use Rattle.page_codec.specs.declared.page.PageState.TheVariants.{Deleted}
 use Rattle.tree_shape.specs.Nodes.{Node}
-use Rattle.tree_shape.specs.Chains.{IsRunOf, Spot, first_spot, first_or, IsIn, IsNotIn, AreDistinct, IsTreeOf}
+use Rattle.tree_shape.specs.Chains.{IsRunOf, Spot, first_spot, IsIn, IsNotIn, AreDistinct, IsTreeOf}
 use Rattle.tree_shape.specs.Walks.{IsFitOn, IsKeptBack, IsPlace, on_chain, by_deleted, IsLeftOf, AreLeftBehind, IsTrail, reached, over, KeepsOrder, KeepsPlaces}
-use Rattle.tree_shape.proofs.Runs.{run_back, SplitAt, split_at}
-use Rattle.tree_shape.proofs.Members.{member, in_append_left, in_append_right, in_append_cases, apart_sides, apart_back, apart_front, apart_append, not_in_apart, not_in_from}
+use Rattle.tree_shape.proofs.Runs.{run_back, split_at}
+use Rattle.tree_shape.proofs.Members.{member, in_append_left, in_append_right, in_append_cases, apart_sides, not_in_apart, not_in_from}
 
 no_link : {l : ℕ} → None ≡ Some l → ⊥
 no_link e = cc
