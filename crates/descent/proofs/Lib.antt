@@ -2,3 +2,4 @@ pub mod Looking
 pub mod Tables
 pub mod Contents
 pub mod Quiet
+pub mod Leading

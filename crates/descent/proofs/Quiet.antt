@@ -2,7 +2,7 @@
 use Rattle.std.proofs.Common.{◌≡◌, ◌≢◌, ℕ, None, length, refl, sym, ap, subst}
 use Rattle.latch_table.specs.Holdings.{Table, holding_of}
 use Rattle.page_action.specs.States.{State, with_table}
-use Rattle.descent.specs.Steps.{AreApart, IsInOrder, Changes, Does}
+use Rattle.descent.specs.Steps.{AreApart, IsInOrder, Does}
 
 -- what this session holds changed
 pub does_hold : (session : ℕ) (old new : State) (table : Table) → new ≡ with_table old table → IsInOrder old → AreApart table → length table ≡ 64

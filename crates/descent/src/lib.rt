@@ -3,8 +3,10 @@
 #![tactic(auto)]
 
 mod reading;
+mod way;
 
 pub use reading::{look, root};
+pub use way::{Onward, Way, lead, way_down};
 
 #[cfg(test)]
 mod tests;

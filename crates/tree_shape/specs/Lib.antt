@@ -1,2 +1,11 @@
 pub mod Leaf
 pub mod Tree
+pub mod Nodes
+pub mod Chains
+pub mod Edits
+pub mod Walks
+pub mod Laws
+pub mod Halves
+pub mod LinkPlaces
+pub mod Aims
+pub mod Mending

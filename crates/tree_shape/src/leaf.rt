@@ -6,6 +6,8 @@ ghost use Rattle.index_model.specs.Range.{below_admits};
 ghost use Rattle.index_model.specs.declared.entry.Entry.{Entry};
 ghost use Rattle.page_codec.specs.Grammar.{IsPage};
 ghost use Rattle.page_codec.specs.Edits.{entries_of, HasEntries, with_entries};
+ghost use Rattle.tree_shape.specs.Edits.{IsPutIn, with_leaf};
+ghost use Rattle.tree_shape.specs.Nodes.{node_of};
 ghost use Rattle.tree_shape.specs.Leaf.{IsPlaceOf, IsCopiedFrom, AreParts, MayHold};
 
 use arrayvec::ArrayVec;
@@ -97,6 +99,9 @@ pub fn put(page: &mut Page, at: usize, entry: Entry)
     ensures page { IsPage page.old → MayHold page.old entry
         → IsPlaceOf entry (entries_of page.old.items) at → IsPage page.new }
     ensures count { length (entries_of page.new.items) ≡ length (entries_of page.old.items) + 1 }
+    ensures put_in { IsPlaceOf entry (entries_of page.old.items) at
+        → IsPutIn entry (entries_of page.old.items) (entries_of page.new.items) }
+    ensures node { node_of page.new ≡ with_leaf (node_of page.old) (entries_of page.new.items) }
 {
     entry.seen();
     if let Items::Entries(entries) = &mut page.items {

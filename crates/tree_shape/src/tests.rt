@@ -7,6 +7,8 @@ use index_model::{Entry, Key, RowAddr};
 use page_codec::{Items, Page, PageState};
 use std::test::*;
 
+mod splits;
+
 fn entry(key: u8, block: u32) -> Entry {
     Entry {
         key: Key::new(&[key]).unwrap_or(Key::EMPTY),

@@ -1,0 +1,61 @@
+-- The way of a call down a tree: where it may stand, and where a page leads it.
+use Rattle.std.specs.Prelude.{◌≡◌, ◌⊎◌, ℕ, suc, ◌<◌, ◌≤◌, nat_lt, if◌then◌else◌, Bool, Option, Some, None}
+use Rattle.index_model.specs.declared.bound.Bound.{Bound}
+use Rattle.page_codec.specs.Grammar.{Ascends, LinkBefore, StartsLow}
+use Rattle.page_codec.specs.declared.page.Page.{Page}
+use Rattle.page_action.specs.States.{State}
+use Rattle.tree_shape.specs.Aims.{aim_of, IsToward}
+use Rattle.tree_shape.specs.Nodes.{links_of}
+use Rattle.tree_shape.specs.declared.aim.Aim.{Aim}
+use Rattle.tree_acts.specs.Trees.{HasPlace, HasCover, HasTrail}
+use Rattle.descent.specs.declared.way.Onward.{Onward}
+use Rattle.descent.specs.declared.way.Onward.TheVariants.{Going, Here}
+use Rattle.descent.specs.declared.way.Way.{Way}
+
+-- a way before its first move right
+abbrev pub way_from : ℕ → ℕ → Way
+way_from block level = record { block = block; level = level; moves = 0 }
+
+-- the way to the right of a page, unless so many moves were made
+abbrev pub right_from : Option ℕ → Way → ℕ → Option Way
+right_from None way most = None
+right_from (Some r) way most = if nat_lt way.moves most then Some (record { block = r; level = way.level; moves = suc way.moves }) else None
+
+abbrev pub right_of : Page → Way → ℕ → Option Way
+right_of page way most = right_from page.right way most
+
+-- the way leads on
+abbrev pub going : Option Way → Option Onward
+going None = None
+going (Some way) = Some (Going way)
+
+-- the way is to the child that leads to what is looked for, one level down
+abbrev pub DownTo : Page → Way → Aim → Option Way → Type 0
+DownTo page way aim None = Ascends LinkBefore (links_of page.items) → StartsLow (links_of page.items) → ⊥
+DownTo page way aim (Some down) =
+    (suc down.level ≡ way.level) × (down.moves ≡ 0)
+    × (Ascends LinkBefore (links_of page.items) → StartsLow (links_of page.items) → IsToward (links_of page.items) (aim_of aim) down.block)
+
+-- a call on its way to a level of the tree: the block is a place to go on from to what it looks for, and no page was met
+-- twice on its level
+pub record IsOnWay (st : State) (start : ℕ) (aim : Bound → Bool) (clear : Bool) (to : ℕ) (way : Way) : Type 0 where
+  pub not_below : to ≤ way.level
+  pub place : HasPlace st start way.level aim clear way.block
+  pub trail : HasTrail st start way.level way.block way.moves
+
+-- in a tree the way leads on, or the page covers what is looked for
+abbrev pub LeadsOnward : State → ℕ → (Bound → Bool) → Bool → ℕ → Way → Option Onward → Type 0
+LeadsOnward st start aim clear to way (Some (Going on)) = IsOnWay st start aim clear to on
+LeadsOnward st start aim clear to way (Some Here) = (way.level ≡ to) × HasCover st to aim way.block
+LeadsOnward st start aim clear to way None = ⊥
+
+-- one level down, or one move right, of which there are so many
+pub record IsShorter (to most : ℕ) (way on : Way) : Type 0 where
+  pub not_below : to ≤ on.level
+  pub shorter : (on.level < way.level) ⊎ ((on.level ≡ way.level) × ((on.moves ≡ suc way.moves) × (on.moves ≤ most)))
+
+-- a way that goes on is shorter, whatever the pages are
+abbrev pub LeavesLess : ℕ → ℕ → Way → Option Onward → Type 0
+LeavesLess to most way (Some (Going on)) = IsShorter to most way on
+LeavesLess to most way (Some Here) = Unit {0}
+LeavesLess to most way None = Unit {0}

@@ -1,0 +1,139 @@
+//! The way from the root down to a page of a level, one page a step.
+
+ghost use Rattle.std.specs.Prelude.{◌≡◌, ◌≢◌, ◌⊎◌, ◌≤◌, ◌<◌, ◌↔◌, IsTrue, ℕ, Bool, true, false, Some, length, slice_get};
+ghost use Rattle.page_action.specs.States.{State};
+ghost use Rattle.tree_shape.specs.Aims.{aim_of};
+ghost use Rattle.tree_shape.specs.Tree.{IsMetaOf};
+ghost use Rattle.tree_shape.specs.Walks.{is_within};
+ghost use Rattle.tree_acts.specs.Trees.{HasTree};
+ghost use Rattle.descent.specs.Onward.{IsOnWay, LeadsOnward, LeavesLess, way_from, right_of, going, DownTo};
+
+use page_codec::{Items, Page, PageState};
+use tree_shape::{Aim, child_toward};
+
+/// The page that a call reads next.
+#[derive(Clone, Copy)]
+pub struct Way {
+    /// Its block.
+    pub block: u32,
+    /// The level that it is to be on, 0 to 31.
+    pub level: u8,
+    /// How many moves right on this level were made since the count began.
+    pub moves: u32,
+}
+
+/// Where a page leads a call that has read it.
+#[derive(Clone, Copy)]
+pub enum Onward {
+    /// To this page.
+    Going(Way),
+    /// Nowhere: it is the page of the level that covers what is looked for.
+    Here,
+}
+
+/// The way from the metapage to the root; None where the page names none.
+pub fn way_down(meta: &Page) -> Option<Way>
+    ensures named { (root : ℕ) → IsMetaOf meta.now root meta.now.level
+        → result ≡ Some (way_from root meta.now.level) }
+{
+    if !matches!(meta.items, Items::Meta) {
+        return None;
+    }
+    match meta.right {
+        Some(block) => Some(Way {
+            block,
+            level: meta.level,
+            moves: 0,
+        }),
+        None => None,
+    }
+}
+
+fn is_live(state: PageState) -> bool
+    ensures { IsTrue result ↔ (state ≡ PageState.Live) }
+{
+    matches!(state, PageState::Live)
+}
+
+// Whether it is a live page of another level than it is to be.
+fn is_astray(page: &Page, way: &Way) -> bool
+    ensures live { result ≡ true → page.now.state ≡ PageState.Live }
+    ensures level { result ≡ true → page.now.level ≢ way.now.level }
+{
+    is_live(page.state) && page.level != way.level
+}
+
+// Whether the page is not live, or what is looked for lies beyond its high key.
+fn is_passed(page: &Page, aim: &Aim) -> bool
+    ensures passed { result ≡ true → (page.now.state ≢ PageState.Live)
+        ⊎ (is_within (aim_of aim.now) page.now.high ≡ false) }
+    ensures live { result ≡ false → page.now.state ≡ PageState.Live }
+    ensures within { result ≡ false → is_within (aim_of aim.now) page.now.high ≡ true }
+{
+    !is_live(page.state) || !aim.is_within(&page.high)
+}
+
+// The page to the right, unless so many moves were made.
+fn go_right(page: &Page, way: &Way, most: u32) -> Option<Way>
+    ensures { result ≡ right_of page.now way.now most }
+{
+    match page.right {
+        Some(block) if way.moves < most => Some(Way {
+            block,
+            level: way.level,
+            moves: way.moves + 1,
+        }),
+        _ => None,
+    }
+}
+
+// The child that leads to what is looked for.
+fn go_down(page: &Page, way: &Way, aim: &Aim) -> Option<Way>
+    requires { 0 < way.now.level }
+    ensures { DownTo page.now way.now aim.now result }
+{
+    let Items::Downlinks(links) = &page.items else {
+        return None;
+    };
+    match child_toward(links.as_slice(), aim) {
+        Some(block) => Some(Way {
+            block,
+            level: way.level - 1,
+            moves: 0,
+        }),
+        None => None,
+    }
+}
+
+/// Where the page of this way leads a call on its way to the level `to`: right, where it is not live or what is looked for
+/// lies beyond its high key; else down, to a page that is one level lower; or it is the page sought. None where the page is
+/// on another level than it is to be, where a link or a child is missing, or where `most` moves right were made.
+pub fn lead(page: &Page, way: &Way, aim: &Aim, to: u8, most: u32) -> Option<Onward>
+    requires { to ≤ way.now.level }
+    ensures goes { (st : State) (start : ℕ) (clear : Bool) → HasTree st
+        → slice_get st.pages way.now.block ≡ Some page.now
+        → IsOnWay st start (aim_of aim.now) clear to way.now
+        → (clear ≡ true → page.now.split ≡ false) → length st.pages ≤ most
+        → LeadsOnward st start (aim_of aim.now) clear to way.now result }
+    ensures less { LeavesLess to most way.now result }
+{
+    if is_astray(page, way) {
+        return None;
+    }
+    if is_passed(page, aim) {
+        return going(go_right(page, way, most));
+    }
+    if way.level == to {
+        return Some(Onward::Here);
+    }
+    going(go_down(page, way, aim))
+}
+
+fn going(way: Option<Way>) -> Option<Onward>
+    ensures { result ≡ going way }
+{
+    match way {
+        Some(way) => Some(Onward::Going(way)),
+        None => None,
+    }
+}

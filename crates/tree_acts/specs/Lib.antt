@@ -1,0 +1,3 @@
+pub mod Trees
+pub mod Acts
+pub mod Ways

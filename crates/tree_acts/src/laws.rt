@@ -1,0 +1,35 @@
+//! The laws.
+
+ghost use Rattle.tree_acts.specs.Acts.{PuttingLasts, LeafSplitLasts, FinishLasts, ParentSplitLasts, RootSplitLasts};
+ghost use Rattle.tree_acts.specs.Ways.{MetapageTells, PassedTells, LiveTells, InternalTells, LeafTells, FrontierTells, ParentTells, SeparatorTells, RootTells, UnfinishedIsBelow, TrailBegins, TrailGoesRight, TrailIsShort};
+
+/// Does nothing: its clauses say that each act which edits a tree leaves a tree, the places that running calls keep, and
+/// the contents as they were, but for the entry that is put.
+pub fn acts_keep_the_tree()
+    ensures putting { PuttingLasts }
+    ensures leaf_split { LeafSplitLasts }
+    ensures finish { FinishLasts }
+    ensures parent_split { ParentSplitLasts }
+    ensures root_split { RootSplitLasts }
+{}
+
+/// Does nothing: its clauses say what a page that a call reads tells it, by where it came from.
+pub fn pages_tell_the_way()
+    ensures metapage { MetapageTells }
+    ensures passed { PassedTells }
+    ensures live { LiveTells }
+    ensures internal { InternalTells }
+    ensures leaf { LeafTells }
+    ensures frontier { FrontierTells }
+    ensures begins { TrailBegins }
+    ensures goes_on { TrailGoesRight }
+    ensures short { TrailIsShort }
+{}
+
+/// Does nothing: its clauses say what is so of a split that is to be finished.
+pub fn splits_can_be_finished()
+    ensures parent { ParentTells }
+    ensures separator { SeparatorTells }
+    ensures root { RootTells }
+    ensures below { UnfinishedIsBelow }
+{}

@@ -1,0 +1,66 @@
+use Rattle.std.proofs.Common.{length, ◌≡◌, ◌++◌, true, Some, List, take, refl, ap, ap₂, sym, subst, ◌∙◌}
+use Rattle.std.specs.Prelude.{insert}
+use Rattle.index_model.specs.Order.{IsAscending}
+use Rattle.index_model.specs.declared.entry.Entry.{Entry}
+use Rattle.page_codec.specs.Grammar.{IsPage}
+use Rattle.page_codec.specs.declared.page.Page.{Page}
+use Rattle.page_codec.specs.Edits.{entries_of}
+use Rattle.tree_shape.specs.Edits.{AreUpTo}
+use Rattle.tree_shape.specs.Halves.{left_count, LiesBefore}
+use Rattle.tree_shape.proofs.LeafHalves.{left_leaf, right_leaf, left_page, right_page, leaf_halves, ascends, back_count}
+use Rattle.tree_shape.proofs.leaf_edits.split_leaf.Goals as goal
+use Rattle.tree_shape.proofs.leaf_edits.split_leaf.Goals.{After-end_at}
+
+module _ (c : After-end_at) where
+  abbrev front : List Entry
+  front = take (left_count (length (entries_of c.args.page.now.items))) (insert (entries_of c.args.page.now.items) c.args.at c.args.entry)
+
+  abbrev back : List Entry
+  back = c.part_entries-behind.result.items
+
+  left_is : c.end_at.new.page ≡ left_leaf c.args.page.now c.args.new c.args.cycle c.separator-cut.result front
+  left_is =
+      c.end_at.ensures
+      ∙ ap (λ (p : Page). record p { split = true; right = Some c.args.new; high = Some c.separator-cut.result; cycle = c.args.cycle }) c.part_entries-behind.ensures.kept
+
+  right_is : c.right_half-right.result ≡ right_leaf c.args.page.now c.args.new c.args.cycle back
+  right_is =
+      c.right_half-right.ensures
+      ∙ ap (λ (p : Page). right_leaf p c.args.new c.args.cycle back) c.part_entries-behind.ensures.kept
+
+  front_seen : c.entries_on.result.now ≡ front
+  front_seen = c.entries_on.ensures ∙ ap (λ (p : Page). entries_of p.items) c.part_entries-behind.ensures.kept
+
+  ascending : IsAscending (c.entries_on.result.now ++ c.as_slice.result.now)
+  ascending =
+      subst IsAscending (sym (ap₂ (λ l r. l ++ r) front_seen c.as_slice.ensures.value))
+      (ascends c.args.page.now c.args.at c.args.entry c.seen.ensures c.requires.page c.requires.may c.requires.place c.requires.some front back refl c.part_entries-behind.ensures.behind)
+
+  up : AreUpTo c.separator-cut.result front
+  up = subst (AreUpTo c.separator-cut.result) front_seen (c.separator-cut.ensures.up_to ascending)
+
+  beyond : LiesBefore c.separator-cut.result back
+  beyond = subst (LiesBefore c.separator-cut.result) c.as_slice.ensures.value (c.separator-cut.ensures.beyond ascending)
+
+pub returns-clause-left_page : goal.returns-clause-left_page
+returns-clause-left_page c =
+    subst IsPage (sym (left_is c))
+    (left_page c.args.page.now c.args.at c.args.entry c.seen.ensures c.requires.page c.requires.may c.requires.place c.requires.some (front c) (back c) refl c.part_entries-behind.ensures.behind
+    c.args.new c.args.cycle c.requires.block c.ranges.cycle.fits c.separator-cut.result (up c) (beyond c) c.separator-cut.ensures.whole)
+
+pub returns-clause-right_page : goal.returns-clause-right_page
+returns-clause-right_page c =
+    subst IsPage (sym (right_is c))
+    (right_page c.args.page.now c.args.at c.args.entry c.seen.ensures c.requires.page c.requires.may c.requires.place c.requires.some (front c) (back c) refl c.part_entries-behind.ensures.behind
+    c.args.new c.args.cycle c.requires.block c.ranges.cycle.fits c.separator-cut.result (up c) (beyond c) c.separator-cut.ensures.whole)
+
+pub returns-clause-halves : goal.returns-clause-halves
+returns-clause-halves c =
+    rw (left_is c, right_is c)
+    (leaf_halves c.args.page.now c.args.at c.args.entry c.seen.ensures c.requires.page c.requires.may c.requires.place c.requires.some (front c) (back c) refl c.part_entries-behind.ensures.behind
+    c.args.new c.args.cycle c.requires.block c.ranges.cycle.fits c.separator-cut.result (up c) (beyond c) c.separator-cut.ensures.whole)
+
+pub returns-clause-moved : goal.returns-clause-moved
+returns-clause-moved c =
+    rw (left_is c, right_is c)
+    (back_count c.args.page.now c.args.at c.args.entry c.seen.ensures c.requires.page c.requires.may c.requires.place c.requires.some (front c) (back c) refl c.part_entries-behind.ensures.behind)
