@@ -55,7 +55,7 @@ module _ (st : State) (start : ℕ) (clear : Bool) (aim : Aim) (to most : ℕ) (
           let short = trail_is_short_here st start way.level way.block way.moves h on.trail in
           let on_right = trail_goes_right st start way.level way.moves r.to page h found_there r.right_is (subst (λ (b : ℕ). HasTrail st start way.level b way.moves) (sym at_block) on.trail) in
           subst (λ (o : Option ℕ). LeadsOnward st start (aim_of aim) clear to way (going (right_from o way most))) (sym r.right_is)
-            (rw (lt-ltb way.moves most (omega arith)) (record { not_below = on.not_below; place = r.place; trail = on_right }))
+          (rw (lt-ltb way.moves most (omega arith)) (record { not_below = on.not_below; place = r.place; trail = on_right }))
 
   covers : page.state ≡ Live → is_within (aim_of aim) page.high ≡ true → HasCover st way.level (aim_of aim) page.block
   covers alive within = (arrival alive).covers within
@@ -74,6 +74,7 @@ module _ (st : State) (start : ℕ) (clear : Bool) (aim : Aim) (to most : ℕ) (
           let w = covered st h.tree (suc level) (aim_of aim) page.block c in
           let above : 0 < page.block = (h.tree.is.in_use (suc level) page.block w.0 w.1).0 in
           internal_links page level (stored_page st.limits way.block st.pages page h.stored found).storable.admitted ((arrival alive).level_is ∙ is) above
+
       by : (level : ℕ) → way.level ≡ level → (r : Option Way) → DownTo page way aim r → LeadsOnward st start (aim_of aim) clear to way (going r)
       by zero is r down = absurd (omega arith)
       by (suc level) is None down = (let l = links_at level is in absurd (down l.0 l.1))
@@ -82,8 +83,8 @@ module _ (st : State) (start : ℕ) (clear : Bool) (aim : Aim) (to most : ℕ) (
           let t : IsToward (links_of page.items) (aim_of aim) child.block = down.2 l.0 l.1 in
           let same : child.level ≡ level = (let a = down.0 in omega arith) in
           let place = subst (λ (k : ℕ). HasPlace st start k (aim_of aim) clear child.block) (sym same)
-              (internal_tells st start level (aim_of aim) clear page h found_there (subst (λ (k : ℕ). HasCover st k (aim_of aim) page.block) is (covers alive within))
-                t.before t.bound child.block t.after t.links_are t.beyond) in
+          (internal_tells st start level (aim_of aim) clear page h found_there (subst (λ (k : ℕ). HasCover st k (aim_of aim) page.block) is (covers alive within))
+          t.before t.bound child.block t.after t.links_are t.beyond) in
           record {
             not_below = omega arith;
             place = place;

@@ -112,7 +112,10 @@ fn way_along_the_leaves(rt: HostRuntime) {
 fn way_down_from_the_root(rt: HostRuntime) {
     let mut meta = page(0, Some(3), Items::Meta);
     meta.level = 1;
-    assert_eq!(rt; way_down(&meta).map(|way| (way.block, way.level, way.moves)), Some((3, 1, 0)));
+    assert_eq!(rt;
+        way_down(&meta).map(|way| (way.block, way.level, way.moves)),
+        Some((3, 1, 0))
+    );
     let mut links = ArrayVec::new();
     let _ = links.try_push(Downlink {
         bound: None,

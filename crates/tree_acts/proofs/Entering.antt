@@ -43,7 +43,7 @@ module _ (st : State) (start : ℕ) (e : Entry) (page after : Page) (has : HasTr
     put = rw here h.put;
     leaf_is = subst (λ (b : ℕ). nodes_of (with_pages st.pages (after ∷ [])) b ≡ node_of after) h.block_is
         (node_there (with_pages st.pages (after ∷ [])) after.block after (pages_first st.limits (length st.pages) st.pages after [] h.may (omega arith)))
-      ∙ h.after_is ∙ ap (λ (n : Node). with_leaf n (entries_of after.items)) (sym here);
+        ∙ h.after_is ∙ ap (λ (n : Node). with_leaf n (entries_of after.items)) (sym here);
     others = λ c ne. node_same st.pages (with_pages st.pages (after ∷ [])) c (pages_other st.limits (length st.pages) st.pages (after ∷ []) c h.may (omega arith) (apart c ne));
   }
 
@@ -71,7 +71,7 @@ module _ (st : State) (start : ℕ) (e : Entry) (page after : Page) (has : HasTr
   putting = (
     lasts st (after ∷ []) has h.may (λ n. Unit {0}) 0 tt (λ start is. tt) has.tree.root has.tree.meta.level (omega arith) meta_stays (λ least ok. goes least),
     λ x. contents_more st.pages (with_pages st.pages (after ∷ [])) (same_entry e x) x
-      (subst (λ (n : ℕ). IsHeld (nodes_of (with_pages st.pages (after ∷ []))) n x ↔ (IsHeld (nodes_of st.pages) (length st.pages) x ⊎ (same_entry e x ≡ true))) (sym used_is)
+        (subst (λ (n : ℕ). IsHeld (nodes_of (with_pages st.pages (after ∷ []))) n x ↔ (IsHeld (nodes_of st.pages) (length st.pages) x ⊎ (same_entry e x ≡ true))) (sym used_is)
         (insertion_adds (nodes_of st.pages) (nodes_of (with_pages st.pages (after ∷ []))) (length st.pages) page.block e edit on.inside x)),
   )
 
@@ -123,7 +123,7 @@ module _ (st : State) (start : ℕ) (e : Entry) (page left right : Page) (mended
     meta = has.tree.meta;
     at = pages_other st.limits (length st.pages) st.pages (left ∷ right ∷ mended) 0 h.may (omega arith)
         (split_apart 0 (λ same. (let a = split_on.above in omega arith)) (λ same. (let a = free.past_meta in omega arith)) (no_right_meta))
-      ∙ has.tree.meta_at;
+        ∙ has.tree.meta_at;
     names = has.tree.names_root;
     level_is = refl;
   }
@@ -145,9 +145,9 @@ module _ (st : State) (start : ℕ) (e : Entry) (page left right : Page) (mended
   pub leaf_splitting : TreeLasts st (after_act (left ∷ right ∷ mended) st) × ContentsGain e st (after_act (left ∷ right ∷ mended) st)
   leaf_splitting = (
     lasts st (left ∷ right ∷ mended) has h.may (λ n. IsReusable (nodes_of st.pages) (slice_index st.counted) n right.block) (slice_index st.counted right.block) (λ gone. omega arith)
-      (λ n is. fresh_reusable st right.block n h.fresh is) has.tree.root has.tree.meta.level (omega arith) split_meta split_goes,
+        (λ n is. fresh_reusable st right.block n h.fresh is) has.tree.root has.tree.meta.level (omega arith) split_meta split_goes,
     λ x. contents_more st.pages (with_pages st.pages (left ∷ right ∷ mended)) (same_entry e x) x
-      (subst (λ (n : ℕ). IsHeld (nodes_of (with_pages st.pages (left ∷ right ∷ mended))) n x ↔ (IsHeld (nodes_of st.pages) (length st.pages) x ⊎ (same_entry e x ≡ true))) (sym split_used)
+        (subst (λ (n : ℕ). IsHeld (nodes_of (with_pages st.pages (left ∷ right ∷ mended))) n x ↔ (IsHeld (nodes_of st.pages) (length st.pages) x ⊎ (same_entry e x ≡ true))) (sym split_used)
         (leaf_split_adds (nodes_of st.pages) (nodes_of (with_pages st.pages (left ∷ right ∷ mended))) (length st.pages) page.block right.block e split_edit free split_on.inside x)),
   )
 

@@ -35,10 +35,12 @@ flagged_lives page admitted flagged = by page.items refl admitted.kind
   where
     no : false ≡ true → ⊥
     no e = cc
+
     leaf : (es : List Entry) (st : PageState) → page.state ≡ st → IsLeafIn st page es → page.state ≡ Live
     leaf es Live is h = is
     leaf es HalfDead is h = absurd (no (sym h.split ∙ flagged))
     leaf es Deleted is h = absurd (no (sym h.split ∙ flagged))
+
     by : (items : Items) → page.items ≡ items → IsOfKind page items → page.state ≡ Live
     by Meta is h = absurd (no (sym h.split ∙ flagged))
     by (Entries v) is h = leaf v.items page.state refl h.rest
@@ -98,24 +100,24 @@ module _ (st : State) (start level : ℕ) (s : Bound) (p q p_after q_after : Pag
     put = rw q_here h.added;
     parent_is = subst (λ (b : ℕ). nodes_of (with_pages st.pages (q_after ∷ p_after ∷ [])) b ≡ node_of q_after) h.block_is
         (node_there (with_pages st.pages (q_after ∷ p_after ∷ [])) q_after.block q_after (pages_first st.limits (length st.pages) st.pages q_after (p_after ∷ []) h.may (omega arith)))
-      ∙ h.after_is ∙ ap (λ (n : Node). with_links n (links_of q_after.items)) (sym q_here);
+        ∙ h.after_is ∙ ap (λ (n : Node). with_links n (links_of q_after.items)) (sym q_here);
     cleared_is = subst (λ (b : ℕ). nodes_of (with_pages st.pages (q_after ∷ p_after ∷ [])) b ≡ node_of p_after) h.clear.block_is
         (node_there (with_pages st.pages (q_after ∷ p_after ∷ [])) p_after.block p_after (pages_second st.limits (length st.pages) st.pages q_after p_after [] h.may (omega arith)))
-      ∙ h.clear.after_is ∙ ap (λ (n : Node). cleared n) (sym (p_here st start level s p new has h.unfinished));
+        ∙ h.clear.after_is ∙ ap (λ (n : Node). cleared n) (sym (p_here st start level s p new has h.unfinished));
     others = λ c not_p not_q. node_same st.pages (with_pages st.pages (q_after ∷ p_after ∷ [])) c
         (pages_other st.limits (length st.pages) st.pages (q_after ∷ p_after ∷ []) c h.may (omega arith) (finish_apart c not_p not_q));
   }
 
   finish_used : length (with_pages st.pages (q_after ∷ p_after ∷ [])) ≡ length st.pages
   finish_used = pages_length st.limits (length st.pages) st.pages (q_after ∷ p_after ∷ []) h.may (omega arith)
-    ∙ (let a = inside st.pages q.block q h.found in let b = finish_p.inside in let c = h.block_is in let d = h.clear.block_is in omega arith)
+      ∙ (let a = inside st.pages q.block q h.found in let b = finish_p.inside in let c = h.block_is in let d = h.clear.block_is in omega arith)
 
   finish_meta : MetaIs (with_pages st.pages (q_after ∷ p_after ∷ [])) has.tree.root has.tree.meta.level
   finish_meta = record {
     meta = has.tree.meta;
     at = pages_other st.limits (length st.pages) st.pages (q_after ∷ p_after ∷ []) 0 h.may (omega arith)
         (finish_apart 0 (λ same. (let a = finish_p.above in omega arith)) (λ same. (let a = (has.tree.is.in_use (suc level) q.block finish_q.0 finish_q.1).0 in omega arith)))
-      ∙ has.tree.meta_at;
+        ∙ has.tree.meta_at;
     names = has.tree.names_root;
     level_is = refl;
   }
@@ -132,7 +134,7 @@ module _ (st : State) (start level : ℕ) (s : Bound) (p q p_after q_after : Pag
   finishing = (
     lasts st (q_after ∷ p_after ∷ []) has h.may (λ n. Unit {0}) 0 tt (λ n is. tt) has.tree.root has.tree.meta.level (omega arith) finish_meta (λ least ok. finish_goes least),
     λ x. contents_same st.pages (with_pages st.pages (q_after ∷ p_after ∷ [])) x
-      (subst (λ (n : ℕ). IsHeld (nodes_of (with_pages st.pages (q_after ∷ p_after ∷ []))) n x ↔ IsHeld (nodes_of st.pages) (length st.pages) x) (sym finish_used)
+        (subst (λ (n : ℕ). IsHeld (nodes_of (with_pages st.pages (q_after ∷ p_after ∷ []))) n x ↔ IsHeld (nodes_of st.pages) (length st.pages) x) (sym finish_used)
         (finish_holds (nodes_of st.pages) (nodes_of (with_pages st.pages (q_after ∷ p_after ∷ []))) (length st.pages) p.block q.block finish_edit x)),
   )
 
@@ -153,8 +155,10 @@ module _ (st : State) (start level : ℕ) (s : Bound) (p q p_after left right : 
   parent_apart : (c : ℕ) → c ≢ p.block → c ≢ q.block → c ≢ right.block → (nodes_of st.pages q.block).right ≢ Some c → IsApartFrom c (left ∷ right ∷ mended ++ p_after ∷ [])
   parent_apart c not_p not_q not_new not_right = (
     (λ same. not_q (sym same ∙ h.left_block)),
-    ((λ same. not_new (sym same)),
-      apart_last c mended p_after (mended_apart st right.block q.right mended c h.mends (λ same. not_right (ap (λ (n : Node). n.right) parent_here ∙ same))) (λ same. not_p (sym same ∙ h.clear.block_is))),
+    (
+      (λ same. not_new (sym same)),
+      apart_last c mended p_after (mended_apart st right.block q.right mended c h.mends (λ same. not_right (ap (λ (n : Node). n.right) parent_here ∙ same))) (λ same. not_p (sym same ∙ h.clear.block_is)),
+    ),
   )
 
   parent_left : nodes_of (with_pages st.pages (left ∷ right ∷ mended ++ p_after ∷ [])) q.block ≡ node_of left
@@ -180,7 +184,7 @@ module _ (st : State) (start level : ℕ) (s : Bound) (p q p_after left right : 
     neighbour_is = λ r is. mended_first st right.block q.right left right p_after mended h.mends h.may r (sym (ap (λ (n : Node). n.right) parent_here) ∙ is);
     cleared_is = subst (λ (b : ℕ). nodes_of (with_pages st.pages (left ∷ right ∷ mended ++ p_after ∷ [])) b ≡ node_of p_after) h.clear.block_is
         (node_there (with_pages st.pages (left ∷ right ∷ mended ++ p_after ∷ [])) p_after.block p_after (last_there st right.block q.right left right p_after mended h.mends h.may))
-      ∙ h.clear.after_is ∙ ap (λ (n : Node). cleared n) (sym (p_here st start level s p new has h.unfinished));
+        ∙ h.clear.after_is ∙ ap (λ (n : Node). cleared n) (sym (p_here st start level s p new has h.unfinished));
     others = λ c not_p not_q not_new not_right. node_same st.pages (with_pages st.pages (left ∷ right ∷ mended ++ p_after ∷ [])) c
         (pages_other st.limits (length st.pages) st.pages (left ∷ right ∷ mended ++ p_after ∷ []) c h.may (omega arith) (parent_apart c not_p not_q not_new not_right));
   }
@@ -200,7 +204,7 @@ module _ (st : State) (start level : ℕ) (s : Bound) (p q p_after left right : 
     meta = has.tree.meta;
     at = pages_other st.limits (length st.pages) st.pages (left ∷ right ∷ mended ++ p_after ∷ []) 0 h.may (omega arith)
         (parent_apart 0 (λ same. (let a = parent_p.above in omega arith)) (λ same. (let a = parent_q.above in omega arith)) (λ same. (let a = parent_free.past_meta in omega arith)) no_right_meta)
-      ∙ has.tree.meta_at;
+        ∙ has.tree.meta_at;
     names = has.tree.names_root;
     level_is = refl;
   }
@@ -218,17 +222,17 @@ module _ (st : State) (start level : ℕ) (s : Bound) (p q p_after left right : 
       (slice_index (after_act (left ∷ right ∷ mended ++ p_after ∷ []) st).counted) (length st.pages) has.tree.root has.tree.meta.level has.tree.chain least level p.block q.block right.block s has.tree.is
       parent_q.in_tree parent_edit refl parent_free reusable parent_p.fits parent_q.fits
       (λ c not_p not_q not_new not_right. counts_other st.limits (length st.pages) st.counted st.pages (left ∷ right ∷ mended ++ p_after ∷ []) c has.counted h.may (omega arith)
-        (parent_apart c not_p not_q not_new not_right)))
+      (parent_apart c not_p not_q not_new not_right)))
 
   pub parent_splitting : TreeLasts st (after_act (left ∷ right ∷ mended ++ p_after ∷ []) st) × ContentsStay st (after_act (left ∷ right ∷ mended ++ p_after ∷ []) st)
   parent_splitting = (
     lasts st (left ∷ right ∷ mended ++ p_after ∷ []) has h.may (λ n. IsReusable (nodes_of st.pages) (slice_index st.counted) n right.block) (slice_index st.counted right.block) (λ gone. omega arith)
-      (λ n is. fresh_reusable st right.block n h.fresh is) has.tree.root has.tree.meta.level (omega arith) parent_meta parent_goes,
+        (λ n is. fresh_reusable st right.block n h.fresh is) has.tree.root has.tree.meta.level (omega arith) parent_meta parent_goes,
     λ x. contents_same st.pages (with_pages st.pages (left ∷ right ∷ mended ++ p_after ∷ [])) x
-      (subst (λ (n : ℕ). IsHeld (nodes_of (with_pages st.pages (left ∷ right ∷ mended ++ p_after ∷ []))) n x ↔ IsHeld (nodes_of st.pages) (length st.pages) x) (sym parent_used)
+        (subst (λ (n : ℕ). IsHeld (nodes_of (with_pages st.pages (left ∷ right ∷ mended ++ p_after ∷ []))) n x ↔ IsHeld (nodes_of st.pages) (length st.pages) x) (sym parent_used)
         (parent_split_holds (nodes_of st.pages) (nodes_of (with_pages st.pages (left ∷ right ∷ mended ++ p_after ∷ []))) (length st.pages) p.block q.block right.block parent_edit parent_free
-          (ap (λ (n : Node). n.state) parent_here ∙ h.alive)
-          (ap (λ (n : Node). n.entries) parent_here ∙ upper_empty q level (stored_page st.limits q.block st.pages q has.stored h.found).storable.admitted (sym (ap (λ (n : Node). n.level) parent_here) ∙ parent_q.level_is)) x)),
+        (ap (λ (n : Node). n.state) parent_here ∙ h.alive)
+        (ap (λ (n : Node). n.entries) parent_here ∙ upper_empty q level (stored_page st.limits q.block st.pages q has.stored h.found).storable.admitted (sym (ap (λ (n : Node). n.level) parent_here) ∙ parent_q.level_is)) x)),
   )
 
 pub parent_split_lasts : ParentSplitLasts
@@ -265,10 +269,10 @@ module _ (st : State) (start : ℕ) (s : Bound) (meta meta_after p p_after root 
     new = new;
     right_is = ap (λ (n : Node). n.right) (p_here st start meta.level s p new has h.unfinished) ∙ h.unfinished.right_is;
     root_is = node_there (with_pages st.pages (root ∷ meta_after ∷ p_after ∷ [])) root.block root (pages_first st.limits (length st.pages) st.pages root (meta_after ∷ p_after ∷ []) h.may (omega arith))
-      ∙ subst (λ (k : ℕ). node_of root ≡ new_root (suc k) p.block s new) top_is h.root_is;
+        ∙ subst (λ (k : ℕ). node_of root ≡ new_root (suc k) p.block s new) top_is h.root_is;
     cleared_is = subst (λ (b : ℕ). nodes_of (with_pages st.pages (root ∷ meta_after ∷ p_after ∷ [])) b ≡ node_of p_after) h.clear.block_is
         (node_there (with_pages st.pages (root ∷ meta_after ∷ p_after ∷ [])) p_after.block p_after (pages_third st.limits (length st.pages) st.pages root meta_after p_after [] h.may (omega arith)))
-      ∙ h.clear.after_is ∙ ap (λ (n : Node). cleared n) (sym (p_here st start meta.level s p new has h.unfinished));
+        ∙ h.clear.after_is ∙ ap (λ (n : Node). cleared n) (sym (p_here st start meta.level s p new has h.unfinished));
     others = λ c above not_p not_new. node_same st.pages (with_pages st.pages (root ∷ meta_after ∷ p_after ∷ [])) c
         (pages_other st.limits (length st.pages) st.pages (root ∷ meta_after ∷ p_after ∷ []) c h.may (omega arith) (root_apart c above not_p not_new));
   }
@@ -305,12 +309,12 @@ module _ (st : State) (start : ℕ) (s : Bound) (meta meta_after p p_after root 
   pub root_splitting : TreeLasts st (after_act (root ∷ meta_after ∷ p_after ∷ []) st) × ContentsStay st (after_act (root ∷ meta_after ∷ p_after ∷ []) st)
   root_splitting = (
     lasts st (root ∷ meta_after ∷ p_after ∷ []) has h.may (λ n. IsReusable (nodes_of st.pages) (slice_index st.counted) n root.block) (slice_index st.counted root.block) (λ gone. omega arith)
-      (λ n is. fresh_reusable st root.block n h.fresh is) root.block (suc has.tree.meta.level) (omega arith) root_meta root_goes,
+        (λ n is. fresh_reusable st root.block n h.fresh is) root.block (suc has.tree.meta.level) (omega arith) root_meta root_goes,
     λ x. contents_same st.pages (with_pages st.pages (root ∷ meta_after ∷ p_after ∷ [])) x
-      (subst (λ (n : ℕ). IsHeld (nodes_of (with_pages st.pages (root ∷ meta_after ∷ p_after ∷ []))) n x ↔ IsHeld (nodes_of st.pages) (length st.pages) x) (sym root_used)
+        (subst (λ (n : ℕ). IsHeld (nodes_of (with_pages st.pages (root ∷ meta_after ∷ p_after ∷ []))) n x ↔ IsHeld (nodes_of st.pages) (length st.pages) x) (sym root_used)
         (root_split_holds (nodes_of st.pages) (nodes_of (with_pages st.pages (root ∷ meta_after ∷ p_after ∷ []))) (length st.pages) p.block has.tree.meta.level root.block root_edit root_free
-          (ap (λ (o : Option Page). (node_from o).entries) has.tree.meta_at ∙ ap entries_of has.tree.names_root.kind)
-          (ap (λ (o : Option Page). (node_from o).entries) meta_there ∙ ap entries_of h.meta_is.kind) x)),
+        (ap (λ (o : Option Page). (node_from o).entries) has.tree.meta_at ∙ ap entries_of has.tree.names_root.kind)
+        (ap (λ (o : Option Page). (node_from o).entries) meta_there ∙ ap entries_of h.meta_is.kind) x)),
   )
 
 pub root_split_lasts : RootSplitLasts

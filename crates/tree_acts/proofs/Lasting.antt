@@ -43,17 +43,22 @@ meta_lives st h =
 
 -- a deleted page is in use, and isn't the metapage
 pub deleted_in_use : (st : State) (h : HasTree st) → (c : ℕ) → (nodes_of st.pages c).state ≡ Deleted → (0 < c) × (c < length st.pages)
-deleted_in_use st h c gone = (positive c refl, elim (cases_lt c (length st.pages)) [
-  | inl lt ↦ lt
-  | inr ge ↦ absurd (clash (sym (ap (λ (o : Option Page). (node_from o).state) (past st.pages c ge)) ∙ gone))
-])
+deleted_in_use st h c gone = (
+  positive c refl,
+  elim (cases_lt c (length st.pages)) [
+    | inl lt ↦ lt
+    | inr ge ↦ absurd (clash (sym (ap (λ (o : Option Page). (node_from o).state) (past st.pages c ge)) ∙ gone))
+  ],
+)
   where
     clash : Live ≡ Deleted → ⊥
     clash e = cc
+
     past : (pages : List Page) (b : ℕ) → length pages ≤ b → slice_get pages b ≡ None
     past [] b le = refl
     past (p ∷ pages) zero le = absurd (omega arith)
     past (p ∷ pages) (suc b) le = past pages b (omega arith)
+
     positive : (n : ℕ) → c ≡ n → 0 < n
     positive (suc n) is = omega arith
     positive zero is = absurd (clash (sym (meta_lives st h) ∙ ap (λ (o : Option Page). (node_from o).state) (sym h.tree.meta_at) ∙ subst (λ (b : ℕ). (nodes_of st.pages b).state ≡ Deleted) is gone))
@@ -87,11 +92,14 @@ fresh_free st new h f = record {
   where
     clash : Live ≡ Deleted → ⊥
     clash e = cc
+
     some_first : (pages : List Page) (page : Page) → slice_get pages 0 ≡ Some page → 0 < length pages
     some_first [] page found = cc
     some_first (p ∷ pages) page found = omega arith
+
     meta_there : 0 < length st.pages
     meta_there = some_first st.pages h.tree.meta h.tree.meta_at
+
     positive : (n : ℕ) → new ≡ n → 0 < n
     positive (suc n) is = omega arith
     positive zero is =
@@ -121,8 +129,10 @@ fresh_reusable st new start f is gone = elim (cases_lt new (length st.pages)) [
     past [] b le = refl
     past (p ∷ pages) zero le = absurd (omega arith)
     past (p ∷ pages) (suc b) le = past pages b (omega arith)
+
     clash : Live ≡ Deleted → ⊥
     clash e = cc
+
     never : slice_get st.pages new ≡ None → (nodes_of st.pages new).state ≡ Deleted → ⊥
     never none' gone = clash (sym (ap (λ (o : Option Page). (node_from o).state) none') ∙ gone)
 
@@ -140,10 +150,11 @@ pub stands : (st : State) (tree : IsTree st.pages) (start level : ℕ) (aim : Bo
 stands st tree start level aim clear block place alive =
     let p = place_in st tree start level aim clear block place in
     go p.in_tree (live_places_stand (nodes_of st.pages) (slice_index st.counted) (tree.chain level) start (is_fit aim clear) block p.place alive)
-      (places_keep_their_level (nodes_of st.pages) (slice_index st.counted) (length st.pages) tree.root tree.meta.level tree.chain level start (is_fit aim clear) block tree.is p.in_tree p.place)
+    (places_keep_their_level (nodes_of st.pages) (slice_index st.counted) (length st.pages) tree.root tree.meta.level tree.chain level start (is_fit aim clear) block tree.is p.in_tree p.place)
   where
     clash : Live ≡ Deleted → ⊥
     clash e = cc
+
     go : level ≤ tree.meta.level → IsFitOn (nodes_of st.pages) first_spot (tree.chain level) (is_fit aim clear) block
         → ((nodes_of st.pages block).state ≡ Deleted) ⊎ (((nodes_of st.pages block).level ≡ level) × IsIn block (tree.chain level)) → Stands st tree level (is_fit aim clear) block
     go in_tree fits (inl gone) = absurd (clash (sym alive ∙ gone))
@@ -173,7 +184,7 @@ pub record MetaIs (pages : List Page) (root top : ℕ) : Type 0 where
 pub lasts : (st : State) (changed : List Page) (h : HasTree st) → AreActable st.limits (length st.pages) changed → (Ok : ℕ → Type 0) (one : ℕ) → Ok one → ((start : ℕ) → IsStart st.running start → Ok start)
     → (root' top' : ℕ) → h.tree.meta.level ≤ top' → MetaIs (with_pages st.pages changed) root' top'
     → ((least : ℕ) → Ok least → TreeGoesOn (nodes_of st.pages) (nodes_of (with_pages st.pages changed)) (slice_index st.counted) (slice_index (after_act changed st).counted)
-        (length (with_pages st.pages changed)) root' h.tree.meta.level top' h.tree.chain least)
+    (length (with_pages st.pages changed)) root' h.tree.meta.level top' h.tree.chain least)
     → TreeLasts st (after_act changed st)
 lasts st changed h may Ok one ok running root' top' taller meta goes = record {
   has = record {
@@ -188,7 +199,7 @@ lasts st changed h may Ok one ok running root' top' taller meta goes = record {
         tree = tree_of start good;
         in_tree = rw (meta.level_is) (let q = p.in_tree in omega arith);
         place = places_stay (nodes_of st.pages) (nodes_of (with_pages st.pages changed)) (slice_index st.counted) (slice_index (after_act changed st).counted)
-          (h.tree.chain level) ((goes start good).chain' level) start aim clear block falls ((goes start good).places start (omega arith) level p.in_tree) p.place;
+            (h.tree.chain level) ((goes start good).chain' level) start aim clear block falls ((goes start good).places start (omega arith) level p.in_tree) p.place;
       };
   trails = λ start level block moves is trail.
       let t = trail_in st h.tree start level block moves trail in
@@ -201,7 +212,7 @@ lasts st changed h may Ok one ok running root' top' taller meta goes = record {
         distinct = t.distinct;
         steps = t.steps;
         trail = trail_stays (nodes_of st.pages) (nodes_of (with_pages st.pages changed)) (slice_index st.counted) (slice_index (after_act changed st).counted)
-          (h.tree.chain level) ((goes start good).chain' level) start t.passed t.steps block ((goes start good).order level t.in_tree) ((goes start good).places start (omega arith) level t.in_tree) t.trail;
+            (h.tree.chain level) ((goes start good).chain' level) start t.passed t.steps block ((goes start good).order level t.in_tree) ((goes start good).places start (omega arith) level t.in_tree) t.trail;
       };
 }
   where

@@ -21,7 +21,7 @@ mended_there st new right a b mended rightmost may r is = cc
 mended_there st new right a b mended (neighbour {r = q} old after found block node) may r is =
     let same : after.block ≡ r = block ∙ some_is q r is in
     subst (λ (k : ℕ). nodes_of (with_pages st.pages (a ∷ b ∷ after ∷ [])) k ≡ node_of after) same
-      (node_there (with_pages st.pages (a ∷ b ∷ after ∷ [])) after.block after (pages_third st.limits (length st.pages) st.pages a b after [] may (omega arith)))
+    (node_there (with_pages st.pages (a ∷ b ∷ after ∷ [])) after.block after (pages_third st.limits (length st.pages) st.pages a b after [] may (omega arith)))
     ∙ node
     ∙ ap (λ (n : Node). with_left n (Some new)) (sym (subst (λ (k : ℕ). nodes_of st.pages k ≡ node_of old) (some_is q r is) (node_there st.pages q old found)))
 
@@ -36,7 +36,7 @@ mended_first st new right a b d mended rightmost may r is = cc
 mended_first st new right a b d mended (neighbour {r = q} old after found block node) may r is =
     let same : after.block ≡ r = block ∙ some_is q r is in
     subst (λ (k : ℕ). nodes_of (with_pages st.pages (a ∷ b ∷ after ∷ d ∷ [])) k ≡ node_of after) same
-      (node_there (with_pages st.pages (a ∷ b ∷ after ∷ d ∷ [])) after.block after (pages_third st.limits (length st.pages) st.pages a b after (d ∷ []) may (omega arith)))
+    (node_there (with_pages st.pages (a ∷ b ∷ after ∷ d ∷ [])) after.block after (pages_third st.limits (length st.pages) st.pages a b after (d ∷ []) may (omega arith)))
     ∙ node
     ∙ ap (λ (n : Node). with_left n (Some new)) (sym (subst (λ (k : ℕ). nodes_of st.pages k ≡ node_of old) (some_is q r is) (node_there st.pages q old found)))
 

@@ -96,6 +96,7 @@ index_get xs ys b same = index_is xs b ∙ ap (λ (o : Option ℕ). or_zero o) s
     or_zero : Option ℕ → ℕ
     or_zero None = 0
     or_zero (Some n) = n
+
     index_is : (zs : List ℕ) (c : ℕ) → slice_index zs c ≡ or_zero (slice_get zs c)
     index_is [] c = refl
     index_is (z ∷ zs) zero = refl

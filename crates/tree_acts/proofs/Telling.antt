@@ -34,7 +34,7 @@ metapage_tells st start aim clear meta h found =
         tree = h.tree;
         in_tree = subst (λ (m : Page). m.level ≤ h.tree.meta.level) same (omega arith);
         place = subst (λ (m : Page). IsPlace (nodes_of st.pages) (slice_index st.counted) (h.tree.chain m.level) start (is_fit aim clear) h.tree.root) same
-          (on_chain (root_is_a_place (nodes_of st.pages) (length st.pages) h.tree.root h.tree.meta.level h.tree.chain aim clear h.tree.is));
+            (on_chain (root_is_a_place (nodes_of st.pages) (length st.pages) h.tree.root h.tree.meta.level h.tree.chain aim clear h.tree.is));
       };
     }
 
@@ -43,7 +43,7 @@ passed_tells st start level aim clear page h found place passed =
     let here = node_there st.pages page.block page found in
     let p = place_in st h.tree start level aim clear page.block place in
     let r = places_go_right (nodes_of st.pages) (slice_index st.counted) (length st.pages) h.tree.root h.tree.meta.level h.tree.chain level start aim clear page.block h.tree.is p.in_tree p.place
-      (rw here passed) in
+    (rw here passed) in
     record {
       to = r.to;
       right_is = sym (ap (λ (n : Node). n.right) here) ∙ r.right_is;
@@ -73,7 +73,7 @@ internal_tells st start level aim clear page h found cover before bound child af
       tree = h.tree;
       in_tree = (let t = c.in_tree in omega arith);
       place = on_chain (covers_lead_down (nodes_of st.pages) (length st.pages) h.tree.root h.tree.meta.level h.tree.chain level page.block aim clear h.tree.is c.in_tree c.covers
-        before bound child after (ap (λ (n : Node). n.links) here ∙ links) beyond);
+          before bound child after (ap (λ (n : Node). n.links) here ∙ links) beyond);
     }
 
 pub leaf_tells : LeafTells
@@ -82,8 +82,8 @@ leaf_tells st e page h found cover =
     let c = cover_in st h.tree 0 (entry_aim e) page.block cover in
     let held = held_on_its_cover (nodes_of st.pages) (length st.pages) h.tree.root h.tree.meta.level h.tree.chain e page.block h.tree.is (only_leaves st.limits st.pages h.stored) c.covers in
     same_test (entry_on_live_leaf st.pages e) (is_among (entries_of page.items) e)
-      (λ t. sym (ap (λ (n : Node). is_among n.entries e) here) ∙ held.0 ((contents_held st.pages e).0 t))
-      (λ t. (contents_held st.pages e).1 (held.1 (ap (λ (n : Node). is_among n.entries e) here ∙ t)))
+    (λ t. sym (ap (λ (n : Node). is_among n.entries e) here) ∙ held.0 ((contents_held st.pages e).0 t))
+    (λ t. (contents_held st.pages e).1 (held.1 (ap (λ (n : Node). is_among n.entries e) here ∙ t)))
 
 pub frontier_tells : FrontierTells
 frontier_tells st f e page h found cover beyond within =
@@ -101,8 +101,8 @@ parent_tells st start level s p q new h u found cover =
     let c = cover_in st h.tree (suc level) (bound_aim s) q.block cover in
     let on = p_on st start level s p new h u in
     subst (λ (n : Node). HasLink p.block n.links) here
-      (flagged_has_its_link (nodes_of st.pages) (length st.pages) h.tree.root h.tree.meta.level h.tree.chain level p.block q.block s h.tree.is c.in_tree on.fits
-        (ap (λ (n : Node). n.split) (p_here st start level s p new h u) ∙ u.flagged) (ap (λ (n : Node). n.high) (p_here st start level s p new h u) ∙ u.high_is) c.covers)
+    (flagged_has_its_link (nodes_of st.pages) (length st.pages) h.tree.root h.tree.meta.level h.tree.chain level p.block q.block s h.tree.is c.in_tree on.fits
+    (ap (λ (n : Node). n.split) (p_here st start level s p new h u) ∙ u.flagged) (ap (λ (n : Node). n.high) (p_here st start level s p new h u) ∙ u.high_is) c.covers)
 
 pub separator_tells : SeparatorTells
 separator_tells st start level s p q new added h u found cover put =
@@ -110,22 +110,22 @@ separator_tells st start level s p q new added h u found cover put =
     let w = covered st h.tree (suc level) (bound_aim s) q.block cover in
     let on = p_on st start level s p new h u in
     subst (λ (high : Option Bound). IsBetween put.bound s put.after high) (ap (λ (n : Node). n.high) here)
-      (fits_at w.0 w.1 on)
+    (fits_at w.0 w.1 on)
   where
     fits_at : suc level ≤ h.tree.meta.level → IsIn q.block (h.tree.chain (suc level)) → Stands st h.tree level (is_fit (bound_aim s) true) p.block
         → IsBetween put.bound s put.after (nodes_of st.pages q.block).high
     fits_at tall q_in on =
         separator_fits_behind (nodes_of st.pages) (length st.pages) h.tree.root h.tree.meta.level h.tree.chain level p.block q.block new s added h.tree.is tall on.fits
-          (ap (λ (n : Node). n.split) (p_here st start level s p new h u) ∙ u.flagged) (ap (λ (n : Node). n.high) (p_here st start level s p new h u) ∙ u.high_is)
-          (ap (λ (n : Node). n.right) (p_here st start level s p new h u) ∙ u.right_is) q_in
-          (record { before = put.before; bound = put.bound; after = put.after; links_are = ap (λ (n : Node). n.links) (node_there st.pages q.block q found) ∙ put.links_are; added_are = put.added_are })
+        (ap (λ (n : Node). n.split) (p_here st start level s p new h u) ∙ u.flagged) (ap (λ (n : Node). n.high) (p_here st start level s p new h u) ∙ u.high_is)
+        (ap (λ (n : Node). n.right) (p_here st start level s p new h u) ∙ u.right_is) q_in
+        (record { before = put.before; bound = put.bound; after = put.after; links_are = ap (λ (n : Node). n.links) (node_there st.pages q.block q found) ∙ put.links_are; added_are = put.added_are })
 
 pub root_tells : RootTells
 root_tells st start s meta p new h found u =
     let same = meta_is st h meta found in
     let on = p_on st start meta.level s p new h u in
     let root : p.block ≡ h.tree.root = only_the_root_is_clear (nodes_of st.pages) (length st.pages) h.tree.root h.tree.meta.level h.tree.chain (bound_aim s) p.block h.tree.is
-      (subst (λ (m : Page). IsFitOn (nodes_of st.pages) first_spot (h.tree.chain m.level) (is_fit (bound_aim s) true) p.block) (sym same) on.fits) in
+    (subst (λ (m : Page). IsFitOn (nodes_of st.pages) first_spot (h.tree.chain m.level) (is_fit (bound_aim s) true) p.block) (sym same) on.fits) in
     subst (λ (m : Page). m.right ≡ Some h.tree.root) same h.tree.names_root.root_is ∙ ap Some (sym root)
 
 pub unfinished_is_below : UnfinishedIsBelow
@@ -145,7 +145,7 @@ trail_goes_right st start level moves to page h found right trail =
     let here = node_there st.pages page.block page found in
     let t = trail_in st h.tree start level page.block moves trail in
     let g = trail_goes_on (nodes_of st.pages) (slice_index st.counted) (length st.pages) h.tree.root h.tree.meta.level h.tree.chain h.tree.is level start t.in_tree t.passed t.steps page.block to t.trail
-      (ap (λ (n : Node). n.right) here ∙ right) in
+    (ap (λ (n : Node). n.right) here ∙ right) in
     record {
       tree = h.tree;
       in_tree = t.in_tree;

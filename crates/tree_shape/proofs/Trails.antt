@@ -37,8 +37,10 @@ left_cases z xs c b l = go l.front l.is l.on_front
   where
     head_is : (x y : ℕ) (xs ys : List ℕ) → x ∷ xs ≡ y ∷ ys → x ≡ y
     head_is x y xs ys e = cc
+
     tail_is : (x y : ℕ) (xs ys : List ℕ) → x ∷ xs ≡ y ∷ ys → xs ≡ ys
     tail_is x y xs ys e = cc
+
     go : (front : List ℕ) → z ∷ xs ≡ front ++ b ∷ l.back → IsIn c front → ((c ≡ z) × IsIn b xs) ⊎ IsLeftOf xs c b
     go [] e i = absurd i
     go (f ∷ fs) e (inl same) = inl (same ∙ sym (head_is z f xs (fs ++ b ∷ l.back) e), subst (IsIn b) (sym (tail_is z f xs (fs ++ b ∷ l.back) e)) (in_append_right b fs (b ∷ l.back) (inl refl)))
@@ -77,7 +79,7 @@ trail_stays at at' number number' chain chain' start passed n b order keeps (rea
     reached (order.stays b i) (behind_stays at at' number number' chain chain' start b passed order (kept_stays at at' number number' chain chain' start keeps) behind)
 trail_stays at at' number number' chain chain' start passed n b order keeps (over r kept right apart rest) =
     over r (kept_stays at at' number number' chain chain' start keeps b kept) (ap (λ (x : Node). x.right) (keeps.deleted_stay b kept).0 ∙ right) apart
-      (trail_stays at at' number number' chain chain' start passed _ r order keeps rest)
+    (trail_stays at at' number number' chain chain' start passed _ r order keeps rest)
 
 -- a walk that begins at a place has left nothing behind
 pub record BeginsTrail (at : ℕ → Node) (number : ℕ → ℕ) (chain : List ℕ) (start b : ℕ) : Type 0 where
@@ -99,13 +101,12 @@ trail_begins at number chain start fit b (by_deleted r kept right rest) =
 without : (n : ℕ) (front back : List ℕ) → AreDistinct (front ++ n ∷ back) → AreDistinct (front ++ back) × ((c : ℕ) → IsIn c (front ++ back) → c ≢ n)
 without n [] back d = (d.1, λ c i same. not_in_apart n c back d.0 i (sym same))
 without n (x ∷ xs) back d =
-    let r = without n xs back d.1 in
-    (
+    let r = without n xs back d.1 in (
       (not_in_from x (xs ++ back) (λ c i. not_in_apart x c (xs ++ n ∷ back) d.0 (widen c i)), r.0),
       λ c i. elim i as (λ w. c ≢ n) [
         | inl same ↦ λ e. not_in_apart x n (xs ++ n ∷ back) d.0 (in_append_right n xs (n ∷ back) (inl refl)) (sym same ∙ e)
         | inr j ↦ r.1 c j
-      ]
+      ],
     )
   where
     widen : (c : ℕ) → IsIn c (xs ++ back) → IsIn c (xs ++ n ∷ back)
@@ -138,6 +139,7 @@ few_below (suc n) xs d below = elim (is_in_or n xs) [
   where
     tighter : (c : ℕ) → c < suc n → c ≢ n → c < n
     tighter c lt ne = omega arith
+
     widen : (c : ℕ) (front back : List ℕ) → IsIn c (front ++ back) → IsIn c (front ++ n ∷ back)
     widen c front back i = elim (in_append_cases c front back i) [ inl l ↦ in_append_left c front (n ∷ back) l | inr r ↦ in_append_right c front (n ∷ back) (inr r) ]
 
@@ -162,7 +164,7 @@ module _ (at : ℕ → Node) (number : ℕ → ℕ) (used root top : ℕ) (chain
   with_gone passed b n x kept never (reached i behind) = reached i (inr kept, behind)
   with_gone passed b n x kept never (over {n = k} r kept_x right apart rest) =
       over r kept_x right ((λ same. never (suc k) (omega arith) (subst (λ (y : ℕ). IsTrail at number (chain level) start passed (suc k) y) same (over r kept_x right apart rest))), apart)
-        (with_gone passed b k r kept (λ m le. never m (omega arith)) rest)
+      (with_gone passed b k r kept (λ m le. never m (omega arith)) rest)
 
   -- what follows a page of the chain
   next_of : (b r : ℕ) (front back : List ℕ) → chain level ≡ front ++ b ∷ back → (at b).right ≡ Some r → (rest : List ℕ) × (back ≡ r ∷ rest)
@@ -200,13 +202,13 @@ module _ (at : ℕ → Node) (number : ℕ → ℕ) (used root top : ℕ) (chain
       record {
         steps = 0;
         trail = reached (subst (IsIn r) (sym (w.is ∙ ap (λ (ys : List ℕ). w.front ++ b ∷ ys) next.1)) (in_append_right r w.front (b ∷ r ∷ next.0) (inr (inl refl))))
-          (inl (left_of_next b r b w.front w.back w.is right (in_append_right b w.front (b ∷ []) (inl refl))), behind_next b r passed right behind);
+            (inl (left_of_next b r b w.front w.back w.is right (in_append_right b w.front (b ∷ []) (inl refl))), behind_next b r passed right behind);
       }
   trail_goes_on passed n b r (over {n = k} q kept right_q apart rest) right =
       record {
         steps = k;
         trail = subst (λ (x : ℕ). IsTrail at number (chain level) start (b ∷ passed) k x) (some_is q r (sym right_q ∙ right))
-          (with_gone passed b k q kept (λ m le t. clash (same_steps passed m (suc k) b t (over q kept right_q apart rest)) le) rest);
+            (with_gone passed b k q kept (λ m le t. clash (same_steps passed m (suc k) b t (over q kept right_q apart rest)) le) rest);
       }
     where
       clash : {m : ℕ} → m ≡ suc k → m ≤ k → ⊥
@@ -250,10 +252,10 @@ module _ (at : ℕ → Node) (number : ℕ → ℕ) (used root top : ℕ) (chain
     trail_is_short passed n b distinct t =
         let h = here_in_use passed n b t in
         let short = few_below used (0 ∷ b ∷ passed)
-          (((λ z. (let a = h.0 in omega arith)), not_in_from 0 passed (λ c i. λ z. (let a = (passed_in_use passed n b t c i).0 in omega arith))), (here_apart passed n b t, distinct))
-          (λ c i. elim i as (λ w. c < used) [
-            | inl z ↦ (let a = h.0 in let d = h.1 in omega arith)
-            | inr (inl same) ↦ subst (λ (x : ℕ). x < used) (sym same) h.1
-            | inr (inr i) ↦ (passed_in_use passed n b t c i).1
-          ]) in
+        (((λ z. (let a = h.0 in omega arith)), not_in_from 0 passed (λ c i. λ z. (let a = (passed_in_use passed n b t c i).0 in omega arith))), (here_apart passed n b t, distinct))
+        (λ c i. elim i as (λ w. c < used) [
+          | inl z ↦ (let a = h.0 in let d = h.1 in omega arith)
+          | inr (inl same) ↦ subst (λ (x : ℕ). x < used) (sym same) h.1
+          | inr (inr i) ↦ (passed_in_use passed n b t c i).1
+        ]) in
         omega arith

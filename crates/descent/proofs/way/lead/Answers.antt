@@ -17,4 +17,4 @@ returns-then-way-to-clause-goes c = λ st start clear h found on whole few.
 pub returns-clause-goes : goal.returns-clause-goes
 returns-clause-goes c = λ st start clear h found on whole few.
     rw c.going-2.ensures (leads_down st start clear c.args.aim.now c.args.to c.args.most c.args.page.now c.args.way.now h found on whole few (c.is_passed.ensures.live c.if-is_passed.false)
-      (c.is_passed.ensures.within c.if-is_passed.false) (let a = on.not_below in let b = c.if-way-to.false in omega arith) c.go_down.result c.go_down.ensures)
+    (c.is_passed.ensures.within c.if-is_passed.false) (let a = on.not_below in let b = c.if-way-to.false in omega arith) c.go_down.result c.go_down.ensures)
