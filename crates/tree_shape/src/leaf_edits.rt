@@ -10,10 +10,10 @@ ghost use Rattle.tree_shape.specs.Edits.{AreUpTo, LeafHalves};
 ghost use Rattle.tree_shape.specs.Halves.{left_count, LiesBefore};
 
 use crate::items::entries_on;
-use crate::parting::put_and_part;
+use crate::parting::{end_at, put_and_part, right_half};
 use arrayvec::ArrayVec;
 use index_model::{Bound, Entry};
-use page_codec::{Items, Page, PageState};
+use page_codec::{Items, Page};
 
 /// A bound between the two halves of a leaf's entries. The left half must have an entry.
 pub fn separator(left: &[Entry], right: &[Entry]) -> Bound
@@ -44,38 +44,6 @@ fn part_entries(page: &mut Page, at: usize, entry: Entry) -> ArrayVec<Entry, 50>
     } else {
         ArrayVec::new()
     }
-}
-
-/// The right half of a page: what stands on it, on a new block.
-pub fn right_half(page: &Page, items: Items, new: u32) -> Page
-    ensures { result ≡ record page.now {
-      block = new;
-      split = false;
-      left = Some page.now.block;
-      items = items;
-    } }
-{
-    Page {
-        block: new,
-        level: page.level,
-        state: page.state,
-        split: false,
-        left: Some(page.block),
-        right: page.right,
-        high: page.high,
-        cycle: page.cycle,
-        deletion: page.deletion,
-        items,
-    }
-}
-
-/// Makes a page the left half of what it was: it ends at the cut, and its split is incomplete.
-pub fn end_at(page: &mut Page, cut: Bound, new: u32)
-    ensures { page.new ≡ record page.old { split = true; right = Some new; high = Some cut } }
-{
-    page.split = true;
-    page.right = Some(new);
-    page.high = Some(cut);
 }
 
 /// Splits a live leaf of M entries, 2 to 50, with one entry put at the place that `find` gave: the

@@ -8,8 +8,7 @@ ghost use Rattle.tree_shape.specs.Edits.{IsLinkAdded, with_links};
 ghost use Rattle.tree_shape.specs.Halves.{left_count};
 ghost use Rattle.tree_shape.specs.LinkPlaces.{child_at, bound_at, with_downlinks, HasLinks, IsBelowFirst, FitsBehind, LinkSplit};
 
-use crate::leaf_edits::{end_at, right_half};
-use crate::parting::put_and_part;
+use crate::parting::{end_at, put_and_part, right_half};
 use arrayvec::ArrayVec;
 use index_model::Bound;
 use page_codec::{Downlink, Items, Page};
@@ -105,7 +104,8 @@ fn part_links(page: &mut Page, at: usize, link: Downlink) -> ArrayVec<Downlink, 
     requires internal { HasLinks page.old.items }
     requires place { at ≤ length (links_of page.old.items) }
     requires some { 2 ≤ length (links_of page.old.items) }
-    ensures kept { page.new ≡ with_downlinks page.old (take (left_count (length (links_of page.old.items)))
+    ensures kept { page.new ≡ with_downlinks page.old
+        (take (left_count (length (links_of page.old.items)))
         (insert (links_of page.old.items) at link)) }
     ensures behind { result.items
         ≡ drop (left_count (length (links_of page.old.items)))

@@ -1,8 +1,10 @@
-//! Items in two parts.
+//! Items, and pages, in two parts.
 
-ghost use Rattle.std.specs.Prelude.{◌≡◌, ◌<◌, ◌≤◌, length, insert, take, drop};
+ghost use Rattle.std.specs.Prelude.{◌≡◌, ◌<◌, ◌≤◌, true, false, Some, length, insert, take, drop};
 
 use arrayvec::ArrayVec;
+use index_model::Bound;
+use page_codec::{Items, Page};
 
 fn copy_of<T: Copy + Default + Drop>(items: &[T]) -> ArrayVec<T, 50>
     requires { length items.now ≤ 50 }
@@ -39,4 +41,36 @@ pub fn put_and_part<T: Copy + Default + Drop>(
         behind.insert(at - keep, item);
         behind
     }
+}
+
+/// The right half of a page: what stands on it, on a new block.
+pub fn right_half(page: &Page, items: Items, new: u32) -> Page
+    ensures { result ≡ record page.now {
+      block = new;
+      split = false;
+      left = Some page.now.block;
+      items = items;
+    } }
+{
+    Page {
+        block: new,
+        level: page.level,
+        state: page.state,
+        split: false,
+        left: Some(page.block),
+        right: page.right,
+        high: page.high,
+        cycle: page.cycle,
+        deletion: page.deletion,
+        items,
+    }
+}
+
+/// Makes a page the left half of what it was: it ends at the cut, and its split is incomplete.
+pub fn end_at(page: &mut Page, cut: Bound, new: u32)
+    ensures { page.new ≡ record page.old { split = true; right = Some new; high = Some cut } }
+{
+    page.split = true;
+    page.right = Some(new);
+    page.high = Some(cut);
 }
