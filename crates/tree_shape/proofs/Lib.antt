@@ -36,3 +36,4 @@ pub mod LinkHalves
 pub mod Aims
 pub mod Trails
 pub mod FitsBehind
+pub mod Straight

@@ -246,3 +246,26 @@ RootSplitHolds =
     (at at' : ℕ → Node) (used p top fresh : ℕ)
     → IsRootSplit at at' p top fresh → IsFree at used fresh → (at 0).entries ≡ [] → (at' 0).entries ≡ []
     → HoldsTheSame at at' used (max used (suc fresh))
+
+-- what is looked for doesn't lie beyond the bound of the first of these, if there is one
+abbrev pub IsWithinFirst : (Bound → Bool) → List Downlink → Type 0
+IsWithinFirst aim [] = Unit {0}
+IsWithinFirst aim (i ∷ is) = is_beyond aim i.bound ≡ false
+
+-- where no page of a level is flagged, the way down comes to the page that covers what is looked for at once: it is the child of
+-- the last downlink with a bound below that
+abbrev pub CoversLeadStraightDown : Type 0
+CoversLeadStraightDown =
+    (at : ℕ → Node) (used root top : ℕ) (chain : ℕ → List ℕ) (level q : ℕ) (aim : Bound → Bool)
+    → IsTreeOf at used root top chain → level < top → IsCoverOn at first_spot (chain (suc level)) aim q
+    → (before : List Downlink) (bound : Option Bound) (child : ℕ) (after : List Downlink)
+    → (at q).links ≡ before ++ record { bound = bound; child = child } ∷ after
+    → is_beyond aim bound ≡ true → IsWithinFirst aim after
+    → ((b : ℕ) → IsIn b (chain level) → (at b).split ≡ false)
+    → IsCoverOn at first_spot (chain level) aim child
+
+-- where the root's level has no flagged page, the root covers whatever is looked for
+abbrev pub RootCovers : Type 0
+RootCovers =
+    (at : ℕ → Node) (used root top : ℕ) (chain : ℕ → List ℕ) (aim : Bound → Bool)
+    → IsTreeOf at used root top chain → (at root).split ≡ false → IsCoverOn at first_spot (chain top) aim root

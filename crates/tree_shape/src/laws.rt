@@ -1,6 +1,6 @@
 //! What holds of trees: what each edit leaves, and what a page tells a call that comes to it.
 
-ghost use Rattle.tree_shape.specs.Laws.{InsertionKeeps, LeafSplitKeeps, FinishKeeps, ParentSplitKeeps, RootSplitKeeps, InsertionAdds, LeafSplitAdds, FinishHolds, ParentSplitHolds, RootSplitHolds, ChainsAreTold, RootIsAPlace, PlacesGoRight, PlacesCover, LivePlacesStand, PlacesKeepTheirLevel, CoversLeadDown, PlacesLeadOn, CoverIsOne, HeldOnItsCover, FrontierCovers, FlaggedHasItsLink, SeparatorFits, OnlyTheRootIsClear, FlaggedHasItsHalf, PlacesStay, AimsFall, FirstIsATree};
+ghost use Rattle.tree_shape.specs.Laws.{InsertionKeeps, LeafSplitKeeps, FinishKeeps, ParentSplitKeeps, RootSplitKeeps, InsertionAdds, LeafSplitAdds, FinishHolds, ParentSplitHolds, RootSplitHolds, ChainsAreTold, RootIsAPlace, PlacesGoRight, PlacesCover, LivePlacesStand, PlacesKeepTheirLevel, CoversLeadDown, PlacesLeadOn, CoverIsOne, HeldOnItsCover, FrontierCovers, FlaggedHasItsLink, SeparatorFits, OnlyTheRootIsClear, FlaggedHasItsHalf, PlacesStay, AimsFall, FirstIsATree, CoversLeadStraightDown, RootCovers};
 
 /// Does nothing: its clauses say what each edit leaves of a tree, and of the page numbers that calls keep.
 pub fn edits_keep_the_tree()
@@ -36,6 +36,8 @@ pub fn places_lead_on()
     ensures stands { LivePlacesStand }
     ensures held { HeldOnItsCover }
     ensures frontier { FrontierCovers }
+    ensures straight { CoversLeadStraightDown }
+    ensures root_covers { RootCovers }
 {}
 
 /// Does nothing: its clauses say what is so of a page whose split is to be finished, and of its parent.
