@@ -19,7 +19,8 @@ way_from block level = record { block = block; level = level; moves = 0 }
 -- the way to the right of a page, unless so many moves were made
 abbrev pub right_from : Option ℕ → Way → ℕ → Option Way
 right_from None way most = None
-right_from (Some r) way most = if nat_lt way.moves most then Some (record { block = r; level = way.level; moves = suc way.moves }) else None
+right_from (Some r) way most = if nat_lt way.moves most then Some
+    (record { block = r; level = way.level; moves = suc way.moves }) else None
 
 abbrev pub right_of : Page → Way → ℕ → Option Way
 right_of page way most = right_from page.right way most
@@ -31,14 +32,17 @@ going (Some way) = Some (Going way)
 
 -- the way is to the child that leads to what is looked for, one level down
 abbrev pub DownTo : Page → Way → Aim → Option Way → Type 0
-DownTo page way aim None = Ascends LinkBefore (links_of page.items) → StartsLow (links_of page.items) → ⊥
+DownTo page way aim None = Ascends LinkBefore (links_of page.items)
+    → StartsLow (links_of page.items) → ⊥
 DownTo page way aim (Some down) =
     (suc down.level ≡ way.level) × (down.moves ≡ 0)
-    × (Ascends LinkBefore (links_of page.items) → StartsLow (links_of page.items) → IsToward (links_of page.items) (aim_of aim) down.block)
+    × (Ascends LinkBefore (links_of page.items) → StartsLow (links_of page.items)
+    → IsToward (links_of page.items) (aim_of aim) down.block)
 
--- a call on its way to a level of the tree: the block is a place to go on from to what it looks for, and no page was met
--- twice on its level
-pub record IsOnWay (st : State) (start : ℕ) (aim : Bound → Bool) (clear : Bool) (to : ℕ) (way : Way) : Type 0 where
+-- a call on its way to a level of the tree: the block is a place to go on from to what it looks
+-- for, and no page was met twice on its level
+pub record IsOnWay (st : State) (start : ℕ) (aim : Bound → Bool) (clear : Bool) (to : ℕ)
+    (way : Way) : Type 0 where
   pub not_below : to ≤ way.level
   pub place : HasPlace st start way.level aim clear way.block
   pub trail : HasTrail st start way.level way.block way.moves
@@ -52,7 +56,8 @@ LeadsOnward st start aim clear to way None = ⊥
 -- one level down, or one move right, of which there are so many
 pub record IsShorter (to most : ℕ) (way on : Way) : Type 0 where
   pub not_below : to ≤ on.level
-  pub shorter : (on.level < way.level) ⊎ ((on.level ≡ way.level) × ((on.moves ≡ suc way.moves) × (on.moves ≤ most)))
+  pub shorter : (on.level < way.level) ⊎
+      ((on.level ≡ way.level) × ((on.moves ≡ suc way.moves) × (on.moves ≤ most)))
 
 -- a way that goes on is shorter, whatever the pages are
 abbrev pub LeavesLess : ℕ → ℕ → Way → Option Onward → Type 0

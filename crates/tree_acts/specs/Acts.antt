@@ -33,14 +33,17 @@ pub record EntryIsPut (st : State) (start : ℕ) (e : Entry) (page after : Page)
   pub block_is : after.block ≡ page.block
   pub may : MayAct st (after ∷ [])
 
--- the page that was right of one that is split, with its left link mended: none where there was none
+-- the page that was right of one that is split, with its left link mended: none where there was
+-- none
 pub data IsMended (st : State) (new : ℕ) : Option ℕ → List Page → Type 0 where
   rightmost : IsMended st new None []
-  neighbour : {r : ℕ} (old after : Page) → slice_get st.pages r ≡ Some old → after.block ≡ r → node_of after ≡ with_left (node_of old) (Some new)
+  neighbour : {r : ℕ} (old after : Page) → slice_get st.pages r ≡ Some old → after.block ≡ r
+      → node_of after ≡ with_left (node_of old) (Some new)
       → IsMended st new (Some r) (after ∷ [])
 
 -- a live leaf, not flagged, that covers the entry is split with it
-pub record LeafIsSplit (st : State) (start : ℕ) (e : Entry) (page left right : Page) (mended : List Page) : Type 0 where
+pub record LeafIsSplit (st : State) (start : ℕ) (e : Entry) (page left right : Page)
+    (mended : List Page) : Type 0 where
   pub found : slice_get st.pages page.block ≡ Some page
   pub alive : page.state ≡ Live
   pub leaf : page.level ≡ 0
@@ -53,8 +56,10 @@ pub record LeafIsSplit (st : State) (start : ℕ) (e : Entry) (page left right :
   pub mends : IsMended st right.block page.right mended
   pub may : MayAct st (left ∷ right ∷ mended)
 
--- page p of this level, whose split is to be finished: a place for its separator, flagged, with its right half
-pub record IsUnfinished (st : State) (start level : ℕ) (s : Bound) (p : Page) (new : ℕ) : Type 0 where
+-- page p of this level, whose split is to be finished: a place for its separator, flagged, with its
+-- right half
+pub record IsUnfinished (st : State) (start level : ℕ) (s : Bound) (p : Page)
+    (new : ℕ) : Type 0 where
   pub found : slice_get st.pages p.block ≡ Some p
   pub place : HasPlace st start level (bound_aim s) true p.block
   pub flagged : p.split ≡ true
@@ -67,7 +72,8 @@ pub record IsClear (p after : Page) : Type 0 where
   pub block_is : after.block ≡ p.block
 
 -- the downlink of the right half is put on the page that covers the separator
-pub record SplitIsFinished (st : State) (start level : ℕ) (s : Bound) (p q p_after q_after : Page) (new : ℕ) : Type 0 where
+pub record SplitIsFinished (st : State) (start level : ℕ) (s : Bound) (p q p_after q_after : Page)
+    (new : ℕ) : Type 0 where
   pub unfinished : IsUnfinished st start level s p new
   pub found : slice_get st.pages q.block ≡ Some q
   pub covers : HasCover st (suc level) (bound_aim s) q.block
@@ -78,7 +84,8 @@ pub record SplitIsFinished (st : State) (start level : ℕ) (s : Bound) (p q p_a
   pub may : MayAct st (q_after ∷ p_after ∷ [])
 
 -- ... which is full, not flagged, and split itself
-pub record ParentIsSplit (st : State) (start level : ℕ) (s : Bound) (p q p_after left right : Page) (mended : List Page) (new : ℕ) : Type 0 where
+pub record ParentIsSplit (st : State) (start level : ℕ) (s : Bound) (p q p_after left right : Page)
+    (mended : List Page) (new : ℕ) : Type 0 where
   pub unfinished : IsUnfinished st start level s p new
   pub found : slice_get st.pages q.block ≡ Some q
   pub place : HasPlace st start (suc level) (bound_aim s) true q.block
@@ -94,7 +101,8 @@ pub record ParentIsSplit (st : State) (start level : ℕ) (s : Bound) (p q p_aft
   pub may : MayAct st (left ∷ right ∷ mended ++ p_after ∷ [])
 
 -- the split of a page of the root's level is finished by a new root
-pub record RootIsSplit (st : State) (start : ℕ) (s : Bound) (meta meta_after p p_after root : Page) (new : ℕ) : Type 0 where
+pub record RootIsSplit (st : State) (start : ℕ) (s : Bound) (meta meta_after p p_after root : Page)
+    (new : ℕ) : Type 0 where
   pub meta_found : slice_get st.pages 0 ≡ Some meta
   pub unfinished : IsUnfinished st start meta.level s p new
   pub meta_is : IsMetaOf meta_after root.block (suc meta.level)
@@ -116,29 +124,34 @@ ContentsStay old new = (x : Entry) → entry_on_live_leaf new.pages x ≡ entry_
 
 -- the entry is there, and else the contents are as they were
 abbrev pub ContentsGain : Entry → State → State → Type 0
-ContentsGain e old new = (x : Entry) → entry_on_live_leaf new.pages x ≡ (same_entry e x || entry_on_live_leaf old.pages x)
+ContentsGain e old new = (x : Entry) → entry_on_live_leaf new.pages x
+    ≡ (same_entry e x || entry_on_live_leaf old.pages x)
 
 -- what each of these acts leaves
 abbrev pub PuttingLasts : Type 0
 PuttingLasts =
-    (st : State) (start : ℕ) (e : Entry) (page after : Page) → HasTree st → EntryIsPut st start e page after
+    (st : State) (start : ℕ) (e : Entry) (page after : Page) → HasTree st
+    → EntryIsPut st start e page after
     → TreeLasts st (after_act (after ∷ []) st) × ContentsGain e st (after_act (after ∷ []) st)
 
 abbrev pub LeafSplitLasts : Type 0
 LeafSplitLasts =
     (st : State) (start : ℕ) (e : Entry) (page left right : Page) (mended : List Page)
     → HasTree st → LeafIsSplit st start e page left right mended
-    → TreeLasts st (after_act (left ∷ right ∷ mended) st) × ContentsGain e st (after_act (left ∷ right ∷ mended) st)
+    → TreeLasts st (after_act (left ∷ right ∷ mended) st)
+    × ContentsGain e st (after_act (left ∷ right ∷ mended) st)
 
 abbrev pub FinishLasts : Type 0
 FinishLasts =
     (st : State) (start level : ℕ) (s : Bound) (p q p_after q_after : Page) (new : ℕ)
     → HasTree st → SplitIsFinished st start level s p q p_after q_after new
-    → TreeLasts st (after_act (q_after ∷ p_after ∷ []) st) × ContentsStay st (after_act (q_after ∷ p_after ∷ []) st)
+    → TreeLasts st (after_act (q_after ∷ p_after ∷ []) st)
+    × ContentsStay st (after_act (q_after ∷ p_after ∷ []) st)
 
 abbrev pub ParentSplitLasts : Type 0
 ParentSplitLasts =
-    (st : State) (start level : ℕ) (s : Bound) (p q p_after left right : Page) (mended : List Page) (new : ℕ)
+    (st : State) (start level : ℕ) (s : Bound) (p q p_after left right : Page) (mended : List Page)
+    (new : ℕ)
     → HasTree st → ParentIsSplit st start level s p q p_after left right mended new
     → TreeLasts st (after_act (left ∷ right ∷ mended ++ p_after ∷ []) st)
     × ContentsStay st (after_act (left ∷ right ∷ mended ++ p_after ∷ []) st)

@@ -18,7 +18,8 @@ use Rattle.tree_acts.specs.Trees.{HasTree, HasPlace, HasCover, HasTrail}
 use Rattle.tree_acts.specs.Acts.{IsUnfinished}
 
 -- the metapage names the root, a place on its level for whatever a call looks for
-pub record RootIsThere (st : State) (start : ℕ) (aim : Bound → Bool) (clear : Bool) (meta : Page) : Type 0 where
+pub record RootIsThere (st : State) (start : ℕ) (aim : Bound → Bool) (clear : Bool)
+    (meta : Page) : Type 0 where
   pub root : ℕ
   pub names : IsMetaOf meta root meta.level
   pub place : HasPlace st start meta.level aim clear root
@@ -29,7 +30,8 @@ MetapageTells =
     → HasTree st → slice_get st.pages 0 ≡ Some meta → RootIsThere st start aim clear meta
 
 -- the page has a right link, and that is a place on its level
-pub record RightIsThere (st : State) (start level : ℕ) (aim : Bound → Bool) (clear : Bool) (page : Page) : Type 0 where
+pub record RightIsThere (st : State) (start level : ℕ) (aim : Bound → Bool) (clear : Bool)
+    (page : Page) : Type 0 where
   pub to : ℕ
   pub right_is : page.right ≡ Some to
   pub place : HasPlace st start level aim clear to
@@ -38,7 +40,8 @@ pub record RightIsThere (st : State) (start level : ℕ) (aim : Bound → Bool) 
 abbrev pub PassedTells : Type 0
 PassedTells =
     (st : State) (start level : ℕ) (aim : Bound → Bool) (clear : Bool) (page : Page)
-    → HasTree st → slice_get st.pages page.block ≡ Some page → HasPlace st start level aim clear page.block
+    → HasTree st → slice_get st.pages page.block ≡ Some page
+    → HasPlace st start level aim clear page.block
     → IsPassedBy aim clear (node_of page) → RightIsThere st start level aim clear page
 
 -- a live page says its level, and where what is looked for is within its high key, it covers that
@@ -49,31 +52,37 @@ pub record IsArrival (st : State) (level : ℕ) (aim : Bound → Bool) (page : P
 abbrev pub LiveTells : Type 0
 LiveTells =
     (st : State) (start level : ℕ) (aim : Bound → Bool) (clear : Bool) (page : Page)
-    → HasTree st → slice_get st.pages page.block ≡ Some page → HasPlace st start level aim clear page.block
+    → HasTree st → slice_get st.pages page.block ≡ Some page
+    → HasPlace st start level aim clear page.block
     → page.state ≡ Live → IsArrival st level aim page
 
 -- a page that covers what is looked for leads down by each downlink with a bound below that
 abbrev pub InternalTells : Type 0
 InternalTells =
     (st : State) (start level : ℕ) (aim : Bound → Bool) (clear : Bool) (page : Page)
-    → HasTree st → slice_get st.pages page.block ≡ Some page → HasCover st (suc level) aim page.block
+    → HasTree st → slice_get st.pages page.block ≡ Some page
+    → HasCover st (suc level) aim page.block
     → (before : List Downlink) (bound : Option Bound) (child : ℕ) (after : List Downlink)
-    → links_of page.items ≡ before ++ record { bound = bound; child = child } ∷ after → is_beyond aim bound ≡ true
+    → links_of page.items ≡ before ++ record { bound = bound; child = child } ∷ after
+    → is_beyond aim bound ≡ true
     → HasPlace st start level aim clear child
 
 -- an entry is there exactly if it is on the leaf that covers it
 abbrev pub LeafTells : Type 0
 LeafTells =
     (st : State) (e : Entry) (page : Page)
-    → HasTree st → slice_get st.pages page.block ≡ Some page → HasCover st 0 (entry_aim e) page.block
+    → HasTree st → slice_get st.pages page.block ≡ Some page
+    → HasCover st 0 (entry_aim e) page.block
     → entry_on_live_leaf st.pages e ≡ is_among (entries_of page.items) e
 
 -- the leaf that covers the frontier covers each entry beyond that and not above the high key
 abbrev pub FrontierTells : Type 0
 FrontierTells =
     (st : State) (f : Bound) (e : Entry) (page : Page)
-    → HasTree st → slice_get st.pages page.block ≡ Some page → HasCover st 0 (frontier_aim f) page.block
-    → is_past f e ≡ true → is_within (entry_aim e) page.high ≡ true → HasCover st 0 (entry_aim e) page.block
+    → HasTree st → slice_get st.pages page.block ≡ Some page
+    → HasCover st 0 (frontier_aim f) page.block
+    → is_past f e ≡ true → is_within (entry_aim e) page.high ≡ true
+    → HasCover st 0 (entry_aim e) page.block
 
 -- the page that covers the separator of an unfinished split has a downlink to the left half
 abbrev pub ParentTells : Type 0
@@ -87,20 +96,23 @@ abbrev pub SeparatorTells : Type 0
 SeparatorTells =
     (st : State) (start level : ℕ) (s : Bound) (p q : Page) (new : ℕ) (added : List Downlink)
     → HasTree st → IsUnfinished st start level s p new → slice_get st.pages q.block ≡ Some q
-    → HasCover st (suc level) (bound_aim s) q.block → (put : IsLinkAdded p.block new s (links_of q.items) added)
+    → HasCover st (suc level) (bound_aim s) q.block
+    → (put : IsLinkAdded p.block new s (links_of q.items) added)
     → IsBetween put.bound s put.after q.high
 
 -- an unfinished split on the root's level is that of the root
 abbrev pub RootTells : Type 0
 RootTells =
     (st : State) (start : ℕ) (s : Bound) (meta p : Page) (new : ℕ)
-    → HasTree st → slice_get st.pages 0 ≡ Some meta → IsUnfinished st start meta.level s p new → meta.right ≡ Some p.block
+    → HasTree st → slice_get st.pages 0 ≡ Some meta → IsUnfinished st start meta.level s p new
+    → meta.right ≡ Some p.block
 
 -- an unfinished split is on a level of the tree
 abbrev pub UnfinishedIsBelow : Type 0
 UnfinishedIsBelow =
     (st : State) (start level : ℕ) (s : Bound) (meta p : Page) (new : ℕ)
-    → HasTree st → slice_get st.pages 0 ≡ Some meta → IsUnfinished st start level s p new → level ≤ meta.level
+    → HasTree st → slice_get st.pages 0 ≡ Some meta → IsUnfinished st start level s p new
+    → level ≤ meta.level
 
 -- a walk that begins at a place has left no block behind
 abbrev pub TrailBegins : Type 0
@@ -112,9 +124,11 @@ TrailBegins =
 abbrev pub TrailGoesRight : Type 0
 TrailGoesRight =
     (st : State) (start level moves to : ℕ) (page : Page)
-    → HasTree st → slice_get st.pages page.block ≡ Some page → page.right ≡ Some to → HasTrail st start level page.block moves
+    → HasTree st → slice_get st.pages page.block ≡ Some page → page.right ≡ Some to
+    → HasTrail st start level page.block moves
     → HasTrail st start level to (suc moves)
 
 -- so there are fewer moves than pages in use
 abbrev pub TrailIsShort : Type 0
-TrailIsShort = (st : State) (start level block moves : ℕ) → HasTree st → HasTrail st start level block moves → suc moves < length st.pages
+TrailIsShort = (st : State) (start level block moves : ℕ) → HasTree st
+    → HasTrail st start level block moves → suc moves < length st.pages

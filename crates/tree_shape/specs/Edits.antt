@@ -52,8 +52,8 @@ pub record IsInsertion (at at' : ℕ → Node) (b : ℕ) (e : Entry) : Type 0 wh
   pub leaf_is : at' b ≡ with_leaf (at b) after
   pub others : (c : ℕ) → c ≢ b → at' c ≡ at c
 
--- The halves of a leaf at block b that is split with the entry put in. Both have entries; those of the left half are at most
--- the separator, its high key, and those of the right half lie beyond it.
+-- The halves of a leaf at block b that is split with the entry put in. Both have entries; those of
+-- the left half are at most the separator, its high key, and those of the right half lie beyond it.
 pub record LeafHalves (node : Node) (b new : ℕ) (e : Entry) (left right : Node) : Type 0 where
   pub first : Entry
   pub front : List Entry
@@ -66,7 +66,8 @@ pub record LeafHalves (node : Node) (b new : ℕ) (e : Entry) (left right : Node
   pub left_is : left ≡ left_half node new separator (first ∷ front)
   pub right_is : right ≡ right_half node b (middle ∷ back)
 
--- Leaf b, live and not flagged, is split with the entry put in, and the old right neighbour's left link is mended.
+-- Leaf b, live and not flagged, is split with the entry put in, and the old right neighbour's left
+-- link is mended.
 pub record IsLeafSplit (at at' : ℕ → Node) (b new : ℕ) (e : Entry) : Type 0 where
   pub alive : (at b).state ≡ Live
   pub leaf : (at b).level ≡ 0
@@ -89,13 +90,15 @@ with_links node links = record node { links = links }
 abbrev pub cleared : Node → Node
 cleared node = record node { split = false }
 
--- the downlink of a right half, with the separator for its bound, is put behind the one that leads to the left half p
+-- the downlink of a right half, with the separator for its bound, is put behind the one that leads
+-- to the left half p
 pub record IsLinkAdded (p new : ℕ) (separator : Bound) (links added : List Downlink) : Type 0 where
   pub before : List Downlink
   pub bound : Option Bound
   pub after : List Downlink
   pub links_are : links ≡ before ++ record { bound = bound; child = p } ∷ after
-  pub added_are : added ≡ before ++ record { bound = bound; child = p } ∷ record { bound = Some separator; child = new } ∷ after
+  pub added_are : added ≡ before
+      ++ record { bound = bound; child = p } ∷ record { bound = Some separator; child = new } ∷ after
 
 -- the bound is less than that one, which isn't minus infinity
 abbrev pub IsBelowBound : Bound → Option Bound → Type 0
@@ -108,7 +111,8 @@ IsBelowNext s [] = Unit {0}
 IsBelowNext s (i ∷ is) = IsBelowBound s i.bound
 
 -- a separator stands between the bound before it, the one behind it and the high key
-pub record IsBetween (bound : Option Bound) (s : Bound) (after : List Downlink) (high : Option Bound) : Type 0 where
+pub record IsBetween (bound : Option Bound) (s : Bound) (after : List Downlink)
+    (high : Option Bound) : Type 0 where
   pub beyond : IsBeyond bound s
   pub below_next : IsBelowNext s after
   pub below_high : Rises (Some s) high
@@ -135,9 +139,10 @@ left_links node new cut links = record node { state = Live; split = true; right 
 abbrev pub right_links : Node → ℕ → List Downlink → Node
 right_links node q links = record node { state = Live; split = false; left = Some q; links = links }
 
--- The halves of an internal page at block q that is split, of these downlinks. The bound of the right half's first downlink is
--- the left half's high key, and becomes minus infinity.
-pub record LinkHalves (node : Node) (q new : ℕ) (links : List Downlink) (left right : Node) : Type 0 where
+-- The halves of an internal page at block q that is split, of these downlinks. The bound of the
+-- right half's first downlink is the left half's high key, and becomes minus infinity.
+pub record LinkHalves (node : Node) (q new : ℕ) (links : List Downlink)
+    (left right : Node) : Type 0 where
   pub first : Downlink
   pub front : List Downlink
   pub cut : Bound
@@ -147,8 +152,8 @@ pub record LinkHalves (node : Node) (q new : ℕ) (links : List Downlink) (left 
   pub left_is : left ≡ left_links node new cut (first ∷ front)
   pub right_is : right ≡ right_links node q (record { bound = None; child = middle } ∷ back)
 
--- The split of page p is finished in its parent q, which is full and is split itself; its old right neighbour's left link is
--- mended.
+-- The split of page p is finished in its parent q, which is full and is split itself; its old right
+-- neighbour's left link is mended.
 pub record IsParentSplit (at at' : ℕ → Node) (p q sibling : ℕ) : Type 0 where
   pub flagged : (at p).split ≡ true
   pub separator : Bound

@@ -10,11 +10,14 @@ use Rattle.tree_shape.specs.Chains.{Spot, IsIn, IsTreeOf, first_spot}
 use Rattle.tree_shape.specs.Edits.{IsInsertion, IsLeafSplit, IsFree, IsFinish, IsParentSplit, IsRootSplit, IsLinkAdded, IsBetween}
 use Rattle.tree_shape.specs.Walks.{IsAim, entry_aim, bound_aim, frontier_aim, is_beyond, is_within, is_fit, IsFitOn, IsCoverOn, LeadsOn, IsPlace, KeepsPlaces, KeepsOrder}
 
--- The pages are a tree again, and each number that a call keeps is still good, if its start number isn't below this one.
-pub record TreeGoesOn (at at' : ℕ → Node) (number number' : ℕ → ℕ) (used' root' top top' : ℕ) (chain : ℕ → List ℕ) (least : ℕ) : Type 0 where
+-- The pages are a tree again, and each number that a call keeps is still good, if its start number
+-- isn't below this one.
+pub record TreeGoesOn (at at' : ℕ → Node) (number number' : ℕ → ℕ) (used' root' top top' : ℕ)
+    (chain : ℕ → List ℕ) (least : ℕ) : Type 0 where
   pub chain' : ℕ → List ℕ
   pub tree : IsTreeOf at' used' root' top' chain'
-  pub places : (start : ℕ) → least ≤ start → (level : ℕ) → level ≤ top → KeepsPlaces at at' number number' (chain level) (chain' level) start
+  pub places : (start : ℕ) → least ≤ start → (level : ℕ) → level ≤ top
+      → KeepsPlaces at at' number number' (chain level) (chain' level) start
   pub order : (level : ℕ) → level ≤ top → KeepsOrder (chain level) (chain' level)
 
 -- a deleted block that is taken was deleted before each call with such a start number began
@@ -24,25 +27,31 @@ IsReusable at number least new = (at new).state ≡ Deleted → number new ≤ l
 -- an entry is put on the leaf that covers it
 abbrev pub InsertionKeeps : Type 0
 InsertionKeeps =
-    (at at' : ℕ → Node) (number number' : ℕ → ℕ) (used root top : ℕ) (chain : ℕ → List ℕ) (least : ℕ) (b : ℕ) (e : Entry) (clear : Bool)
+    (at at' : ℕ → Node) (number number' : ℕ → ℕ) (used root top : ℕ) (chain : ℕ → List ℕ)
+    (least : ℕ) (b : ℕ) (e : Entry) (clear : Bool)
     → IsTreeOf at used root top chain → IsInsertion at at' b e
-    → IsFitOn at first_spot (chain 0) (is_fit (entry_aim e) clear) b → is_within (entry_aim e) (at b).high ≡ true
+    → IsFitOn at first_spot (chain 0) (is_fit (entry_aim e) clear) b
+    → is_within (entry_aim e) (at b).high ≡ true
     → ((c : ℕ) → c ≢ b → number' c ≡ number c)
     → TreeGoesOn at at' number number' used root top top chain least
 
 -- the leaf that covers the entry is split with it
 abbrev pub LeafSplitKeeps : Type 0
 LeafSplitKeeps =
-    (at at' : ℕ → Node) (number number' : ℕ → ℕ) (used root top : ℕ) (chain : ℕ → List ℕ) (least : ℕ) (b new : ℕ) (e : Entry)
-    → IsTreeOf at used root top chain → IsLeafSplit at at' b new e → IsFree at used new → IsReusable at number least new
-    → IsFitOn at first_spot (chain 0) (is_fit (entry_aim e) true) b → is_within (entry_aim e) (at b).high ≡ true
+    (at at' : ℕ → Node) (number number' : ℕ → ℕ) (used root top : ℕ) (chain : ℕ → List ℕ)
+    (least : ℕ) (b new : ℕ) (e : Entry)
+    → IsTreeOf at used root top chain → IsLeafSplit at at' b new e → IsFree at used new
+    → IsReusable at number least new
+    → IsFitOn at first_spot (chain 0) (is_fit (entry_aim e) true) b
+    → is_within (entry_aim e) (at b).high ≡ true
     → ((c : ℕ) → c ≢ b → c ≢ new → (at b).right ≢ Some c → number' c ≡ number c)
     → TreeGoesOn at at' number number' (max used (suc new)) root top top chain least
 
 -- the split of p is finished in a page of the level above
 abbrev pub FinishKeeps : Type 0
 FinishKeeps =
-    (at at' : ℕ → Node) (number number' : ℕ → ℕ) (used root top : ℕ) (chain : ℕ → List ℕ) (least : ℕ) (level p q : ℕ) (s : Bound)
+    (at at' : ℕ → Node) (number number' : ℕ → ℕ) (used root top : ℕ) (chain : ℕ → List ℕ)
+    (least : ℕ) (level p q : ℕ) (s : Bound)
     → IsTreeOf at used root top chain → level < top → (h : IsFinish at at' p q) → h.separator ≡ s
     → IsFitOn at first_spot (chain level) (is_fit (bound_aim s) true) p → IsIn q (chain (suc level))
     → ((c : ℕ) → c ≢ p → c ≢ q → number' c ≡ number c)
@@ -51,28 +60,34 @@ FinishKeeps =
 -- ... that is split itself, where it isn't right behind a flagged page
 abbrev pub ParentSplitKeeps : Type 0
 ParentSplitKeeps =
-    (at at' : ℕ → Node) (number number' : ℕ → ℕ) (used root top : ℕ) (chain : ℕ → List ℕ) (least : ℕ) (level p q sibling : ℕ) (s : Bound)
-    → IsTreeOf at used root top chain → level < top → (h : IsParentSplit at at' p q sibling) → h.separator ≡ s → IsFree at used sibling → IsReusable at number least sibling
-    → IsFitOn at first_spot (chain level) (is_fit (bound_aim s) true) p → IsFitOn at first_spot (chain (suc level)) (is_fit (bound_aim s) true) q
+    (at at' : ℕ → Node) (number number' : ℕ → ℕ) (used root top : ℕ) (chain : ℕ → List ℕ)
+    (least : ℕ) (level p q sibling : ℕ) (s : Bound)
+    → IsTreeOf at used root top chain → level < top → (h : IsParentSplit at at' p q sibling)
+    → h.separator ≡ s → IsFree at used sibling → IsReusable at number least sibling
+    → IsFitOn at first_spot (chain level) (is_fit (bound_aim s) true) p
+    → IsFitOn at first_spot (chain (suc level)) (is_fit (bound_aim s) true) q
     → ((c : ℕ) → c ≢ p → c ≢ q → c ≢ sibling → (at q).right ≢ Some c → number' c ≡ number c)
     → TreeGoesOn at at' number number' (max used (suc sibling)) root top top chain least
 
 -- the split of the root is finished by a new root
 abbrev pub RootSplitKeeps : Type 0
 RootSplitKeeps =
-    (at at' : ℕ → Node) (number number' : ℕ → ℕ) (used p top fresh : ℕ) (chain : ℕ → List ℕ) (least : ℕ)
-    → IsTreeOf at used p top chain → IsRootSplit at at' p top fresh → IsFree at used fresh → IsReusable at number least fresh → (at 0).state ≢ Deleted
+    (at at' : ℕ → Node) (number number' : ℕ → ℕ) (used p top fresh : ℕ) (chain : ℕ → List ℕ)
+    (least : ℕ)
+    → IsTreeOf at used p top chain → IsRootSplit at at' p top fresh → IsFree at used fresh
+    → IsReusable at number least fresh → (at 0).state ≢ Deleted
     → ((c : ℕ) → 0 < c → c ≢ p → c ≢ fresh → number' c ≡ number c)
     → TreeGoesOn at at' number number' (max used (suc fresh)) fresh top (suc top) chain least
 
--- the page has to be passed: it isn't live, or what is looked for lies beyond its high key; and it isn't flagged, where that
--- counts
+-- the page has to be passed: it isn't live, or what is looked for lies beyond its high key; and it
+-- isn't flagged, where that counts
 pub record IsPassedBy (aim : Bound → Bool) (clear : Bool) (node : Node) : Type 0 where
   pub why : (node.state ≢ Live) ⊎ (is_within aim node.high ≡ false)
   pub whole : clear ≡ true → node.split ≡ false
 
 -- its right link is a place
-pub record LeadsRight (at : ℕ → Node) (number : ℕ → ℕ) (chain : List ℕ) (start : ℕ) (fit : Spot → Bool) (b : ℕ) : Type 0 where
+pub record LeadsRight (at : ℕ → Node) (number : ℕ → ℕ) (chain : List ℕ) (start : ℕ)
+    (fit : Spot → Bool) (b : ℕ) : Type 0 where
   pub to : ℕ
   pub right_is : (at b).right ≡ Some to
   pub place : IsPlace at number chain start fit to
@@ -85,7 +100,8 @@ OnlyLeavesHold at = (c : ℕ) (x : Entry) → holds (at c) x ≡ true → (0 < c
 abbrev pub ChainsAreTold : Type 0
 ChainsAreTold =
     (at : ℕ → Node) (used root top : ℕ) (chain chain' : ℕ → List ℕ)
-    → IsTreeOf at used root top chain → IsTreeOf at used root top chain' → (level : ℕ) → level ≤ top → chain level ≡ chain' level
+    → IsTreeOf at used root top chain → IsTreeOf at used root top chain' → (level : ℕ)
+    → level ≤ top → chain level ≡ chain' level
 
 -- the root is a place on its level, whatever is looked for
 abbrev pub RootIsAPlace : Type 0
@@ -96,7 +112,8 @@ RootIsAPlace =
 -- from a page that has to be passed its right link leads on
 abbrev pub PlacesGoRight : Type 0
 PlacesGoRight =
-    (at : ℕ → Node) (number : ℕ → ℕ) (used root top : ℕ) (chain : ℕ → List ℕ) (level start : ℕ) (aim : Bound → Bool) (clear : Bool) (b : ℕ)
+    (at : ℕ → Node) (number : ℕ → ℕ) (used root top : ℕ) (chain : ℕ → List ℕ) (level start : ℕ)
+    (aim : Bound → Bool) (clear : Bool) (b : ℕ)
     → IsTreeOf at used root top chain → level ≤ top
     → IsPlace at number (chain level) start (is_fit aim clear) b → IsPassedBy aim clear (at b)
     → LeadsRight at number (chain level) start (is_fit aim clear) b
@@ -104,8 +121,10 @@ PlacesGoRight =
 -- a live page that is a place, with what is looked for within its high key, covers it
 abbrev pub PlacesCover : Type 0
 PlacesCover =
-    (at : ℕ → Node) (number : ℕ → ℕ) (chain : List ℕ) (start : ℕ) (aim : Bound → Bool) (clear : Bool) (b : ℕ)
-    → IsPlace at number chain start (is_fit aim clear) b → (at b).state ≡ Live → is_within aim (at b).high ≡ true
+    (at : ℕ → Node) (number : ℕ → ℕ) (chain : List ℕ) (start : ℕ) (aim : Bound → Bool)
+    (clear : Bool) (b : ℕ)
+    → IsPlace at number chain start (is_fit aim clear) b → (at b).state ≡ Live
+    → is_within aim (at b).high ≡ true
     → IsCoverOn at first_spot chain aim b
 
 -- a live page that is a place stands on its chain
@@ -117,21 +136,27 @@ LivePlacesStand =
 -- the page of a place is on its level, or deleted
 abbrev pub PlacesKeepTheirLevel : Type 0
 PlacesKeepTheirLevel =
-    (at : ℕ → Node) (number : ℕ → ℕ) (used root top : ℕ) (chain : ℕ → List ℕ) (level start : ℕ) (fit : Spot → Bool) (b : ℕ)
+    (at : ℕ → Node) (number : ℕ → ℕ) (used root top : ℕ) (chain : ℕ → List ℕ) (level start : ℕ)
+    (fit : Spot → Bool) (b : ℕ)
     → IsTreeOf at used root top chain → level ≤ top → IsPlace at number (chain level) start fit b
     → ((at b).state ≡ Deleted) ⊎ (((at b).level ≡ level) × IsIn b (chain level))
 
--- a page that covers what is looked for leads down: the child of an item with a bound below it is a place
+-- a page that covers what is looked for leads down: the child of an item with a bound below it is a
+-- place
 abbrev pub CoversLeadDown : Type 0
 CoversLeadDown =
-    (at : ℕ → Node) (used root top : ℕ) (chain : ℕ → List ℕ) (level q : ℕ) (aim : Bound → Bool) (clear : Bool)
-    → IsTreeOf at used root top chain → level < top → IsCoverOn at first_spot (chain (suc level)) aim q
+    (at : ℕ → Node) (used root top : ℕ) (chain : ℕ → List ℕ) (level q : ℕ) (aim : Bound → Bool)
+    (clear : Bool)
+    → IsTreeOf at used root top chain → level < top
+    → IsCoverOn at first_spot (chain (suc level)) aim q
     → (before : List Downlink) (bound : Option Bound) (child : ℕ) (after : List Downlink)
-    → (at q).links ≡ before ++ record { bound = bound; child = child } ∷ after → is_beyond aim bound ≡ true
+    → (at q).links ≡ before ++ record { bound = bound; child = child } ∷ after
+    → is_beyond aim bound ≡ true
     → IsFitOn at first_spot (chain level) (is_fit aim clear) child
 
 -- right links lead from the block to the page of the chain that covers what is looked for
-pub record IsLed (at : ℕ → Node) (number : ℕ → ℕ) (s : Spot) (xs : List ℕ) (start : ℕ) (aim : Bound → Bool) (b : ℕ) : Type 0 where
+pub record IsLed (at : ℕ → Node) (number : ℕ → ℕ) (s : Spot) (xs : List ℕ) (start : ℕ)
+    (aim : Bound → Bool) (b : ℕ) : Type 0 where
   pub page : ℕ
   pub covers : IsCoverOn at s xs aim page
   pub walk : LeadsOn at number start b page
@@ -139,29 +164,35 @@ pub record IsLed (at : ℕ → Node) (number : ℕ → ℕ) (s : Spot) (xs : Lis
 -- from a place right links lead to the page of the level that covers what is looked for
 abbrev pub PlacesLeadOn : Type 0
 PlacesLeadOn =
-    (at : ℕ → Node) (number : ℕ → ℕ) (used root top : ℕ) (chain : ℕ → List ℕ) (level start : ℕ) (aim : Bound → Bool) (clear : Bool) (b : ℕ)
-    → IsTreeOf at used root top chain → level ≤ top → IsPlace at number (chain level) start (is_fit aim clear) b
+    (at : ℕ → Node) (number : ℕ → ℕ) (used root top : ℕ) (chain : ℕ → List ℕ) (level start : ℕ)
+    (aim : Bound → Bool) (clear : Bool) (b : ℕ)
+    → IsTreeOf at used root top chain → level ≤ top
+    → IsPlace at number (chain level) start (is_fit aim clear) b
     → IsLed at number first_spot (chain level) start aim b
 
 -- only one page of a level covers what is looked for
 abbrev pub CoverIsOne : Type 0
 CoverIsOne =
-    (at : ℕ → Node) (used root top : ℕ) (chain : ℕ → List ℕ) (level : ℕ) (aim : Bound → Bool) (b c : ℕ)
+    (at : ℕ → Node) (used root top : ℕ) (chain : ℕ → List ℕ) (level : ℕ) (aim : Bound → Bool)
+    (b c : ℕ)
     → IsTreeOf at used root top chain → level ≤ top → IsAim aim
-    → IsCoverOn at first_spot (chain level) aim b → IsCoverOn at first_spot (chain level) aim c → b ≡ c
+    → IsCoverOn at first_spot (chain level) aim b → IsCoverOn at first_spot (chain level) aim c
+    → b ≡ c
 
 -- an entry is held exactly if it is on the leaf that covers it
 abbrev pub HeldOnItsCover : Type 0
 HeldOnItsCover =
     (at : ℕ → Node) (used root top : ℕ) (chain : ℕ → List ℕ) (x : Entry) (b : ℕ)
-    → IsTreeOf at used root top chain → OnlyLeavesHold at → IsCoverOn at first_spot (chain 0) (entry_aim x) b
+    → IsTreeOf at used root top chain → OnlyLeavesHold at
+    → IsCoverOn at first_spot (chain 0) (entry_aim x) b
     → IsHeld at used x ↔ (is_among (at b).entries x ≡ true)
 
 -- what covers the frontier covers each entry beyond it that isn't above the high key
 abbrev pub FrontierCovers : Type 0
 FrontierCovers =
     (at : ℕ → Node) (chain : List ℕ) (f : Bound) (x : Entry) (b : ℕ)
-    → IsCoverOn at first_spot chain (frontier_aim f) b → is_past f x ≡ true → is_within (entry_aim x) (at b).high ≡ true
+    → IsCoverOn at first_spot chain (frontier_aim f) b → is_past f x ≡ true
+    → is_within (entry_aim x) (at b).high ≡ true
     → IsCoverOn at first_spot chain (entry_aim x) b
 
 -- the downlinks have one to the child
@@ -175,23 +206,29 @@ pub record HasLink (child : ℕ) (links : List Downlink) : Type 0 where
 abbrev pub FlaggedHasItsLink : Type 0
 FlaggedHasItsLink =
     (at : ℕ → Node) (used root top : ℕ) (chain : ℕ → List ℕ) (level p q : ℕ) (s : Bound)
-    → IsTreeOf at used root top chain → level < top → IsFitOn at first_spot (chain level) (is_fit (bound_aim s) true) p
-    → (at p).split ≡ true → (at p).high ≡ Some s → IsCoverOn at first_spot (chain (suc level)) (bound_aim s) q
+    → IsTreeOf at used root top chain → level < top
+    → IsFitOn at first_spot (chain level) (is_fit (bound_aim s) true) p
+    → (at p).split ≡ true → (at p).high ≡ Some s → IsCoverOn at first_spot (chain (suc level))
+    (bound_aim s) q
     → HasLink p (at q).links
 
 -- ... and it fits behind that, whichever page of the level has the downlink
 abbrev pub SeparatorFits : Type 0
 SeparatorFits =
-    (at : ℕ → Node) (used root top : ℕ) (chain : ℕ → List ℕ) (level p q new : ℕ) (s : Bound) (added : List Downlink)
-    → IsTreeOf at used root top chain → level < top → IsFitOn at first_spot (chain level) (is_fit (bound_aim s) true) p
-    → (at p).split ≡ true → (at p).high ≡ Some s → (at p).right ≡ Some new → IsIn q (chain (suc level))
+    (at : ℕ → Node) (used root top : ℕ) (chain : ℕ → List ℕ) (level p q new : ℕ) (s : Bound)
+    (added : List Downlink)
+    → IsTreeOf at used root top chain → level < top
+    → IsFitOn at first_spot (chain level) (is_fit (bound_aim s) true) p
+    → (at p).split ≡ true → (at p).high ≡ Some s → (at p).right ≡ Some new
+    → IsIn q (chain (suc level))
     → (put : IsLinkAdded p new s (at q).links added) → IsBetween put.bound s put.after (at q).high
 
 -- on the root's level only the root isn't right behind a flagged page
 abbrev pub OnlyTheRootIsClear : Type 0
 OnlyTheRootIsClear =
     (at : ℕ → Node) (used root top : ℕ) (chain : ℕ → List ℕ) (aim : Bound → Bool) (b : ℕ)
-    → IsTreeOf at used root top chain → IsFitOn at first_spot (chain top) (is_fit aim true) b → b ≡ root
+    → IsTreeOf at used root top chain → IsFitOn at first_spot (chain top) (is_fit aim true) b
+    → b ≡ root
 
 -- the page is live, with a live right neighbour on its chain
 pub record HasItsHalf (at : ℕ → Node) (chain : List ℕ) (p : ℕ) : Type 0 where
@@ -205,15 +242,18 @@ pub record HasItsHalf (at : ℕ → Node) (chain : List ℕ) (p : ℕ) : Type 0 
 abbrev pub FlaggedHasItsHalf : Type 0
 FlaggedHasItsHalf =
     (at : ℕ → Node) (used root top : ℕ) (chain : ℕ → List ℕ) (level p : ℕ) (s : Bound)
-    → IsTreeOf at used root top chain → level ≤ top → IsIn p (chain level) → (at p).split ≡ true → (at p).high ≡ Some s
+    → IsTreeOf at used root top chain → level ≤ top → IsIn p (chain level) → (at p).split ≡ true
+    → (at p).high ≡ Some s
     → HasItsHalf at (chain level) p
 
 -- a place stays one over an act that keeps places
 abbrev pub PlacesStay : Type 0
 PlacesStay =
-    (at at' : ℕ → Node) (number number' : ℕ → ℕ) (chain chain' : List ℕ) (start : ℕ) (aim : Bound → Bool) (clear : Bool) (b : ℕ)
+    (at at' : ℕ → Node) (number number' : ℕ → ℕ) (chain chain' : List ℕ) (start : ℕ)
+    (aim : Bound → Bool) (clear : Bool) (b : ℕ)
     → IsAim aim → KeepsPlaces at at' number number' chain chain' start
-    → IsPlace at number chain start (is_fit aim clear) b → IsPlace at' number' chain' start (is_fit aim clear) b
+    → IsPlace at number chain start (is_fit aim clear) b
+    → IsPlace at' number' chain' start (is_fit aim clear) b
 
 -- what is looked for lies below every lesser bound too
 abbrev pub AimsFall : Type 0
@@ -225,26 +265,31 @@ FirstIsATree = (at : ℕ → Node) → at 1 ≡ no_node → IsTreeOf at 2 1 0 (�
 
 -- each edit, and the entries that the leaves hold then
 abbrev pub InsertionAdds : Type 0
-InsertionAdds = (at at' : ℕ → Node) (used b : ℕ) (e : Entry) → IsInsertion at at' b e → b < used → HoldsOneMore at at' used used e
+InsertionAdds = (at at' : ℕ → Node) (used b : ℕ) (e : Entry) → IsInsertion at at' b e → b < used
+    → HoldsOneMore at at' used used e
 
 abbrev pub LeafSplitAdds : Type 0
 LeafSplitAdds =
     (at at' : ℕ → Node) (used b new : ℕ) (e : Entry)
-    → IsLeafSplit at at' b new e → IsFree at used new → b < used → HoldsOneMore at at' used (max used (suc new)) e
+    → IsLeafSplit at at' b new e → IsFree at used new → b < used
+    → HoldsOneMore at at' used (max used (suc new)) e
 
 abbrev pub FinishHolds : Type 0
-FinishHolds = (at at' : ℕ → Node) (used p q : ℕ) → IsFinish at at' p q → HoldsTheSame at at' used used
+FinishHolds = (at at' : ℕ → Node) (used p q : ℕ) → IsFinish at at' p q
+    → HoldsTheSame at at' used used
 
 abbrev pub ParentSplitHolds : Type 0
 ParentSplitHolds =
     (at at' : ℕ → Node) (used p q sibling : ℕ)
-    → IsParentSplit at at' p q sibling → IsFree at used sibling → (at q).state ≡ Live → (at q).entries ≡ []
+    → IsParentSplit at at' p q sibling → IsFree at used sibling → (at q).state ≡ Live
+    → (at q).entries ≡ []
     → HoldsTheSame at at' used (max used (suc sibling))
 
 abbrev pub RootSplitHolds : Type 0
 RootSplitHolds =
     (at at' : ℕ → Node) (used p top fresh : ℕ)
-    → IsRootSplit at at' p top fresh → IsFree at used fresh → (at 0).entries ≡ [] → (at' 0).entries ≡ []
+    → IsRootSplit at at' p top fresh → IsFree at used fresh → (at 0).entries ≡ []
+    → (at' 0).entries ≡ []
     → HoldsTheSame at at' used (max used (suc fresh))
 
 -- what is looked for doesn't lie beyond the bound of the first of these, if there is one
@@ -252,12 +297,13 @@ abbrev pub IsWithinFirst : (Bound → Bool) → List Downlink → Type 0
 IsWithinFirst aim [] = Unit {0}
 IsWithinFirst aim (i ∷ is) = is_beyond aim i.bound ≡ false
 
--- where no page of a level is flagged, the way down comes to the page that covers what is looked for at once: it is the child of
--- the last downlink with a bound below that
+-- where no page of a level is flagged, the way down comes to the page that covers what is looked
+-- for at once: it is the child of the last downlink with a bound below that
 abbrev pub CoversLeadStraightDown : Type 0
 CoversLeadStraightDown =
     (at : ℕ → Node) (used root top : ℕ) (chain : ℕ → List ℕ) (level q : ℕ) (aim : Bound → Bool)
-    → IsTreeOf at used root top chain → level < top → IsCoverOn at first_spot (chain (suc level)) aim q
+    → IsTreeOf at used root top chain → level < top
+    → IsCoverOn at first_spot (chain (suc level)) aim q
     → (before : List Downlink) (bound : Option Bound) (child : ℕ) (after : List Downlink)
     → (at q).links ≡ before ++ record { bound = bound; child = child } ∷ after
     → is_beyond aim bound ≡ true → IsWithinFirst aim after
@@ -268,4 +314,5 @@ CoversLeadStraightDown =
 abbrev pub RootCovers : Type 0
 RootCovers =
     (at : ℕ → Node) (used root top : ℕ) (chain : ℕ → List ℕ) (aim : Bound → Bool)
-    → IsTreeOf at used root top chain → (at root).split ≡ false → IsCoverOn at first_spot (chain top) aim root
+    → IsTreeOf at used root top chain → (at root).split ≡ false
+    → IsCoverOn at first_spot (chain top) aim root

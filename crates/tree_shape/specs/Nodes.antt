@@ -83,4 +83,5 @@ HoldsTheSame at at' used used' = (x : Entry) → IsHeld at' used' x ↔ IsHeld a
 
 -- one entry more is held after
 abbrev pub HoldsOneMore : (ℕ → Node) → (ℕ → Node) → ℕ → ℕ → Entry → Type 0
-HoldsOneMore at at' used used' e = (x : Entry) → IsHeld at' used' x ↔ (IsHeld at used x ⊎ (same_entry e x ≡ true))
+HoldsOneMore at at' used used' e = (x : Entry) → IsHeld at' used' x ↔
+    (IsHeld at used x ⊎ (same_entry e x ≡ true))
