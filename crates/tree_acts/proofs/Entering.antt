@@ -35,7 +35,7 @@ module _ (st : State) (start : ℕ) (e : Entry) (page after : Page) (has : HasTr
   apart : (c : ℕ) → c ≢ page.block → IsApartFrom c (after ∷ [])
   apart c ne = ((λ same. ne (sym same ∙ h.block_is)), tt)
 
-  edit : IsInsertion (nodes_of st.pages) (nodes_of (with_pages st.pages (after ∷ []))) page.block e
+  pub edit : IsInsertion (nodes_of st.pages) (nodes_of (with_pages st.pages (after ∷ []))) page.block e
   edit = record {
     alive = ap (λ (n : Node). n.state) here ∙ h.alive;
     leaf = ap (λ (n : Node). n.level) here ∙ h.leaf;
@@ -95,7 +95,7 @@ module _ (st : State) (start : ℕ) (e : Entry) (page left right : Page) (mended
   right_there : nodes_of (with_pages st.pages (left ∷ right ∷ mended)) right.block ≡ node_of right
   right_there = node_there (with_pages st.pages (left ∷ right ∷ mended)) right.block right (pages_second st.limits (length st.pages) st.pages left right mended h.may (omega arith))
 
-  split_edit : IsLeafSplit (nodes_of st.pages) (nodes_of (with_pages st.pages (left ∷ right ∷ mended))) page.block right.block e
+  pub split_edit : IsLeafSplit (nodes_of st.pages) (nodes_of (with_pages st.pages (left ∷ right ∷ mended))) page.block right.block e
   split_edit = record {
     alive = ap (λ (n : Node). n.state) split_here ∙ h.alive;
     leaf = ap (λ (n : Node). n.level) split_here ∙ h.leaf;
@@ -115,7 +115,7 @@ module _ (st : State) (start : ℕ) (e : Entry) (page left right : Page) (mended
   split_on : Stands st has.tree 0 (is_fit (entry_aim e) true) page.block
   split_on = stands st has.tree start 0 (entry_aim e) true page.block h.place (ap (λ (n : Node). n.state) split_here ∙ h.alive)
 
-  free : IsFree (nodes_of st.pages) (length st.pages) right.block
+  pub free : IsFree (nodes_of st.pages) (length st.pages) right.block
   free = fresh_free st right.block has h.fresh
 
   split_meta : MetaIs (with_pages st.pages (left ∷ right ∷ mended)) has.tree.root has.tree.meta.level

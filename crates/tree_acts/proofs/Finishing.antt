@@ -88,7 +88,7 @@ module _ (st : State) (start level : ℕ) (s : Bound) (p q p_after q_after : Pag
   q_level : (nodes_of st.pages q.block).level ≡ suc level
   q_level = (on_level st has.tree (suc level) q.block finish_q.0 finish_q.1)
 
-  finish_edit : IsFinish (nodes_of st.pages) (nodes_of (with_pages st.pages (q_after ∷ p_after ∷ []))) p.block q.block
+  pub finish_edit : IsFinish (nodes_of st.pages) (nodes_of (with_pages st.pages (q_after ∷ p_after ∷ []))) p.block q.block
   finish_edit = record {
     flagged = ap (λ (n : Node). n.split) (p_here st start level s p new has h.unfinished) ∙ h.unfinished.flagged;
     separator = s;
@@ -169,7 +169,7 @@ module _ (st : State) (start level : ℕ) (s : Bound) (p q p_after left right : 
   parent_right = node_there (with_pages st.pages (left ∷ right ∷ mended ++ p_after ∷ [])) right.block right
       (pages_second st.limits (length st.pages) st.pages left right (mended ++ p_after ∷ []) h.may (omega arith))
 
-  parent_edit : IsParentSplit (nodes_of st.pages) (nodes_of (with_pages st.pages (left ∷ right ∷ mended ++ p_after ∷ []))) p.block q.block right.block
+  pub parent_edit : IsParentSplit (nodes_of st.pages) (nodes_of (with_pages st.pages (left ∷ right ∷ mended ++ p_after ∷ []))) p.block q.block right.block
   parent_edit = record {
     flagged = ap (λ (n : Node). n.split) (p_here st start level s p new has h.unfinished) ∙ h.unfinished.flagged;
     separator = s;
@@ -196,7 +196,7 @@ module _ (st : State) (start level : ℕ) (s : Bound) (p q p_after left right : 
       ∙ ap (λ (n : ℕ). max n (suc p_after.block)) (mended_used st right.block q.right mended h.mends (max (max (length st.pages) (suc left.block)) (suc right.block)) (omega arith))
       ∙ (let lt = inside st.pages q.block q h.found in let b = h.left_block in let c = parent_p.inside in let d = h.clear.block_is in omega arith)
 
-  parent_free : IsFree (nodes_of st.pages) (length st.pages) right.block
+  pub parent_free : IsFree (nodes_of st.pages) (length st.pages) right.block
   parent_free = fresh_free st right.block has h.fresh
 
   parent_meta : MetaIs (with_pages st.pages (left ∷ right ∷ mended ++ p_after ∷ [])) has.tree.root has.tree.meta.level
@@ -252,7 +252,7 @@ module _ (st : State) (start : ℕ) (s : Bound) (meta meta_after p p_after root 
   p_is_root = only_the_root_is_clear (nodes_of st.pages) (length st.pages) has.tree.root has.tree.meta.level has.tree.chain (bound_aim s) p.block has.tree.is
       (subst (λ (k : ℕ). IsFitOn (nodes_of st.pages) first_spot (has.tree.chain k) (is_fit (bound_aim s) true) p.block) top_is root_p.fits)
 
-  root_free : IsFree (nodes_of st.pages) (length st.pages) root.block
+  pub root_free : IsFree (nodes_of st.pages) (length st.pages) root.block
   root_free = fresh_free st root.block has h.fresh
 
   root_apart : (c : ℕ) → 0 < c → c ≢ p.block → c ≢ root.block → IsApartFrom c (root ∷ meta_after ∷ p_after ∷ [])
@@ -261,7 +261,7 @@ module _ (st : State) (start : ℕ) (s : Bound) (meta meta_after p p_after root 
     ((λ same. (let z : meta_after.block ≡ 0 = h.meta_block in omega arith)), ((λ same. not_p (sym same ∙ h.clear.block_is)), tt)),
   )
 
-  root_edit : IsRootSplit (nodes_of st.pages) (nodes_of (with_pages st.pages (root ∷ meta_after ∷ p_after ∷ []))) p.block has.tree.meta.level root.block
+  pub root_edit : IsRootSplit (nodes_of st.pages) (nodes_of (with_pages st.pages (root ∷ meta_after ∷ p_after ∷ []))) p.block has.tree.meta.level root.block
   root_edit = record {
     flagged = ap (λ (n : Node). n.split) (p_here st start meta.level s p new has h.unfinished) ∙ h.unfinished.flagged;
     separator = s;
@@ -277,7 +277,7 @@ module _ (st : State) (start : ℕ) (s : Bound) (meta meta_after p p_after root 
         (pages_other st.limits (length st.pages) st.pages (root ∷ meta_after ∷ p_after ∷ []) c h.may (omega arith) (root_apart c above not_p not_new));
   }
 
-  meta_there : slice_get (with_pages st.pages (root ∷ meta_after ∷ p_after ∷ [])) 0 ≡ Some meta_after
+  pub meta_there : slice_get (with_pages st.pages (root ∷ meta_after ∷ p_after ∷ [])) 0 ≡ Some meta_after
   meta_there = subst (λ (b : ℕ). slice_get (with_pages st.pages (root ∷ meta_after ∷ p_after ∷ [])) b ≡ Some meta_after) h.meta_block
       (pages_second st.limits (length st.pages) st.pages root meta_after (p_after ∷ []) h.may (omega arith))
 

@@ -5,3 +5,4 @@ pub mod Mending
 pub mod Entering
 pub mod Finishing
 pub mod Telling
+pub mod Flagging

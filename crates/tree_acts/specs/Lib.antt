@@ -1,3 +1,4 @@
 pub mod Trees
 pub mod Acts
 pub mod Ways
+pub mod Flags

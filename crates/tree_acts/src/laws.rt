@@ -1,6 +1,7 @@
 //! The laws.
 
 ghost use Rattle.tree_acts.specs.Acts.{PuttingLasts, LeafSplitLasts, FinishLasts, ParentSplitLasts, RootSplitLasts};
+ghost use Rattle.tree_acts.specs.Flags.{PuttingFlags, LeafSplitFlags, FinishFlags, ParentSplitFlags, RootSplitFlags};
 ghost use Rattle.tree_acts.specs.Ways.{MetapageTells, PassedTells, LiveTells, InternalTells, LeafTells, FrontierTells, ParentTells, SeparatorTells, RootTells, UnfinishedIsBelow, TrailBegins, TrailGoesRight, TrailIsShort};
 
 /// Does nothing: its clauses say that each act which edits a tree leaves a tree, the places that running calls keep, and
@@ -11,6 +12,16 @@ pub fn acts_keep_the_tree()
     ensures finish { FinishLasts }
     ensures parent_split { ParentSplitLasts }
     ensures root_split { RootSplitLasts }
+{}
+
+/// Does nothing: its clauses say which page each act flags, and which it clears: a split flags one page, finishing a split
+/// clears one, and flags one more at most, one level higher.
+pub fn acts_move_flags()
+    ensures putting { PuttingFlags }
+    ensures leaf_split { LeafSplitFlags }
+    ensures finish { FinishFlags }
+    ensures parent_split { ParentSplitFlags }
+    ensures root_split { RootSplitFlags }
 {}
 
 /// Does nothing: its clauses say what a page that a call reads tells it, by where it came from.

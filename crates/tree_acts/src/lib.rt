@@ -3,4 +3,4 @@
 
 mod laws;
 
-pub use laws::{acts_keep_the_tree, pages_tell_the_way, splits_can_be_finished};
+pub use laws::{acts_keep_the_tree, acts_move_flags, pages_tell_the_way, splits_can_be_finished};
