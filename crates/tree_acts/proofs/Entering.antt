@@ -47,7 +47,7 @@ module _ (st : State) (start : ℕ) (e : Entry) (page after : Page) (has : HasTr
     others = λ c ne. node_same st.pages (with_pages st.pages (after ∷ [])) c (pages_other st.limits (length st.pages) st.pages (after ∷ []) c h.may (omega arith) (apart c ne));
   }
 
-  used_is : length (with_pages st.pages (after ∷ [])) ≡ length st.pages
+  pub used_is : length (with_pages st.pages (after ∷ [])) ≡ length st.pages
   used_is = pages_length st.limits (length st.pages) st.pages (after ∷ []) h.may (omega arith) ∙ (let lt = inside st.pages page.block page h.found in let b = h.block_is in omega arith)
 
   on : Stands st has.tree 0 (is_fit (entry_aim e) true) page.block
@@ -106,13 +106,13 @@ module _ (st : State) (start : ℕ) (e : Entry) (page left right : Page) (mended
         (pages_other st.limits (length st.pages) st.pages (left ∷ right ∷ mended) c h.may (omega arith) (split_apart c not_b not_new not_right));
   }
 
-  split_used : length (with_pages st.pages (left ∷ right ∷ mended)) ≡ max (length st.pages) (suc right.block)
+  pub split_used : length (with_pages st.pages (left ∷ right ∷ mended)) ≡ max (length st.pages) (suc right.block)
   split_used =
       pages_length st.limits (length st.pages) st.pages (left ∷ right ∷ mended) h.may (omega arith)
       ∙ mended_used st right.block page.right mended h.mends (max (max (length st.pages) (suc left.block)) (suc right.block)) (omega arith)
       ∙ (let lt = inside st.pages page.block page h.found in let b = h.left_block in omega arith)
 
-  split_on : Stands st has.tree 0 (is_fit (entry_aim e) true) page.block
+  pub split_on : Stands st has.tree 0 (is_fit (entry_aim e) true) page.block
   split_on = stands st has.tree start 0 (entry_aim e) true page.block h.place (ap (λ (n : Node). n.state) split_here ∙ h.alive)
 
   pub free : IsFree (nodes_of st.pages) (length st.pages) right.block

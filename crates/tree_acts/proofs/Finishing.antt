@@ -73,10 +73,10 @@ module _ (st : State) (start level : ℕ) (s : Bound) (p : Page) (new : ℕ) (ha
   p_on = stands st has.tree start level (bound_aim s) true p.block u.place p_lives
 
 module _ (st : State) (start level : ℕ) (s : Bound) (p q p_after q_after : Page) (new : ℕ) (has : HasTree st) (h : SplitIsFinished st start level s p q p_after q_after new) where
-  finish_p : Stands st has.tree level (is_fit (bound_aim s) true) p.block
+  pub finish_p : Stands st has.tree level (is_fit (bound_aim s) true) p.block
   finish_p = p_on st start level s p new has h.unfinished
 
-  finish_q : (suc level ≤ has.tree.meta.level) × IsIn q.block (has.tree.chain (suc level)) × ((nodes_of st.pages q.block).state ≡ Live)
+  pub finish_q : (suc level ≤ has.tree.meta.level) × IsIn q.block (has.tree.chain (suc level)) × ((nodes_of st.pages q.block).state ≡ Live)
   finish_q = covered st has.tree (suc level) (bound_aim s) q.block h.covers
 
   q_here : nodes_of st.pages q.block ≡ node_of q
@@ -108,7 +108,7 @@ module _ (st : State) (start level : ℕ) (s : Bound) (p q p_after q_after : Pag
         (pages_other st.limits (length st.pages) st.pages (q_after ∷ p_after ∷ []) c h.may (omega arith) (finish_apart c not_p not_q));
   }
 
-  finish_used : length (with_pages st.pages (q_after ∷ p_after ∷ [])) ≡ length st.pages
+  pub finish_used : length (with_pages st.pages (q_after ∷ p_after ∷ [])) ≡ length st.pages
   finish_used = pages_length st.limits (length st.pages) st.pages (q_after ∷ p_after ∷ []) h.may (omega arith)
       ∙ (let a = inside st.pages q.block q h.found in let b = finish_p.inside in let c = h.block_is in let d = h.clear.block_is in omega arith)
 
@@ -143,13 +143,13 @@ finish_lasts st start level s p q p_after q_after new has h = finishing st start
 
 module _ (st : State) (start level : ℕ) (s : Bound) (p q p_after left right : Page) (mended : List Page) (new : ℕ) (has : HasTree st)
     (h : ParentIsSplit st start level s p q p_after left right mended new) where
-  parent_p : Stands st has.tree level (is_fit (bound_aim s) true) p.block
+  pub parent_p : Stands st has.tree level (is_fit (bound_aim s) true) p.block
   parent_p = p_on st start level s p new has h.unfinished
 
   parent_here : nodes_of st.pages q.block ≡ node_of q
   parent_here = node_there st.pages q.block q h.found
 
-  parent_q : Stands st has.tree (suc level) (is_fit (bound_aim s) true) q.block
+  pub parent_q : Stands st has.tree (suc level) (is_fit (bound_aim s) true) q.block
   parent_q = stands st has.tree start (suc level) (bound_aim s) true q.block h.place (ap (λ (n : Node). n.state) parent_here ∙ h.alive)
 
   parent_apart : (c : ℕ) → c ≢ p.block → c ≢ q.block → c ≢ right.block → (nodes_of st.pages q.block).right ≢ Some c → IsApartFrom c (left ∷ right ∷ mended ++ p_after ∷ [])
@@ -189,7 +189,7 @@ module _ (st : State) (start level : ℕ) (s : Bound) (p q p_after left right : 
         (pages_other st.limits (length st.pages) st.pages (left ∷ right ∷ mended ++ p_after ∷ []) c h.may (omega arith) (parent_apart c not_p not_q not_new not_right));
   }
 
-  parent_used : length (with_pages st.pages (left ∷ right ∷ mended ++ p_after ∷ [])) ≡ max (length st.pages) (suc right.block)
+  pub parent_used : length (with_pages st.pages (left ∷ right ∷ mended ++ p_after ∷ [])) ≡ max (length st.pages) (suc right.block)
   parent_used =
       pages_length st.limits (length st.pages) st.pages (left ∷ right ∷ mended ++ p_after ∷ []) h.may (omega arith)
       ∙ used_last (max (max (length st.pages) (suc left.block)) (suc right.block)) mended p_after
@@ -242,10 +242,10 @@ module _ (st : State) (start : ℕ) (s : Bound) (meta meta_after p p_after root 
   meta_same : meta ≡ has.tree.meta
   meta_same = (let k : Some meta ≡ Some has.tree.meta = sym h.meta_found ∙ has.tree.meta_at in cc)
 
-  top_is : meta.level ≡ has.tree.meta.level
+  pub top_is : meta.level ≡ has.tree.meta.level
   top_is = ap (λ (x : Page). x.level) meta_same
 
-  root_p : Stands st has.tree meta.level (is_fit (bound_aim s) true) p.block
+  pub root_p : Stands st has.tree meta.level (is_fit (bound_aim s) true) p.block
   root_p = p_on st start meta.level s p new has h.unfinished
 
   p_is_root : p.block ≡ has.tree.root
@@ -281,7 +281,7 @@ module _ (st : State) (start : ℕ) (s : Bound) (meta meta_after p p_after root 
   meta_there = subst (λ (b : ℕ). slice_get (with_pages st.pages (root ∷ meta_after ∷ p_after ∷ [])) b ≡ Some meta_after) h.meta_block
       (pages_second st.limits (length st.pages) st.pages root meta_after (p_after ∷ []) h.may (omega arith))
 
-  root_used : length (with_pages st.pages (root ∷ meta_after ∷ p_after ∷ [])) ≡ max (length st.pages) (suc root.block)
+  pub root_used : length (with_pages st.pages (root ∷ meta_after ∷ p_after ∷ [])) ≡ max (length st.pages) (suc root.block)
   root_used =
       pages_length st.limits (length st.pages) st.pages (root ∷ meta_after ∷ p_after ∷ []) h.may (omega arith)
       ∙ (let a = root_p.inside in let b = h.meta_block in let d = h.clear.block_is in omega arith)

@@ -43,7 +43,7 @@ node_whole st has b gone = by (slice_get st.pages b) refl
     by (Some page) is = ap (λ (o : Option Page). (node_from o).split) is
         ∙ deleted_whole page (stored_page st.limits b st.pages page has.stored is).storable.admitted (sym (ap (λ (o : Option Page). (node_from o).state) is) ∙ gone)
 
-fresh_whole : (st : State) (has : HasTree st) (new : ℕ) → IsFree (nodes_of st.pages) (length st.pages) new → (nodes_of st.pages new).split ≡ false
+pub fresh_whole : (st : State) (has : HasTree st) (new : ℕ) → IsFree (nodes_of st.pages) (length st.pages) new → (nodes_of st.pages new).split ≡ false
 fresh_whole st has new f = elim (cases_lt new (length st.pages)) [
   | inl lt ↦ node_whole st has new (f.not_in_use lt)
   | inr ge ↦ ap (λ (o : Option Page). (node_from o).split) (past st.pages new ge)
@@ -63,6 +63,10 @@ cleared_is raised b c was not same = rw not (rw (eq-eqb b c same) refl)
 
 other_is : (raised cleared : Option ℕ) (b : ℕ) (was : Bool) → is_block raised b ≡ false → is_block cleared b ≡ false → flag_after raised cleared b was ≡ was
 other_is raised cleared b was a c = rw (a, c) refl
+
+-- the metapage isn't flagged, by the format
+pub meta_whole : (page : Page) → page.items ≡ Meta → IsPage page → page.split ≡ false
+meta_whole page kind admitted = (subst (IsOfKind page) kind admitted.kind).split
 
 pub putting_flags : PuttingFlags
 putting_flags st start e page after has h b = elim (cases_eq b page.block) [
@@ -136,9 +140,6 @@ root_split_flags st start s meta meta_after p p_after root new has h b = elim (c
   where
     w : IsRootSplit (nodes_of st.pages) (nodes_of (with_pages st.pages (root ∷ meta_after ∷ p_after ∷ []))) p.block has.tree.meta.level root.block
     w = root_edit st start s meta meta_after p p_after root new has h
-
-    meta_whole : (page : Page) → page.items ≡ Meta → IsPage page → page.split ≡ false
-    meta_whole page kind admitted = (subst (IsOfKind page) kind admitted.kind).split
 
     same : b ≢ p.block → (nodes_of (with_pages st.pages (root ∷ meta_after ∷ p_after ∷ [])) b).split ≡ (nodes_of st.pages b).split
     same not_p = elim (cases_eq b root.block) [

@@ -6,3 +6,5 @@ pub mod Entering
 pub mod Finishing
 pub mod Telling
 pub mod Flagging
+pub mod Weighing
+pub mod Weighed

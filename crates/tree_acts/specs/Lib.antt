@@ -2,3 +2,4 @@ pub mod Trees
 pub mod Acts
 pub mod Ways
 pub mod Flags
+pub mod Weights

@@ -2,6 +2,7 @@
 
 ghost use Rattle.tree_acts.specs.Acts.{PuttingLasts, LeafSplitLasts, FinishLasts, ParentSplitLasts, RootSplitLasts};
 ghost use Rattle.tree_acts.specs.Flags.{PuttingFlags, LeafSplitFlags, FinishFlags, ParentSplitFlags, RootSplitFlags};
+ghost use Rattle.tree_acts.specs.Weights.{PuttingWeighs, LeafSplitWeighs, FinishWeighs, ParentSplitWeighs, RootSplitWeighs};
 ghost use Rattle.tree_acts.specs.Ways.{MetapageTells, PassedTells, LiveTells, InternalTells, LeafTells, FrontierTells, ParentTells, SeparatorTells, RootTells, UnfinishedIsBelow, TrailBegins, TrailGoesRight, TrailIsShort};
 
 /// Does nothing: its clauses say that each act which edits a tree leaves a tree, the places that running calls keep, and
@@ -22,6 +23,16 @@ pub fn acts_move_flags()
     ensures finish { FinishFlags }
     ensures parent_split { ParentSplitFlags }
     ensures root_split { RootSplitFlags }
+{}
+
+/// Does nothing: its clauses say what the flagged pages weigh after each act: 32 more after a leaf is split, less after each
+/// split that is finished. So one user's insert makes a bounded number of acts.
+pub fn finishing_leaves_less()
+    ensures putting { PuttingWeighs }
+    ensures leaf_split { LeafSplitWeighs }
+    ensures finish { FinishWeighs }
+    ensures parent_split { ParentSplitWeighs }
+    ensures root_split { RootSplitWeighs }
 {}
 
 /// Does nothing: its clauses say what a page that a call reads tells it, by where it came from.

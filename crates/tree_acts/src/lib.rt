@@ -3,4 +3,7 @@
 
 mod laws;
 
-pub use laws::{acts_keep_the_tree, acts_move_flags, pages_tell_the_way, splits_can_be_finished};
+pub use laws::{
+    acts_keep_the_tree, acts_move_flags, finishing_leaves_less, pages_tell_the_way,
+    splits_can_be_finished,
+};
