@@ -15,7 +15,7 @@ use Rattle.page_action.specs.declared.page_store.PageStore.{Ghosts}
 use Rattle.session_calls.specs.Sessions.{begun_call}
 use Rattle.session_calls.specs.declared.request.Request.TheVariants.{Scan as ToScan}
 use Rattle.session_calls.specs.declared.op.Op.{Op}
-use Rattle.schedule.specs.Snapshots.{Snapshot, SlotMatches, Fits, IsUnused, both, snapshot_of, slot_of}
+use Rattle.schedule.specs.Snapshots.{Snapshot, SlotMatches, Fits, IsUnused, here_with, snapshot_of, slot_of}
 use Rattle.schedule.specs.Events.{OthersStay, where_begun_at}
 use Rattle.schedule.proofs.Lists.{get_set_same, get_set_other, get_some}
 use Rattle.whole_calls.specs.Telling.{TellsEnd, BeginTold}
@@ -50,7 +50,7 @@ closed_at n i number seats is = of (slice_get seats i) refl
 
 -- an unused store with empty slots is fitted by the contents of its pages
 pub unused_fits : {S : Type 0} (g : Ghosts S) (store : S) (slots : List (Option Op)) (n : ℕ) → slots ≡ replicate n None → IsUnused (g.state store)
-    → Fits g (entry_on_live_leaf (g.state store).pages) (snapshot_of (both store slots) [] [])
+    → Fits g (entry_on_live_leaf (g.state store).pages) (snapshot_of (here_with store slots []) [] [])
 unused_fits {S} g store slots n is unused = record {
   matches = record { contents = λ e. refl; count = unused.acts; order = unused.order };
   running = λ session slot h. of session slot (in_replicate n None slot session (ap (λ (l : List (Option Op)). slice_get l session) (sym is) ∙ h));
@@ -60,7 +60,7 @@ unused_fits {S} g store slots n is unused = record {
   owned = λ before action h. absurd cc;
 }
   where
-    of : (session : ℕ) (slot : Option Op) → slot ≡ None → SlotMatches g (entry_on_live_leaf (g.state store).pages) (snapshot_of (both store slots) [] []) session slot
+    of : (session : ℕ) (slot : Option Op) → slot ≡ None → SlotMatches g (entry_on_live_leaf (g.state store).pages) (snapshot_of (here_with store slots []) [] []) session slot
     of session None e = record { none = λ number call h. (let f = h.found in absurd cc); idle = unused.idle session }
     of session (Some op) e = absurd cc
 

@@ -29,9 +29,9 @@ use Rattle.access_method.specs.declared.index.Index.{Index}
 use Rattle.access_method.specs.declared.token.ScanToken.{ScanToken}
 use Rattle.access_method.specs.declared.token.Seat.{Seat}
 
--- the store of an index, and what its sessions run
+-- the store of an index, and what its sessions run; none of its calls names a set of dead rows yet
 abbrev pub slots_within : {S : Type 0} → Index S → StoreAndSlots S
-slots_within index = record { store = index.store; slots = index.slots }
+slots_within index = record { store = index.store; slots = index.slots; sets = [] }
 
 -- these contents at the start, this history and these calls fit the index
 abbrev pub IndexFits : {S : Type 0} → Ghosts S → Index S → (Entry → Bool) → List Action → List Call → Type 0

@@ -6,7 +6,7 @@ ghost use Rattle.access_method.specs.Tokens.{SeatsAgree, IsFreeSeat};
 
 use crate::token::{ScanToken, Seat};
 use device::Device;
-use index_model::{Entry, Fault, Range};
+use index_model::{DeadRows, Entry, Fault, Range, RowAddr};
 use page_action::PageStore;
 use page_store::Store;
 use recovery::Refused;
@@ -36,6 +36,22 @@ fn empty_slots() -> [Option<Op>; 64]
 {
     array::from_fn(|_| None)
 }
+
+// A set of dead rows without rows.
+struct NoRows {}
+
+impl DeadRows for NoRows {
+    ghost use Rattle.std.specs.Prelude.{false};
+
+    ghost is_in = { λ rows row. false };
+
+    fn is_dead(&self, _row: RowAddr) -> bool {
+        false
+    }
+}
+
+// No call of an index names a set of dead rows yet.
+const NO_SETS: [NoRows; 0] = [];
 
 // How many actions are told as durable.
 fn count(answer: Answer) -> Result<u64, Fault>
@@ -110,7 +126,14 @@ impl<S: PageStore> Index<S> {
             self.new.store) }
         ensures tokens { KeepsTokens self.old self.new }
     {
-        insert(&mut self.store, &mut self.slots, 63, entry, LEAST_ROOM)
+        insert(
+            &mut self.store,
+            &mut self.slots,
+            &NO_SETS,
+            63,
+            entry,
+            LEAST_ROOM,
+        )
     }
 
     /// Makes all actions durable and answers their number. Refused with `Stopped` (3) and `Io` (2).
@@ -193,7 +216,13 @@ impl<S: PageStore> Index<S> {
         if !is_running(&self.slots, token.session) {
             return Ok(None);
         }
-        match give(&mut self.store, &mut self.slots, token.session, LEAST_ROOM) {
+        match give(
+            &mut self.store,
+            &mut self.slots,
+            &NO_SETS,
+            token.session,
+            LEAST_ROOM,
+        ) {
             Ok(given) => Ok(given),
             Err(fault) => {
                 self.seats[token.session as usize] = Some(Seat {
@@ -220,7 +249,7 @@ impl<S: PageStore> Index<S> {
         let Some(_seat) = self.find(token) else {
             return Err(Fault::NoSession);
         };
-        give_up(&mut self.store, &mut self.slots, token.session);
+        give_up(&mut self.store, &mut self.slots, &NO_SETS, token.session);
         self.seats[token.session as usize] = None;
         Ok(())
     }
@@ -250,7 +279,7 @@ impl<S: PageStore> Index<S> {
             return Err(Fault::NoSession);
         };
         let session = at as u32;
-        open(&mut self.store, &mut self.slots, session, range)?;
+        open(&mut self.store, &mut self.slots, &NO_SETS, session, range)?;
         let number = self.given;
         self.seats[at] = Some(Seat {
             number,
@@ -277,8 +306,14 @@ impl<S: PageStore> Index<S> {
         if self.is_at_end() {
             return Err(Fault::Stopped);
         }
-        give_up(&mut self.store, &mut self.slots, token.session);
-        open(&mut self.store, &mut self.slots, token.session, range)?;
+        give_up(&mut self.store, &mut self.slots, &NO_SETS, token.session);
+        open(
+            &mut self.store,
+            &mut self.slots,
+            &NO_SETS,
+            token.session,
+            range,
+        )?;
         self.seats[token.session as usize] = Some(Seat {
             number: token.number,
             is_refused: false,

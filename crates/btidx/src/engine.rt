@@ -89,7 +89,8 @@ impl Engine {
     /// with `NoMemory`.
     pub fn new(alloc: Global, setting: &Setting) -> Result<Engine, Fault>
         ensures empty { IfOk result (λ engine.
-            BeginsEmpty ⟦<MemDevice as Device>⟧ ⟦<Store<MemDevice> as PageStore>⟧ setting.now.limits engine.world) }
+            BeginsEmpty ⟦<MemDevice as Device>⟧ ⟦<Store<MemDevice> as PageStore>⟧
+            ⟦<NoRows as DeadRows>⟧ setting.now.limits engine.world) }
     {
         if !setting.is_valid() {
             return Err(Fault::BadLimits);
@@ -105,16 +106,17 @@ impl Engine {
 
     /// One event.
     pub fn one(&mut self, event: Event) -> Answer
-        ensures runs { WorldCarries ⟦<Store<MemDevice> as PageStore>⟧ self.old.world self.new.world
-            (WorldRuns ⟦<Store<MemDevice> as PageStore>⟧ self.old.world self.new.world
-            (event ∷ []) (result ∷ [])) }
+        ensures runs { WorldCarries ⟦<Store<MemDevice> as PageStore>⟧ ⟦<NoRows as DeadRows>⟧
+            self.old.world self.new.world
+            (WorldRuns ⟦<Store<MemDevice> as PageStore>⟧ ⟦<NoRows as DeadRows>⟧
+            self.old.world self.new.world (event ∷ []) (result ∷ [])) }
     {
         self.world.one(event)
     }
 
     /// Steps of a session's call until one doesn't answer `Going`, and that answer. No checkpoint is made for them.
     pub fn run(&mut self, session: u32) -> Result<Answer, Fault>
-        ensures goes { WorldGoes ⟦<Store<MemDevice> as PageStore>⟧ session
+        ensures goes { WorldGoes ⟦<Store<MemDevice> as PageStore>⟧ ⟦<NoRows as DeadRows>⟧ session
             (TellsStep session result) (step_came result) self.old.world self.new.world }
         ensures over { result ≢ Ok Answer.Going }
     {
@@ -123,7 +125,7 @@ impl Engine {
 
     /// An insert, run until a step doesn't answer `Going`, and that answer.
     pub fn put(&mut self, session: u32, entry: &Entry) -> Result<Answer, Fault>
-        ensures goes { WorldGoes ⟦<Store<MemDevice> as PageStore>⟧ session
+        ensures goes { WorldGoes ⟦<Store<MemDevice> as PageStore>⟧ ⟦<NoRows as DeadRows>⟧ session
             (HasCome session (ToInsert entry.now) result) (step_came result)
             self.old.world self.new.world }
         ensures over { result ≢ Ok Answer.Going }
@@ -186,9 +188,12 @@ impl Engine {
     pub fn crash(&mut self, image: CrashImage) -> Result<(), Fault>
         ensures reopened { OnOk result ((start : IndexEntry → Bool) (history : List Action)
             (calls : List Call)
-            → WorldFits ⟦<Store<MemDevice> as PageStore>⟧ self.old.world start history calls
-            → WorldKeeps ⟦<Store<MemDevice> as PageStore>⟧ self.old.world start history calls
+            → WorldFits ⟦<Store<MemDevice> as PageStore>⟧ ⟦<NoRows as DeadRows>⟧ self.old.world
+            start history calls
+            → WorldKeeps ⟦<Store<MemDevice> as PageStore>⟧ ⟦<NoRows as DeadRows>⟧ self.old.world
+            start history calls
             → BeginsAfterFirstPart ⟦<MemDevice as Device>⟧ ⟦<Store<MemDevice> as PageStore>⟧
+            ⟦<NoRows as DeadRows>⟧
             (state_of ⟦<MemDevice as Device>⟧ self.old.world.store).limits start history
             (backing_of (held_by ⟦<MemDevice as Device>⟧ self.old.world.store)).durable
             self.new.world) }
@@ -210,7 +215,8 @@ fn opened(
     ensures begins { IsSetting setting.now → (limits : Limits) (pages : List Page)
         → HasIndex limits pages (trace_of device).now.seen → IsBlinkTree pages
         → IfOk result
-        (BeginsWith ⟦<MemDevice as Device>⟧ ⟦<Store<MemDevice> as PageStore>⟧ limits pages) }
+        (BeginsWith ⟦<MemDevice as Device>⟧ ⟦<Store<MemDevice> as PageStore>⟧
+        ⟦<NoRows as DeadRows>⟧ limits pages) }
 {
     match World::open(
         alloc,

@@ -88,12 +88,12 @@ others_stay_set slots session slot s same other apart = get_set_other slots sess
 
 -- the running call of a session fits
 pub call_fits : {S : Type 0} (g : Ghosts S) (start : Entry → Bool) (old : Snapshot S) (session : ℕ) (op : Op) → Fits g start old
-    → (runs : SlotRuns g start old session op) → CallFits (g.state old.store) start old.history runs.number runs.call op
+    → (runs : SlotRuns g start old session op) → CallFits (g.state old.store) old.sets start old.history runs.number runs.call op
 call_fits g start old session op fits runs = record { world = fits.matches; running = runs.is.running; meets = fits.meets runs.number runs.call runs.is.found; runs = runs.runs }
 
 -- nothing that a moment shows is changed but the log and the device
 pub fits_still : {S : Type 0} (g : Ghosts S) (start : Entry → Bool) (old : Snapshot S) (store : S) → g.state store ≡ g.state old.store → Fits g start old
-    → Fits g start (record { store = store; slots = old.slots; history = old.history; calls = old.calls })
+    → Fits g start (record { store = store; slots = old.slots; sets = old.sets; history = old.history; calls = old.calls })
 fits_still {S} g start old store same fits = record {
   matches = subst (λ (st : State). Matches st start old.history) (sym same) fits.matches;
   running = λ u o h. slot_still u o (fits.running u o h);
@@ -103,31 +103,31 @@ fits_still {S} g start old store same fits = record {
   owned = fits.owned;
 }
   where
-    slot_still : (u : ℕ) (o : Option Op) → SlotMatches g start old u o → SlotMatches g start (record { store = store; slots = old.slots; history = old.history; calls = old.calls }) u o
+    slot_still : (u : ℕ) (o : Option Op) → SlotMatches g start old u o → SlotMatches g start (record { store = store; slots = old.slots; sets = old.sets; history = old.history; calls = old.calls }) u o
     slot_still u None h = record { none = h.none; idle = subst (λ (st : State). IsIdle st u) (sym same) h.idle }
-    slot_still u (Some op) h = record { number = h.number; call = h.call; is = h.is; only = h.only; runs = subst (λ (st : State). OpRuns st start old.history h.call op) (sym same) h.runs }
+    slot_still u (Some op) h = record { number = h.number; call = h.call; is = h.is; only = h.only; runs = subst (λ (st : State). OpRuns st old.sets start old.history h.call op) (sym same) h.runs }
 
 -- a move of a running call
 module _ {S : Type 0} (g : Ghosts S) (start : Entry → Bool) (old : Snapshot S) (store : S) (session : ℕ) (op : Op) (slot : Option Op) (move : Move) (at : Ask → ℕ → Circumstances) (answer : Answer)
     (fits : Fits g start old) (found : slice_get old.slots session ≡ Some (Some op)) (follows : g.follows old.store store) (later : IsLater (g.backing old.store) (g.backing store))
-    (goes : (number : ℕ) (call : Call) → SlotFits (g.state old.store) start old.history number call (Some op) → SessionGoes (at call.ask call.session) (g.state old.store) (g.state store) start old.history number call slot answer)
-    (where_is : where_moving g old.store store session move (Some (Some op)) ≡ at (asked_of op) session)
-    (always : EventAlways g (MovesCall session move) answer (here_at old) (record { store = store; slots = slice_set old.slots session slot }))
-    (counts : (start' : Entry → Bool) (l : List Action) (n : ℕ) (c : Call) → SlotFits (g.state old.store) start' l n c (Some op) → CountsSteps (MovesCall session move) answer (g.state old.store) (g.state store) (Some op) slot) where
+    (goes : (number : ℕ) (call : Call) → SlotFits (g.state old.store) old.sets start old.history number call (Some op) → SessionGoes (at call.ask call.session) (g.state old.store) (g.state store) old.sets start old.history number call slot answer)
+    (where_is : where_moving g old.sets old.store store session move (Some (Some op)) ≡ at (asked_of old.sets op) session)
+    (always : EventAlways g (MovesCall session move) answer (here_at old) (record { store = store; slots = slice_set old.slots session slot; sets = old.sets }))
+    (counts : (start' : Entry → Bool) (l : List Action) (n : ℕ) (c : Call) → SlotFits (g.state old.store) old.sets start' l n c (Some op) → CountsSteps (MovesCall session move) answer (g.state old.store) (g.state store) (Some op) slot) where
   runs : SlotRuns g start old session op
   runs = fits.running session (Some op) found
 
-  fit : CallFits (g.state old.store) start old.history runs.number runs.call op
+  fit : CallFits (g.state old.store) old.sets start old.history runs.number runs.call op
   fit = call_fits g start old session op fits runs
 
-  one : SessionGoes (at runs.call.ask runs.call.session) (g.state old.store) (g.state store) start old.history runs.number runs.call slot answer
+  one : SessionGoes (at runs.call.ask runs.call.session) (g.state old.store) (g.state store) old.sets start old.history runs.number runs.call slot answer
   one = goes runs.number runs.call fit
 
   others : OthersRely session (g.state old.store) (g.state store)
   others = subst (λ (t : ℕ). OthersRely t (g.state old.store) (g.state store)) runs.is.session_is one.others
 
   new : Snapshot S
-  new = record { store = store; slots = slice_set old.slots session slot; history = old.history ++ acts_of runs.number one.effect; calls = slice_set old.calls runs.number one.after }
+  new = record { store = store; slots = slice_set old.slots session slot; sets = old.sets; history = old.history ++ acts_of runs.number one.effect; calls = slice_set old.calls runs.number one.after }
 
   new_fits : Fits g start new
   unfolding new
@@ -139,8 +139,8 @@ module _ {S : Type 0} (g : Ghosts S) (start : Entry → Bool) (old : Snapshot S)
   no_effect None same = refl
   no_effect (Some e) same = absurd (let none : acts_of runs.number (Some e) ≡ [] = append_cancel_left old.history (acts_of runs.number (Some e)) [] (same ∙ sym (append-nil old.history)) in cc)
 
-  caused : IsCaused (at (asked_of op) session) answer
-  caused = subst (λ (t : ℕ). IsCaused (at (asked_of op) t) answer) runs.is.session_is (subst (λ (a : Ask). IsCaused (at a runs.call.session) answer) runs.runs.ask one.caused)
+  caused : IsCaused (at (asked_of old.sets op) session) answer
+  caused = subst (λ (t : ℕ). IsCaused (at (asked_of old.sets op) t) answer) runs.is.session_is (subst (λ (a : Ask). IsCaused (at a runs.call.session) answer) runs.runs.ask one.caused)
 
   move_does : EventDoes g start (MovesCall session move) answer old new
   unfolding new
@@ -159,17 +159,18 @@ module _ {S : Type 0} (g : Ghosts S) (start : Entry → Bool) (old : Snapshot S)
       others = others;
     });
     grows = record { acts = acts_of runs.number one.effect; is = refl; few = acts_few runs.number one.effect };
-    caused = subst (λ (o : Option (Option Op)). IsCaused (where_moving g old.store store session move o) answer) (sym found) (subst (λ (x : Circumstances). IsCaused x answer) (sym where_is) caused);
+    caused = subst (λ (o : Option (Option Op)). IsCaused (where_moving g old.sets old.store store session move o) answer) (sym found) (subst (λ (x : Circumstances). IsCaused x answer) (sym where_is) caused);
     counts = at_slots old.slots session (Some op) slot (λ x y. CountsSteps (MovesCall session move) answer (g.state old.store) (g.state store) x y) found (counts start old.history runs.number runs.call fit);
     quiet = leaves_be g (MovesCall session move) old new one.limits one.frames (λ same. one.pages (no_effect one.effect same)) (others_stay_set old.slots session slot);
     durable = told_durable answer (g.backing store).durable (length old.history) one.effect runs.call one.after one.told;
+    sets = refl;
     follows = follows;
     later = later;
     fits = new_fits;
   }
 
   -- there is a continuation by this move
-  pub moves_on : EventRuns g (here_at old) (record { store = store; slots = slice_set old.slots session slot }) (MovesCall session move) answer start old.history old.calls
+  pub moves_on : EventRuns g (here_at old) (record { store = store; slots = slice_set old.slots session slot; sets = old.sets }) (MovesCall session move) answer start old.history old.calls
   unfolding new
   moves_on = record { then_history = old.history ++ acts_of runs.number one.effect; then_calls = slice_set old.calls runs.number one.after; does = move_does }
 
@@ -177,7 +178,7 @@ module _ {S : Type 0} (g : Ghosts S) (start : Entry → Bool) (old : Snapshot S)
 module _ {S : Type 0} (g : Ghosts S) (start : Entry → Bool) (old : Snapshot S) (store : S) (fault : Fault) (fits : Fits g start old) (same : g.state store ≡ g.state old.store)
     (follows : g.follows old.store store) (later : IsLater (g.backing old.store) (g.backing store)) where
   abbrev then_now : Snapshot S
-  then_now = record { store = store; slots = old.slots; history = old.history; calls = old.calls }
+  then_now = record { store = store; slots = old.slots; sets = old.sets; history = old.history; calls = old.calls }
 
   stays : Stays g (Refused fault) old then_now
   stays = record { fault = fault; refused = refl; still = record { state_is = same; slots_is = refl; history_is = refl; calls_is = refl } }
@@ -201,6 +202,7 @@ module _ {S : Type 0} (g : Ghosts S) (start : Entry → Bool) (old : Snapshot S)
     counts = not_counted kind (slot_of old.slots (session_at kind)) idle;
     quiet = stays_be g kind old then_now same refl;
     durable = tt;
+    sets = refl;
     follows = follows;
     later = later;
     fits = fits_still g start old store same fits;
@@ -227,10 +229,10 @@ module _ {S : Type 0} (g : Ghosts S) (start : Entry → Bool) (old : Snapshot S)
   kept_caused Checkpoints count at = tt
 
   pub keeps_on_store : (count : ℕ) → count ≡ (g.state old.store).acts → (g.backing store).durable ≡ (g.state old.store).acts
-      → EventAlways g (KeepsStore upkeep) (kept_answer upkeep count) (here_at old) (record { store = store; slots = old.slots })
-      → EventRuns g (here_at old) (record { store = store; slots = old.slots }) (KeepsStore upkeep) (kept_answer upkeep count) start old.history old.calls
+      → EventAlways g (KeepsStore upkeep) (kept_answer upkeep count) (here_at old) (record { store = store; slots = old.slots; sets = old.sets })
+      → EventRuns g (here_at old) (record { store = store; slots = old.slots; sets = old.sets }) (KeepsStore upkeep) (kept_answer upkeep count) start old.history old.calls
   keeps_on_store count number durable always =
-      let then : Snapshot S = record { store = store; slots = old.slots; history = old.history; calls = old.calls } in
+      let then : Snapshot S = record { store = store; slots = old.slots; sets = old.sets; history = old.history; calls = old.calls } in
       record {
         then_history = old.history;
         then_calls = old.calls;
@@ -246,6 +248,7 @@ module _ {S : Type 0} (g : Ghosts S) (start : Entry → Bool) (old : Snapshot S)
           counts = tt;
           quiet = stays_be g (KeepsStore upkeep) old then same refl;
           durable = kept_durable upkeep count (g.backing store).durable (let n : count ≡ (g.state old.store).acts = number in let d : (g.backing store).durable ≡ (g.state old.store).acts = durable in omega arith);
+          sets = refl;
           follows = follows;
           later = later;
           fits = fits_still g start old store same fits;
@@ -254,12 +257,12 @@ module _ {S : Type 0} (g : Ghosts S) (start : Entry → Bool) (old : Snapshot S)
 
 -- a call is begun
 module _ {S : Type 0} (g : Ghosts S) (start : Entry → Bool) (old : Snapshot S) (store : S) (session : ℕ) (request : Request) (op : Op)
-    (fits : Fits g start old) (free : slice_get old.slots session ≡ Some None) (begins : SessionBegins (g.state old.store) (g.state store) start old.history (length old.calls) session request (Some op)) where
+    (fits : Fits g start old) (free : slice_get old.slots session ≡ Some None) (begins : SessionBegins (g.state old.store) (g.state store) old.sets start old.history (length old.calls) session request (Some op)) where
   abbrev call : Call
-  call = begun_call session (asked_by request) (length old.history)
+  call = begun_call session (asked_by old.sets request) (length old.history)
 
   abbrev begun : Snapshot S
-  begun = record { store = store; slots = slice_set old.slots session (Some op); history = old.history; calls = old.calls ++ call ∷ [] }
+  begun = record { store = store; slots = slice_set old.slots session (Some op); sets = old.sets; history = old.history; calls = old.calls ++ call ∷ [] }
 
   -- a running call was so before, or it is the one that begins
   old_or_new : (u j : ℕ) (c : Call) → IsRunningCall (old.calls ++ call ∷ []) u j c → IsRunningCall old.calls u j c ⊎ ((j ≡ length old.calls) × (u ≡ session))
@@ -278,8 +281,8 @@ module _ {S : Type 0} (g : Ghosts S) (start : Entry → Bool) (old : Snapshot S)
     call = h.call;
     is = record { found = get_append_some old.calls (call ∷ []) h.number h.call h.is.found; session_is = h.is.session_is; running = h.is.running };
     only = λ j c r. elim (old_or_new u j c r) [ inl a ↦ h.only j c a | inr b ↦ absurd (ne b.1) ];
-    runs = subst (λ (l : List Action). OpRuns (g.state store) start l h.call other) (append-nil old.history)
-        (undisturbed (g.state old.store) (g.state store) start old.history [] h.call other (begins.others h.call.session (λ e. ne (sym h.is.session_is ∙ e))) h.runs);
+    runs = subst (λ (l : List Action). OpRuns (g.state store) old.sets start l h.call other) (append-nil old.history)
+        (undisturbed (g.state old.store) (g.state store) old.sets start old.history [] h.call other (begins.others h.call.session (λ e. ne (sym h.is.session_is ∙ e))) h.runs);
   }
 
   begun_fits : Fits g start begun
@@ -319,8 +322,8 @@ module _ {S : Type 0} (g : Ghosts S) (start : Entry → Bool) (old : Snapshot S)
       }
 
   pub begins_on : g.state store ≡ after_begin session (g.state old.store) → g.follows old.store store → IsLater (g.backing old.store) (g.backing store) → HasSteps (g.state old.store) (g.state store) request (Some op)
-      → EventAlways g (BeginsCall session request) Begun (here_at old) (record { store = store; slots = slice_set old.slots session (Some op) })
-      → EventRuns g (here_at old) (record { store = store; slots = slice_set old.slots session (Some op) }) (BeginsCall session request) Begun start old.history old.calls
+      → EventAlways g (BeginsCall session request) Begun (here_at old) (record { store = store; slots = slice_set old.slots session (Some op); sets = old.sets })
+      → EventRuns g (here_at old) (record { store = store; slots = slice_set old.slots session (Some op); sets = old.sets }) (BeginsCall session request) Begun start old.history old.calls
   begins_on state follows later counts always = record {
     then_history = old.history;
     then_calls = old.calls ++ call ∷ [];
@@ -333,6 +336,7 @@ module _ {S : Type 0} (g : Ghosts S) (start : Entry → Bool) (old : Snapshot S)
       counts = λ told. subst (λ (x : Option Op). HasSteps (g.state old.store) (g.state store) request x) (sym (slot_set old.slots session (Some op) (get_within old.slots session None free))) counts;
       quiet = leaves_be g (BeginsCall session request) old begun (ap (λ (st : State). st.limits) state) (ap (λ (st : State). st.frames) state) (λ same. ap (λ (st : State). st.pages) state) (others_stay_set old.slots session (Some op));
       durable = tt;
+      sets = refl;
       follows = follows;
       later = later;
       fits = begun_fits;

@@ -62,7 +62,7 @@ module _ {S : Type 0} (g : Ghosts S) (start : Entry → Bool) (old : Snapshot S)
     (same : IsSameCall (old.history ++ acts_of runs.number effect) (length old.history) effect runs.call after)
     (asked : IsAsked (contents_after start old.history) runs.call.ask runs.call.added effect)
     (others : OthersRely session (g.state old.store) (g.state store)) (world : Matches (g.state store) start (old.history ++ acts_of runs.number effect)) (meets : Meets start (old.history ++ acts_of runs.number effect) runs.number after)
-    (holds : SlotIs (g.state store) start (old.history ++ acts_of runs.number effect) after slot) where
+    (holds : SlotIs (g.state store) old.sets start (old.history ++ acts_of runs.number effect) after slot) where
   abbrev acts : List Action
   acts = acts_of runs.number effect
 
@@ -92,8 +92,8 @@ module _ {S : Type 0} (g : Ghosts S) (start : Entry → Bool) (old : Snapshot S)
     | inr n ↦ record { found = sym (elsewhere j n) ∙ r.found; session_is = r.session_is; running = r.running }
   ]
 
-  slot_mine : (o : Option Op) → SlotIs (g.state store) start (old.history ++ acts) after o
-      → SlotMatches g start (record { store = store; slots = slice_set old.slots session slot; history = old.history ++ acts; calls = slice_set old.calls runs.number after }) session o
+  slot_mine : (o : Option Op) → SlotIs (g.state store) old.sets start (old.history ++ acts) after o
+      → SlotMatches g start (record { store = store; slots = slice_set old.slots session slot; sets = old.sets; history = old.history ++ acts; calls = slice_set old.calls runs.number after }) session o
   slot_mine None h = record {
     none = λ j c r. h.0 (subst (λ (x : Call). x.ending ≡ Running) (mine j c r).1 r.running);
     idle = subst (λ (u : ℕ). IsIdle (g.state store) u) session_is h.1;
@@ -107,7 +107,7 @@ module _ {S : Type 0} (g : Ghosts S) (start : Entry → Bool) (old : Snapshot S)
   }
 
   slot_theirs : (u : ℕ) (o : Option Op) → u ≢ session → SlotMatches g start old u o
-      → SlotMatches g start (record { store = store; slots = slice_set old.slots session slot; history = old.history ++ acts; calls = slice_set old.calls runs.number after }) u o
+      → SlotMatches g start (record { store = store; slots = slice_set old.slots session slot; sets = old.sets; history = old.history ++ acts; calls = slice_set old.calls runs.number after }) u o
   slot_theirs u None ne h = record { none = λ j c r. h.none j c (theirs u j c ne r); idle = idle_undisturbed (g.state old.store) (g.state store) u (others u ne) h.idle }
   slot_theirs u (Some other) ne h =
       let apart : h.number ≢ runs.number = λ e. (
@@ -118,7 +118,7 @@ module _ {S : Type 0} (g : Ghosts S) (start : Entry → Bool) (old : Snapshot S)
         call = h.call;
         is = record { found = elsewhere h.number apart ∙ h.is.found; session_is = h.is.session_is; running = h.is.running };
         only = λ j c r. h.only j c (theirs u j c ne r);
-        runs = undisturbed (g.state old.store) (g.state store) start old.history acts h.call other (others h.call.session (λ e. ne (sym h.is.session_is ∙ e))) h.runs;
+        runs = undisturbed (g.state old.store) (g.state store) old.sets start old.history acts h.call other (others h.call.session (λ e. ne (sym h.is.session_is ∙ e))) h.runs;
       }
 
   -- an action of before is owned still
@@ -169,15 +169,15 @@ module _ {S : Type 0} (g : Ghosts S) (start : Entry → Bool) (old : Snapshot S)
             (subst (λ (o : Option ℕ). MayAct (is_there_after start (old.history ++ acts) (length old.history)) (suc (length old.history)) a.effect runs.call.ask o) (sym same.added) own.2));
       }
 
-  pub goes_fits : Fits g start (record { store = store; slots = slice_set old.slots session slot; history = old.history ++ acts; calls = slice_set old.calls runs.number after })
+  pub goes_fits : Fits g start (record { store = store; slots = slice_set old.slots session slot; sets = old.sets; history = old.history ++ acts; calls = slice_set old.calls runs.number after })
   goes_fits = record {
     matches = world;
     running = λ u o h. elim (cases_eq u session) [
       | inl e ↦ (
           let k : o ≡ slot = same_some (slice_get (slice_set old.slots session slot) session) o slot (subst (λ (i : ℕ). slice_get (slice_set old.slots session slot) i ≡ Some o) e h)
           (get_set_same old.slots session slot (get_within old.slots session (Some op) at)) in
-          subst (λ (i : ℕ). SlotMatches g start (record { store = store; slots = slice_set old.slots session slot; history = old.history ++ acts; calls = slice_set old.calls runs.number after }) i o) (sym e)
-          (subst (λ (x : Option Op). SlotMatches g start (record { store = store; slots = slice_set old.slots session slot; history = old.history ++ acts; calls = slice_set old.calls runs.number after }) session x) (sym k) (slot_mine slot holds)))
+          subst (λ (i : ℕ). SlotMatches g start (record { store = store; slots = slice_set old.slots session slot; sets = old.sets; history = old.history ++ acts; calls = slice_set old.calls runs.number after }) i o) (sym e)
+          (subst (λ (x : Option Op). SlotMatches g start (record { store = store; slots = slice_set old.slots session slot; sets = old.sets; history = old.history ++ acts; calls = slice_set old.calls runs.number after }) session x) (sym k) (slot_mine slot holds)))
       | inr n ↦ slot_theirs u o n (fits.running u o (sym (get_set_other old.slots session u slot n) ∙ h))
     ];
     beyond = λ u far. (

@@ -11,14 +11,14 @@ use Rattle.page_action.specs.Causes.{nothing_wrong, where_forced}
 use Rattle.page_action.specs.States.{State, with_table}
 use Rattle.page_action.specs.declared.page_store.PageStore.{Ghosts}
 use Rattle.session_calls.specs.Due.{IsDue, IsDueIn, CountsDown, HasSteps}
-use Rattle.session_calls.specs.Ops.{IsCaused, where_stepped, where_asked_next, where_beginning, AnswersStopped}
+use Rattle.session_calls.specs.Ops.{DeadSets, IsCaused, where_stepped, where_asked_next, where_beginning, AnswersStopped}
 use Rattle.session_calls.specs.Sessions.{Matches, IsIdle, SlotFits, SessionGoes, SessionBegins, IsBegun, BeginsBy, is_busy, slot_add, LeavesLess, LeavesNoMore, GivesLess, AnswersStep, AnswersNext, AnswersEnd, RefusalChangesNothing}
 use Rattle.session_calls.specs.declared.answer.Answer.{Answer}
 use Rattle.session_calls.specs.declared.answer.Answer.TheVariants.{Begun, Going, Added, Ready, Done, Finished, Gave, Ended, Forced, Flushed, Checkpointed, Refused}
 use Rattle.session_calls.specs.declared.op.Op.{Op}
 use Rattle.session_calls.specs.declared.request.Request.{Request}
 use Rattle.page_codec.specs.declared.page.Page.{Page}
-use Rattle.schedule.specs.Snapshots.{both, snapshot_of, slot_of, Fits}
+use Rattle.schedule.specs.Snapshots.{here_with, snapshot_of, slot_of, Fits}
 use Rattle.schedule.specs.Events.{Steps, Takes, GivesUp, Upkeep, Forces, Checkpoints, BeginsCall, MovesCall, KeepsStore, kept_answer, session_to_begin, where_begun_at, EventAlways, AnswersUpkeep}
 use Rattle.schedule.specs.Runs.{EventRuns, Makes}
 use Rattle.schedule.proofs.Events.{at_slots, others_stay_set, moves_on, stays_on, refused_stay, keeps_on_store, begins_on, not_begun, not_found_why, not_found_first, set_same}
@@ -26,7 +26,7 @@ use Rattle.schedule.proofs.Keeping.{Laws}
 use Rattle.schedule.proofs.Lists.{length_set}
 
 -- a step of a session's running call
-module _ {S : Type 0} (g : Ghosts S) (laws : Laws g) (old new : S) (follows : g.follows old new) (slots : List (Option Op)) (session : ℕ) (before slot : Option Op) (op : Op) (answer : Answer)
+module _ {S : Type 0} (g : Ghosts S) (laws : Laws g) (old new : S) (follows : g.follows old new) (slots : List (Option Op)) (sets : DeadSets) (session : ℕ) (before slot : Option Op) (op : Op) (answer : Answer)
     (is : before ≡ Some op) (found_at : slice_get slots session ≡ Some before) where
   slot_was : slot_of slots session ≡ before
   slot_was = ap (λ (o : Option (Option Op)). unwrap_or o None) found_at
@@ -36,25 +36,25 @@ module _ {S : Type 0} (g : Ghosts S) (laws : Laws g) (old new : S) (follows : g.
 
   pub step_makes : AnswersStep before slot answer → RefusalChangesNothing (g.state old) (g.state new) before slot answer → ((g.backing old).stopped ≡ true → AnswersStopped (slot_add before) answer)
       → LeavesLess (g.state old) (g.state new) before slot answer → (answer ≡ Going → g.state new ≡ with_table (g.state old) (g.state new).table) → LeavesNoMore (g.state old) (g.state new) before slot
-      → ((g.backing new).honest ≡ true → (start : Entry → Bool) (history : List Action) (number : ℕ) (call : Call) → SlotFits (g.state old) start history number call before
-      → SessionGoes (where_stepped call.ask (g.state old) (g.backing old) (g.backing new) call.session) (g.state old) (g.state new) start history number call slot answer)
-      → ((g.backing new).honest ≡ true → (start : Entry → Bool) (history : List Action) (number : ℕ) (call : Call) → SlotFits (g.state old) start history number call before
+      → ((g.backing new).honest ≡ true → (start : Entry → Bool) (history : List Action) (number : ℕ) (call : Call) → SlotFits (g.state old) sets start history number call before
+      → SessionGoes (where_stepped call.ask (g.state old) (g.backing old) (g.backing new) call.session) (g.state old) (g.state new) sets start history number call slot answer)
+      → ((g.backing new).honest ≡ true → (start : Entry → Bool) (history : List Action) (number : ℕ) (call : Call) → SlotFits (g.state old) sets start history number call before
       → (left : ℕ) → IsDueIn (g.state old) before (suc left) → CountsDown (g.state old) (g.state new) before slot left answer)
-      → Makes g (MovesCall session Steps) answer (both old slots) (both new (slice_set slots session slot))
+      → Makes g (MovesCall session Steps) answer (here_with old slots sets) (here_with new (slice_set slots session slot) sets)
   step_makes kind refused stopped less quiet no_more goes due = record {
     sessions = length_set slots session slot;
     always = always;
     does = λ honest start history calls fits.
-        moves_on g start (snapshot_of (both old slots) history calls) new session op slot Steps (λ ask t. where_stepped ask (g.state old) (g.backing old) (g.backing new) t) answer fits found_op follows (laws.follows_later old new follows)
-        (λ number call runs. goes honest start history number call (subst (λ (x : Option Op). SlotFits (g.state old) start history number call x) (sym is) runs)) refl always
+        moves_on g start (snapshot_of (here_with old slots sets) history calls) new session op slot Steps (λ ask t. where_stepped ask (g.state old) (g.backing old) (g.backing new) t) answer fits found_op follows (laws.follows_later old new follows)
+        (λ number call runs. goes honest start history number call (subst (λ (x : Option Op). SlotFits (g.state old) sets start history number call x) (sym is) runs)) refl always
         (λ s l n c runs. record {
           due = λ left h. subst (λ (x : Option Op). CountsDown (g.state old) (g.state new) x slot left answer) is
-              (due honest s l n c (subst (λ (x : Option Op). SlotFits (g.state old) s l n c x) (sym is) runs) left (subst (λ (x : Option Op). IsDueIn (g.state old) x (suc left)) (sym is) h));
+              (due honest s l n c (subst (λ (x : Option Op). SlotFits (g.state old) sets s l n c x) (sym is) runs) left (subst (λ (x : Option Op). IsDueIn (g.state old) x (suc left)) (sym is) h));
           no_more = subst (λ (x : Option Op). LeavesNoMore (g.state old) (g.state new) x slot) is no_more;
         });
   }
     where
-      always : EventAlways g (MovesCall session Steps) answer (both old slots) (both new (slice_set slots session slot))
+      always : EventAlways g (MovesCall session Steps) answer (here_with old slots sets) (here_with new (slice_set slots session slot) sets)
       always = record {
         answers = at_slots slots session before slot (λ x y. AnswersStep x y answer) found_at kind;
         refused = at_slots slots session before slot (λ x y. RefusalChangesNothing (g.state old) (g.state new) x y answer) found_at refused;
@@ -67,21 +67,21 @@ module _ {S : Type 0} (g : Ghosts S) (laws : Laws g) (old new : S) (follows : g.
       }
 
   pub end_makes : AnswersEnd before answer → slot ≡ None → g.backing new ≡ g.backing old → (g.state new).begun ≡ (g.state old).begun
-      → ((start : Entry → Bool) (history : List Action) (number : ℕ) (call : Call) → SlotFits (g.state old) start history number call before → SessionGoes nothing_wrong (g.state old) (g.state new) start history number call slot answer)
-      → Makes g (MovesCall session GivesUp) answer (both old slots) (both new (slice_set slots session slot))
+      → ((start : Entry → Bool) (history : List Action) (number : ℕ) (call : Call) → SlotFits (g.state old) sets start history number call before → SessionGoes nothing_wrong (g.state old) (g.state new) sets start history number call slot answer)
+      → Makes g (MovesCall session GivesUp) answer (here_with old slots sets) (here_with new (slice_set slots session slot) sets)
   end_makes kind over backing begun goes = record {
     sessions = length_set slots session slot;
     always = always;
     does = λ honest start history calls fits.
-        moves_on g start (snapshot_of (both old slots) history calls) new session op slot GivesUp (λ ask t. nothing_wrong) answer fits found_op follows (laws.follows_later old new follows)
-        (λ number call runs. goes start history number call (subst (λ (x : Option Op). SlotFits (g.state old) start history number call x) (sym is) runs)) refl always
+        moves_on g start (snapshot_of (here_with old slots sets) history calls) new session op slot GivesUp (λ ask t. nothing_wrong) answer fits found_op follows (laws.follows_later old new follows)
+        (λ number call runs. goes start history number call (subst (λ (x : Option Op). SlotFits (g.state old) sets start history number call x) (sym is) runs)) refl always
         (λ s l n c runs. tt);
   }
     where
       ended : answer ≡ Ended
       ended = subst (λ (x : Option Op). AnswersEnd x answer) is kind
 
-      always : EventAlways g (MovesCall session GivesUp) answer (both old slots) (both new (slice_set slots session slot))
+      always : EventAlways g (MovesCall session GivesUp) answer (here_with old slots sets) (here_with new (slice_set slots session slot) sets)
       always = record {
         answers = at_slots slots session before slot (λ x y. AnswersEnd x answer) found_at kind;
         refused = λ fault h. absurd (let a : answer ≡ Ended = ended in cc);
@@ -94,7 +94,7 @@ module _ {S : Type 0} (g : Ghosts S) (laws : Laws g) (old new : S) (follows : g.
       }
 
 -- a `next` of a session's running call, which changes nothing of the store
-module _ {S : Type 0} (g : Ghosts S) (laws : Laws g) (store : S) (slots : List (Option Op)) (session : ℕ) (before slot : Option Op) (op : Op) (answer : Answer)
+module _ {S : Type 0} (g : Ghosts S) (laws : Laws g) (store : S) (slots : List (Option Op)) (sets : DeadSets) (session : ℕ) (before slot : Option Op) (op : Op) (answer : Answer)
     (is : before ≡ Some op) (found_at : slice_get slots session ≡ Some before) where
   refused_same : (a : Answer) → GivesLess before slot a → (fault : Fault) → a ≡ Refused fault → slot ≡ before
   refused_same Begun h fault e = absurd cc
@@ -111,20 +111,20 @@ module _ {S : Type 0} (g : Ghosts S) (laws : Laws g) (store : S) (slots : List (
   refused_same (Refused f) h fault e = h.0
 
   pub next_makes : AnswersNext before answer → GivesLess before slot answer
-      → ((st : State) (start : Entry → Bool) (history : List Action) (number : ℕ) (call : Call) → SlotFits st start history number call before → SessionGoes (where_asked_next call.ask) st st start history number call slot answer)
+      → ((st : State) (start : Entry → Bool) (history : List Action) (number : ℕ) (call : Call) → SlotFits st sets start history number call before → SessionGoes (where_asked_next call.ask) st st sets start history number call slot answer)
       → ((items : ℕ) (pages : List Page) (steps : ℕ) → IsDue items pages before steps → IsDue items pages slot steps)
-      → Makes g (MovesCall session Takes) answer (both store slots) (both store (slice_set slots session slot))
+      → Makes g (MovesCall session Takes) answer (here_with store slots sets) (here_with store (slice_set slots session slot) sets)
   next_makes kind less goes due = record {
     sessions = length_set slots session slot;
     always = always;
     does = λ honest start history calls fits.
-        moves_on g start (snapshot_of (both store slots) history calls) store session op slot Takes (λ ask t. where_asked_next ask) answer fits (found_at ∙ ap (λ (o : Option Op). Some o) is) (laws.follows_same store)
+        moves_on g start (snapshot_of (here_with store slots sets) history calls) store session op slot Takes (λ ask t. where_asked_next ask) answer fits (found_at ∙ ap (λ (o : Option Op). Some o) is) (laws.follows_same store)
         (laws.follows_later store store (laws.follows_same store))
-        (λ number call runs. goes (g.state store) start history number call (subst (λ (x : Option Op). SlotFits (g.state store) start history number call x) (sym is) runs)) refl always
+        (λ number call runs. goes (g.state store) start history number call (subst (λ (x : Option Op). SlotFits (g.state store) sets start history number call x) (sym is) runs)) refl always
         (λ s l n c runs steps h. due (g.state store).limits.items (g.state store).pages steps (subst (λ (x : Option Op). IsDueIn (g.state store) x steps) (sym is) h));
   }
     where
-      always : EventAlways g (MovesCall session Takes) answer (both store slots) (both store (slice_set slots session slot))
+      always : EventAlways g (MovesCall session Takes) answer (here_with store slots sets) (here_with store (slice_set slots session slot) sets)
       always = record {
         answers = at_slots slots session before slot (λ x y. AnswersNext x answer) found_at kind;
         refused = λ fault h. record {
@@ -140,7 +140,7 @@ module _ {S : Type 0} (g : Ghosts S) (laws : Laws g) (store : S) (slots : List (
       }
 
 -- what is done for the store
-module _ {S : Type 0} (g : Ghosts S) (laws : Laws g) (old new : S) (follows : g.follows old new) (slots : List (Option Op)) (upkeep : Upkeep) (same : g.state new ≡ g.state old) where
+module _ {S : Type 0} (g : Ghosts S) (laws : Laws g) (old new : S) (follows : g.follows old new) (slots : List (Option Op)) (sets : DeadSets) (upkeep : Upkeep) (same : g.state new ≡ g.state old) where
   told_so : (u : Upkeep) (count : ℕ) → AnswersUpkeep u (kept_answer u count)
   told_so Forces count = tt
   told_so Checkpoints count = tt
@@ -154,15 +154,15 @@ module _ {S : Type 0} (g : Ghosts S) (laws : Laws g) (old new : S) (follows : g.
   refused_so Checkpoints fault = tt
 
   pub kept_makes : (count : ℕ) → count ≡ (g.state old).acts → (g.backing new).durable ≡ (g.state old).acts → ((g.backing old).stopped ≡ true → ⊥)
-      → Makes g (KeepsStore upkeep) (kept_answer upkeep count) (both old slots) (both new slots)
+      → Makes g (KeepsStore upkeep) (kept_answer upkeep count) (here_with old slots sets) (here_with new slots sets)
   kept_makes count number durable alive = record {
     sessions = refl;
     always = always;
     does = λ honest start history calls fits.
-        keeps_on_store g start (snapshot_of (both old slots) history calls) new upkeep fits same follows (laws.follows_later old new follows) count number durable always;
+        keeps_on_store g start (snapshot_of (here_with old slots sets) history calls) new upkeep fits same follows (laws.follows_later old new follows) count number durable always;
   }
     where
-      always : EventAlways g (KeepsStore upkeep) (kept_answer upkeep count) (both old slots) (both new slots)
+      always : EventAlways g (KeepsStore upkeep) (kept_answer upkeep count) (here_with old slots sets) (here_with new slots sets)
       always = record {
         answers = told_so upkeep count;
         refused = λ fault h. absurd (not_refused upkeep count fault h);
@@ -175,17 +175,17 @@ module _ {S : Type 0} (g : Ghosts S) (laws : Laws g) (old new : S) (follows : g.
       }
 
   pub not_kept_makes : (fault : Fault) → ((g.backing old).stopped ≡ true → fault ≡ Stopped) → HasCause (where_forced (g.backing old) (g.backing new)) fault
-      → Makes g (KeepsStore upkeep) (Refused fault) (both old slots) (both new slots)
+      → Makes g (KeepsStore upkeep) (Refused fault) (here_with old slots sets) (here_with new slots sets)
   not_kept_makes fault stopped cause = record {
     sessions = refl;
     always = always;
     does = λ honest start history calls fits.
-        (let before = snapshot_of (both old slots) history calls in
+        (let before = snapshot_of (here_with old slots sets) history calls in
         let later = laws.follows_later old new follows in
         stays_on g start before new fault fits same follows later (KeepsStore upkeep) (inr (refused_stay g start before new fault fits same follows later)) always cause (λ s h. absurd cc));
   }
     where
-      always : EventAlways g (KeepsStore upkeep) (Refused fault) (both old slots) (both new slots)
+      always : EventAlways g (KeepsStore upkeep) (Refused fault) (here_with old slots sets) (here_with new slots sets)
       always = record {
         answers = refused_so upkeep fault;
         refused = λ f h. record { state_is = same; slots_is = refl };
@@ -198,12 +198,12 @@ module _ {S : Type 0} (g : Ghosts S) (laws : Laws g) (old new : S) (follows : g.
       }
 
 -- a beginning in a session that was found
-module _ {S : Type 0} (g : Ghosts S) (laws : Laws g) (old new : S) (follows : g.follows old new) (slots : List (Option Op)) (session : ℕ) (request : Request) (before slot : Option Op) (answer : Answer)
+module _ {S : Type 0} (g : Ghosts S) (laws : Laws g) (old new : S) (follows : g.follows old new) (slots : List (Option Op)) (sets : DeadSets) (session : ℕ) (request : Request) (before slot : Option Op) (answer : Answer)
     (alive : (g.backing old).stopped ≡ false) (free : slice_get slots session ≡ Some None) (before_is : before ≡ None) where
   true_false : true ≡ false → ⊥
   true_false h = cc
 
-  always_of : (a : Answer) → BeginsBy (g.state old) (g.backing old) (g.state new) session request before slot a → EventAlways g (BeginsCall session request) a (both old slots) (both new (slice_set slots session slot))
+  always_of : (a : Answer) → BeginsBy (g.state old) (g.backing old) (g.state new) session request before slot a → EventAlways g (BeginsCall session request) a (here_with old slots sets) (here_with new (slice_set slots session slot) sets)
   always_of Begun h = record {
     answers = tt;
     refused = λ fault e. absurd cc;
@@ -236,28 +236,28 @@ module _ {S : Type 0} (g : Ghosts S) (laws : Laws g) (old new : S) (follows : g.
   always_of (Flushed b) h = absurd h
   always_of (Checkpointed n) h = absurd h
 
-  module _ (begins : (start : Entry → Bool) (history : List Action) (number : ℕ) → answer ≡ Begun → Matches (g.state old) start history → IsIdle (g.state old) session → SessionBegins (g.state old) (g.state new) start history number session request slot)
-      (counts : answer ≡ Begun → HasSteps (g.state old) (g.state new) request slot) (start : Entry → Bool) (history : List Action) (calls : List Call) (fits : Fits g start (snapshot_of (both old slots) history calls)) where
-    does_of : (a : Answer) → answer ≡ a → BeginsBy (g.state old) (g.backing old) (g.state new) session request before slot a → EventRuns g (both old slots) (both new (slice_set slots session slot)) (BeginsCall session request) a start history calls
+  module _ (begins : (start : Entry → Bool) (history : List Action) (number : ℕ) → answer ≡ Begun → Matches (g.state old) start history → IsIdle (g.state old) session → SessionBegins (g.state old) (g.state new) sets start history number session request slot)
+      (counts : answer ≡ Begun → HasSteps (g.state old) (g.state new) request slot) (start : Entry → Bool) (history : List Action) (calls : List Call) (fits : Fits g start (snapshot_of (here_with old slots sets) history calls)) where
+    does_of : (a : Answer) → answer ≡ a → BeginsBy (g.state old) (g.backing old) (g.state new) session request before slot a → EventRuns g (here_with old slots sets) (here_with new (slice_set slots session slot) sets) (BeginsCall session request) a start history calls
     does_of Begun is h =
         let idle : IsIdle (g.state old) session = (fits.running session None free).idle in
         begun_with slot h (always_of Begun h) (begins start history (length calls) is fits.matches idle) (counts is)
       where
-        begun_with : (o : Option Op) → IsBegun (g.state old) (g.state new) session request before o → EventAlways g (BeginsCall session request) Begun (both old slots) (both new (slice_set slots session o))
-            → SessionBegins (g.state old) (g.state new) start history (length calls) session request o → HasSteps (g.state old) (g.state new) request o
-            → EventRuns g (both old slots) (both new (slice_set slots session o)) (BeginsCall session request) Begun start history calls
+        begun_with : (o : Option Op) → IsBegun (g.state old) (g.state new) session request before o → EventAlways g (BeginsCall session request) Begun (here_with old slots sets) (here_with new (slice_set slots session o) sets)
+            → SessionBegins (g.state old) (g.state new) sets start history (length calls) session request o → HasSteps (g.state old) (g.state new) request o
+            → EventRuns g (here_with old slots sets) (here_with new (slice_set slots session o) sets) (BeginsCall session request) Begun start history calls
         begun_with None b always began steps = absurd (began.holds.0 refl)
         begun_with (Some op) b always began steps =
-            begins_on g start (snapshot_of (both old slots) history calls) new session request op fits free began b.state follows (laws.follows_later old new follows) steps always
+            begins_on g start (snapshot_of (here_with old slots sets) history calls) new session request op fits free began b.state follows (laws.follows_later old new follows) steps always
     does_of (Refused fault) is h =
         let slots_is : slice_set slots session slot ≡ slots = ap (λ (x : Option Op). slice_set slots session x) (h.slot_is ∙ before_is) ∙ set_same slots session None free in
-        let snap = snapshot_of (both old slots) history calls in
+        let snap = snapshot_of (here_with old slots sets) history calls in
         let later = laws.follows_later old new follows in
         let cause = subst (λ (o : Option Op). HasCause (where_beginning (g.state old) (g.backing old) (is_busy o)) fault) before_is h.cause in
-        subst (λ (s : List (Option Op)). EventRuns g (both old slots) (both new s) (BeginsCall session request) (Refused fault) start history calls) (sym slots_is)
+        subst (λ (s : List (Option Op)). EventRuns g (here_with old slots sets) (here_with new s sets) (BeginsCall session request) (Refused fault) start history calls) (sym slots_is)
         (stays_on g start snap new fault fits h.state follows later (BeginsCall session request)
         (not_begun g (slice_get slots session) session request (Refused fault) snap _ (refused_stay g start snap new fault fits h.state follows later))
-        (subst (λ (s : List (Option Op)). EventAlways g (BeginsCall session request) (Refused fault) (both old slots) (both new s)) slots_is (always_of (Refused fault) h))
+        (subst (λ (s : List (Option Op)). EventAlways g (BeginsCall session request) (Refused fault) (here_with old slots sets) (here_with new s sets)) slots_is (always_of (Refused fault) h))
         (subst (λ (o : Option (Option Op)). HasCause (where_of o) fault) (sym free) cause)
         (λ s e. absurd cc))
       where
@@ -275,9 +275,9 @@ module _ {S : Type 0} (g : Ghosts S) (laws : Laws g) (old new : S) (follows : g.
     does_of (Checkpointed n) is h = absurd h
 
   pub begin_makes : BeginsBy (g.state old) (g.backing old) (g.state new) session request before slot answer
-      → ((start : Entry → Bool) (history : List Action) (number : ℕ) → answer ≡ Begun → Matches (g.state old) start history → IsIdle (g.state old) session → SessionBegins (g.state old) (g.state new) start history number session request slot)
+      → ((start : Entry → Bool) (history : List Action) (number : ℕ) → answer ≡ Begun → Matches (g.state old) start history → IsIdle (g.state old) session → SessionBegins (g.state old) (g.state new) sets start history number session request slot)
       → (answer ≡ Begun → HasSteps (g.state old) (g.state new) request slot)
-      → Makes g (BeginsCall session request) answer (both old slots) (both new (slice_set slots session slot))
+      → Makes g (BeginsCall session request) answer (here_with old slots sets) (here_with new (slice_set slots session slot) sets)
   begin_makes by begins counts = record {
     sessions = length_set slots session slot;
     always = always_of answer by;
@@ -285,13 +285,13 @@ module _ {S : Type 0} (g : Ghosts S) (laws : Laws g) (old new : S) (follows : g.
   }
 
 -- a beginning that finds no session
-pub not_found_makes : {S : Type 0} (g : Ghosts S) (laws : Laws g) (store : S) (slots : List (Option Op)) (session : ℕ) (request : Request) (fault : Fault)
-    → Err fault ≡ session_to_begin (g.backing store).stopped (slice_get slots session) session → Makes g (BeginsCall session request) (Refused fault) (both store slots) (both store slots)
-not_found_makes g laws store slots session request fault none = record {
+pub not_found_makes : {S : Type 0} (g : Ghosts S) (laws : Laws g) (store : S) (slots : List (Option Op)) (sets : DeadSets) (session : ℕ) (request : Request) (fault : Fault)
+    → Err fault ≡ session_to_begin (g.backing store).stopped (slice_get slots session) session → Makes g (BeginsCall session request) (Refused fault) (here_with store slots sets) (here_with store slots sets)
+not_found_makes g laws store slots sets session request fault none = record {
   sessions = refl;
   always = always;
   does = λ honest start history calls fits.
-      (let snap = snapshot_of (both store slots) history calls in
+      (let snap = snapshot_of (here_with store slots sets) history calls in
       let follows = laws.follows_same store in
       let later = laws.follows_later store store follows in
       stays_on g start snap store fault fits refl follows later (BeginsCall session request)
@@ -299,7 +299,7 @@ not_found_makes g laws store slots session request fault none = record {
       (not_found_why g store session (g.backing store).stopped (slice_get slots session) fault refl none) (λ s e. absurd cc));
 }
   where
-    always : EventAlways g (BeginsCall session request) (Refused fault) (both store slots) (both store slots)
+    always : EventAlways g (BeginsCall session request) (Refused fault) (here_with store slots sets) (here_with store slots sets)
     always = record {
       answers = tt;
       refused = λ f h. record { state_is = refl; slots_is = refl };

@@ -11,7 +11,7 @@ use Rattle.page_action.specs.States.{State, IsLater}
 use Rattle.page_action.specs.declared.page_store.PageStore.{Ghosts}
 use Rattle.descent.specs.Steps.{OthersRely}
 use Rattle.session_calls.specs.Due.{IsDueIn, CountsDown, HasSteps}
-use Rattle.session_calls.specs.Ops.{asked_by, asked_of, where_stepped, where_asked_next, where_beginning, IsCaused, AnswersStopped}
+use Rattle.session_calls.specs.Ops.{DeadSets, asked_by, asked_of, where_stepped, where_asked_next, where_beginning, IsCaused, AnswersStopped}
 use Rattle.session_calls.specs.Sessions.{Told, IsAsked, acts_of, begun_call, is_busy, slot_add, LeavesLess, LeavesNoMore, GivesLess, AnswersStep, AnswersNext, AnswersEnd, RefusalChangesNothing}
 use Rattle.session_calls.specs.declared.answer.Answer.{Answer}
 use Rattle.session_calls.specs.declared.answer.Answer.TheVariants.{Begun, Going, Forced, Checkpointed, Refused}
@@ -81,7 +81,7 @@ pub record CallGoesOn {S : Type 0} (g : Ghosts S) (start : Entry → Bool) (sess
 pub record CallBegins {S : Type 0} (g : Ghosts S) (session : ℕ) (request : Request) (answer : Answer) (old new : Snapshot S) : Type 0 where
   pub told : answer ≡ Begun
   pub history_is : new.history ≡ old.history
-  pub calls_is : new.calls ≡ old.calls ++ begun_call session (asked_by request) (length old.history) ∷ []
+  pub calls_is : new.calls ≡ old.calls ++ begun_call session (asked_by old.sets request) (length old.history) ∷ []
   pub others : OthersRely session (g.state old.store) (g.state new.store)
 
 -- nothing that a history tells of is changed
@@ -146,27 +146,27 @@ session_to_begin false (Some None) session = Ok session
 session_to_begin false (Some (Some op)) session = Err SessionBusy
 
 -- the circumstances of an event of a call: of one that runs, or of none
-abbrev pub where_moved : Circumstances → (Ask → Circumstances) → Option (Option Op) → Circumstances
-where_moved idle running None = idle
-where_moved idle running (Some None) = idle
-where_moved idle running (Some (Some op)) = running (asked_of op)
+abbrev pub where_moved : DeadSets → Circumstances → (Ask → Circumstances) → Option (Option Op) → Circumstances
+where_moved sets idle running None = idle
+where_moved sets idle running (Some None) = idle
+where_moved sets idle running (Some (Some op)) = running (asked_of sets op)
 
 -- the circumstances of a beginning
 abbrev pub where_begun_at : {S : Type 0} → Ghosts S → S → Option (Option Op) → Circumstances
 where_begun_at g store None = where_no_call (g.backing store).stopped
 where_begun_at g store (Some slot) = where_beginning (g.state store) (g.backing store) (is_busy slot)
 
--- the circumstances of a move of a session's call, from this store to that
-abbrev pub where_moving : {S : Type 0} → Ghosts S → S → S → ℕ → Move → Option (Option Op) → Circumstances
-where_moving g old new session Steps slot =
-    where_moved (where_no_call (g.backing old).stopped) (λ ask. where_stepped ask (g.state old) (g.backing old) (g.backing new) session) slot
-where_moving g old new session Takes slot = where_moved (where_no_call false) where_asked_next slot
-where_moving g old new session GivesUp slot = where_moved (where_no_call false) (λ ask. nothing_wrong) slot
+-- the circumstances of a move of a session's call, with these sets, from this store to that
+abbrev pub where_moving : {S : Type 0} → Ghosts S → DeadSets → S → S → ℕ → Move → Option (Option Op) → Circumstances
+where_moving g sets old new session Steps slot =
+    where_moved sets (where_no_call (g.backing old).stopped) (λ ask. where_stepped ask (g.state old) (g.backing old) (g.backing new) session) slot
+where_moving g sets old new session Takes slot = where_moved sets (where_no_call false) where_asked_next slot
+where_moving g sets old new session GivesUp slot = where_moved sets (where_no_call false) (λ ask. nothing_wrong) slot
 
 -- the circumstances of an event
 abbrev pub where_happening : {S : Type 0} → Ghosts S → Kind → StoreAndSlots S → StoreAndSlots S → Circumstances
 where_happening g (BeginsCall session request) old new = where_begun_at g old.store (slice_get old.slots session)
-where_happening g (MovesCall session move) old new = where_moving g old.store new.store session move (slice_get old.slots session)
+where_happening g (MovesCall session move) old new = where_moving g old.sets old.store new.store session move (slice_get old.slots session)
 where_happening g (KeepsStore upkeep) old new = where_forced (g.backing old.store) (g.backing new.store)
 
 -- a beginning is told as begun, or refused
@@ -311,7 +311,8 @@ pub record GrowsByOne (old new : List Action) : Type 0 where
   pub few : length acts ≤ 1
 
 -- One event of this kind, of what is fitted: what happens, why it is refused, how many steps its call takes, what it leaves
--- as it was, and what fits then. The store follows the one before, so no count goes back, and each crash in between is told of.
+-- as it was, the sets among it, and what fits then. The store follows the one before, so no count goes back, and each crash
+-- in between is told of.
 pub record EventDoes {S : Type 0} (g : Ghosts S) (start : Entry → Bool) (kind : Kind) (answer : Answer) (old new : Snapshot S) : Type 0 where
   pub always : EventAlways g kind answer (here_at old) (here_at new)
   pub happens : Happens g start kind answer old new
@@ -320,6 +321,7 @@ pub record EventDoes {S : Type 0} (g : Ghosts S) (start : Entry → Bool) (kind 
   pub counts : CountsSteps kind answer (g.state old.store) (g.state new.store) (slot_of old.slots (session_at kind)) (slot_of new.slots (session_at kind))
   pub quiet : LeavesBe g kind old new
   pub durable : IsDurable (g.backing new.store).durable answer
+  pub sets : new.sets ≡ old.sets
   pub follows : g.follows old.store new.store
   pub later : IsLater (g.backing old.store) (g.backing new.store)
   pub fits : Fits g start new

@@ -6,36 +6,39 @@ use Rattle.index_model.specs.declared.entry.Entry.{Entry}
 use Rattle.page_action.specs.States.{State}
 use Rattle.page_action.specs.declared.page_store.PageStore.{Ghosts}
 use Rattle.descent.specs.Steps.{IsInOrder}
+use Rattle.session_calls.specs.Ops.{DeadSets}
 use Rattle.session_calls.specs.Sessions.{Matches, OpRuns, IsIdle, is_busy}
 use Rattle.session_calls.specs.declared.op.Op.{Op}
 
--- a store, and what each of its sessions runs
+-- a store, what each of its sessions runs, and the sets of dead rows that their calls may name
 pub record StoreAndSlots (S : Type 0) : Type 0 where
   pub store : S
   pub slots : List (Option Op)
+  pub sets : DeadSets
 
--- this store with these slots
-abbrev pub both : {S : Type 0} → S → List (Option Op) → StoreAndSlots S
-both store slots = record { store = store; slots = slots }
+-- this store with these slots and sets
+abbrev pub here_with : {S : Type 0} → S → List (Option Op) → DeadSets → StoreAndSlots S
+here_with store slots sets = record { store = store; slots = slots; sets = sets }
 
 -- what the session runs
 abbrev pub slot_of : List (Option Op) → ℕ → Option Op
 slot_of slots session = unwrap_or (slice_get slots session) None
 
--- one moment: a store with its slots, and the history of actions and the list of calls that tell of it
+-- one moment: a store with its slots and sets, and the history of actions and the list of calls that tell of it
 pub record Snapshot (S : Type 0) : Type 0 where
   pub store : S
   pub slots : List (Option Op)
+  pub sets : DeadSets
   pub history : List Action
   pub calls : List Call
 
--- the moment of this store with its slots, told by this history and these calls
+-- the moment of this store with its slots and sets, told by this history and these calls
 abbrev pub snapshot_of : {S : Type 0} → StoreAndSlots S → List Action → List Call → Snapshot S
-snapshot_of here history calls = record { store = here.store; slots = here.slots; history = history; calls = calls }
+snapshot_of here history calls = record { store = here.store; slots = here.slots; sets = here.sets; history = history; calls = calls }
 
--- the store of a moment with its slots
+-- the store of a moment with its slots and sets
 abbrev pub here_at : {S : Type 0} → Snapshot S → StoreAndSlots S
-here_at now = record { store = now.store; slots = now.slots }
+here_at now = record { store = now.store; slots = now.slots; sets = now.sets }
 
 -- the call of this number is a running call of the session
 pub record IsRunningCall (calls : List Call) (session number : ℕ) (call : Call) : Type 0 where
@@ -43,13 +46,13 @@ pub record IsRunningCall (calls : List Call) (session number : ℕ) (call : Call
   pub session_is : call.session ≡ session
   pub running : call.ending ≡ Running
 
--- what the session runs is its one running call
+-- what the session runs is its one running call; what it was asked is told with the sets
 pub record SlotRuns {S : Type 0} (g : Ghosts S) (start : Entry → Bool) (now : Snapshot S) (session : ℕ) (op : Op) : Type 0 where
   pub number : ℕ
   pub call : Call
   pub is : IsRunningCall now.calls session number call
   pub only : (other : ℕ) (c : Call) → IsRunningCall now.calls session other c → other ≡ number
-  pub runs : OpRuns (g.state now.store) start now.history call op
+  pub runs : OpRuns (g.state now.store) now.sets start now.history call op
 
 -- the session has no running call; it holds nothing, and has no start number
 pub record IsFree {S : Type 0} (g : Ghosts S) (now : Snapshot S) (session : ℕ) : Type 0 where

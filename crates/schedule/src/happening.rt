@@ -1,50 +1,59 @@
 //! One event of a store with its sessions.
 
-ghost use Rattle.std.specs.Prelude.{◌≡◌, ◌<◌, ◌≤◌, ◌+◌, ◌∷◌, [], true, List, Option, ℕ, IfErr, IsOk, OnOk, OnErr, length, slice_get, take, vec_len, vec_capacity};
+ghost use Rattle.std.specs.Prelude.{◌≡◌, ◌<◌, ◌≤◌, ◌+◌, ◌∷◌, [], true, List, Option, ℕ, IfErr, IsOk, OnOk, OnErr, length, map, slice_get, take, vec_len, vec_capacity};
 ghost use Rattle.page_action.specs.Room.{HasWholeRoom};
 ghost use Rattle.page_action.specs.States.{Continues};
+ghost use Rattle.session_calls.specs.Ops.{DeadSets};
 ghost use Rattle.session_calls.specs.Sessions.{no_call};
 ghost use Rattle.session_calls.specs.declared.op.Op.{Op};
-ghost use Rattle.schedule.specs.Snapshots.{both, has_call};
+ghost use Rattle.schedule.specs.Snapshots.{here_with, has_call};
 ghost use Rattle.schedule.specs.Events.{BeginsCall, MovesCall, Steps, Takes, GivesUp, KeepsStore, Forces, Checkpoints, kind_of, session_to_begin, AnswersUpkeep, StoreIsKept, EventAlways};
 ghost use Rattle.schedule.specs.Runs.{Carries, Runs, Makes, answers_behind};
 
 use crate::event::Event;
-use index_model::{Fault, Session};
+use index_model::{DeadRows, Fault, Session};
 use page_action::PageStore;
 use session_calls::{Answer, Op, Request};
 
 /// Does one event on a store, whose session i runs what the slot i has, and answers what the event gave, a refusal among
 /// the answers. Where several refusals apply, the first of `Stopped`, `NoSession`, `SessionBusy` is answered. There are 64
-/// slots at most.
-pub fn one<S: PageStore>(store: &mut S, slots: &mut [Option<Op>], event: Event) -> Answer
+/// slots at most. The sets of dead rows are those that calls name by their places, the same at each event.
+pub fn one<S: PageStore, T: DeadRows>(
+    store: &mut S,
+    slots: &mut [Option<Op>],
+    sets: &[T],
+    event: Event,
+) -> Answer
     requires few { length slots.old ≤ 64 }
     ensures steps { Continues S.follows store.old store.new }
     ensures sessions { length slots.new ≡ length slots.old }
-    ensures always { EventAlways S.PageStore (kind_of event) result (both store.old slots.old)
-        (both store.new slots.new) }
-    ensures runs { Carries S.PageStore (both store.old slots.old) (both store.new slots.new)
-        (Runs S.PageStore (both store.old slots.old) (both store.new slots.new) (event ∷ [])
-        (result ∷ [])) }
+    ensures always { EventAlways S.PageStore (kind_of event) result
+        (here_with store.old slots.old (map T.is_in sets.now))
+        (here_with store.new slots.new (map T.is_in sets.now)) }
+    ensures runs { let old = here_with store.old slots.old (map T.is_in sets.now) in
+        let new = here_with store.new slots.new (map T.is_in sets.now) in
+        Carries S.PageStore old new (Runs S.PageStore old new (event ∷ []) (result ∷ [])) }
 {
-    pick(store, slots, event)
+    pick(store, slots, sets, event)
 }
 
 /// Does these events one after the other, each as `one` does, and puts an answer for each behind the answers that are
 /// there. Refused with `NoMemory` (1) where there is no room for the answers: nothing is done then. There are 64 slots at
 /// most.
-pub fn run<S: PageStore>(
+pub fn run<S: PageStore, T: DeadRows>(
     store: &mut S,
     slots: &mut [Option<Op>],
+    sets: &[T],
     events: &[Event],
     answers: &mut Vec<Answer>,
 ) -> Result<(), Fault>
     requires few { length slots.old ≤ 64 }
     ensures steps { Continues S.follows store.old store.new }
     ensures sessions { length slots.new ≡ length slots.old }
-    ensures runs { OnOk result (Carries S.PageStore (both store.old slots.old)
-        (both store.new slots.new)
-        (Runs S.PageStore (both store.old slots.old) (both store.new slots.new) events.now
+    ensures runs { OnOk result
+        (let old = here_with store.old slots.old (map T.is_in sets.now) in
+        let new = here_with store.new slots.new (map T.is_in sets.now) in
+        Carries S.PageStore old new (Runs S.PageStore old new events.now
         (answers_behind answers.old.items answers.new.items))) }
     ensures each { OnOk result (length answers.new.items
         ≡ length answers.old.items + length events.now) }
@@ -59,23 +68,29 @@ pub fn run<S: PageStore>(
         return Err(Fault::NoMemory);
     };
     for event in events {
-        let answer = one(store, slots, *event);
+        let answer = one(store, slots, sets, *event);
         answers.push_reserved(answer);
     }
     Ok(())
 }
 
 // The call of each event.
-fn pick<S: PageStore>(store: &mut S, slots: &mut [Option<Op>], event: Event) -> Answer
+fn pick<S: PageStore, T: DeadRows>(
+    store: &mut S,
+    slots: &mut [Option<Op>],
+    sets: &[T],
+    event: Event,
+) -> Answer
     requires few { length slots.old ≤ 64 }
     ensures steps { Continues S.follows store.old store.new }
-    ensures makes { Makes S.PageStore (kind_of event) result (both store.old slots.old)
-        (both store.new slots.new) }
+    ensures makes { Makes S.PageStore (kind_of event) result
+        (here_with store.old slots.old (map T.is_in sets.now))
+        (here_with store.new slots.new (map T.is_in sets.now)) }
 {
     match event {
         Event::Insert(session, entry) => begin(store, slots, session, Request::Insert(entry)),
         Event::Scan(session, range) => begin(store, slots, session, Request::Scan(range)),
-        Event::Step(session) => step(store, slots, session),
+        Event::Step(session) => step(store, slots, sets, session),
         Event::Next(session) => next(store, slots, session),
         Event::End(session) => end(store, slots, session),
         Event::Force => make_force(store, slots),
@@ -91,8 +106,8 @@ fn begin<S: PageStore>(
 ) -> Answer
     requires few { length slots.old ≤ 64 }
     ensures steps { Continues S.follows store.old store.new }
-    ensures makes { Makes S.PageStore (BeginsCall session request) result (both store.old slots.old)
-        (both store.new slots.new) }
+    ensures makes { (sets : DeadSets) → Makes S.PageStore (BeginsCall session request) result
+        (here_with store.old slots.old sets) (here_with store.new slots.new sets) }
 {
     match find(store.is_stopped(), slots, session) {
         Ok(known) => session_calls::begin(store, known, request, &mut slots[session as usize]),
@@ -100,20 +115,26 @@ fn begin<S: PageStore>(
     }
 }
 
-fn step<S: PageStore>(store: &mut S, slots: &mut [Option<Op>], session: u32) -> Answer
+fn step<S: PageStore, T: DeadRows>(
+    store: &mut S,
+    slots: &mut [Option<Op>],
+    sets: &[T],
+    session: u32,
+) -> Answer
     ensures steps { Continues S.follows store.old store.new }
-    ensures makes { Makes S.PageStore (MovesCall session Steps) result (both store.old slots.old)
-        (both store.new slots.new) }
+    ensures makes { Makes S.PageStore (MovesCall session Steps) result
+        (here_with store.old slots.old (map T.is_in sets.now))
+        (here_with store.new slots.new (map T.is_in sets.now)) }
 {
     if !is_running(slots, session) {
         return refuse_idle(store.is_stopped());
     }
-    session_calls::step(store, &mut slots[session as usize])
+    session_calls::step(store, &mut slots[session as usize], sets)
 }
 
 fn next<S: PageStore>(store: &S, slots: &mut [Option<Op>], session: u32) -> Answer
-    ensures makes { Makes S.PageStore (MovesCall session Takes) result (both store.now slots.old)
-        (both store.now slots.new) }
+    ensures makes { (sets : DeadSets) → Makes S.PageStore (MovesCall session Takes) result
+        (here_with store.now slots.old sets) (here_with store.now slots.new sets) }
 {
     if !is_running(slots, session) {
         return refuse_idle(false);
@@ -123,8 +144,8 @@ fn next<S: PageStore>(store: &S, slots: &mut [Option<Op>], session: u32) -> Answ
 
 fn end<S: PageStore>(store: &mut S, slots: &mut [Option<Op>], session: u32) -> Answer
     ensures steps { Continues S.follows store.old store.new }
-    ensures makes { Makes S.PageStore (MovesCall session GivesUp) result (both store.old slots.old)
-        (both store.new slots.new) }
+    ensures makes { (sets : DeadSets) → Makes S.PageStore (MovesCall session GivesUp) result
+        (here_with store.old slots.old sets) (here_with store.new slots.new sets) }
 {
     if !is_running(slots, session) {
         return refuse_idle(false);
@@ -138,9 +159,10 @@ pub fn force<S: PageStore>(store: &mut S, slots: &[Option<Op>]) -> Answer
     ensures steps { Continues S.follows store.old store.new }
     ensures answers { AnswersUpkeep Forces result }
     ensures kept { StoreIsKept S.PageStore Forces result store.old store.new }
-    ensures runs { Carries S.PageStore (both store.old slots.now) (both store.new slots.now)
-        (Runs S.PageStore (both store.old slots.now) (both store.new slots.now) (Event.Force ∷ [])
-        (result ∷ [])) }
+    ensures runs { (sets : DeadSets) → let old = here_with store.old slots.now sets in
+        let new = here_with store.new slots.now sets in
+        Carries S.PageStore old new
+        (Runs S.PageStore old new (Event.Force ∷ []) (result ∷ [])) }
 {
     make_force(store, slots)
 }
@@ -154,17 +176,18 @@ pub fn checkpoint<S: PageStore>(store: &mut S, slots: &[Option<Op>]) -> Answer
     ensures kept { StoreIsKept S.PageStore Checkpoints result store.old store.new }
     ensures room { (count : ℕ) → result ≡ Answer.Checkpointed count
         → HasWholeRoom (S.state store.old).limits (S.backing store.new) }
-    ensures runs { Carries S.PageStore (both store.old slots.now) (both store.new slots.now)
-        (Runs S.PageStore (both store.old slots.now) (both store.new slots.now)
-        (Event.Checkpoint ∷ []) (result ∷ [])) }
+    ensures runs { (sets : DeadSets) → let old = here_with store.old slots.now sets in
+        let new = here_with store.new slots.now sets in
+        Carries S.PageStore old new
+        (Runs S.PageStore old new (Event.Checkpoint ∷ []) (result ∷ [])) }
 {
     make_checkpoint(store, slots)
 }
 
 fn make_force<S: PageStore>(store: &mut S, slots: &[Option<Op>]) -> Answer
     ensures steps { Continues S.follows store.old store.new }
-    ensures makes { Makes S.PageStore (KeepsStore Forces) result (both store.old slots.now)
-        (both store.new slots.now) }
+    ensures makes { (sets : DeadSets) → Makes S.PageStore (KeepsStore Forces) result
+        (here_with store.old slots.now sets) (here_with store.new slots.now sets) }
     ensures kept { StoreIsKept S.PageStore Forces result store.old store.new }
     ensures answers { AnswersUpkeep Forces result }
 {
@@ -176,8 +199,8 @@ fn make_force<S: PageStore>(store: &mut S, slots: &[Option<Op>]) -> Answer
 
 fn make_checkpoint<S: PageStore>(store: &mut S, slots: &[Option<Op>]) -> Answer
     ensures steps { Continues S.follows store.old store.new }
-    ensures makes { Makes S.PageStore (KeepsStore Checkpoints) result (both store.old slots.now)
-        (both store.new slots.now) }
+    ensures makes { (sets : DeadSets) → Makes S.PageStore (KeepsStore Checkpoints) result
+        (here_with store.old slots.now sets) (here_with store.new slots.now sets) }
     ensures kept { StoreIsKept S.PageStore Checkpoints result store.old store.new }
     ensures answers { AnswersUpkeep Checkpoints result }
     ensures room { (count : ℕ) → result ≡ Answer.Checkpointed count

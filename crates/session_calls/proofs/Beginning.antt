@@ -13,7 +13,7 @@ use Rattle.page_codec.specs.declared.page.Page.{Page}
 use Rattle.descent.specs.Steps.{IsInOrder, OthersRely}
 use Rattle.descent.specs.Ways.{root_level, NoneIsFlagged}
 use Rattle.session_calls.specs.Due.{IsServable, IsDueIn, steps_for, HasSteps}
-use Rattle.session_calls.specs.Ops.{asked_by, op_before}
+use Rattle.session_calls.specs.Ops.{DeadSets, asked_by, op_before}
 use Rattle.session_calls.specs.Sessions.{Matches, IsIdle, HasStarted, OpRuns, begun_call, work_left, SessionBegins}
 use Rattle.session_calls.specs.declared.request.Request.{Request}
 use Rattle.session_calls.specs.declared.request.Request.TheVariants.{Insert as ToInsert, Scan as ToScan}
@@ -60,7 +60,7 @@ not_before range e match not = true_false (sym (past_start range e ∙ (and_part
 nothing_given : (start : Entry → Bool) (history : List Action) (range : Range) (began : ℕ) → GivesOnly start history range began began []
 nothing_given start history range began = record { ascending = tt; matched = λ e h. absurd cc; was_there = λ e h. absurd cc }
 
-module _ (old : State) (start : Entry → Bool) (history : List Action) (number session : ℕ) (low : session < 64) (m : Matches old start history) (idle : IsIdle old session) where
+module _ (old : State) (sets : DeadSets) (start : Entry → Bool) (history : List Action) (number session : ℕ) (low : session < 64) (m : Matches old start history) (idle : IsIdle old session) where
   abbrev then_state : State
   then_state = after_begin session old
 
@@ -68,7 +68,7 @@ module _ (old : State) (start : Entry → Bool) (history : List Action) (number 
   has_started = (let many : length old.running ≡ 64 = m.order.calls in
       record { number = old.begun; is = ap (λ (o : Option (Option ℕ)). unwrap_or o None) (get_set_same old.running session (Some old.begun) (omega arith)) })
 
-  begun_meets : (request : Request) → Meets start history number (begun_call session (asked_by request) (length history))
+  begun_meets : (request : Request) → Meets start history number (begun_call session (asked_by sets request) (length history))
   begun_meets (ToInsert e) = record { began = omega arith; until = omega arith; right = record { add = tt; end = tt } }
   begun_meets (ToScan range) = record {
     began = omega arith;
@@ -76,7 +76,7 @@ module _ (old : State) (start : Entry → Bool) (history : List Action) (number 
     right = record { only = nothing_given start history range (length history); all = λ e within match through. absurd within };
   }
 
-  begun_runs : (request : Request) → OpRuns then_state start history (begun_call session (asked_by request) (length history)) (op_before session request)
+  begun_runs : (request : Request) → OpRuns then_state sets start history (begun_call session (asked_by sets request) (length history)) (op_before session request)
   begun_runs (ToInsert e) = record { ask = refl; session = refl; added = refl; started = has_started; fits = record { session = low; stands = idle.holds }; knows = tt }
   begun_runs (ToScan range) = record {
     ask = refl;
@@ -94,13 +94,13 @@ module _ (old : State) (start : Entry → Bool) (history : List Action) (number 
     };
   }
 
-  running_from : (request : Request) → (begun_call session (asked_by request) (length history)).ending ≡ Running
+  running_from : (request : Request) → (begun_call session (asked_by sets request) (length history)).ending ≡ Running
   running_from request = refl
 
-  pub begins : (new : State) (request : Request) (slot : Option Op) → new ≡ after_begin session old → slot ≡ Some (op_before session request) → SessionBegins old new start history number session request slot
+  pub begins : (new : State) (request : Request) (slot : Option Op) → new ≡ after_begin session old → slot ≡ Some (op_before session request) → SessionBegins old new sets start history number session request slot
   begins new request slot is slot_is =
-      subst (λ (st : State). SessionBegins old st start history number session request slot) (sym is)
-      (subst (λ (x : Option Op). SessionBegins old then_state start history number session request x) (sym slot_is) (record {
+      subst (λ (st : State). SessionBegins old st sets start history number session request slot) (sym is)
+      (subst (λ (x : Option Op). SessionBegins old then_state sets start history number session request x) (sym slot_is) (record {
         world = begun_matches old session start history m;
         others = begun_others old session;
         meets = begun_meets request;

@@ -19,7 +19,7 @@ use Rattle.scan.specs.Scans.{waiting, ScanFits, IsNext, IsBehind, LeafIsRead, Is
 use Rattle.scan.specs.declared.steps.ScanAt.{ScanAt}
 use Rattle.scan.specs.declared.steps.ScanAt.TheVariants.{Start, At, Last}
 use Rattle.scan.specs.declared.steps.ScanOp.{ScanOp}
-use Rattle.session_calls.specs.Ops.{IsScanSoFar}
+use Rattle.session_calls.specs.Ops.{DeadSets, IsScanSoFar}
 use Rattle.session_calls.specs.Sessions.{Matches, OpRuns, CallFits, ended, given_one, SessionGoes, OpGoes}
 use Rattle.session_calls.specs.declared.answer.Answer.TheVariants.{Going, Ready, Done, Gave}
 use Rattle.session_calls.specs.declared.op.Op.TheVariants.{Scan}
@@ -147,9 +147,9 @@ module _ (start : Entry → Bool) (history : List Action) (began : ℕ) (given r
   }
 
 -- an entry is given
-pub gave_goes : (at : Circumstances) (st : State) (start : Entry → Bool) (history : List Action) (number : ℕ) (call : Call) (before after : ScanOp) (e : Entry)
-    → CallFits st start history number call (Scan before) → IsNext before (Some e) after → SessionGoes at st st start history number call (Some (Scan after)) (Gave (Some e))
-gave_goes at st start history number call before after e fits next =
+pub gave_goes : {sets : DeadSets} (at : Circumstances) (st : State) (start : Entry → Bool) (history : List Action) (number : ℕ) (call : Call) (before after : ScanOp) (e : Entry)
+    → CallFits st sets start history number call (Scan before) → IsNext before (Some e) after → SessionGoes at st st sets start history number call (Some (Scan after)) (Gave (Some e))
+gave_goes {sets} at st start history number call before after e fits next =
     let far = fits.runs.knows in
     let same : (call.given ++ e ∷ []) ++ waiting after ≡ call.given ++ waiting before = joined start history call.began call.given (waiting after) e before far next.0 in
     let session : after.session ≡ before.session = ap (λ (x : ScanOp). x.session) next.1 in
@@ -180,12 +180,12 @@ gave_goes at st start history number call before after e fits next =
     })
 
 -- what `next` answers
-pub next_goes : (at : Circumstances) (st : State) (start : Entry → Bool) (history : List Action) (number : ℕ) (call : Call) (before after : ScanOp) (answer : Option Entry)
-    → CallFits st start history number call (Scan before) → IsNext before answer after → SessionGoes at st st start history number call (Some (Scan after)) (Gave answer)
-next_goes at st start history number call before after None fits next =
+pub next_goes : {sets : DeadSets} (at : Circumstances) (st : State) (start : Entry → Bool) (history : List Action) (number : ℕ) (call : Call) (before after : ScanOp) (answer : Option Entry)
+    → CallFits st sets start history number call (Scan before) → IsNext before answer after → SessionGoes at st st sets start history number call (Some (Scan after)) (Gave answer)
+next_goes {sets} at st start history number call before after None fits next =
     event_of_nothing at st st start history number call call (Scan after) (Gave None) fits.world refl (record { none = refl; after_is = refl }) tt fits.meets fits.running
-    (subst (λ (op : ScanOp). OpRuns st start history call (Scan op)) (sym next.1) fits.runs)
-next_goes at st start history number call before after (Some e) fits next = gave_goes at st start history number call before after e fits next
+    (subst (λ (op : ScanOp). OpRuns st sets start history call (Scan op)) (sym next.1) fits.runs)
+next_goes {sets} at st start history number call before after (Some e) fits next = gave_goes at st start history number call before after e fits next
 
 -- a scan that has read the metapage has read nothing of the leaves
 starts_on : (start : Entry → Bool) (history : List Action) (began : ℕ) (given : List Entry) (op : ScanOp) → op.at ≡ Start
@@ -200,13 +200,13 @@ starts_on start history began given op is far = record {
 }
 
 -- the steps of a scan
-module _ (at : Circumstances) (old new : State) (start : Entry → Bool) (history : List Action) (number : ℕ) (call : Call) (before after : ScanOp)
-    (fits : CallFits old start history number call (Scan before)) (session : after.session ≡ before.session) (range : after.range ≡ before.range) where
-  pub reading_goes : (count : ℕ) → IsReading old new before after count → OpGoes at old new start history number call (Scan after) (Ready count)
+module _ {sets : DeadSets} (at : Circumstances) (old new : State) (start : Entry → Bool) (history : List Action) (number : ℕ) (call : Call) (before after : ScanOp)
+    (fits : CallFits old sets start history number call (Scan before)) (session : after.session ≡ before.session) (range : after.range ≡ before.range) where
+  pub reading_goes : (count : ℕ) → IsReading old new before after count → OpGoes at old new sets start history number call (Scan after) (Ready count)
   reading_goes count step = step_is_ready at old new start history number call (Scan before) (Scan after) fits session (ap AskScan range) count step.does refl step.fits
       (so_far_read old start history call.began call.given before after fits.world (began_before start history number call fits.meets fits.running) range step.none step.from step.last step.read fits.runs.knows)
 
-  pub ready_goes : (count : ℕ) → IsWaiting old new before after count ⊎ IsReading old new before after count → OpGoes at old new start history number call (Scan after) (Ready count)
+  pub ready_goes : (count : ℕ) → IsWaiting old new before after count ⊎ IsReading old new before after count → OpGoes at old new sets start history number call (Scan after) (Ready count)
   ready_goes count (inr step) = reading_goes count step
   ready_goes count (inl step) = step_is_ready at old new start history number call (Scan before) (Scan after) fits session (ap AskScan range) count
       (does_nothing before.session old new step.state fits.world.order) refl
@@ -214,7 +214,7 @@ module _ (at : Circumstances) (old new : State) (start : Entry → Bool) (histor
       (subst (λ (op : ScanOp). IsScanSoFar start history call.began call.given op) (sym step.op) fits.runs.knows)
 
   -- the step that finds all given
-  pub done_goes : IsDone old new before after → OpGoes at old new start history number call (Scan after) Done
+  pub done_goes : IsDone old new before after → OpGoes at old new sets start history number call (Scan after) Done
   done_goes step =
       let far = fits.runs.knows in
       let all : call.given ++ waiting before ≡ call.given = ap (λ (xs : List Entry). call.given ++ xs) step.none ∙ append-nil call.given in
@@ -242,7 +242,7 @@ module _ (at : Circumstances) (old new : State) (start : Entry → Bool) (histor
       }
 
   -- the step that reads the metapage
-  pub moving_goes : IsMoving old new before after → OpGoes at old new start history number call (Scan after) Going
+  pub moving_goes : IsMoving old new before after → OpGoes at old new sets start history number call (Scan after) Going
   moving_goes step = step_goes_on at old new start history number call (Scan before) (Scan after) fits session (ap AskScan range) None step.does tt refl step.fits
       (subst (λ (l : List Action). IsScanSoFar start l call.began call.given after) (sym (append-nil history))
       (subst (λ (op : ScanOp). IsScanSoFar start history call.began call.given op) (sym step.op) (starts_on start history call.began call.given before step.from fits.runs.knows)))

@@ -59,7 +59,7 @@ pub number_stays : (old new : State) (session : ℕ) → MayRely session old new
 number_stays old new session rely = ap (λ (o : Option (Option ℕ)). unwrap_or o None) rely.number
 
 pub undisturbed : CallsAreUndisturbed
-undisturbed old new start history acts call op rely h = record {
+undisturbed old new sets start history acts call op rely h = record {
   ask = h.ask;
   session = h.session;
   added = h.added;

@@ -6,6 +6,7 @@ use Rattle.index_model.specs.Calls.{Ask, AskInsert, AskScan, AskBulkDelete, AskC
 use Rattle.index_model.specs.Faults.{Circumstances, HasCause}
 use Rattle.index_model.specs.Order.{is_among, IsAscending, IsPast, last_or}
 use Rattle.index_model.specs.Range.{matches}
+use Rattle.index_model.specs.Row.{Row}
 use Rattle.index_model.specs.declared.entry.Entry.{Entry}
 use Rattle.index_model.specs.declared.fault.Fault.{Fault}
 use Rattle.index_model.specs.declared.fault.Fault.TheVariants.{Stopped, Blocked, NoSession}
@@ -23,10 +24,14 @@ use Rattle.session_calls.specs.declared.op.Op.TheVariants.{Insert, Scan}
 use Rattle.session_calls.specs.declared.request.Request.{Request}
 use Rattle.session_calls.specs.declared.request.Request.TheVariants.{Insert as ToInsert, Scan as ToScan}
 
--- what a request asks
-abbrev pub asked_by : Request → Ask
-asked_by (ToInsert e) = AskInsert e
-asked_by (ToScan range) = AskScan range
+-- the sets of dead rows that calls may name, by their places
+abbrev pub DeadSets : Type 0
+DeadSets = List (Row → Bool)
+
+-- what a request asks, with these sets
+abbrev pub asked_by : DeadSets → Request → Ask
+asked_by sets (ToInsert e) = AskInsert e
+asked_by sets (ToScan range) = AskScan range
 
 -- the operation of a session's request, before its first step
 abbrev pub op_before : ℕ → Request → Op
@@ -38,10 +43,10 @@ abbrev pub session_of : Op → ℕ
 session_of (Insert op) = op.session
 session_of (Scan op) = op.session
 
--- what it was asked
-abbrev pub asked_of : Op → Ask
-asked_of (Insert op) = AskInsert op.entry
-asked_of (Scan op) = AskScan op.range
+-- what it was asked, with these sets
+abbrev pub asked_of : DeadSets → Op → Ask
+asked_of sets (Insert op) = AskInsert op.entry
+asked_of sets (Scan op) = AskScan op.range
 
 -- the number of its Add, if it has one: an insert of one leaf ends with it
 abbrev pub add_of : Op → Option ℕ

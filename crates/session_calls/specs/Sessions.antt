@@ -13,7 +13,7 @@ use Rattle.page_action.specs.States.{State, Backing, Continues, after_begin, aft
 use Rattle.page_action.specs.declared.page_store.PageStore.{Ghosts}
 use Rattle.page_codec.specs.declared.page.Page.{Page}
 use Rattle.descent.specs.Steps.{IsInOrder, IsApt, Does, OthersRely}
-use Rattle.session_calls.specs.Ops.{asked_by, op_before, session_of, asked_of, add_of, ready_of, OpFits, OpKnows, where_beginning, IsCaused, ends_call, is_last, OpAnswers, AnswersStopped, op_work}
+use Rattle.session_calls.specs.Ops.{DeadSets, asked_by, op_before, session_of, asked_of, add_of, ready_of, OpFits, OpKnows, where_beginning, IsCaused, ends_call, is_last, OpAnswers, AnswersStopped, op_work}
 use Rattle.session_calls.specs.declared.answer.Answer.{Answer}
 use Rattle.session_calls.specs.declared.answer.Answer.TheVariants.{Begun, Going, Added, Ready, Done, Finished, Gave, Ended, Forced, Flushed, Checkpointed, Refused}
 use Rattle.session_calls.specs.declared.op.Op.{Op}
@@ -41,8 +41,8 @@ pub record HasStarted (st : State) (session : ℕ) : Type 0 where
   pub is : start_number st session ≡ Some number
 
 -- what holds of a running call between its events
-pub record OpRuns (st : State) (start : Entry → Bool) (history : List Action) (call : Call) (op : Op) : Type 0 where
-  pub ask : call.ask ≡ asked_of op
+pub record OpRuns (st : State) (sets : DeadSets) (start : Entry → Bool) (history : List Action) (call : Call) (op : Op) : Type 0 where
+  pub ask : call.ask ≡ asked_of sets op
   pub session : session_of op ≡ call.session
   pub added : call.added ≡ add_of op
   pub started : HasStarted st call.session
@@ -50,21 +50,21 @@ pub record OpRuns (st : State) (start : Entry → Bool) (history : List Action) 
   pub knows : OpKnows start history call.began call.given op
 
 -- the running call of this number, which this operation runs
-pub record CallFits (st : State) (start : Entry → Bool) (history : List Action) (number : ℕ) (call : Call) (op : Op) : Type 0 where
+pub record CallFits (st : State) (sets : DeadSets) (start : Entry → Bool) (history : List Action) (number : ℕ) (call : Call) (op : Op) : Type 0 where
   pub world : Matches st start history
   pub running : call.ending ≡ Running
   pub meets : Meets start history number call
-  pub runs : OpRuns st start history call op
+  pub runs : OpRuns st sets start history call op
 
 -- the session's slot runs this call
-abbrev pub SlotFits : State → (Entry → Bool) → List Action → ℕ → Call → Option Op → Type 0
-SlotFits st start history number call None = ⊥
-SlotFits st start history number call (Some op) = CallFits st start history number call op
+abbrev pub SlotFits : State → DeadSets → (Entry → Bool) → List Action → ℕ → Call → Option Op → Type 0
+SlotFits st sets start history number call None = ⊥
+SlotFits st sets start history number call (Some op) = CallFits st sets start history number call op
 
 -- the slot of a session after an event, and its call
-abbrev pub SlotIs : State → (Entry → Bool) → List Action → Call → Option Op → Type 0
-SlotIs st start history call None = (call.ending ≢ Running) × IsIdle st call.session
-SlotIs st start history call (Some op) = (call.ending ≡ Running) × OpRuns st start history call op
+abbrev pub SlotIs : State → DeadSets → (Entry → Bool) → List Action → Call → Option Op → Type 0
+SlotIs st sets start history call None = (call.ending ≢ Running) × IsIdle st call.session
+SlotIs st sets start history call (Some op) = (call.ending ≡ Running) × OpRuns st sets start history call op
 
 -- the actions that an event of the call of this number appends: one of this effect, or none
 abbrev pub acts_of : ℕ → Option Effect → List Action
@@ -215,7 +215,7 @@ RefusalChangesNothing old new (Some op) after answer = Unit {0}
 -- One event of a running call: it appends at most one action, which the call was asked for; what is told of it; its cause;
 -- the pages match the longer history; the limits stay, and where no action is logged, the pages; others may rely; the call
 -- goes on meeting its definition; and what the slot holds then.
-pub record SessionGoes (at : Circumstances) (old new : State) (start : Entry → Bool) (history : List Action) (number : ℕ) (call : Call) (slot : Option Op) (answer : Answer) : Type 0 where
+pub record SessionGoes (at : Circumstances) (old new : State) (sets : DeadSets) (start : Entry → Bool) (history : List Action) (number : ℕ) (call : Call) (slot : Option Op) (answer : Answer) : Type 0 where
   pub effect : Option Effect
   pub after : Call
   pub asked : IsAsked (contents_after start history) call.ask call.added effect
@@ -227,7 +227,7 @@ pub record SessionGoes (at : Circumstances) (old new : State) (start : Entry →
   pub pages : effect ≡ None → new.pages ≡ old.pages
   pub others : OthersRely call.session old new
   pub meets : Meets start (history ++ acts_of number effect) number after
-  pub holds : SlotIs new start (history ++ acts_of number effect) after slot
+  pub holds : SlotIs new sets start (history ++ acts_of number effect) after slot
 
 -- a call that begins with so many actions before it
 abbrev pub begun_call : ℕ → Ask → ℕ → Call
@@ -257,11 +257,11 @@ BeginsBy old old_backing new session request before after answer = ⊥
 
 -- a call that has begun over a history of so many actions: the pages match it still, others may rely, the call meets its
 -- definition, and the slot runs it
-pub record SessionBegins (old new : State) (start : Entry → Bool) (history : List Action) (number session : ℕ) (request : Request) (slot : Option Op) : Type 0 where
+pub record SessionBegins (old new : State) (sets : DeadSets) (start : Entry → Bool) (history : List Action) (number session : ℕ) (request : Request) (slot : Option Op) : Type 0 where
   pub world : Matches new start history
   pub others : OthersRely session old new
-  pub meets : Meets start history number (begun_call session (asked_by request) (length history))
-  pub holds : SlotIs new start history (begun_call session (asked_by request) (length history)) slot
+  pub meets : Meets start history number (begun_call session (asked_by sets request) (length history))
+  pub holds : SlotIs new sets start history (begun_call session (asked_by sets request) (length history)) slot
 
 -- A step of an operation, before what it holds is let go at its end. On any pages: what it may answer; a refusal changes
 -- nothing; a stopped log refuses it; what is left to do; and one that goes on changes nothing but latches and pins.
@@ -280,12 +280,12 @@ abbrev pub slot_after : Answer → Op → Option Op
 slot_after answer op = if is_last answer then None else Some op
 
 -- what the operation and its call are behind a step: the call is over, or the operation runs it on
-abbrev pub HoldsOn : Bool → State → (Entry → Bool) → List Action → Call → Op → Type 0
-HoldsOn true st start history call op = call.ending ≢ Running
-HoldsOn false st start history call op = (call.ending ≡ Running) × OpRuns st start history call op
+abbrev pub HoldsOn : Bool → State → DeadSets → (Entry → Bool) → List Action → Call → Op → Type 0
+HoldsOn true st sets start history call op = call.ending ≢ Running
+HoldsOn false st sets start history call op = (call.ending ≡ Running) × OpRuns st sets start history call op
 
 -- a step of an operation over a history, before what it holds is let go at its end
-pub record OpGoes (at : Circumstances) (old new : State) (start : Entry → Bool) (history : List Action) (number : ℕ) (call : Call) (op : Op) (answer : Answer) : Type 0 where
+pub record OpGoes (at : Circumstances) (old new : State) (sets : DeadSets) (start : Entry → Bool) (history : List Action) (number : ℕ) (call : Call) (op : Op) (answer : Answer) : Type 0 where
   pub effect : Option Effect
   pub then_call : Call
   pub does : Does call.session effect old new
@@ -293,4 +293,4 @@ pub record OpGoes (at : Circumstances) (old new : State) (start : Entry → Bool
   pub told : Told answer (length history) effect call then_call
   pub caused : IsCaused at answer
   pub meets : Meets start (history ++ acts_of number effect) number then_call
-  pub holds : HoldsOn (is_last answer) new start (history ++ acts_of number effect) then_call op
+  pub holds : HoldsOn (is_last answer) new sets start (history ++ acts_of number effect) then_call op

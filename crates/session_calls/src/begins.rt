@@ -6,7 +6,7 @@ ghost use Rattle.index_model.specs.Faults.{HasCause};
 ghost use Rattle.index_model.specs.declared.entry.Entry.{Entry};
 ghost use Rattle.page_action.specs.States.{Continues, after_begin};
 ghost use Rattle.session_calls.specs.Due.{HasSteps};
-ghost use Rattle.session_calls.specs.Ops.{where_beginning};
+ghost use Rattle.session_calls.specs.Ops.{DeadSets, where_beginning};
 ghost use Rattle.session_calls.specs.Sessions.{Matches, IsIdle, BeginsBy, SessionBegins};
 
 use crate::answer::Answer;
@@ -31,10 +31,10 @@ pub fn begin<S: PageStore>(
     ensures by { BeginsBy (S.state store.old) (S.backing store.old)
         (S.state store.new) session request slot.old slot.new result }
     ensures stopped { (S.backing store.old).stopped ≡ true → result ≡ Answer.Refused Fault.Stopped }
-    ensures begins { result ≡ Answer.Begun → (start : Entry → Bool) (history : List Action)
-        (number : ℕ)
+    ensures begins { result ≡ Answer.Begun → (sets : DeadSets) (start : Entry → Bool)
+        (history : List Action) (number : ℕ)
         → Matches (S.state store.old) start history → IsIdle (S.state store.old) session
-        → SessionBegins (S.state store.old) (S.state store.new) start history number session
+        → SessionBegins (S.state store.old) (S.state store.new) sets start history number session
         request slot.new }
     ensures counts { result ≡ Answer.Begun → HasSteps (S.state store.old)
         (S.state store.new) request slot.new }

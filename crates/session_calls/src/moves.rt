@@ -1,6 +1,6 @@
 //! Events of a running call.
 
-ghost use Rattle.std.specs.Prelude.{◌≡◌, true, false, Bool, List, ℕ, suc, None, Some};
+ghost use Rattle.std.specs.Prelude.{◌≡◌, true, false, Bool, List, ℕ, suc, None, Some, map};
 ghost use Rattle.index_model.specs.Actions.{Action};
 ghost use Rattle.index_model.specs.Calls.{Call};
 ghost use Rattle.index_model.specs.declared.entry.Entry.{Entry};
@@ -8,19 +8,21 @@ ghost use Rattle.page_action.specs.Causes.{nothing_wrong};
 ghost use Rattle.page_action.specs.States.{State, Continues, after_end, with_table};
 ghost use Rattle.page_codec.specs.declared.page.Page.{Page};
 ghost use Rattle.session_calls.specs.Due.{IsDue, IsDueIn, CountsDown};
-ghost use Rattle.session_calls.specs.Ops.{session_of, where_stepped, where_asked_next, is_last, AnswersStopped};
+ghost use Rattle.session_calls.specs.Ops.{DeadSets, session_of, where_stepped, where_asked_next, is_last, AnswersStopped};
 ghost use Rattle.session_calls.specs.Sessions.{SlotFits, SessionGoes, LeavesLess, LeavesNoMore, GivesLess, AnswersStep, AnswersNext, AnswersEnd, RefusalChangesNothing, no_call, slot_add};
 ghost use Rattle.session_calls.specs.declared.op.Op.{Op};
 
 use crate::answer::Answer;
 use crate::op::Op;
-use index_model::Fault;
+use index_model::{DeadRows, Fault};
 use page_action::PageStore;
 
 /// Makes one step of a session's call. Where the answer ends the call, the slot is empty afterwards, and what the session
 /// held is let go. A slot with no call is refused with `NoSession` (12), or `Stopped` (3). A refused step changes nothing,
 /// but that the call is over where it wasn't blocked.
-pub fn step<S: PageStore>(store: &mut S, slot: &mut Option<Op>) -> Answer
+///
+/// A call that was asked for the rows of a set knows it by its place among the sets. These are the same at each of its steps.
+pub fn step<S: PageStore, T: DeadRows>(store: &mut S, slot: &mut Option<Op>, sets: &[T]) -> Answer
     ensures steps { Continues S.follows store.old store.new }
     ensures idle { slot.old ≡ None → (result ≡ no_call (S.backing store.old).stopped)
         × (store.new ≡ store.old) }
@@ -35,13 +37,14 @@ pub fn step<S: PageStore>(store: &mut S, slot: &mut Option<Op>) -> Answer
     ensures no_more { LeavesNoMore (S.state store.old) (S.state store.new) slot.old slot.new }
     ensures goes { (S.backing store.new).honest ≡ true
         → (start : Entry → Bool) (history : List Action) (number : ℕ) (call : Call)
-        → SlotFits (S.state store.old) start history number call slot.old
+        → SlotFits (S.state store.old) (map T.is_in sets.now) start history number call slot.old
         → SessionGoes (where_stepped call.ask (S.state store.old) (S.backing store.old)
         (S.backing store.new) call.session)
-        (S.state store.old) (S.state store.new) start history number call slot.new result }
+        (S.state store.old) (S.state store.new) (map T.is_in sets.now) start history number call
+        slot.new result }
     ensures due { (S.backing store.new).honest ≡ true
         → (start : Entry → Bool) (history : List Action) (number : ℕ) (call : Call)
-        → SlotFits (S.state store.old) start history number call slot.old
+        → SlotFits (S.state store.old) (map T.is_in sets.now) start history number call slot.old
         → (left : ℕ) → IsDueIn (S.state store.old) slot.old (suc left)
         → CountsDown (S.state store.old) (S.state store.new) slot.old slot.new left result }
 {
@@ -49,7 +52,7 @@ pub fn step<S: PageStore>(store: &mut S, slot: &mut Option<Op>) -> Answer
         return idle(store.is_stopped());
     };
     let session = op.session();
-    let answer = op.step(store);
+    let answer = op.step(store, sets);
     if is_last(&answer) {
         store.end(session);
         *slot = None;
@@ -85,10 +88,11 @@ pub fn next(slot: &mut Option<Op>) -> Answer
     ensures idle { slot.old ≡ None → (slot.new ≡ None) × (result ≡ no_call false) }
     ensures kind { AnswersNext slot.old result }
     ensures less { GivesLess slot.old slot.new result }
-    ensures goes { (st : State) (start : Entry → Bool) (history : List Action) (number : ℕ)
-        (call : Call)
-        → SlotFits st start history number call slot.old
-        → SessionGoes (where_asked_next call.ask) st st start history number call slot.new result }
+    ensures goes { (st : State) (sets : DeadSets) (start : Entry → Bool) (history : List Action)
+        (number : ℕ) (call : Call)
+        → SlotFits st sets start history number call slot.old
+        → SessionGoes (where_asked_next call.ask) st st sets start history number call slot.new
+        result }
     ensures due { (items : ℕ) (pages : List Page) (steps : ℕ) → IsDue items pages slot.old steps
         → IsDue items pages slot.new steps }
 {
@@ -108,10 +112,11 @@ pub fn end<S: PageStore>(store: &mut S, slot: &mut Option<Op>) -> Answer
     ensures backing { S.backing store.new ≡ S.backing store.old }
     ensures given_up { (op : Op) → slot.old ≡ Some op
         → S.state store.new ≡ after_end (session_of op) (S.state store.old) }
-    ensures goes { (start : Entry → Bool) (history : List Action) (number : ℕ) (call : Call)
-        → SlotFits (S.state store.old) start history number call slot.old
+    ensures goes { (sets : DeadSets) (start : Entry → Bool) (history : List Action) (number : ℕ)
+        (call : Call)
+        → SlotFits (S.state store.old) sets start history number call slot.old
         → SessionGoes nothing_wrong (S.state store.old)
-        (S.state store.new) start history number call slot.new result }
+        (S.state store.new) sets start history number call slot.new result }
 {
     let Some(op) = slot else {
         return Answer::Refused(Fault::NoSession);

@@ -1,6 +1,6 @@
 //! Running calls.
 
-ghost use Rattle.std.specs.Prelude.{◌≡◌, true, false, Bool, List, ℕ, Some, suc};
+ghost use Rattle.std.specs.Prelude.{◌≡◌, true, false, Bool, List, ℕ, Some, suc, map};
 ghost use Rattle.index_model.specs.Actions.{Action};
 ghost use Rattle.index_model.specs.Calls.{Call};
 ghost use Rattle.index_model.specs.declared.entry.Entry.{Entry};
@@ -8,7 +8,7 @@ ghost use Rattle.descent.specs.Steps.{IsInOrder};
 
 use crate::answer::Answer;
 use crate::request::Request;
-use index_model::{Fault, Session};
+use index_model::{DeadRows, Fault, Session};
 use insert_split::{InsertOp, InsertStep};
 use page_action::PageStore;
 use scan::{ScanOp, ScanStep};
@@ -46,14 +46,15 @@ impl Op {
     }
 
     // One step. After an answer that is its last, what the session holds is still held.
-    pub(crate) fn step<S: PageStore>(&mut self, store: &mut S) -> Answer
+    pub(crate) fn step<S: PageStore, T: DeadRows>(&mut self, store: &mut S, sets: &[T]) -> Answer
         ensures all { OpSteps S.PageStore self.old self.new store.old store.new result }
         ensures goes { (S.backing store.new).honest ≡ true
             → (start : Entry → Bool) (history : List Action) (number : ℕ) (call : Call)
-            → CallFits (S.state store.old) start history number call self.old
+            → CallFits (S.state store.old) (map T.is_in sets.now) start history number call self.old
             → OpGoes (where_stepped call.ask (S.state store.old) (S.backing store.old)
             (S.backing store.new) call.session)
-            (S.state store.old) (S.state store.new) start history number call self.new result }
+            (S.state store.old) (S.state store.new) (map T.is_in sets.now) start history number
+            call self.new result }
         ensures due { (S.backing store.new).honest ≡ true → IsInOrder (S.state store.old)
             → OpFits (S.state store.old) self.old
             → (left : ℕ) → IsDueIn (S.state store.old) (Some self.old) (suc left)

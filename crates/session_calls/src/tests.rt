@@ -1,6 +1,6 @@
 use super::*;
 use arrayvec::ArrayVec;
-use index_model::{Entry, Fault, Key, Limits, Range, RowAddr, Session};
+use index_model::{DeadRows, Entry, Fault, Key, Limits, Range, RowAddr, Session};
 use page_action::MapStore;
 use page_codec::{Items, Page, PageState};
 use std::alloc::Global;
@@ -26,6 +26,21 @@ fn page(block: u32, right: Option<u32>, items: Items) -> Page {
         items,
     }
 }
+
+// A set of dead rows without rows.
+struct NoRows {}
+
+impl DeadRows for NoRows {
+    ghost use Rattle.std.specs.Prelude.{false};
+
+    ghost is_in = { λ rows row. false };
+
+    fn is_dead(&self, _row: RowAddr) -> bool {
+        false
+    }
+}
+
+const NO_SETS: [NoRows; 0] = [];
 
 // The metapage, and a leaf with these entries as the root.
 fn tree(alloc: Global, entries: &[Entry]) -> Result<MapStore, Fault> {
@@ -60,7 +75,7 @@ fn an_insert_and_a_scan(rt: HostRuntime) {
     let mut slot = None;
     assert!(rt;
         matches!(
-            step(&mut store, &mut slot),
+            step(&mut store, &mut slot, &NO_SETS),
             Answer::Refused(Fault::NoSession)
         )
     );
@@ -69,9 +84,9 @@ fn an_insert_and_a_scan(rt: HostRuntime) {
     let busy = begin(&mut store, session, Request::Scan(ALL), &mut slot);
     assert!(rt; matches!(busy, Answer::Refused(Fault::SessionBusy)));
     assert!(rt; matches!(next(&mut slot), Answer::Refused(Fault::NoSession)));
-    assert!(rt; matches!(step(&mut store, &mut slot), Answer::Going));
-    assert!(rt; matches!(step(&mut store, &mut slot), Answer::Going));
-    let added = step(&mut store, &mut slot);
+    assert!(rt; matches!(step(&mut store, &mut slot, &NO_SETS), Answer::Going));
+    assert!(rt; matches!(step(&mut store, &mut slot, &NO_SETS), Answer::Going));
+    let added = step(&mut store, &mut slot, &NO_SETS);
     assert!(rt;
         matches!(
             added,
@@ -85,15 +100,15 @@ fn an_insert_and_a_scan(rt: HostRuntime) {
 
     let begun = begin(&mut store, session, Request::Scan(ALL), &mut slot);
     assert!(rt; matches!(begun, Answer::Begun));
-    assert!(rt; matches!(step(&mut store, &mut slot), Answer::Going));
-    assert!(rt; matches!(step(&mut store, &mut slot), Answer::Ready(1)));
+    assert!(rt; matches!(step(&mut store, &mut slot, &NO_SETS), Answer::Going));
+    assert!(rt; matches!(step(&mut store, &mut slot, &NO_SETS), Answer::Ready(1)));
     let Answer::Gave(Some(given)) = next(&mut slot) else {
         assert!(rt; false);
         return;
     };
     assert!(rt; given == entry(1, 7));
     assert!(rt; matches!(next(&mut slot), Answer::Gave(None)));
-    assert!(rt; matches!(step(&mut store, &mut slot), Answer::Done));
+    assert!(rt; matches!(step(&mut store, &mut slot, &NO_SETS), Answer::Done));
     assert!(rt; slot.is_none());
 }
 

@@ -11,7 +11,7 @@ use Rattle.index_model.specs.declared.fault.Fault.TheVariants.{Exists, NoSession
 use Rattle.page_action.specs.Causes.{where_forced}
 use Rattle.page_action.specs.States.{Backing}
 use Rattle.page_action.specs.declared.page_store.PageStore.{Ghosts}
-use Rattle.session_calls.specs.Ops.{asked_by, asked_of, IsCaused, ends_call}
+use Rattle.session_calls.specs.Ops.{DeadSets, asked_by, asked_of, IsCaused, ends_call}
 use Rattle.session_calls.specs.Sessions.{Told, IsAsked, acts_of, act_count, add_after, noted, begun_call, ended, AnswersStep, AnswersNext, AnswersEnd}
 use Rattle.session_calls.specs.declared.answer.Answer.{Answer}
 use Rattle.session_calls.specs.declared.answer.Answer.TheVariants.{Begun, Going, Added, Ready, Done, Finished, Gave, Ended, Forced, Flushed, Checkpointed, Refused}
@@ -70,57 +70,57 @@ module _ {S : Type 0} (g : Ghosts S) (start : Entry → Bool) (now : Snapshot S)
       (e, same_some (slice_get now.calls number) c call (subst (λ (n : ℕ). slice_get now.calls n ≡ Some c) e also.found) is.found)
 
 -- a step of what was asked may answer this, and so may asking it for its next entry
-step_may : (op : Op) (after : Option Op) (answer : Answer) → AnswersStep (Some op) after answer → MayAnswer (asked_of op) answer
-step_may (Inserts op) after Going h = tt
-step_may (Inserts op) after (Added a u) h = tt
-step_may (Inserts op) after (Refused f) h = tt
-step_may (Inserts op) after Begun h = absurd h
-step_may (Inserts op) after (Ready r) h = absurd h
-step_may (Inserts op) after Done h = absurd h
-step_may (Inserts op) after (Finished s) h = absurd h
-step_may (Inserts op) after (Gave e) h = absurd h
-step_may (Inserts op) after Ended h = absurd h
-step_may (Inserts op) after (Forced n) h = absurd h
-step_may (Inserts op) after (Flushed b) h = absurd h
-step_may (Inserts op) after (Checkpointed n) h = absurd h
-step_may (Scans op) after Going h = tt
-step_may (Scans op) after (Ready r) h = tt
-step_may (Scans op) after Done h = tt
-step_may (Scans op) after (Refused f) h = tt
-step_may (Scans op) after Begun h = absurd h
-step_may (Scans op) after (Added a u) h = absurd h
-step_may (Scans op) after (Finished s) h = absurd h
-step_may (Scans op) after (Gave e) h = absurd h
-step_may (Scans op) after Ended h = absurd h
-step_may (Scans op) after (Forced n) h = absurd h
-step_may (Scans op) after (Flushed b) h = absurd h
-step_may (Scans op) after (Checkpointed n) h = absurd h
+step_may : (sets : DeadSets) (op : Op) (after : Option Op) (answer : Answer) → AnswersStep (Some op) after answer → MayAnswer (asked_of sets op) answer
+step_may sets (Inserts op) after Going h = tt
+step_may sets (Inserts op) after (Added a u) h = tt
+step_may sets (Inserts op) after (Refused f) h = tt
+step_may sets (Inserts op) after Begun h = absurd h
+step_may sets (Inserts op) after (Ready r) h = absurd h
+step_may sets (Inserts op) after Done h = absurd h
+step_may sets (Inserts op) after (Finished s) h = absurd h
+step_may sets (Inserts op) after (Gave e) h = absurd h
+step_may sets (Inserts op) after Ended h = absurd h
+step_may sets (Inserts op) after (Forced n) h = absurd h
+step_may sets (Inserts op) after (Flushed b) h = absurd h
+step_may sets (Inserts op) after (Checkpointed n) h = absurd h
+step_may sets (Scans op) after Going h = tt
+step_may sets (Scans op) after (Ready r) h = tt
+step_may sets (Scans op) after Done h = tt
+step_may sets (Scans op) after (Refused f) h = tt
+step_may sets (Scans op) after Begun h = absurd h
+step_may sets (Scans op) after (Added a u) h = absurd h
+step_may sets (Scans op) after (Finished s) h = absurd h
+step_may sets (Scans op) after (Gave e) h = absurd h
+step_may sets (Scans op) after Ended h = absurd h
+step_may sets (Scans op) after (Forced n) h = absurd h
+step_may sets (Scans op) after (Flushed b) h = absurd h
+step_may sets (Scans op) after (Checkpointed n) h = absurd h
 
-next_may : (op : Op) (answer : Answer) → AnswersNext (Some op) answer → MayAnswer (asked_of op) answer
-next_may (Inserts op) (Refused f) h = tt
-next_may (Inserts op) Going h = absurd h
-next_may (Inserts op) (Added a u) h = absurd h
-next_may (Inserts op) Begun h = absurd h
-next_may (Inserts op) (Ready r) h = absurd h
-next_may (Inserts op) Done h = absurd h
-next_may (Inserts op) (Finished s) h = absurd h
-next_may (Inserts op) (Gave e) h = absurd h
-next_may (Inserts op) Ended h = absurd h
-next_may (Inserts op) (Forced n) h = absurd h
-next_may (Inserts op) (Flushed b) h = absurd h
-next_may (Inserts op) (Checkpointed n) h = absurd h
-next_may (Scans op) (Gave e) h = tt
-next_may (Scans op) Going h = absurd h
-next_may (Scans op) (Ready r) h = absurd h
-next_may (Scans op) Done h = absurd h
-next_may (Scans op) (Refused f) h = absurd h
-next_may (Scans op) Begun h = absurd h
-next_may (Scans op) (Added a u) h = absurd h
-next_may (Scans op) (Finished s) h = absurd h
-next_may (Scans op) Ended h = absurd h
-next_may (Scans op) (Forced n) h = absurd h
-next_may (Scans op) (Flushed b) h = absurd h
-next_may (Scans op) (Checkpointed n) h = absurd h
+next_may : (sets : DeadSets) (op : Op) (answer : Answer) → AnswersNext (Some op) answer → MayAnswer (asked_of sets op) answer
+next_may sets (Inserts op) (Refused f) h = tt
+next_may sets (Inserts op) Going h = absurd h
+next_may sets (Inserts op) (Added a u) h = absurd h
+next_may sets (Inserts op) Begun h = absurd h
+next_may sets (Inserts op) (Ready r) h = absurd h
+next_may sets (Inserts op) Done h = absurd h
+next_may sets (Inserts op) (Finished s) h = absurd h
+next_may sets (Inserts op) (Gave e) h = absurd h
+next_may sets (Inserts op) Ended h = absurd h
+next_may sets (Inserts op) (Forced n) h = absurd h
+next_may sets (Inserts op) (Flushed b) h = absurd h
+next_may sets (Inserts op) (Checkpointed n) h = absurd h
+next_may sets (Scans op) (Gave e) h = tt
+next_may sets (Scans op) Going h = absurd h
+next_may sets (Scans op) (Ready r) h = absurd h
+next_may sets (Scans op) Done h = absurd h
+next_may sets (Scans op) (Refused f) h = absurd h
+next_may sets (Scans op) Begun h = absurd h
+next_may sets (Scans op) (Added a u) h = absurd h
+next_may sets (Scans op) (Finished s) h = absurd h
+next_may sets (Scans op) Ended h = absurd h
+next_may sets (Scans op) (Forced n) h = absurd h
+next_may sets (Scans op) (Flushed b) h = absurd h
+next_may sets (Scans op) (Checkpointed n) h = absurd h
 
 -- a step, or asking for the next entry
 abbrev pub GoesOnBy : Move → Type 0
@@ -128,10 +128,10 @@ GoesOnBy Steps = Unit {0}
 GoesOnBy Takes = Unit {0}
 GoesOnBy GivesUp = ⊥
 
-may_of : (move : Move) → GoesOnBy move → (op : Op) (after : Option Op) (answer : Answer) → AnswersMove move (Some op) after answer → MayAnswer (asked_of op) answer
-may_of Steps of op after answer h = step_may op after answer h
-may_of Takes of op after answer h = next_may op answer h
-may_of GivesUp of op after answer h = absurd of
+may_of : (sets : DeadSets) (move : Move) → GoesOnBy move → (op : Op) (after : Option Op) (answer : Answer) → AnswersMove move (Some op) after answer → MayAnswer (asked_of sets op) answer
+may_of sets Steps of op after answer h = step_may sets op after answer h
+may_of sets Takes of op after answer h = next_may sets op answer h
+may_of sets GivesUp of op after answer h = absurd of
 
 -- an event of a session that has a running call
 pub moves_tells : {S : Type 0} (g : Ghosts S) (start : Entry → Bool) (x y : Snapshot S) (session : ℕ) (move : Move) (answer : Answer) → GoesOnBy move → Fits g start x → EventDoes g start (MovesCall session move) answer x y
@@ -147,7 +147,7 @@ moves_tells g start x y session move answer of fits does number call is =
       effect = goes.effect;
       after = goes.after;
       own = subst (λ (c : Call). IsOwnEffect c.ask c.added goes.effect) same.1 (own_of goes.call.ask goes.call.added goes.effect goes.asked);
-      may = subst (λ (a : Ask). MayAnswer a answer) (sym (ap (λ (c : Call). c.ask) (sym asks.1) ∙ r.2.runs.ask)) (may_of move of r.0 (slot_of y.slots session) answer kind);
+      may = subst (λ (a : Ask). MayAnswer a answer) (sym (ap (λ (c : Call). c.ask) (sym asks.1) ∙ r.2.runs.ask)) (may_of x.sets move of r.0 (slot_of y.slots session) answer kind);
       told = subst (λ (c : Call). Told answer (length x.history) goes.effect c goes.after) same.1 goes.told;
       calm = λ going. silent_history goes.number goes.effect goes.history_is (
           let a : (g.state y.store).acts ≡ length y.history = does.fits.matches.count in
@@ -292,7 +292,7 @@ set_new (z ∷ xs) x y = ap (λ l. z ∷ l) (set_new xs x y)
 -- a call that has just begun, and then came so far
 module _ {S : Type 0} (session : ℕ) (request : Request) (x y z : Snapshot S) (began : HasBegun session request x y) where
   abbrev first_call : Call
-  first_call = begun_call session (asked_by request) (length x.history)
+  first_call = begun_call session (asked_by x.sets request) (length x.history)
 
   first_runs : IsRunningCall y.calls session (length x.calls) first_call
   first_runs = record {

@@ -77,7 +77,7 @@ HasNone session now = (number : ℕ) (call : Call) → IsRunningCall now.calls s
 -- a call is begun: it gets the next number
 pub record HasBegun {S : Type 0} (session : ℕ) (request : Request) (old new : Snapshot S) : Type 0 where
   pub history_is : new.history ≡ old.history
-  pub calls_is : new.calls ≡ old.calls ++ begun_call session (asked_by request) (length old.history) ∷ []
+  pub calls_is : new.calls ≡ old.calls ++ begun_call session (asked_by old.sets request) (length old.history) ∷ []
 
 -- whether a call has begun, by the answer
 abbrev pub begun_of : Answer → Result (Unit {0}) Fault
@@ -104,9 +104,9 @@ pub record TellsEnd {S : Type 0} (session : ℕ) (old new : Snapshot S) : Type 0
 pub record CameTo {S : Type 0} (session : ℕ) (request : Request) (answer : Answer) (old new : Snapshot S) : Type 0 where
   pub effect : Option Effect
   pub after : Call
-  pub may : MayAnswer (asked_by request) answer
-  pub own : IsOwnEffect (asked_by request) None effect
-  pub told : Told answer (length old.history) effect (begun_call session (asked_by request) (length old.history)) after
+  pub may : MayAnswer (asked_by old.sets request) answer
+  pub own : IsOwnEffect (asked_by old.sets request) None effect
+  pub told : Told answer (length old.history) effect (begun_call session (asked_by old.sets request) (length old.history)) after
   pub history_is : new.history ≡ old.history ++ acts_of (length old.calls) effect
   pub calls_is : new.calls ≡ old.calls ++ after ∷ []
 

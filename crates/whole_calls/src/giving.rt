@@ -1,25 +1,26 @@
 //! Scans that give one entry after the other.
 
-ghost use Rattle.std.specs.Prelude.{◌≡◌, ◌≤◌, length, slice_get, OnErr, IfErr, None};
+ghost use Rattle.std.specs.Prelude.{◌≡◌, ◌≤◌, length, map, slice_get, OnErr, IfErr, None};
 ghost use Rattle.index_model.specs.Faults.{HasCause};
 ghost use Rattle.page_action.specs.States.{Continues};
 ghost use Rattle.session_calls.specs.declared.request.Request.TheVariants.{Scan as ToScan};
-ghost use Rattle.schedule.specs.Snapshots.{both, slot_of};
+ghost use Rattle.schedule.specs.Snapshots.{here_with, slot_of};
 ghost use Rattle.schedule.specs.Events.{OthersStay, IsUnchanged, where_begun_at};
 ghost use Rattle.whole_calls.specs.Telling.{TellsStep, BeginTold, step_came, begin_came};
 ghost use Rattle.whole_calls.specs.Giving.{GoesDownBy, AnswersAdvance, AnswersSeek, EndsUnlessGiven, GiveLeavesLess, TellsGiven, given_of, give_came};
 ghost use Rattle.whole_calls.specs.Going.{CallGoes};
 
 use crate::running::{begun, give_up, step};
-use index_model::{Entry, Fault, Range};
+use index_model::{DeadRows, Entry, Fault, Range};
 use page_action::PageStore;
 use schedule::{Event, one};
 use session_calls::{Answer, Op};
 
 // The next entry that the session's scan has ready; where none is, one step of it.
-fn advance<S: PageStore>(
+fn advance<S: PageStore, T: DeadRows>(
     store: &mut S,
     slots: &mut [Option<Op>],
+    sets: &[T],
     session: u32,
     least_room: u32,
 ) -> Result<Answer, Fault>
@@ -28,22 +29,24 @@ fn advance<S: PageStore>(
     ensures sessions { length slots.new ≡ length slots.old }
     ensures others { OthersStay session slots.old slots.new }
     ensures goes { CallGoes S.PageStore session (TellsStep session result) (step_came result)
-        (both store.old slots.old) (both store.new slots.new) }
+        (here_with store.old slots.old (map T.is_in sets.now))
+        (here_with store.new slots.new (map T.is_in sets.now)) }
     ensures less { GoesDownBy (S.state store.old) (S.state store.new) (slot_of slots.old session)
         (slot_of slots.new session) result }
     ensures kind { AnswersAdvance result }
 {
-    let answer = one(store, slots, Event::Next(session));
+    let answer = one(store, slots, sets, Event::Next(session));
     let Answer::Gave(None) = answer else {
         return Ok(answer);
     };
-    step(store, slots, session, least_room)
+    step(store, slots, sets, session, least_room)
 }
 
 // Goes on until the session's scan gives an entry or is over.
-fn seek<S: PageStore>(
+fn seek<S: PageStore, T: DeadRows>(
     store: &mut S,
     slots: &mut [Option<Op>],
+    sets: &[T],
     session: u32,
     least_room: u32,
 ) -> Result<Answer, Fault>
@@ -52,13 +55,14 @@ fn seek<S: PageStore>(
     ensures sessions { length slots.new ≡ length slots.old }
     ensures others { OthersStay session slots.old slots.new }
     ensures goes { CallGoes S.PageStore session (TellsStep session result) (step_came result)
-        (both store.old slots.old) (both store.new slots.new) }
+        (here_with store.old slots.old (map T.is_in sets.now))
+        (here_with store.new slots.new (map T.is_in sets.now)) }
     ensures kind { AnswersSeek result }
     ensures less { GoesDownBy (S.state store.old) (S.state store.new) (slot_of slots.old session)
         (slot_of slots.new session) result }
 {
     loop {
-        match advance(store, slots, session, least_room) {
+        match advance(store, slots, sets, session, least_room) {
             Ok(answer) => match answer {
                 Answer::Going | Answer::Ready(_) => {}
                 answer => return Ok(answer),
@@ -82,9 +86,10 @@ fn given(came: Result<Answer, Fault>) -> Result<Option<Entry>, Fault>
 
 /// The next entry of the session's scan, or None where it has given all; it is over then, and where it is refused: as a step of
 /// it is, and with `Io` (2) or `Stopped` (3) where a checkpoint before a step is. There are 64 slots at most.
-pub fn give<S: PageStore>(
+pub fn give<S: PageStore, T: DeadRows>(
     store: &mut S,
     slots: &mut [Option<Op>],
+    sets: &[T],
     session: u32,
     least_room: u32,
 ) -> Result<Option<Entry>, Fault>
@@ -96,17 +101,18 @@ pub fn give<S: PageStore>(
     ensures less { GiveLeavesLess (S.state store.old) (S.state store.new)
         (slot_of slots.old session) (slot_of slots.new session) result }
     ensures goes { CallGoes S.PageStore session (TellsGiven session result) (give_came result)
-        (both store.old slots.old) (both store.new slots.new) }
+        (here_with store.old slots.old (map T.is_in sets.now))
+        (here_with store.new slots.new (map T.is_in sets.now)) }
 {
-    let came = seek(store, slots, session, least_room);
+    let came = seek(store, slots, sets, session, least_room);
     match given(came) {
         Ok(Some(entry)) => Ok(Some(entry)),
         Ok(None) => {
-            give_up(store, slots, session);
+            give_up(store, slots, sets, session);
             Ok(None)
         }
         Err(fault) => {
-            give_up(store, slots, session);
+            give_up(store, slots, sets, session);
             Err(fault)
         }
     }
@@ -114,9 +120,10 @@ pub fn give<S: PageStore>(
 
 /// Begins a scan. Refused as the beginning of a call is: with `Stopped` (3), `NoSession` (12), `SessionBusy` (13), in this order; nothing is changed then.
 /// There are 64 slots at most.
-pub fn open<S: PageStore>(
+pub fn open<S: PageStore, T: DeadRows>(
     store: &mut S,
     slots: &mut [Option<Op>],
+    sets: &[T],
     session: u32,
     range: Range,
 ) -> Result<(), Fault>
@@ -125,11 +132,14 @@ pub fn open<S: PageStore>(
     ensures sessions { length slots.new ≡ length slots.old }
     ensures others { OthersStay session slots.old slots.new }
     ensures goes { CallGoes S.PageStore session (BeginTold session (ToScan range) result)
-        (begin_came result) (both store.old slots.old) (both store.new slots.new) }
-    ensures refused { OnErr result (IsUnchanged S.PageStore (both store.old slots.old)
-        (both store.new slots.new)) }
+        (begin_came result)
+        (here_with store.old slots.old (map T.is_in sets.now))
+        (here_with store.new slots.new (map T.is_in sets.now)) }
+    ensures refused { OnErr result (IsUnchanged S.PageStore
+        (here_with store.old slots.old (map T.is_in sets.now))
+        (here_with store.new slots.new (map T.is_in sets.now))) }
     ensures cause { IfErr result
         (HasCause (where_begun_at S.PageStore store.old (slice_get slots.old session))) }
 {
-    begun(one(store, slots, Event::Scan(session, range)))
+    begun(one(store, slots, sets, Event::Scan(session, range)))
 }

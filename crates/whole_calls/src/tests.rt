@@ -1,6 +1,6 @@
 use super::*;
 use arrayvec::ArrayVec;
-use index_model::{Entry, Fault, Key, Limits, Range, RowAddr};
+use index_model::{DeadRows, Entry, Fault, Key, Limits, Range, RowAddr};
 use page_action::{MapStore, PageStore};
 use page_codec::{Items, Page, PageState};
 use session_calls::{Answer, Op};
@@ -41,6 +41,21 @@ fn page(block: u32, right: Option<u32>, items: Items) -> Page {
     }
 }
 
+// A set of dead rows without rows.
+struct NoRows {}
+
+impl DeadRows for NoRows {
+    ghost use Rattle.std.specs.Prelude.{false};
+
+    ghost is_in = { λ rows row. false };
+
+    fn is_dead(&self, _row: RowAddr) -> bool {
+        false
+    }
+}
+
+const NO_SETS: [NoRows; 0] = [];
+
 // An empty index without a device.
 fn empty_store(alloc: Global) -> Result<MapStore, Fault> {
     let mut store = MapStore::new(alloc, LIMITS)?;
@@ -53,10 +68,10 @@ fn empty_store(alloc: Global) -> Result<MapStore, Fault> {
 fn calls_run_to_their_ends(rt: HostRuntime) -> Result<(), Fail> {
     let mut store = empty_store(rt.alloc())?;
     let mut slots: [Option<Op>; 3] = array::from_fn(|_| None);
-    let first = insert(&mut store, &mut slots, 0, entry(0x61, 1), 5)?;
+    let first = insert(&mut store, &mut slots, &NO_SETS, 0, entry(0x61, 1), 5)?;
     assert_eq!(rt; first.action, 1);
     assert!(rt; first.unfinished.is_none());
-    let put_second = put(&mut store, &mut slots, 1, entry(0x62, 2), 0);
+    let put_second = put(&mut store, &mut slots, &NO_SETS, 1, entry(0x62, 2), 0);
     assert!(rt;
         matches!(
             put_second,
@@ -67,22 +82,27 @@ fn calls_run_to_their_ends(rt: HostRuntime) -> Result<(), Fail> {
         )
     );
     assert_eq!(rt;
-        insert(&mut store, &mut slots, 1, entry(0x62, 2), 0),
+        insert(&mut store, &mut slots, &NO_SETS, 1, entry(0x62, 2), 0),
         Err(Fault::Exists)
     );
-    open(&mut store, &mut slots, 2, ALL)?;
+    open(&mut store, &mut slots, &NO_SETS, 2, ALL)?;
     assert_eq!(rt;
-        open(&mut store, &mut slots, 2, ALL),
+        open(&mut store, &mut slots, &NO_SETS, 2, ALL),
         Err(Fault::SessionBusy)
     );
-    assert!(rt; matches!(finish(&mut store, &mut slots, 2, 5), Ok(Answer::Ready(2))));
+    assert!(rt;
+        matches!(
+            finish(&mut store, &mut slots, &NO_SETS, 2, 5),
+            Ok(Answer::Ready(2))
+        )
+    );
     for expected in [Some(entry(0x61, 1)), Some(entry(0x62, 2)), None] {
-        assert!(rt; give(&mut store, &mut slots, 2, 5)? == expected);
+        assert!(rt; give(&mut store, &mut slots, &NO_SETS, 2, 5)? == expected);
     }
-    let closed = give(&mut store, &mut slots, 2, 5);
+    let closed = give(&mut store, &mut slots, &NO_SETS, 2, 5);
     assert!(rt; matches!(closed, Err(Fault::NoSession)));
-    open(&mut store, &mut slots, 2, ALL)?;
-    give_up(&mut store, &mut slots, 2);
+    open(&mut store, &mut slots, &NO_SETS, 2, ALL)?;
+    give_up(&mut store, &mut slots, &NO_SETS, 2);
     assert!(rt; slots[2].is_none());
     Ok(())
 }

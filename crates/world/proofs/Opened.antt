@@ -8,6 +8,7 @@ use Rattle.page_codec.specs.declared.page.Page.{Page}
 use Rattle.page_store.specs.Stores.{opened_state}
 use Rattle.tree_shape.specs.Tree.{IsBlinkTree}
 use Rattle.page_action.specs.Contents.{entry_on_live_leaf}
+use Rattle.index_model.specs.declared.dead_rows.DeadRows.{Ghosts as SetGhosts}
 use Rattle.page_action.specs.declared.page_store.PageStore.{Ghosts}
 use Rattle.schedule.specs.Snapshots.{IsUnused}
 use Rattle.world.specs.Worlds.{WorldFits, WorldKeeps}
@@ -40,8 +41,8 @@ pub tree_has_pages : (pages : List Page) → IsBlinkTree pages → 0 < length pa
 tree_has_pages pages tree = (let two : length pages ≡ 2 = ap (λ (ps : List Page). length ps) tree.pages_are in omega arith)
 
 -- a world begins with the contents of these pages, by whatever name they are called
-pub same_start : {S T : Type 0} (g : Ghosts S) (world : World S T) (read pages : List Page) → read ≡ pages → WorldFits g world (entry_on_live_leaf read) [] [] → WorldFits g world (entry_on_live_leaf pages) [] []
-same_start g world read pages same fits = subst (λ (ps : List Page). WorldFits g world (entry_on_live_leaf ps) [] []) same fits
+pub same_start : {S T : Type 0} (g : Ghosts S) (d : SetGhosts T) (world : World S T) (read pages : List Page) → read ≡ pages → WorldFits g d world (entry_on_live_leaf read) [] [] → WorldFits g d world (entry_on_live_leaf pages) [] []
+same_start g d world read pages same fits = subst (λ (ps : List Page). WorldFits g d world (entry_on_live_leaf ps) [] []) same fits
 
-pub same_kept : {S T : Type 0} (g : Ghosts S) (world : World S T) (read pages : List Page) → read ≡ pages → WorldKeeps g world (entry_on_live_leaf read) [] [] → WorldKeeps g world (entry_on_live_leaf pages) [] []
-same_kept g world read pages same keeps = subst (λ (ps : List Page). WorldKeeps g world (entry_on_live_leaf ps) [] []) same keeps
+pub same_kept : {S T : Type 0} (g : Ghosts S) (d : SetGhosts T) (world : World S T) (read pages : List Page) → read ≡ pages → WorldKeeps g d world (entry_on_live_leaf read) [] [] → WorldKeeps g d world (entry_on_live_leaf pages) [] []
+same_kept g d world read pages same keeps = subst (λ (ps : List Page). WorldKeeps g d world (entry_on_live_leaf ps) [] []) same keeps

@@ -4,6 +4,7 @@ use Rattle.device.specs.declared.device.Device.{Ghosts as DeviceGhosts}
 use Rattle.index_model.specs.Actions.{Action}
 use Rattle.index_model.specs.declared.entry.Entry.{Entry}
 use Rattle.index_model.specs.declared.limits.Limits.{Limits}
+use Rattle.index_model.specs.declared.dead_rows.DeadRows.{Ghosts as SetGhosts}
 use Rattle.page_action.specs.Contents.{entry_on_live_leaf}
 use Rattle.page_action.specs.declared.page_store.PageStore.{Ghosts}
 use Rattle.page_codec.specs.declared.page.Page.{Page}
@@ -26,10 +27,10 @@ pub record IsIndexAfterFirstPart (limits : Limits) (start : Entry → Bool) (his
   pub are : ArePagesAfter start (take part history) pages
 
 -- a world of these limits, fitted by the contents of these pages, no action and no call, which keeps that history
-pub record BeginsWith {D T : Type 0} (d : DeviceGhosts D) (g : Ghosts (Store D d)) (limits : Limits) (pages : List Page) (world : World (Store D d) T) : Type 0 where
+pub record BeginsWith {D T : Type 0} (d : DeviceGhosts D) (g : Ghosts (Store D d)) (rows : SetGhosts T) (limits : Limits) (pages : List Page) (world : World (Store D d) T) : Type 0 where
   pub limits_are : (state_of d world.store).limits ≡ limits
-  pub fits : WorldFits g world (entry_on_live_leaf pages) [] []
-  pub keeps : WorldKeeps g world (entry_on_live_leaf pages) [] []
+  pub fits : WorldFits g rows world (entry_on_live_leaf pages) [] []
+  pub keeps : WorldKeeps g rows world (entry_on_live_leaf pages) [] []
 
 -- the device as an open left it, in the world or given back
 abbrev pub world_device : {D T : Type 0} (d : DeviceGhosts D) → Result (World (Store D d) T) (NotOpened D T) → D
@@ -38,16 +39,16 @@ world_device d (Err not_opened) = not_opened.device
 
 -- the world begins with the pages of an index that hold the contents after a first part of the history, of at least so
 -- many actions
-pub record BeginsAfterFirstPart {D T : Type 0} (d : DeviceGhosts D) (g : Ghosts (Store D d)) (limits : Limits) (start : Entry → Bool) (history : List Action) (least : ℕ) (world : World (Store D d) T) : Type 0 where
+pub record BeginsAfterFirstPart {D T : Type 0} (d : DeviceGhosts D) (g : Ghosts (Store D d)) (rows : SetGhosts T) (limits : Limits) (start : Entry → Bool) (history : List Action) (least : ℕ) (world : World (Store D d) T) : Type 0 where
   pub part : ℕ
   pub from : least ≤ part
   pub to : part ≤ length history
   pub pages : List Page
   pub are : ArePagesAfter start (take part history) pages
-  pub begins : BeginsWith d g limits pages world
+  pub begins : BeginsWith d g rows limits pages world
 
 -- the world begins with the pages of an empty index
-pub record BeginsEmpty {D T : Type 0} (d : DeviceGhosts D) (g : Ghosts (Store D d)) (limits : Limits) (world : World (Store D d) T) : Type 0 where
+pub record BeginsEmpty {D T : Type 0} (d : DeviceGhosts D) (g : Ghosts (Store D d)) (rows : SetGhosts T) (limits : Limits) (world : World (Store D d) T) : Type 0 where
   pub pages : List Page
   pub empty : (e : Entry) → entry_on_live_leaf pages e ≡ false
-  pub begins : BeginsWith d g limits pages world
+  pub begins : BeginsWith d g rows limits pages world

@@ -1,8 +1,9 @@
 -- What is promised of a world.
-use Rattle.std.specs.Prelude.{ℕ, Bool, Option, List}
+use Rattle.std.specs.Prelude.{ℕ, Bool, Option, List, map}
 use Rattle.index_model.specs.Actions.{Action}
 use Rattle.index_model.specs.Calls.{Call}
 use Rattle.index_model.specs.declared.entry.Entry.{Entry}
+use Rattle.index_model.specs.declared.dead_rows.DeadRows.{Ghosts as SetGhosts}
 use Rattle.page_action.specs.declared.page_store.PageStore.{Ghosts}
 use Rattle.session_calls.specs.declared.answer.Answer.{Answer}
 use Rattle.schedule.specs.Crashes.{KeepsHistory, IsCrashSafe}
@@ -12,36 +13,36 @@ use Rattle.schedule.specs.declared.event.Event.{Event}
 use Rattle.whole_calls.specs.Going.{CallGoes}
 use Rattle.world.specs.declared.world.World.{World}
 
--- the store of a world, and what each of its sessions runs
-abbrev pub inside : {S T : Type 0} → World S T → StoreAndSlots S
-inside world = record { store = world.store; slots = world.slots.items }
+-- the store of a world, what each of its sessions runs, and its sets of dead rows
+abbrev pub inside : {S T : Type 0} → SetGhosts T → World S T → StoreAndSlots S
+inside rows world = record { store = world.store; slots = world.slots.items; sets = map rows.is_in world.sets.items }
 
 -- the moment at which a world stands, told by this history and these calls
-abbrev pub snapshot_in : {S T : Type 0} → World S T → List Action → List Call → Snapshot S
-snapshot_in world history calls = snapshot_of (inside world) history calls
+abbrev pub snapshot_in : {S T : Type 0} → SetGhosts T → World S T → List Action → List Call → Snapshot S
+snapshot_in rows world history calls = snapshot_of (inside rows world) history calls
 
 -- these contents at the start, this history and these calls fit the world
-abbrev pub WorldFits : {S T : Type 0} → Ghosts S → World S T → (Entry → Bool) → List Action → List Call → Type 0
-WorldFits g world start history calls = Fits g start (snapshot_in world history calls)
+abbrev pub WorldFits : {S T : Type 0} → Ghosts S → SetGhosts T → World S T → (Entry → Bool) → List Action → List Call → Type 0
+WorldFits g rows world start history calls = Fits g start (snapshot_in rows world history calls)
 
 -- ... and each crash leaves a first part of the history
-abbrev pub WorldKeeps : {S T : Type 0} → Ghosts S → World S T → (Entry → Bool) → List Action → List Call → Type 0
-WorldKeeps g world start history calls = KeepsHistory g start (snapshot_in world history calls)
+abbrev pub WorldKeeps : {S T : Type 0} → Ghosts S → SetGhosts T → World S T → (Entry → Bool) → List Action → List Call → Type 0
+WorldKeeps g rows world start history calls = KeepsHistory g start (snapshot_in rows world history calls)
 
 -- where the history was kept, it is so still, and a crash in between leaves a first part of it
-abbrev pub WorldIsSafe : {S T : Type 0} → Ghosts S → World S T → World S T → (Entry → Bool) → List Action → List Call → Type 0
-WorldIsSafe g old new start history calls = WorldKeeps g old start history calls → IsCrashSafe g start (snapshot_in old history calls) (snapshot_in new history calls)
+abbrev pub WorldIsSafe : {S T : Type 0} → Ghosts S → SetGhosts T → World S T → World S T → (Entry → Bool) → List Action → List Call → Type 0
+WorldIsSafe g rows old new start history calls = WorldKeeps g rows old start history calls → IsCrashSafe g start (snapshot_in rows old history calls) (snapshot_in rows new history calls)
 
 -- where the device has kept its model up to now, this holds of whatever fitted the world before
-abbrev pub WorldCarries : {S T : Type 0} → Ghosts S → World S T → World S T → ((Entry → Bool) → List Action → List Call → Type 0) → Type 0
-WorldCarries g old new goes = Carries g (inside old) (inside new) goes
+abbrev pub WorldCarries : {S T : Type 0} → Ghosts S → SetGhosts T → World S T → World S T → ((Entry → Bool) → List Action → List Call → Type 0) → Type 0
+WorldCarries g rows old new goes = Carries g (inside rows old) (inside rows new) goes
 
 -- there is a continuation of the history and of the calls that fits the world now, by a run of these events with these
 -- answers
-abbrev pub WorldRuns : {S T : Type 0} → Ghosts S → World S T → World S T → List Event → List Answer → (Entry → Bool) → List Action → List Call → Type 0
-WorldRuns g old new events answers start history calls = Runs g (inside old) (inside new) events answers start history calls
+abbrev pub WorldRuns : {S T : Type 0} → Ghosts S → SetGhosts T → World S T → World S T → List Event → List Answer → (Entry → Bool) → List Action → List Call → Type 0
+WorldRuns g rows old new events answers start history calls = Runs g (inside rows old) (inside rows new) events answers start history calls
 
 -- for whatever fitted the world before there is a run of events of this session, of which one answered what the call came
 -- to, and this is told
-abbrev pub WorldGoes : {S T : Type 0} → Ghosts S → ℕ → (Snapshot S → Snapshot S → Type 0) → Option Answer → World S T → World S T → Type 0
-WorldGoes g session Tells came old new = CallGoes g session Tells came (inside old) (inside new)
+abbrev pub WorldGoes : {S T : Type 0} → Ghosts S → SetGhosts T → ℕ → (Snapshot S → Snapshot S → Type 0) → Option Answer → World S T → World S T → Type 0
+WorldGoes g rows session Tells came old new = CallGoes g session Tells came (inside rows old) (inside rows new)

@@ -27,11 +27,11 @@ impl<T: DeadRows + Drop> World<Store<MemDevice>, T> {
         ensures steps { Continues ⟦<Store<MemDevice> as PageStore>⟧.follows
             self.old.store self.new.store }
         ensures fits { (start : Entry → Bool) (history : List Action) (calls : List Call)
-            → WorldFits ⟦<Store<MemDevice> as PageStore>⟧ self.old start history calls
-            → WorldFits ⟦<Store<MemDevice> as PageStore>⟧ self.new start history calls }
+            → WorldFits ⟦<Store<MemDevice> as PageStore>⟧ T.DeadRows self.old start history calls
+            → WorldFits ⟦<Store<MemDevice> as PageStore>⟧ T.DeadRows self.new start history calls }
         ensures keeps { (start : Entry → Bool) (history : List Action) (calls : List Call)
-            → WorldKeeps ⟦<Store<MemDevice> as PageStore>⟧ self.old start history calls
-            → WorldKeeps ⟦<Store<MemDevice> as PageStore>⟧ self.new start history calls }
+            → WorldKeeps ⟦<Store<MemDevice> as PageStore>⟧ T.DeadRows self.old start history calls
+            → WorldKeeps ⟦<Store<MemDevice> as PageStore>⟧ T.DeadRows self.new start history calls }
     {
         self.store.fail_at(n);
     }
@@ -45,11 +45,11 @@ impl<T: DeadRows + Drop> World<Store<MemDevice>, T> {
         ensures steps { Continues ⟦<Store<MemDevice> as PageStore>⟧.follows
             self.old.store self.new.store }
         ensures fits { (start : Entry → Bool) (history : List Action) (calls : List Call)
-            → WorldFits ⟦<Store<MemDevice> as PageStore>⟧ self.old start history calls
-            → WorldFits ⟦<Store<MemDevice> as PageStore>⟧ self.new start history calls }
+            → WorldFits ⟦<Store<MemDevice> as PageStore>⟧ T.DeadRows self.old start history calls
+            → WorldFits ⟦<Store<MemDevice> as PageStore>⟧ T.DeadRows self.new start history calls }
         ensures keeps { (start : Entry → Bool) (history : List Action) (calls : List Call)
-            → WorldKeeps ⟦<Store<MemDevice> as PageStore>⟧ self.old start history calls
-            → WorldKeeps ⟦<Store<MemDevice> as PageStore>⟧ self.new start history calls }
+            → WorldKeeps ⟦<Store<MemDevice> as PageStore>⟧ T.DeadRows self.old start history calls
+            → WorldKeeps ⟦<Store<MemDevice> as PageStore>⟧ T.DeadRows self.new start history calls }
     {
         self.store.stop_at(n);
     }

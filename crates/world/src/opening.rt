@@ -46,7 +46,8 @@ impl<D: Device, T: DeadRows + Drop> World<Store<D>, T> {
             → AreFrames frames → 1 ≤ sessions → sessions ≤ 64
             → (limits : Limits) (pages : List Page)
             → HasIndex limits pages (D.trace device).now.seen → IsBlinkTree pages
-            → MatchResult result (BeginsWith D.Device ⟦<Store<D> as PageStore>⟧ limits pages)
+            → MatchResult result
+            (BeginsWith D.Device ⟦<Store<D> as PageStore>⟧ T.DeadRows limits pages)
             (λ not_opened. IsNoMemoryOrIo not_opened.fault) }
         // A crash at each moment since leaves the same index, whatever was answered.
         ensures moments { IsTrue (D.is_honest (world_device D.Device result))

@@ -39,8 +39,8 @@ impl<D: Device, T: DeadRows + Drop> World<Store<D>, T> {
         ensures index { (first : Store D D.Device)
             → IsOwnStore D.Device first → ⟦<Store<D> as PageStore>⟧.follows first self.now.store
             → (start : Entry → Bool) (history : List Action) (calls : List Call)
-            → WorldFits ⟦<Store<D> as PageStore>⟧ self.now start history calls
-            → WorldKeeps ⟦<Store<D> as PageStore>⟧ self.now start history calls
+            → WorldFits ⟦<Store<D> as PageStore>⟧ T.DeadRows self.now start history calls
+            → WorldKeeps ⟦<Store<D> as PageStore>⟧ T.DeadRows self.now start history calls
             → (image : List ℕ)
             → MayHaveLeft (held_by D.Device first).trace
             (held_by D.Device self.now.store).trace image
@@ -49,8 +49,8 @@ impl<D: Device, T: DeadRows + Drop> World<Store<D>, T> {
         // ... and so is what a crash now leaves.
         ensures now { (start : Entry → Bool) (history : List Action) (calls : List Call)
             → (image : List ℕ)
-            → WorldFits ⟦<Store<D> as PageStore>⟧ self.now start history calls
-            → WorldKeeps ⟦<Store<D> as PageStore>⟧ self.now start history calls
+            → WorldFits ⟦<Store<D> as PageStore>⟧ T.DeadRows self.now start history calls
+            → WorldKeeps ⟦<Store<D> as PageStore>⟧ T.DeadRows self.now start history calls
             → MayLeave (held_by D.Device self.now.store).trace.now image
             → IsIndexAfterFirstPart (state_of D.Device self.now.store).limits start history
             (backing_of (held_by D.Device self.now.store)).durable image }

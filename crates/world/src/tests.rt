@@ -25,6 +25,8 @@ impl DeadRows for NoRows {
     }
 }
 
+const NO_SETS: [NoRows; 0] = [];
+
 const LIMITS: Limits = Limits {
     items: 4,
     pages: 8,
@@ -302,13 +304,14 @@ fn slots_of_another_owner(rt: HostRuntime) -> Result<(), Fail> {
     let mut store = store(rt.alloc())?;
     let mut slots = [None, None];
     let mut answers = Vec::new(rt.alloc());
-    let begun = one(&mut store, &mut slots, Event::Scan(1, ALL));
+    let begun = one(&mut store, &mut slots, &NO_SETS, Event::Scan(1, ALL));
     assert_eq!(rt; told(&begun), ("begun", 0));
     assert!(rt; is_running(&slots, 1));
     assert!(rt;
         run(
             &mut store,
             &mut slots,
+            &NO_SETS,
             &[Event::End(1), Event::Force],
             &mut answers
         )

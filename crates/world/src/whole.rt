@@ -21,11 +21,17 @@ impl<S: PageStore, T: DeadRows + Drop> World<S, T> {
         ensures steps { Continues S.follows self.old.store self.new.store }
         ensures sessions { length self.new.slots.items ≡ length self.old.slots.items }
         ensures sets { self.new.sets ≡ self.old.sets }
-        ensures goes { WorldGoes S.PageStore session (TellsStep session result) (step_came result)
-            self.old self.new }
+        ensures goes { WorldGoes S.PageStore T.DeadRows session (TellsStep session result)
+            (step_came result) self.old self.new }
         ensures over { result ≢ Ok Answer.Going }
     {
-        whole_calls::finish(&mut self.store, &mut self.slots, session, least_room)
+        whole_calls::finish(
+            &mut self.store,
+            &mut self.slots,
+            &self.sets,
+            session,
+            least_room,
+        )
     }
 
     /// Begins an insert and runs it until a step doesn't answer `Going`, and that answer. Refused as the beginning of a call
@@ -34,11 +40,18 @@ impl<S: PageStore, T: DeadRows + Drop> World<S, T> {
         ensures steps { Continues S.follows self.old.store self.new.store }
         ensures sessions { length self.new.slots.items ≡ length self.old.slots.items }
         ensures sets { self.new.sets ≡ self.old.sets }
-        ensures goes { WorldGoes S.PageStore session (HasCome session (ToInsert entry) result)
-            (step_came result) self.old self.new }
+        ensures goes { WorldGoes S.PageStore T.DeadRows session
+            (HasCome session (ToInsert entry) result) (step_came result) self.old self.new }
         ensures over { result ≢ Ok Answer.Going }
     {
-        whole_calls::put(&mut self.store, &mut self.slots, session, entry, least_room)
+        whole_calls::put(
+            &mut self.store,
+            &mut self.slots,
+            &self.sets,
+            session,
+            entry,
+            least_room,
+        )
     }
 
     /// The next entry of a session's scan, or None where it has given all; it is over then, and where it is refused: as a step
@@ -47,12 +60,18 @@ impl<S: PageStore, T: DeadRows + Drop> World<S, T> {
         ensures steps { Continues S.follows self.old.store self.new.store }
         ensures sessions { length self.new.slots.items ≡ length self.old.slots.items }
         ensures sets { self.new.sets ≡ self.old.sets }
-        ensures goes { WorldGoes S.PageStore session (TellsGiven session result) (give_came result)
-            self.old self.new }
+        ensures goes { WorldGoes S.PageStore T.DeadRows session (TellsGiven session result)
+            (give_came result) self.old self.new }
         ensures over { EndsUnlessGiven result (slot_of self.new.slots.items session) }
         ensures less { GiveLeavesLess (S.state self.old.store) (S.state self.new.store)
             (slot_of self.old.slots.items session) (slot_of self.new.slots.items session) result }
     {
-        whole_calls::give(&mut self.store, &mut self.slots, session, least_room)
+        whole_calls::give(
+            &mut self.store,
+            &mut self.slots,
+            &self.sets,
+            session,
+            least_room,
+        )
     }
 }

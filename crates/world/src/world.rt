@@ -25,7 +25,7 @@ pub struct World<S, T> {
     pub(crate) store: S,
     pub(crate) slots: Vec<Option<Op>>,
     /// The sets of dead rows that events name by their places.
-    sets: Vec<T>,
+    pub(crate) sets: Vec<T>,
     ghost few: { length slots.items ≤ 64 },
 }
 
@@ -65,9 +65,11 @@ impl<S: PageStore, T: DeadRows + Drop> World<S, T> {
         ensures sets { IfOk result (λ world. world.sets ≡ sets) }
         ensures few { OnOk result ((1 ≤ sessions) × (sessions ≤ 64)) }
         ensures fits { IsUnused (S.state store) → IfOk result (λ world.
-            WorldFits S.PageStore world (entry_on_live_leaf (S.state store).pages) [] []) }
+            WorldFits S.PageStore T.DeadRows world
+            (entry_on_live_leaf (S.state store).pages) [] []) }
         ensures keeps { IsUnused (S.state store) → S.own store → IfOk result (λ world.
-            WorldKeeps S.PageStore world (entry_on_live_leaf (S.state store).pages) [] []) }
+            WorldKeeps S.PageStore T.DeadRows world
+            (entry_on_live_leaf (S.state store).pages) [] []) }
         ensures given_back { IfErr result (λ not_made. not_made.store ≡ store) }
         ensures sets_back { IfErr result (λ not_made. not_made.sets ≡ sets) }
         ensures first { IfErr result (λ not_made.
@@ -96,12 +98,12 @@ impl<S: PageStore, T: DeadRows + Drop> World<S, T> {
         ensures steps { Continues S.follows self.old.store self.new.store }
         ensures sessions { length self.new.slots.items ≡ length self.old.slots.items }
         ensures sets { self.new.sets ≡ self.old.sets }
-        ensures runs { WorldCarries S.PageStore self.old self.new
-            (WorldRuns S.PageStore self.old self.new (event ∷ []) (result ∷ [])) }
+        ensures runs { WorldCarries S.PageStore T.DeadRows self.old self.new
+            (WorldRuns S.PageStore T.DeadRows self.old self.new (event ∷ []) (result ∷ [])) }
         ensures always { EventAlways S.PageStore (kind_of event) result
-            (inside self.old) (inside self.new) }
+            (inside T.DeadRows self.old) (inside T.DeadRows self.new) }
     {
-        schedule::one(&mut self.store, &mut self.slots, event)
+        schedule::one(&mut self.store, &mut self.slots, &self.sets, event)
     }
 
     /// Does these events one after the other, and puts an answer for each behind the answers that are there. Refused
@@ -110,8 +112,8 @@ impl<S: PageStore, T: DeadRows + Drop> World<S, T> {
         ensures steps { Continues S.follows self.old.store self.new.store }
         ensures sessions { length self.new.slots.items ≡ length self.old.slots.items }
         ensures sets { self.new.sets ≡ self.old.sets }
-        ensures runs { OnOk result (WorldCarries S.PageStore self.old self.new
-            (WorldRuns S.PageStore self.old self.new events.now
+        ensures runs { OnOk result (WorldCarries S.PageStore T.DeadRows self.old self.new
+            (WorldRuns S.PageStore T.DeadRows self.old self.new events.now
             (answers_behind answers.old.items answers.new.items))) }
         ensures each { OnOk result
             (length answers.new.items ≡ length answers.old.items + length events.now) }
@@ -122,7 +124,13 @@ impl<S: PageStore, T: DeadRows + Drop> World<S, T> {
         ensures room { vec_len answers.old + length events.now ≤ vec_capacity answers.old
             → IsOk result }
     {
-        schedule::run(&mut self.store, &mut self.slots, events, answers)
+        schedule::run(
+            &mut self.store,
+            &mut self.slots,
+            &self.sets,
+            events,
+            answers,
+        )
     }
 
     /// A copy of the page of this block, as it was acted last. Refused with `Io`, `Stopped`, `NoFrame`, and with
@@ -131,10 +139,12 @@ impl<S: PageStore, T: DeadRows + Drop> World<S, T> {
     pub fn page(&mut self, block: u32) -> Result<Page, Fault>
         ensures steps { Continues S.follows self.old.store self.new.store }
         ensures sets { self.new.sets ≡ self.old.sets }
-        ensures unchanged { IsUnchanged S.PageStore (inside self.old) (inside self.new) }
-        ensures fits { WorldCarries S.PageStore self.old self.new (WorldFits S.PageStore self.new) }
-        ensures crash { WorldCarries S.PageStore self.old self.new
-            (WorldIsSafe S.PageStore self.old self.new) }
+        ensures unchanged { IsUnchanged S.PageStore
+            (inside T.DeadRows self.old) (inside T.DeadRows self.new) }
+        ensures fits { WorldCarries S.PageStore T.DeadRows self.old self.new
+            (WorldFits S.PageStore T.DeadRows self.new) }
+        ensures crash { WorldCarries S.PageStore T.DeadRows self.old self.new
+            (WorldIsSafe S.PageStore T.DeadRows self.old self.new) }
         ensures page { (S.backing self.new.store).honest ≡ true
             → IfOk result (λ page. slice_get (S.state self.old.store).pages block ≡ Some page) }
         ensures cause { IfErr result (HasCause (where_read (S.state self.old.store)
@@ -148,10 +158,11 @@ impl<S: PageStore, T: DeadRows + Drop> World<S, T> {
         ensures steps { Continues S.follows self.old.store self.new.store }
         ensures sessions { length self.new.slots.items ≡ length self.old.slots.items }
         ensures sets { self.new.sets ≡ self.old.sets }
-        ensures runs { WorldCarries S.PageStore self.old self.new
-            (WorldRuns S.PageStore self.old self.new (Event.End session ∷ []) (result ∷ [])) }
+        ensures runs { WorldCarries S.PageStore T.DeadRows self.old self.new
+            (WorldRuns S.PageStore T.DeadRows self.old self.new
+            (Event.End session ∷ []) (result ∷ [])) }
         ensures always { EventAlways S.PageStore (MovesCall session GivesUp) result
-            (inside self.old) (inside self.new) }
+            (inside T.DeadRows self.old) (inside T.DeadRows self.new) }
     {
         self.one(Event::End(session))
     }

@@ -9,7 +9,7 @@ returns g c =
     let within = c.is_running.ensures.within c.if-not-is_running.false in
     let at = slot_of_call slots c.args.session c.index-slots-session.result within c.index-slots-session.is (sym c.is_running.ensures.value ∙ c.if-not-is_running.false) in
     record {
-      makes = next_makes g.S.PageStore g.met.S.PageStore.laws c.args.store.now slots c.args.session _ c.next.new.slot at.0 c.next.result at.1
+      makes = λ sets. next_makes g.S.PageStore g.met.S.PageStore.laws c.args.store.now slots sets c.args.session _ c.next.new.slot at.0 c.next.result at.1
           (slot_read slots c.args.session c.index-slots-session.result within c.index-slots-session.is)
-          c.next.ensures.kind c.next.ensures.less c.next.ensures.goes c.next.ensures.due;
+          c.next.ensures.kind c.next.ensures.less (λ st. c.next.ensures.goes st sets) c.next.ensures.due;
     }

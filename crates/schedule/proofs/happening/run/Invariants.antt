@@ -1,7 +1,8 @@
+use Rattle.std.specs.Prelude.{map}
 use Rattle.std.proofs.Common.{◌≡◌, ◌+◌, ◌≤◌, length, take}
 use Rattle.std.specs.Vec.{vec_capacity}
 use Rattle.page_action.specs.States.{Continues}
-use Rattle.schedule.specs.Snapshots.{both}
+use Rattle.schedule.specs.Snapshots.{here_with}
 use Rattle.schedule.specs.Runs.{Carries, Runs, answers_behind}
 use Rattle.schedule.proofs.happening.run.Given as goal
 
@@ -12,6 +13,6 @@ invariant-loop-event g l = record {
   kept : take (length l.initial.answers.items) l.answers.items ≡ l.initial.answers.items;
   steps : Continues g.S.PageStore.follows l.fn.store l.store;
   sessions : length l.slots ≡ length l.fn.slots;
-  runs : Carries g.S.PageStore (both l.fn.store l.fn.slots) (both l.store l.slots)
-      (Runs g.S.PageStore (both l.fn.store l.fn.slots) (both l.store l.slots) (take l.event-index l.events) (answers_behind l.initial.answers.items l.answers.items));
+  runs : Carries g.S.PageStore (here_with l.fn.store l.fn.slots (map g.T.DeadRows.is_in l.sets)) (here_with l.store l.slots (map g.T.DeadRows.is_in l.sets))
+      (Runs g.S.PageStore (here_with l.fn.store l.fn.slots (map g.T.DeadRows.is_in l.sets)) (here_with l.store l.slots (map g.T.DeadRows.is_in l.sets)) (take l.event-index l.events) (answers_behind l.initial.answers.items l.answers.items));
 }

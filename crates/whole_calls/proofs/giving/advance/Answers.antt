@@ -1,10 +1,11 @@
+use Rattle.std.specs.Prelude.{map}
 use Rattle.std.proofs.Common.{rules, ◌≡◌, Ok, Some, None, refl, subst}
 use Rattle.page_action.specs.States.{State}
 use Rattle.session_calls.specs.Sessions.{AnswersNext, GivesLess}
 use Rattle.session_calls.specs.declared.answer.Answer.{Answer}
 use Rattle.session_calls.specs.declared.answer.Answer.TheVariants.{Gave}
 use Rattle.schedule.specs.Events.{Takes}
-use Rattle.schedule.specs.Snapshots.{both, slot_of}
+use Rattle.schedule.specs.Snapshots.{here_with, slot_of}
 use Rattle.schedule.specs.declared.event.Event.TheVariants.{Next}
 use Rattle.whole_calls.specs.Telling.{TellsStep, step_came}
 use Rattle.whole_calls.specs.Giving.{GoesDownBy}
@@ -17,8 +18,8 @@ pub returns-in_default-clause-goes : goal.returns-in_default-clause-goes
 returns-in_default-clause-goes g c =
     let session = c.args.session in
     let answer = c.one-answer.result in
-    let here = both c.args.store.now c.args.slots.now in
-    let there = both c.one-answer.new.store c.one-answer.new.slots in
+    let here = here_with c.args.store.now c.args.slots.now (map g.T.DeadRows.is_in c.args.sets.now) in
+    let there = here_with c.one-answer.new.store c.one-answer.new.slots (map g.T.DeadRows.is_in c.args.sets.now) in
     goes_by g.S.PageStore g.met.S.PageStore.laws session (TellsStep session (Ok answer)) (Next session) answer here there refl c.one-answer.ensures.runs
     (λ start x y from to fits does. moves_tells g.S.PageStore start x y session Takes answer tt fits does)
 
@@ -33,9 +34,9 @@ returns-clause-goes g c =
     let session = c.args.session in
     let answer = c.one-answer.result in
     let result = c.step.result in
-    let start = both c.args.store.now c.args.slots.now in
-    let here = both c.one-answer.new.store c.one-answer.new.slots in
-    let there = both c.step.new.store c.step.new.slots in
+    let start = here_with c.args.store.now c.args.slots.now (map g.T.DeadRows.is_in c.args.sets.now) in
+    let here = here_with c.one-answer.new.store c.one-answer.new.slots (map g.T.DeadRows.is_in c.args.sets.now) in
+    let there = here_with c.step.new.store c.step.new.slots (map g.T.DeadRows.is_in c.args.sets.now) in
     let whole : c.one-answer.result ≡ Gave None = search rules in
     goes_then g.S.PageStore g.met.S.PageStore.laws session (TellsStep session (Ok answer)) (TellsStep session result) (TellsStep session result) (Some answer) (step_came result) start here there c.one-answer.ensures.steps c.step.ensures.steps
     (goes_by g.S.PageStore g.met.S.PageStore.laws session (TellsStep session (Ok answer)) (Next session) answer start here refl c.one-answer.ensures.runs

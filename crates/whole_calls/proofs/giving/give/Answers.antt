@@ -1,7 +1,8 @@
+use Rattle.std.specs.Prelude.{map}
 use Rattle.std.proofs.Common.{◌≡◌, Result, Ok, Err, Option, None, Some, sym, subst, ap, ◌∙◌}
 use Rattle.index_model.specs.declared.entry.Entry.{Entry}
 use Rattle.index_model.specs.declared.fault.Fault.{Fault}
-use Rattle.schedule.specs.Snapshots.{both}
+use Rattle.schedule.specs.Snapshots.{here_with}
 use Rattle.whole_calls.specs.Telling.{TellsStep, TellsEnd, step_came}
 use Rattle.whole_calls.specs.Giving.{TellsGiven, given_of, give_came}
 use Rattle.whole_calls.proofs.Composing.{goes_first, goes_told}
@@ -21,10 +22,10 @@ pub returns-in-Ok-None-clause-goes : goal.returns-in-Ok-None-clause-goes
 returns-in-Ok-None-clause-goes g c =
     let session = c.args.session in
     let came = c.seek-came.result in
-    let start = both c.args.store.now c.args.slots.now in
-    let here = both c.seek-came.new.store c.seek-came.new.slots in
+    let start = here_with c.args.store.now c.args.slots.now (map g.T.DeadRows.is_in c.args.sets.now) in
+    let here = here_with c.seek-came.new.store c.seek-came.new.slots (map g.T.DeadRows.is_in c.args.sets.now) in
     let is : given_of came ≡ Ok None = sym c.given.ensures ∙ c.in-Ok-None.is ∙ ap (λ (o : Option Entry). Ok o) c.in-Ok-None.field-0-is in
-    goes_first g.S.PageStore g.met.S.PageStore.laws session (TellsStep session came) (TellsEnd session) (TellsGiven session (Ok None)) (give_came (Ok None)) None start here (both c.give_up.new.store c.give_up.new.slots)
+    goes_first g.S.PageStore g.met.S.PageStore.laws session (TellsStep session came) (TellsEnd session) (TellsGiven session (Ok None)) (give_came (Ok None)) None start here (here_with c.give_up.new.store c.give_up.new.slots (map g.T.DeadRows.is_in c.args.sets.now))
     c.seek-came.ensures.steps c.give_up.ensures.steps
     (goes_told g.S.PageStore session (TellsStep session came) (TellsStep session came) (step_came came) (give_came (Ok None)) start here
     (λ s answers x z at fits by t. (rw is at (give_comes came answers c.seek-came.ensures.kind by), t)) c.seek-came.ensures.goes)
@@ -36,11 +37,11 @@ pub returns-in-Err-clause-goes : goal.returns-in-Err-clause-goes
 returns-in-Err-clause-goes g c =
     let session = c.args.session in
     let came = c.seek-came.result in
-    let start = both c.args.store.now c.args.slots.now in
-    let here = both c.seek-came.new.store c.seek-came.new.slots in
+    let start = here_with c.args.store.now c.args.slots.now (map g.T.DeadRows.is_in c.args.sets.now) in
+    let here = here_with c.seek-came.new.store c.seek-came.new.slots (map g.T.DeadRows.is_in c.args.sets.now) in
     let fault = c.in-Err.fault in
     let is : given_of came ≡ Err fault = sym c.given.ensures ∙ c.in-Err.is in
-    goes_first g.S.PageStore g.met.S.PageStore.laws session (TellsStep session came) (TellsEnd session) (TellsGiven session (Err fault)) (give_came (Err fault)) None start here (both c.give_up-in-Err.new.store c.give_up-in-Err.new.slots)
+    goes_first g.S.PageStore g.met.S.PageStore.laws session (TellsStep session came) (TellsEnd session) (TellsGiven session (Err fault)) (give_came (Err fault)) None start here (here_with c.give_up-in-Err.new.store c.give_up-in-Err.new.slots (map g.T.DeadRows.is_in c.args.sets.now))
     c.seek-came.ensures.steps c.give_up-in-Err.ensures.steps
     (goes_told g.S.PageStore session (TellsStep session came) (TellsStep session came) (step_came came) (give_came (Err fault)) start here
     (λ s answers x z at fits by t. (rw is at (give_comes came answers c.seek-came.ensures.kind by), t)) c.seek-came.ensures.goes)

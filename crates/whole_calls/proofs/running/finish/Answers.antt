@@ -1,8 +1,9 @@
+use Rattle.std.specs.Prelude.{map}
 use Rattle.std.proofs.Common.{◌≡◌, Result, Ok, Err, None, refl, subst, ◌∙◌}
 use Rattle.index_model.specs.declared.fault.Fault.{Fault}
 use Rattle.session_calls.specs.declared.answer.Answer.{Answer}
 use Rattle.session_calls.specs.declared.answer.Answer.TheVariants.{Going}
-use Rattle.schedule.specs.Snapshots.{both}
+use Rattle.schedule.specs.Snapshots.{here_with}
 use Rattle.whole_calls.specs.Telling.{TellsStep, StaysRunning, step_came}
 use Rattle.whole_calls.proofs.Composing.{goes_then, goes_nowhere, goes_told}
 use Rattle.whole_calls.proofs.Tellings.{silent_then, going_stays, stays_then}
@@ -19,25 +20,25 @@ loop-answer-init g c =
       steps = λ f h. h;
       sessions = refl;
       others = λ o ne. refl;
-      goes = goes_nowhere g.S.PageStore laws c.args.session (StaysRunning c.args.session) (both c.args.store.now c.args.slots.now) (λ x number call is. record { history_is = refl; calls_is = refl });
+      goes = goes_nowhere g.S.PageStore laws c.args.session (StaysRunning c.args.session) (here_with c.args.store.now c.args.slots.now (map g.T.DeadRows.is_in c.args.sets.now)) (λ x number call is. record { history_is = refl; calls_is = refl });
     }
 
 -- behind the steps so far, what the last one tells
 last : (g : Over) (c : After-step g)
-    → CallGoes g.S.PageStore c.args.session (TellsStep c.args.session c.step.result) (step_came c.step.result) (both c.args.store.now c.args.slots.now) (both c.step.new.store c.step.new.slots)
+    → CallGoes g.S.PageStore c.args.session (TellsStep c.args.session c.step.result) (step_came c.step.result) (here_with c.args.store.now c.args.slots.now (map g.T.DeadRows.is_in c.args.sets.now)) (here_with c.step.new.store c.step.new.slots (map g.T.DeadRows.is_in c.args.sets.now))
 last g c =
     let laws = g.met.S.PageStore.laws in
     let session = c.args.session in
     let result = c.step.result in
     goes_then g.S.PageStore laws session (StaysRunning session) (TellsStep session result) (TellsStep session result) None (step_came result)
-    (both c.args.store.now c.args.slots.now) (both c.loop-answer.store c.loop-answer.slots) (both c.step.new.store c.step.new.slots)
+    (here_with c.args.store.now c.args.slots.now (map g.T.DeadRows.is_in c.args.sets.now)) (here_with c.loop-answer.store c.loop-answer.slots (map g.T.DeadRows.is_in c.args.sets.now)) (here_with c.step.new.store c.step.new.slots (map g.T.DeadRows.is_in c.args.sets.now))
     c.loop-answer.invariant.steps c.step.ensures.steps c.loop-answer.invariant.goes c.step.ensures.goes
     (λ start x y z at fx fy fz one two. silent_then session result x y z one two)
 
 -- ... as it is answered
 answered : (g : Over) (c : After-step g) (r : Result Answer Fault) → c.step.result ≡ r
-    → CallGoes g.S.PageStore c.args.session (TellsStep c.args.session r) (step_came r) (both c.args.store.now c.args.slots.now) (both c.step.new.store c.step.new.slots)
-answered g c r is = subst (λ (s : Result Answer Fault). CallGoes g.S.PageStore c.args.session (TellsStep c.args.session s) (step_came s) (both c.args.store.now c.args.slots.now) (both c.step.new.store c.step.new.slots)) is (last g c)
+    → CallGoes g.S.PageStore c.args.session (TellsStep c.args.session r) (step_came r) (here_with c.args.store.now c.args.slots.now (map g.T.DeadRows.is_in c.args.sets.now)) (here_with c.step.new.store c.step.new.slots (map g.T.DeadRows.is_in c.args.sets.now))
+answered g c r is = subst (λ (s : Result Answer Fault). CallGoes g.S.PageStore c.args.session (TellsStep c.args.session s) (step_came s) (here_with c.args.store.now c.args.slots.now (map g.T.DeadRows.is_in c.args.sets.now)) (here_with c.step.new.store c.step.new.slots (map g.T.DeadRows.is_in c.args.sets.now))) is (last g c)
 
 pub returns-in-Ok : goal.returns-in-Ok
 returns-in-Ok g c = record {
@@ -69,7 +70,7 @@ loop-answer-preserved g c =
       others = λ o ne. c.step.ensures.others o ne ∙ c.loop-answer.invariant.others o ne;
       goes = goes_told g.S.PageStore session (StaysRunning session) (StaysRunning session) (step_came result) None _ _ (λ start answers x y at fits came told. (tt, told))
           (goes_then g.S.PageStore laws session (StaysRunning session) (TellsStep session result) (StaysRunning session) None (step_came result)
-          (both c.args.store.now c.args.slots.now) (both c.loop-answer.store c.loop-answer.slots) (both c.step.new.store c.step.new.slots)
+          (here_with c.args.store.now c.args.slots.now (map g.T.DeadRows.is_in c.args.sets.now)) (here_with c.loop-answer.store c.loop-answer.slots (map g.T.DeadRows.is_in c.args.sets.now)) (here_with c.step.new.store c.step.new.slots (map g.T.DeadRows.is_in c.args.sets.now))
           c.loop-answer.invariant.steps c.step.ensures.steps c.loop-answer.invariant.goes c.step.ensures.goes
           (λ start x y z at fx fy fz one two. stays_then session x y z one (going_stays session y z (subst (λ (r : Result Answer Fault). TellsStep session r y z) whole two))));
     }

@@ -1,7 +1,8 @@
+use Rattle.std.specs.Prelude.{map}
 use Rattle.std.proofs.Common.{◌≡◌, None, length}
 use Rattle.page_action.specs.States.{Continues}
 use Rattle.session_calls.specs.Sessions.{work_left}
-use Rattle.schedule.specs.Snapshots.{both, slot_of}
+use Rattle.schedule.specs.Snapshots.{here_with, slot_of}
 use Rattle.schedule.specs.Events.{OthersStay}
 use Rattle.whole_calls.specs.Telling.{StaysRunning}
 use Rattle.whole_calls.specs.Going.{CallGoes}
@@ -12,7 +13,7 @@ invariant-loop-answer g l = record {
   steps : Continues g.S.PageStore.follows l.fn.store l.store;
   sessions : length l.slots ≡ length l.fn.slots;
   others : OthersStay l.session l.fn.slots l.slots;
-  goes : CallGoes g.S.PageStore l.session (StaysRunning l.session) None (both l.fn.store l.fn.slots) (both l.store l.slots);
+  goes : CallGoes g.S.PageStore l.session (StaysRunning l.session) None (here_with l.fn.store l.fn.slots (map g.T.DeadRows.is_in l.sets)) (here_with l.store l.slots (map g.T.DeadRows.is_in l.sets));
 }
 
 abbrev pub decreases-loop-answer : goal.decreases-loop-answer

@@ -1,8 +1,9 @@
+use Rattle.std.specs.Prelude.{map}
 use Rattle.std.proofs.Common.{Result, Option, None, List, sym, ap, subst, ◌∙◌}
 use Rattle.index_model.specs.declared.fault.Fault.{Fault}
 use Rattle.session_calls.specs.declared.op.Op.{Op}
 use Rattle.session_calls.specs.declared.request.Request.TheVariants.{Insert as ToInsert}
-use Rattle.schedule.specs.Snapshots.{both, slot_of}
+use Rattle.schedule.specs.Snapshots.{here_with, slot_of}
 use Rattle.whole_calls.specs.Telling.{HasCome, TellsEnd, InsertTold, outcome_of, step_came, insert_came}
 use Rattle.whole_calls.specs.Going.{CallGoes}
 use Rattle.whole_calls.specs.declared.inserted.Inserted.{Inserted}
@@ -14,9 +15,9 @@ pub returns-clause-goes : goal.returns-clause-goes
 returns-clause-goes g c empty =
     let session = c.args.session in
     let came = c.put-came.result in
-    let start = both c.args.store.now c.args.slots.now in
-    let here = both c.put-came.new.store c.put-came.new.slots in
-    let there = both c.give_up.new.store c.give_up.new.slots in
+    let start = here_with c.args.store.now c.args.slots.now (map g.T.DeadRows.is_in c.args.sets.now) in
+    let here = here_with c.put-came.new.store c.put-came.new.slots (map g.T.DeadRows.is_in c.args.sets.now) in
+    let there = here_with c.give_up.new.store c.give_up.new.slots (map g.T.DeadRows.is_in c.args.sets.now) in
     let comes = goes_told g.S.PageStore session (HasCome session (ToInsert c.args.entry) came) (HasCome session (ToInsert c.args.entry) came) (step_came came) (insert_came (outcome_of came)) start here
     (λ s answers x y at fits by told. (insert_comes session c.args.entry came x y answers c.put-came.ensures.over told by, told)) c.put-came.ensures.goes in
     subst (λ (r : Result Inserted Fault). CallGoes g.S.PageStore session (InsertTold session c.args.entry r) (insert_came r) start there) (sym c.outcome.ensures)

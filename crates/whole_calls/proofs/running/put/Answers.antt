@@ -1,7 +1,8 @@
+use Rattle.std.specs.Prelude.{map}
 use Rattle.std.proofs.Common.{Result, Err, subst}
 use Rattle.index_model.specs.declared.fault.Fault.{Fault}
 use Rattle.session_calls.specs.declared.request.Request.TheVariants.{Insert as ToInsert}
-use Rattle.schedule.specs.Snapshots.{both}
+use Rattle.schedule.specs.Snapshots.{here_with}
 use Rattle.whole_calls.specs.Telling.{TellsStep, BeginTold, HasCome, begin_came, step_came}
 use Rattle.whole_calls.proofs.Composing.{goes_then, goes_told}
 use Rattle.whole_calls.proofs.Tellings.{begun_came}
@@ -12,7 +13,7 @@ returns-in-Ok-clause-goes g c =
     let session = c.args.session in
     let request = ToInsert c.args.entry in
     goes_then g.S.PageStore g.met.S.PageStore.laws session (BeginTold session request c.begin.result) (TellsStep session c.finish.result) (HasCome session request c.finish.result) (begin_came c.begin.result) (step_came c.finish.result)
-    (both c.args.store.now c.args.slots.now) (both c.begin.new.store c.begin.new.slots) (both c.finish.new.store c.finish.new.slots) c.begin.ensures.steps c.finish.ensures.steps c.begin.ensures.goes c.finish.ensures.goes
+    (here_with c.args.store.now c.args.slots.now (map g.T.DeadRows.is_in c.args.sets.now)) (here_with c.begin.new.store c.begin.new.slots (map g.T.DeadRows.is_in c.args.sets.now)) (here_with c.finish.new.store c.finish.new.slots (map g.T.DeadRows.is_in c.args.sets.now)) c.begin.ensures.steps c.finish.ensures.steps c.begin.ensures.goes c.finish.ensures.goes
     (λ start x y z at fx fy fz one two. begun_came session request x y z (subst (λ (r : Result (Unit {0}) Fault). BeginTold session request r x y) c.in-Ok.is one) c.finish.result two)
 
 pub returns-in-Err-clause-goes : goal.returns-in-Err-clause-goes

@@ -1,6 +1,7 @@
+use Rattle.std.specs.Prelude.{map}
 use Rattle.std.proofs.Common.{Some, Ok, Err, refl}
 use Rattle.schedule.specs.Events.{Steps}
-use Rattle.schedule.specs.Snapshots.{both}
+use Rattle.schedule.specs.Snapshots.{here_with}
 use Rattle.schedule.specs.declared.event.Event.TheVariants.{Step}
 use Rattle.whole_calls.specs.Telling.{IsSilent, TellsStep, room_came}
 use Rattle.whole_calls.proofs.Composing.{goes_then, goes_by, goes_told}
@@ -13,10 +14,10 @@ returns-in-Ok-clause-goes g c =
     let laws = g.met.S.PageStore.laws in
     let session = c.args.session in
     let answer = c.one.result in
-    let here = both c.make_room.new.store c.args.slots.now in
-    let there = both c.one.new.store c.one.new.slots in
-    goes_then g.S.PageStore laws session IsSilent (TellsStep session (Ok answer)) (TellsStep session (Ok answer)) (room_came c.make_room.result) (Some answer) (both c.args.store.now c.args.slots.now) here there c.make_room.ensures.steps c.one.ensures.steps
-    (c.make_room.ensures.goes session)
+    let here = here_with c.make_room.new.store c.args.slots.now (map g.T.DeadRows.is_in c.args.sets.now) in
+    let there = here_with c.one.new.store c.one.new.slots (map g.T.DeadRows.is_in c.args.sets.now) in
+    goes_then g.S.PageStore laws session IsSilent (TellsStep session (Ok answer)) (TellsStep session (Ok answer)) (room_came c.make_room.result) (Some answer) (here_with c.args.store.now c.args.slots.now (map g.T.DeadRows.is_in c.args.sets.now)) here there c.make_room.ensures.steps c.one.ensures.steps
+    (c.make_room.ensures.goes session (map g.T.DeadRows.is_in c.args.sets.now))
     (goes_by g.S.PageStore laws session (TellsStep session (Ok answer)) (Step session) answer here there refl c.one.ensures.runs
     (λ start x y from to fits does. moves_tells g.S.PageStore start x y session Steps answer tt fits does))
     (λ start x y z at fx fy fz one two. silent_then session (Ok answer) x y z (λ n call is. one) two)
@@ -29,4 +30,4 @@ returns-in-Err-clause-goes g c =
     (λ start answers x y at fits came silent. (
       rw c.in-Err.is at came,
       λ number call is. record { silent = silent; not_exists = kept_not_exists (g.S.PageStore.backing c.args.store.now) (g.S.PageStore.backing c.make_room.new.store) fault c.in-Err.ensures.cause },
-    )) (c.make_room.ensures.goes session)
+    )) (c.make_room.ensures.goes session (map g.T.DeadRows.is_in c.args.sets.now))

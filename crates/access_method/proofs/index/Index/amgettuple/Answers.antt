@@ -1,5 +1,6 @@
+use Rattle.std.specs.Prelude.{[]}
 use Rattle.std.proofs.Common.{true, Ok, Some, sym, ◌∙◌}
-use Rattle.schedule.specs.Snapshots.{both, snapshot_of}
+use Rattle.schedule.specs.Snapshots.{here_with, snapshot_of}
 use Rattle.whole_calls.proofs.Tellings.{runs_has_call, true_false}
 use Rattle.access_method.specs.Indexes.{slots_within}
 use Rattle.access_method.proofs.Results.{gives_right}
@@ -16,7 +17,7 @@ returns-in-Ok-clause-runs g c is_open busy = c.in-Ok.ensures.goes
 
 pub returns-in-Ok-clause-answers : goal.returns-in-Ok-clause-answers
 returns-in-Ok-clause-answers g c honest start history calls fits =
-    gives_right g.S.PageStore c.args.token.session (Ok c.in-Ok.given) (slots_within c.args.self.now) (both c.give.new.store c.give.new.slots) start history calls
+    gives_right g.S.PageStore c.args.token.session (Ok c.in-Ok.given) (slots_within c.args.self.now) (here_with c.give.new.store c.give.new.slots []) start history calls
     (c.in-Ok.ensures.goes honest start history calls fits)
 
 pub invariant_of-self-in-Err : goal.invariant_of-self-in-Err

@@ -1,4 +1,5 @@
-use Rattle.schedule.specs.Snapshots.{both}
+use Rattle.std.specs.Prelude.{[]}
+use Rattle.schedule.specs.Snapshots.{here_with}
 use Rattle.access_method.specs.Indexes.{slots_within}
 use Rattle.access_method.proofs.Results.{inserts_or_keeps}
 use Rattle.access_method.proofs.index.Index.aminsert.Goals as goal
@@ -8,5 +9,5 @@ returns-clause-runs g c = c.insert.ensures.goes c.args.self.now.agree.inserts
 
 pub returns-clause-inserts : goal.returns-clause-inserts
 returns-clause-inserts g c honest start history calls fits =
-    inserts_or_keeps g.S.PageStore c.args.entry c.insert.result (slots_within c.args.self.now) (both c.insert.new.store c.insert.new.slots) start history calls fits
+    inserts_or_keeps g.S.PageStore c.args.entry c.insert.result (slots_within c.args.self.now) (here_with c.insert.new.store c.insert.new.slots []) start history calls fits
     (c.insert.ensures.goes c.args.self.now.agree.inserts honest start history calls fits)

@@ -1,11 +1,11 @@
-use Rattle.std.proofs.Common.{refl}
+use Rattle.std.proofs.Common.{[], refl}
 use Rattle.schedule.specs.Events.{Checkpoints}
 use Rattle.schedule.specs.declared.event.Event.TheVariants.{Checkpoint}
 use Rattle.access_method.proofs.Results.{number_told, durable_told, cause_told, goes_told_kept, room_told}
 use Rattle.access_method.proofs.index.Index.checkpoint.Goals as goal
 
 pub returns-clause-runs : goal.returns-clause-runs
-returns-clause-runs g c = goes_told_kept g.S.PageStore g.met.S.PageStore.laws Checkpoints Checkpoint c.checkpoint.result _ _ _ c.count.ensures refl c.checkpoint.ensures.answers c.checkpoint.ensures.runs
+returns-clause-runs g c = goes_told_kept g.S.PageStore g.met.S.PageStore.laws Checkpoints Checkpoint c.checkpoint.result _ _ _ c.count.ensures refl c.checkpoint.ensures.answers (c.checkpoint.ensures.runs [])
 
 pub returns-clause-number : goal.returns-clause-number
 returns-clause-number g c = number_told g.S.PageStore Checkpoints c.checkpoint.result _ _ _ c.count.ensures c.checkpoint.ensures.answers c.checkpoint.ensures.kept

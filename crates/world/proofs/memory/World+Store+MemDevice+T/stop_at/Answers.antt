@@ -3,4 +3,4 @@ use Rattle.schedule.proofs.Events.{fits_still}
 use Rattle.world.proofs.memory.World+Store+MemDevice+T.stop_at.Goals as goal
 
 pub returns-clause-fits : goal.returns-clause-fits
-returns-clause-fits g c start history calls fits = fits_still _ start (snapshot_in c.args.self.now history calls) c.stop_at.new.self c.stop_at.ensures.state fits
+returns-clause-fits g c start history calls fits = fits_still _ start (snapshot_in g.T.DeadRows c.args.self.now history calls) c.stop_at.new.self c.stop_at.ensures.state fits

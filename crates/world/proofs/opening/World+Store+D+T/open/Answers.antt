@@ -24,8 +24,8 @@ returns-in-Ok-new-clause-begins g c honest frames from to limits pages index tre
     let unused : IsUnused st = subst IsUnused (sym opened.is) (opened_unused st.limits c.args.frames st.pages _ _ (subst IsBlinkTree (sym same.pages_are) tree)) in
     record {
       limits_are = ap (λ s. (state_of g.D.Device s).limits) c.in-Ok-new.ensures.store ∙ same.limits_are;
-      fits = same_start _ c.in-Ok-new.world st.pages pages same.pages_are (c.in-Ok-new.ensures.fits unused);
-      keeps = same_kept _ c.in-Ok-new.world st.pages pages same.pages_are (c.in-Ok-new.ensures.keeps unused same.own);
+      fits = same_start _ _ c.in-Ok-new.world st.pages pages same.pages_are (c.in-Ok-new.ensures.fits unused);
+      keeps = same_kept _ _ c.in-Ok-new.world st.pages pages same.pages_are (c.in-Ok-new.ensures.keeps unused same.own);
     }
 
 pub returns-in-Err-clause-begins : goal.returns-in-Err-clause-begins
