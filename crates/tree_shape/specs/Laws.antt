@@ -8,6 +8,7 @@ use Rattle.page_codec.specs.declared.page.PageState.TheVariants.{Live, Deleted}
 use Rattle.tree_shape.specs.Nodes.{Node, no_node, holds, IsHeld, HoldsTheSame, HoldsOneMore}
 use Rattle.tree_shape.specs.Chains.{Spot, IsIn, IsTreeOf, first_spot}
 use Rattle.tree_shape.specs.Edits.{IsInsertion, IsLeafSplit, IsFree, IsFinish, IsParentSplit, IsRootSplit, IsLinkAdded, IsBetween}
+use Rattle.tree_shape.specs.Aims.{IsUpToFirst}
 use Rattle.tree_shape.specs.Walks.{IsAim, entry_aim, bound_aim, frontier_aim, is_beyond, is_within, is_fit, IsFitOn, IsCoverOn, LeadsOn, IsPlace, KeepsPlaces, KeepsOrder}
 
 -- The pages are a tree again, and each number that a call keeps is still good, if its start number
@@ -292,11 +293,6 @@ RootSplitHolds =
     → (at' 0).entries ≡ []
     → HoldsTheSame at at' used (max used (suc fresh))
 
--- what is looked for doesn't lie beyond the bound of the first of these, if there is one
-abbrev pub IsWithinFirst : (Bound → Bool) → List Downlink → Type 0
-IsWithinFirst aim [] = Unit {0}
-IsWithinFirst aim (i ∷ is) = is_beyond aim i.bound ≡ false
-
 -- where no page of a level is flagged, the way down comes to the page that covers what is looked
 -- for at once: it is the child of the last downlink with a bound below that
 abbrev pub CoversLeadStraightDown : Type 0
@@ -306,7 +302,7 @@ CoversLeadStraightDown =
     → IsCoverOn at first_spot (chain (suc level)) aim q
     → (before : List Downlink) (bound : Option Bound) (child : ℕ) (after : List Downlink)
     → (at q).links ≡ before ++ record { bound = bound; child = child } ∷ after
-    → is_beyond aim bound ≡ true → IsWithinFirst aim after
+    → is_beyond aim bound ≡ true → IsUpToFirst aim after
     → ((b : ℕ) → IsIn b (chain level) → (at b).split ≡ false)
     → IsCoverOn at first_spot (chain level) aim child
 
