@@ -2,3 +2,4 @@ pub mod Causes
 pub mod Steps
 pub mod Ways
 pub mod Onward
+pub mod Shared

@@ -11,7 +11,7 @@ mod reuse;
 pub use call_table::CallTable;
 pub use map_store::MapStore;
 pub use page_store::PageStore;
-pub use placing::{is_storable, place_pages};
+pub use placing::{find_misplaced, is_storable, place_pages};
 
 #[cfg(test)]
 mod tests;

@@ -1,8 +1,8 @@
 //! Pages that may be stored, and where they are put.
 
-ghost use Rattle.std.specs.Prelude.{◌≡◌, ◌≤◌, ◌<◌, vec_len, vec_capacity, IsTrue, ◌↔◌};
+ghost use Rattle.std.specs.Prelude.{◌≡◌, ◌≤◌, ◌<◌, vec_len, vec_capacity, IsTrue, ◌↔◌, IfNone, IfSome};
 ghost use Rattle.page_codec.specs.Spelling.{count_of};
-ghost use Rattle.page_action.specs.Stored.{AreStored, IsStorable, AreActable};
+ghost use Rattle.page_action.specs.Stored.{AreStored, IsStorable, IsApartFrom, IsPlaceable, AreActable};
 ghost use Rattle.page_action.specs.States.{with_page, with_pages};
 
 use index_model::Limits;
@@ -23,6 +23,43 @@ fn count(items: &Items) -> usize
         Items::Entries(entries) => entries.len(),
         Items::Downlinks(links) => links.len(),
     }
+}
+
+// Whether none of these pages is of this block.
+fn is_apart(block: u32, pages: &[Page]) -> bool
+    ensures { IsTrue result ↔ IsApartFrom block pages.now }
+{
+    for page in pages {
+        if page.block == block {
+            return false;
+        }
+    }
+    true
+}
+
+// Whether the block is in use, or the next unused one, within the limits.
+fn is_placeable(block: u32, used: u32, limits: Limits) -> bool
+    ensures { IsTrue result ↔ IsPlaceable limits used block }
+{
+    block <= used && block < limits.pages
+}
+
+/// The block of the first of these pages that an act may not change beside those behind it: the page may not be stored, its
+/// block is neither in use nor the next unused one, or a later page is of the same block. None: the act may be done.
+pub fn find_misplaced(pages: &[Page], used: u32, limits: Limits) -> Option<u32>
+    ensures none { IfNone result (AreActable limits used pages.now) }
+    ensures some { IfSome result (λ block. AreActable limits used pages.now → ⊥) }
+{
+    for at in 0..pages.len() {
+        let page = &pages[at];
+        if !is_storable(page, limits)
+            || !is_placeable(page.block, used, limits)
+            || !is_apart(page.block, &pages[at + 1..])
+        {
+            return Some(page.block);
+        }
+    }
+    None
 }
 
 // Puts a copy of the page at its block, which is in use or the next unused one.

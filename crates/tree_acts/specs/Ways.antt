@@ -1,5 +1,5 @@
 -- What a page that a call reads in a tree tells it, by where the call came from.
-use Rattle.std.specs.Prelude.{◌≡◌, ℕ, suc, ◌<◌, ◌≤◌, Bool, true, Option, Some, List, ◌∷◌, ◌++◌, length, slice_get}
+use Rattle.std.specs.Prelude.{◌≡◌, ◌≢◌, ℕ, suc, ◌<◌, ◌≤◌, Bool, true, Option, Some, List, ◌∷◌, ◌++◌, length, slice_get}
 use Rattle.index_model.specs.Order.{is_among, is_past}
 use Rattle.index_model.specs.declared.bound.Bound.{Bound}
 use Rattle.index_model.specs.declared.entry.Entry.{Entry}
@@ -13,6 +13,7 @@ use Rattle.tree_shape.specs.Tree.{IsMetaOf}
 use Rattle.tree_shape.specs.Nodes.{node_of, links_of}
 use Rattle.tree_shape.specs.Edits.{IsLinkAdded, IsBetween}
 use Rattle.tree_shape.specs.Laws.{IsPassedBy, HasLink}
+use Rattle.tree_shape.specs.Mending.{MayBeMended}
 use Rattle.tree_shape.specs.Walks.{entry_aim, bound_aim, frontier_aim, is_beyond, is_within}
 use Rattle.tree_acts.specs.Trees.{HasTree, HasPlace, HasCover, HasTrail}
 use Rattle.tree_acts.specs.Acts.{IsUnfinished}
@@ -132,3 +133,36 @@ TrailGoesRight =
 abbrev pub TrailIsShort : Type 0
 TrailIsShort = (st : State) (start level block moves : ℕ) → HasTree st
     → HasTrail st start level block moves → suc moves < length st.pages
+
+-- from a place a call goes on to whatever lies farther too, and it need not be clear
+abbrev pub PlacesWiden : Type 0
+PlacesWiden =
+    (st : State) (start level : ℕ) (aim farther : Bound → Bool) (clear clear' : Bool) (block : ℕ)
+    → ((b : Bound) → aim b ≡ true → farther b ≡ true) → (clear' ≡ true → clear ≡ true)
+    → HasPlace st start level aim clear block → HasPlace st start level farther clear' block
+
+-- a live page with a high key that is a place is one for its own high key
+abbrev pub HighTells : Type 0
+HighTells =
+    (st : State) (start level : ℕ) (aim : Bound → Bool) (clear : Bool) (page : Page) (high : Bound)
+    → HasTree st → slice_get st.pages page.block ≡ Some page
+    → HasPlace st start level aim clear page.block
+    → page.state ≡ Live → page.high ≡ Some high
+    → HasPlace st start level (bound_aim high) clear page.block
+
+-- the page of this block stands on this level, right of another one
+pub record IsNeighbour (st : State) (level other block : ℕ) : Type 0 where
+  pub page : Page
+  pub found : slice_get st.pages block ≡ Some page
+  pub level_is : page.level ≡ level
+  pub mends : MayBeMended page
+  pub apart : block ≢ other
+
+-- a live page with a right link has a right neighbour
+abbrev pub NeighbourTells : Type 0
+NeighbourTells =
+    (st : State) (start level : ℕ) (aim : Bound → Bool) (clear : Bool) (page : Page) (right : ℕ)
+    → HasTree st → slice_get st.pages page.block ≡ Some page
+    → HasPlace st start level aim clear page.block
+    → page.state ≡ Live → page.right ≡ Some right
+    → IsNeighbour st level page.block right

@@ -3,7 +3,7 @@
 ghost use Rattle.tree_acts.specs.Acts.{PuttingLasts, LeafSplitLasts, FinishLasts, ParentSplitLasts, RootSplitLasts};
 ghost use Rattle.tree_acts.specs.Flags.{PuttingFlags, LeafSplitFlags, FinishFlags, ParentSplitFlags, RootSplitFlags};
 ghost use Rattle.tree_acts.specs.Weights.{PuttingWeighs, LeafSplitWeighs, FinishWeighs, ParentSplitWeighs, RootSplitWeighs};
-ghost use Rattle.tree_acts.specs.Ways.{MetapageTells, PassedTells, LiveTells, InternalTells, LeafTells, FrontierTells, ParentTells, SeparatorTells, RootTells, UnfinishedIsBelow, TrailBegins, TrailGoesRight, TrailIsShort};
+ghost use Rattle.tree_acts.specs.Ways.{MetapageTells, PassedTells, LiveTells, InternalTells, LeafTells, FrontierTells, ParentTells, SeparatorTells, RootTells, UnfinishedIsBelow, TrailBegins, TrailGoesRight, TrailIsShort, PlacesWiden, HighTells, NeighbourTells};
 
 /// Does nothing: its clauses say that each act which edits a tree leaves a tree, the places that running calls keep, and
 /// the contents as they were, but for the entry that is put.
@@ -43,6 +43,9 @@ pub fn pages_tell_the_way()
     ensures internal { InternalTells }
     ensures leaf { LeafTells }
     ensures frontier { FrontierTells }
+    ensures farther { PlacesWiden }
+    ensures high { HighTells }
+    ensures neighbour { NeighbourTells }
     ensures begins { TrailBegins }
     ensures goes_on { TrailGoesRight }
     ensures short { TrailIsShort }

@@ -1,0 +1,118 @@
+-- A tree that many sessions share: what the steps of one session's call do to it, and what the others may rely on meanwhile.
+use Rattle.std.specs.Prelude.{◌≡◌, ◌≢◌, ℕ, zero, suc, ◌+◌, ◌≤◌, ◌<◌, ◌||◌, ◌&&◌, not, Bool, true, false, nat_lt, nat_le, Option, Some, None, length, slice_get}
+use Rattle.index_model.specs.Actions.{Effect, Add, Remove, Shape}
+use Rattle.index_model.specs.Faults.{Circumstances}
+use Rattle.index_model.specs.declared.bound.Bound.{Bound}
+use Rattle.latch_table.specs.Holdings.{holding_of, is_held_by_another}
+use Rattle.latch_table.specs.declared.mode.Mode.TheVariants.{Shared, Exclusive}
+use Rattle.page_action.specs.Causes.{nothing_wrong, has_failed, is_at_end, pinned_blocks, count_apart}
+use Rattle.page_action.specs.Reuse.{is_reusable}
+use Rattle.page_action.specs.States.{State, Backing}
+use Rattle.tree_shape.specs.Nodes.{nodes_of}
+use Rattle.tree_shape.specs.Walks.{IsAim}
+use Rattle.tree_acts.specs.Flags.{FlagsMove}
+use Rattle.tree_acts.specs.Trees.{HasTree, HasPlace, HasTrail}
+use Rattle.tree_acts.specs.Weights.{weight}
+use Rattle.descent.specs.Steps.{HoldsAlone, AreApart, Changes}
+use Rattle.descent.specs.Ways.{root_level}
+
+-- the pages are a B-link tree, and no two sessions hold what excludes each other
+pub record IsInOrder (st : State) : Type 0 where
+  pub tree : HasTree st
+  pub apart : AreApart st.table
+  pub holdings : length st.table ≡ 64
+  pub calls : length st.running ≡ 64
+
+-- a call with this start number goes on from the page numbers that it keeps: each is a place still, and its walk still has
+-- come to it
+pub record NumbersStay (start : ℕ) (old new : State) : Type 0 where
+  pub places : (level : ℕ) (aim : Bound → Bool) (clear : Bool) (block : ℕ) → IsAim aim
+      → HasPlace old start level aim clear block → HasPlace new start level aim clear block
+  pub trails : (level block moves : ℕ) → HasTrail old start level block moves
+      → HasTrail new start level block moves
+
+-- what a session may rely on while others act: its latches and pins, its start number, the pages that it holds alone, and
+-- the page numbers that its call keeps
+pub record MayRely (session : ℕ) (old new : State) : Type 0 where
+  pub held : holding_of new.table session ≡ holding_of old.table session
+  pub number : slice_get new.running session ≡ slice_get old.running session
+  pub pages : (block : ℕ) → HoldsAlone old.table session block
+      → slice_get new.pages block ≡ slice_get old.pages block
+  pub numbers : (start : ℕ) → slice_get old.running session ≡ Some (Some start)
+      → NumbersStay start old new
+
+-- every session but this one may rely
+abbrev pub OthersRely : ℕ → State → State → Type 0
+OthersRely session old new = (other : ℕ) → other ≢ session → MayRely other old new
+
+-- whether the page of the block is flagged: its split isn't finished
+abbrev pub is_flagged : State → ℕ → Bool
+is_flagged st block = (nodes_of st.pages block).split
+
+-- the level of the page of the block
+abbrev pub level_in : State → ℕ → ℕ
+level_in st block = (nodes_of st.pages block).level
+
+-- a page is flagged that wasn't, if there is one, and it is of this level
+abbrev pub IsRaised : State → State → ℕ → Option ℕ → Type 0
+IsRaised old new level None = Unit {0}
+IsRaised old new level (Some b) = (is_flagged old b ≡ false) × (level_in new b ≡ level)
+
+-- an entry is put on a leaf; where that is split for it, it is flagged
+pub record SplitsALeaf (old new : State) : Type 0 where
+  pub raised : Option ℕ
+  pub leaf : IsRaised old new 0 raised
+  pub moves : FlagsMove raised None old new
+  pub most : weight new ≤ weight old + 32
+
+-- a split is finished: one page's flag is cleared, and one page at most is flagged, one level higher; so less is left to do
+pub record FinishesASplit (old new : State) : Type 0 where
+  pub cleared : ℕ
+  pub was : is_flagged old cleared ≡ true
+  pub raised : Option ℕ
+  pub higher : IsRaised old new (suc (level_in new cleared)) raised
+  pub moves : FlagsMove raised (Some cleared) old new
+  pub less : weight new < weight old
+
+-- which flags an effect moves
+abbrev pub MovesFlags : Option Effect → State → State → Type 0
+MovesFlags None old new = Unit {0}
+MovesFlags (Some (Add e)) old new = SplitsALeaf old new
+MovesFlags (Some (Remove es)) old new = FlagsMove None None old new
+MovesFlags (Some Shape) old new = FinishesASplit old new
+
+-- A step of this session's call, with one effect at most: the pages are a tree again, flags move as the effect says, calls
+-- and limits are as they were, and every other session may rely on what it held.
+pub record Does (session : ℕ) (effect : Option Effect) (old new : State) : Type 0 where
+  pub changes : Changes effect old new
+  pub flags : MovesFlags effect old new
+  pub limits : new.limits ≡ old.limits
+  pub frames : new.frames ≡ old.frames
+  pub begun : new.begun ≡ old.begun
+  pub running : new.running ≡ old.running
+  pub order : IsInOrder new
+  pub others : OthersRely session old new
+
+-- one of the first so many blocks may be used again
+abbrev pub any_is_reusable : State → ℕ → Bool
+any_is_reusable st zero = false
+any_is_reusable st (suc block) = is_reusable st block || any_is_reusable st block
+
+-- no block is unused, and none may be used again
+abbrev pub is_out_of_blocks : State → Bool
+is_out_of_blocks st =
+    nat_le st.limits.pages (length st.pages) && not (any_is_reusable st (length st.pages))
+
+-- Why a step is refused that reads pages of a tree, and may do an act of so many images, and needs so many frames beside
+-- those that are pinned.
+abbrev pub where_working : State → Backing → Backing → ℕ → ℕ → ℕ → Circumstances
+where_working st old new session images frames = record nothing_wrong {
+  device_failed = has_failed old new;
+  is_stopped = old.stopped || is_at_end st.acts;
+  is_held_by_another = λ b. is_held_by_another st.table session b Shared
+      || is_held_by_another st.table session b Exclusive;
+  no_block_is_free = is_out_of_blocks st;
+  log_is_full = nat_le old.promised images;
+  frames_are_pinned = nat_lt st.frames (frames + count_apart (pinned_blocks st.table));
+  root_is_at_31 = nat_le 31 (root_level st.pages);
+}
