@@ -1,5 +1,5 @@
 -- A tree that many sessions share: what the steps of one session's call do to it, and what the others may rely on meanwhile.
-use Rattle.std.specs.Prelude.{◌≡◌, ◌≢◌, ℕ, zero, suc, ◌+◌, ◌≤◌, ◌<◌, ◌||◌, ◌&&◌, not, Bool, true, false, nat_lt, nat_le, Option, Some, None, length, slice_get}
+use Rattle.std.specs.Prelude.{◌≡◌, ◌≢◌, ◌⊎◌, ℕ, zero, suc, ◌+◌, ◌≤◌, ◌<◌, ◌||◌, ◌&&◌, not, Bool, true, false, nat_lt, nat_le, Option, Some, None, length, slice_get}
 use Rattle.index_model.specs.Actions.{Effect, Add, Remove, Shape}
 use Rattle.index_model.specs.Faults.{Circumstances}
 use Rattle.index_model.specs.declared.bound.Bound.{Bound}
@@ -7,7 +7,7 @@ use Rattle.latch_table.specs.Holdings.{holding_of, is_held_by_another}
 use Rattle.latch_table.specs.declared.mode.Mode.TheVariants.{Shared, Exclusive}
 use Rattle.page_action.specs.Causes.{nothing_wrong, has_failed, is_at_end, pinned_blocks, count_apart}
 use Rattle.page_action.specs.Reuse.{is_reusable}
-use Rattle.page_action.specs.States.{State, Backing}
+use Rattle.page_action.specs.States.{State, Backing, with_table}
 use Rattle.tree_shape.specs.Nodes.{nodes_of}
 use Rattle.tree_shape.specs.Walks.{IsAim}
 use Rattle.tree_acts.specs.Flags.{FlagsMove}
@@ -92,6 +92,16 @@ pub record Does (session : ℕ) (effect : Option Effect) (old new : State) : Typ
   pub running : new.running ≡ old.running
   pub order : IsInOrder new
   pub others : OthersRely session old new
+
+-- On any pages a step does one act at most, and with none it changes nothing but latches and pins; limits, frames and calls
+-- are as they were.
+pub record IsOneStep (old new : State) : Type 0 where
+  pub acts : (new.acts ≡ old.acts) ⊎ (new.acts ≡ suc old.acts)
+  pub quiet : new.acts ≡ old.acts → new ≡ with_table old new.table
+  pub limits : new.limits ≡ old.limits
+  pub frames : new.frames ≡ old.frames
+  pub begun : new.begun ≡ old.begun
+  pub running : new.running ≡ old.running
 
 -- one of the first so many blocks may be used again
 abbrev pub any_is_reusable : State → ℕ → Bool

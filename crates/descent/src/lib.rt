@@ -5,7 +5,7 @@
 mod reading;
 mod way;
 
-pub use reading::{look, root};
+pub use reading::{ask_for, look, look_at_both, look_to_change, root};
 pub use way::{Onward, Way, lead, way_down};
 
 #[cfg(test)]

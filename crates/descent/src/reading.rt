@@ -1,12 +1,13 @@
 //! Reading a page for a session.
 
-ghost use Rattle.std.specs.Prelude.{◌≡◌, ◌<◌, ◌≤◌, true, Err, IfOk, IfErr, OnOk, OnErr, Some, ℕ, length, slice_get};
+ghost use Rattle.std.specs.Prelude.{◌≡◌, ◌<◌, ◌≤◌, true, false, Err, IfOk, IfErr, OnOk, OnErr, Some, ℕ, length, slice_get};
 ghost use Rattle.index_model.specs.Faults.{HasCause};
-ghost use Rattle.latch_table.specs.Holdings.{HasRoom};
+ghost use Rattle.latch_table.specs.Holdings.{HasRoom, is_held_by_another};
 ghost use Rattle.page_action.specs.States.{State, Continues};
 ghost use Rattle.page_action.specs.Stored.{IsStored};
 ghost use Rattle.tree_shape.specs.Tree.{IsBlinkTree, IsMetaOf};
 ghost use Rattle.descent.specs.Causes.{where_looked};
+ghost use Rattle.descent.specs.Shared.{where_working};
 
 use index_model::{Fault, Session};
 use latch_table::Mode;
@@ -29,14 +30,114 @@ pub fn look<S: PageStore>(store: &mut S, session: Session, block: u32) -> Result
         → IfErr result
         (HasCause (where_looked (S.state store.old) (S.backing store.old)
         (S.backing store.new) session block)) }
+    ensures works { (S.backing store.new).honest ≡ true
+        → HasRoom (S.state store.old).table session → block < length (S.state store.old).pages
+        → (images frames : ℕ) → 1 ≤ frames
+        → IfErr result (HasCause (where_working (S.state store.old) (S.backing store.old)
+        (S.backing store.new) session images frames)) }
 {
     if store.is_stopped() {
         return Err(Fault::Stopped);
     }
-    store.latch(session, block, Mode::Shared)?;
-    let page = store.page(block);
+    ask_for(store, session, block, Mode::Shared)?;
+    store.page(block)
+}
+
+/// Tests that no other session's hold on the page conflicts. Nothing is kept: a step is one moment, so what it latches for
+/// itself alone it may let go at once. Refused with `Blocked`.
+pub fn ask_for<S: PageStore>(
+    store: &mut S,
+    session: Session,
+    block: u32,
+    mode: Mode,
+) -> Result<(), Fault>
+    ensures steps { Continues S.follows store.old store.new }
+    ensures state { S.state store.new ≡ S.state store.old }
+    ensures backing { S.backing store.new ≡ S.backing store.old }
+    ensures free { OnOk result
+        (is_held_by_another (S.state store.old).table session block mode ≡ false) }
+    ensures fault { IfErr result (λ f. f ≡ Fault.Blocked block) }
+    ensures cause { HasRoom (S.state store.old).table session
+        → OnErr result (is_held_by_another (S.state store.old).table session block mode ≡ true) }
+{
+    store.latch(session, block, mode)?;
     store.release(session, block);
-    page
+    Ok(())
+}
+
+/// Reads a page that the step may change: no other session holds it. Refused with `Stopped`, `Blocked`, and with the faults
+/// of [`PageStore::page`].
+pub fn look_to_change<S: PageStore>(
+    store: &mut S,
+    session: Session,
+    block: u32,
+) -> Result<Page, Fault>
+    ensures steps { Continues S.follows store.old store.new }
+    ensures state { S.state store.new ≡ S.state store.old }
+    ensures page { (S.backing store.new).honest ≡ true
+        → IfOk result (λ p. slice_get (S.state store.old).pages block ≡ Some p) }
+    ensures stored { IfOk result (IsStored (S.state store.old).limits block) }
+    ensures used { OnOk result (block < length (S.state store.old).pages) }
+    ensures inside { OnOk result (length (S.state store.old).pages ≤
+        (S.state store.old).limits.pages) }
+    ensures free { OnOk result
+        (is_held_by_another (S.state store.old).table session block Mode.Exclusive ≡ false) }
+    ensures alive { OnOk result
+        ((S.backing store.new).stopped ≡ true → (S.backing store.old).stopped ≡ true) }
+    ensures stopped { (S.backing store.old).stopped ≡ true → result ≡ Err Fault.Stopped }
+    ensures cause { (S.backing store.new).honest ≡ true
+        → HasRoom (S.state store.old).table session → block < length (S.state store.old).pages
+        → (images frames : ℕ) → 1 ≤ frames
+        → IfErr result (HasCause (where_working (S.state store.old) (S.backing store.old)
+        (S.backing store.new) session images frames)) }
+{
+    if store.is_stopped() {
+        return Err(Fault::Stopped);
+    }
+    ask_for(store, session, block, Mode::Exclusive)?;
+    store.page(block)
+}
+
+/// Reads two pages that the step may change: no other session holds them. Refused with `Stopped`, then with `Blocked` for
+/// the first page before the second, then with the faults of [`PageStore::page`] likewise.
+pub fn look_at_both<S: PageStore>(
+    store: &mut S,
+    session: Session,
+    first: u32,
+    second: u32,
+) -> Result<(Page, Page), Fault>
+    ensures steps { Continues S.follows store.old store.new }
+    ensures state { S.state store.new ≡ S.state store.old }
+    ensures pages { (S.backing store.new).honest ≡ true
+        → IfOk result (λ both. (slice_get (S.state store.old).pages first ≡ Some both.0)
+        × (slice_get (S.state store.old).pages second ≡ Some both.1)) }
+    ensures stored { IfOk result (λ both. IsStored (S.state store.old).limits first both.0
+        × IsStored (S.state store.old).limits second both.1) }
+    ensures used { OnOk result ((first < length (S.state store.old).pages)
+        × (second < length (S.state store.old).pages)) }
+    ensures inside { OnOk result (length (S.state store.old).pages ≤
+        (S.state store.old).limits.pages) }
+    ensures free { OnOk result
+        ((is_held_by_another (S.state store.old).table session first Mode.Exclusive ≡ false)
+        × (is_held_by_another (S.state store.old).table session second Mode.Exclusive ≡ false)) }
+    ensures alive { OnOk result
+        ((S.backing store.new).stopped ≡ true → (S.backing store.old).stopped ≡ true) }
+    ensures stopped { (S.backing store.old).stopped ≡ true → result ≡ Err Fault.Stopped }
+    ensures cause { (S.backing store.new).honest ≡ true
+        → HasRoom (S.state store.old).table session → first < length (S.state store.old).pages
+        → second < length (S.state store.old).pages
+        → (images frames : ℕ) → 1 ≤ frames
+        → IfErr result (HasCause (where_working (S.state store.old) (S.backing store.old)
+        (S.backing store.new) session images frames)) }
+{
+    if store.is_stopped() {
+        return Err(Fault::Stopped);
+    }
+    ask_for(store, session, first, Mode::Exclusive)?;
+    ask_for(store, session, second, Mode::Exclusive)?;
+    let page = store.page(first)?;
+    let other = store.page(second)?;
+    Ok((page, other))
 }
 
 /// Reads the metapage and answers the block of the root, which is a leaf until leaves split. Refused with the faults

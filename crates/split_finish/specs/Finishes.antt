@@ -1,0 +1,87 @@
+-- What a step does by which splits are finished.
+use Rattle.std.specs.Prelude.{◌≡◌, ◌⊎◌, ℕ, suc, ◌<◌, Bool, true, false, Option, Some, None, Result, Ok, Err, OnErr}
+use Rattle.index_model.specs.Actions.{Effect, Shape}
+use Rattle.index_model.specs.Faults.{HasCause}
+use Rattle.index_model.specs.declared.fault.Fault.{Fault}
+use Rattle.index_model.specs.declared.fault.Fault.TheVariants.{Stopped}
+use Rattle.latch_table.specs.Holdings.{holding_of, nothing_held}
+use Rattle.page_action.specs.States.{State, Backing, Continues}
+use Rattle.page_action.specs.declared.page_store.PageStore.{Ghosts}
+use Rattle.descent.specs.Shared.{IsInOrder, Does, IsOneStep, is_flagged, where_working}
+use Rattle.split_finish.specs.Targets.{targets_of, OnlyTargetsAreFlagged, FinishFits, finish_left}
+use Rattle.split_finish.specs.declared.finish.FinishAt.{FinishAt}
+use Rattle.split_finish.specs.declared.finish.FinishAt.TheVariants.{Start, Down, Link, Root}
+use Rattle.split_finish.specs.declared.finish.FinishOp.{FinishOp}
+use Rattle.split_finish.specs.declared.finish.FinishStep.{FinishStep}
+use Rattle.split_finish.specs.declared.finish.FinishStep.TheVariants.{Going, Done}
+
+-- a step has no effect, or one on the shape of the pages
+abbrev pub OnlyShapes : Option Effect → Type 0
+OnlyShapes effect = (effect ≡ None) ⊎ (effect ≡ Some Shape)
+
+-- a step that goes on: where only targets were flagged, only targets are
+pub record FinishGoesOn (old new : State) (before after : FinishOp) : Type 0 where
+  pub effect : Option Effect
+  pub shapes : OnlyShapes effect
+  pub does : Does before.session effect old new
+  pub table : new.table ≡ old.table
+  pub fits : FinishFits new after
+  pub flags : OnlyTargetsAreFlagged old (targets_of before)
+      → OnlyTargetsAreFlagged new (targets_of after)
+
+-- the last step: no target is left
+pub record FinishIsDone (old new : State) (before : FinishOp) : Type 0 where
+  pub effect : Option Effect
+  pub shapes : OnlyShapes effect
+  pub does : Does before.session effect old new
+  pub table : new.table ≡ old.table
+  pub flags : OnlyTargetsAreFlagged old (targets_of before)
+      → (block : ℕ) → is_flagged new block ≡ false
+
+-- how many images the act of a step has, at most
+abbrev pub images_of : FinishAt → ℕ
+images_of Start = 0
+images_of (Down way) = 0
+images_of (Link way) = 4
+images_of Root = 3
+
+-- ... and how many frames it needs
+abbrev pub frames_of : FinishAt → ℕ
+frames_of Start = 1
+frames_of (Down way) = 1
+frames_of (Link way) = 4
+frames_of Root = 3
+
+-- what a step does, by what it answers
+abbrev pub FinishStepped : State → Backing → State → Backing → FinishOp → FinishOp
+    → Result FinishStep Fault → Type 0
+FinishStepped old old_backing new new_backing before after (Ok Going) =
+    FinishGoesOn old new before after
+FinishStepped old old_backing new new_backing before after (Ok Done) = FinishIsDone old new before
+FinishStepped old old_backing new new_backing before after (Err fault) =
+    HasCause (where_working old old_backing new_backing before.session (images_of before.at)
+    (frames_of before.at)) fault
+
+-- a refused step changes neither the pages, nor who holds what, nor the call
+pub record FinishStays (old new : State) (before after : FinishOp) : Type 0 where
+  pub state : new ≡ old
+  pub op : after ≡ before
+
+-- A step by which splits are finished. On any pages: it does one act at most and holds nothing behind it, a refused one
+-- changes nothing, and a stopped log refuses it. On any pages, over a device that keeps its model: one that goes on without
+-- an act leaves less to do. On pages in order: what it does, and why it is refused.
+pub record FinishSteps {S : Type 0} (g : Ghosts S) (before after : FinishOp) (old new : S)
+    (result : Result FinishStep Fault) : Type 0 where
+  pub steps : Continues g.follows old new
+  pub session : after.session ≡ before.session
+  pub kept : IsOneStep (g.state old) (g.state new)
+  pub table : (g.state new).table ≡ (g.state old).table
+  pub refused : OnErr result (FinishStays (g.state old) (g.state new) before after)
+  pub stopped : (g.backing old).stopped ≡ true → result ≡ Err Stopped
+  pub less : (g.backing new).honest ≡ true → result ≡ Ok Going
+      → (g.state new).acts ≡ (g.state old).acts
+      → finish_left (g.state new).limits.pages (g.state new).pages after
+      < finish_left (g.state old).limits.pages (g.state old).pages before
+  pub stepped : (g.backing new).honest ≡ true → IsInOrder (g.state old)
+      → FinishFits (g.state old) before
+      → FinishStepped (g.state old) (g.backing old) (g.state new) (g.backing new) before after result

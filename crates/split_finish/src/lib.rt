@@ -1,0 +1,9 @@
+//! Splits are finished: the downlink of the right half is put on the parent, one page a step.
+#![tactic(auto)]
+
+mod finish;
+
+pub use finish::{FinishAt, FinishOp, FinishStep, Target};
+
+#[cfg(test)]
+mod tests;
