@@ -130,3 +130,23 @@ keeps_room_on st first second third up few one two = record {
   promised = two.promised ∙ one.promised;
   idle = λ h. two.idle (omega (arith, h)) ∙ one.idle h;
 }
+
+-- what is a cause where some calls were made before is one from before these
+pub working_later : (st : State) (first second third : Backing) (session images frames : ℕ) (fault : Fault)
+    → first.failures ≤ second.failures → (second.stopped ≡ true → first.stopped ≡ true) → second.promised ≡ first.promised
+    → HasCause (where_working st second third session images frames) fault → HasCause (where_working st first third session images frames) fault
+working_later st first second third session images frames Io le alive promised h = later_failed first second third le h
+working_later st first second third session images frames Stopped le alive promised h = or_left second.stopped (is_at_end st.acts) first.stopped alive h
+working_later st first second third session images frames LogFull le alive promised h = subst (λ (n : ℕ). nat_le n images ≡ true) promised h
+working_later st first second third session images frames (Blocked b) le alive promised h = h
+working_later st first second third session images frames (PageDamaged b) le alive promised h = h
+working_later st first second third session images frames fault le alive promised h = h
+
+-- one of these blocks is pinned, so it needs no frame more
+pub apart_pinned : (block : ℕ) (blocks pins : List ℕ) → has_pin pins block ≡ true → count_apart (block ∷ blocks ++ pins) ≤ length blocks + count_apart pins
+apart_pinned block blocks pins pin = subst (λ (c : Bool). (if c then count_apart (blocks ++ pins) else suc (count_apart (blocks ++ pins))) ≤ length blocks + count_apart pins)
+    (sym (pin_among blocks)) (apart_few blocks pins)
+  where
+    pin_among : (bs : List ℕ) → has_pin (bs ++ pins) block ≡ true
+    pin_among [] = pin
+    pin_among (b ∷ bs) = or_there (b == block) (has_pin (bs ++ pins) block) (pin_among bs)

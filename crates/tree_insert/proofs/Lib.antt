@@ -4,3 +4,4 @@ pub mod Ways
 pub mod Walking
 pub mod Meeting
 pub mod Taking
+pub mod Halving
