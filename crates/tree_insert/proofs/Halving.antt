@@ -126,3 +126,13 @@ pub frames_for : (table : Table) (left half : Page) (new : ℕ) (right : Option 
     → count_apart (map (λ (page : Page). page.block) (left ∷ half ∷ mended_to new right) ++ pinned_blocks table) ≤ 2 + count_apart (pinned_blocks table)
 frames_for table left half new None pin = (let k = apart_pinned left.block (half.block ∷ []) (pinned_blocks table) pin in omega (arith, k))
 frames_for table left half new (Some page) pin = apart_pinned left.block (half.block ∷ page.block ∷ []) (pinned_blocks table) pin
+
+-- a leaf with one entry more
+pub put_may : (limits : Limits) (used : ℕ) (page after : Page) → IsStored limits page.block page → page.block < used → used ≤ limits.pages → IsPage after → HasEntries after.items
+    → length (entries_of after.items) ≤ limits.items → after.block ≡ page.block → AreActable limits used (after ∷ [])
+put_may limits used page after stored in_use inside admitted leaf few block_is = (
+    record { admitted = admitted; few = subst (λ (n : ℕ). n ≤ limits.items) (sym (leaf_count after.items leaf)) few },
+    (omega (arith, block_is, in_use), omega (arith, block_is, in_use, inside)),
+    tt,
+    tt,
+  )

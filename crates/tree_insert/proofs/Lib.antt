@@ -5,3 +5,6 @@ pub mod Walking
 pub mod Meeting
 pub mod Taking
 pub mod Halving
+pub mod Adding
+pub mod Splitting
+pub mod Ending

@@ -9,11 +9,11 @@ ghost use Rattle.page_codec.specs.Grammar.{IsPage};
 ghost use Rattle.page_codec.specs.Spelling.{count_of};
 ghost use Rattle.page_action.specs.Causes.{where_acted, pinned_blocks};
 ghost use Rattle.page_action.specs.States.{Continues, after_act};
-ghost use Rattle.page_action.specs.Stored.{AreActable};
+ghost use Rattle.page_action.specs.Stored.{AreActable, IsStored};
 ghost use Rattle.tree_shape.specs.Leaf.{IsPlaceOf, MayHold};
 ghost use Rattle.descent.specs.Shared.{where_working};
 ghost use Rattle.descent.specs.Splitting.{mended_to};
-ghost use Rattle.tree_insert.specs.Turns.{PlaceRefused, SplitsLeaf, IsSplittable};
+ghost use Rattle.tree_insert.specs.Turns.{PlaceRefused, PutsEntry, SplitsLeaf, IsSplittable};
 
 use crate::insert::{InsertAt, InsertOp, InsertStep};
 use descent::{act_on, read_right, take_block};
@@ -21,7 +21,8 @@ use index_model::{Entry, Fault};
 use page_action::PageStore;
 use page_codec::Page;
 use split_finish::{FinishOp, Target};
-use tree_shape::{entries_on, find, may_hold, mend_left, split_leaf};
+use std::slice;
+use tree_shape::{entries_on, find, may_hold, mend_left, put, split_leaf};
 
 // The place of the entry on the page, which is to be its leaf.
 pub fn place_in(page: &Page, entry: &Entry) -> Result<usize, Fault>
@@ -89,6 +90,39 @@ fn half_to_finish(left: &Page) -> Option<Target>
 }
 
 impl InsertOp {
+    // Puts the entry on the leaf that it holds, at this place.
+    pub fn put<S: PageStore>(
+        &self,
+        store: &mut S,
+        page: Page,
+        at: usize,
+    ) -> Result<InsertStep, Fault>
+        requires stored { IsStored (S.state store.old).limits page.block page }
+        requires used { page.block < length (S.state store.old).pages }
+        requires inside { length (S.state store.old).pages ≤ (S.state store.old).limits.pages }
+        requires may { MayHold page self.now.entry }
+        requires place { IsPlaceOf self.now.entry (entries_of page.items) at }
+        requires room { length (entries_of page.items) < (S.state store.old).limits.items }
+        requires few { (S.state store.old).limits.items ≤ 50 }
+        ensures steps { Continues S.follows store.old store.new }
+        ensures puts { IfOk result (PutsEntry page self.now.entry
+            (S.state store.old) (S.state store.new)) }
+        ensures refused { OnErr result (S.state store.new ≡ S.state store.old) }
+        ensures cause { has_pin (pinned_blocks (S.state store.old).table) page.block ≡ true
+            → IfErr result (HasCause (where_working (S.state store.old) (S.backing store.old)
+            (S.backing store.new) self.now.session 1 0)) }
+    {
+        let mut page = page;
+        put(&mut page, at, self.entry);
+        match store.act(slice::from_ref(&page)) {
+            Ok(action) => Ok(InsertStep::Added {
+                action,
+                unfinished: None,
+            }),
+            Err(fault) => Err(fault),
+        }
+    }
+
     // Splits the leaf that it holds, with the entry put at this place, and lets it go.
     pub fn split<S: PageStore>(
         &mut self,
