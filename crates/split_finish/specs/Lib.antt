@@ -1,2 +1,4 @@
 pub mod Targets
+pub mod Turns
+pub mod Acting
 pub mod Finishes

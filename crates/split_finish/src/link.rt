@@ -1,0 +1,92 @@
+//! The downlink of a right half is put on the parent.
+
+ghost use Rattle.std.specs.Prelude.{◌≡◌, ◌≤◌, ◌<◌, ◌+◌, Some, IfSome, IfNone, length};
+ghost use Rattle.page_codec.specs.Grammar.{IsBlock, IsPage, IsWhole};
+ghost use Rattle.tree_shape.specs.LinkPlaces.{HasLinks, FitsBehind, child_at};
+ghost use Rattle.tree_shape.specs.Nodes.{links_of};
+ghost use Rattle.split_finish.specs.Finishes.{FinishSteps};
+ghost use Rattle.split_finish.specs.Acting.{IsLinkPlace, NoLinkPlace, AreLinked};
+ghost use Rattle.split_finish.specs.Turns.{IsReadyToLink};
+
+use crate::acting::act_on;
+use crate::finish::{FinishAt, FinishOp, FinishStep};
+use descent::{Way, look_at_both};
+use index_model::{Bound, Fault};
+use page_action::PageStore;
+use page_codec::Page;
+use tree_shape::{add_link, clear_split, find_child, fits_behind, has_links, links_on};
+
+// The place of the downlink to the child, behind which one with this separator may stand.
+pub fn place_behind(parent: &Page, child: u32, separator: Bound) -> Option<usize>
+    ensures place { IfSome result (IsLinkPlace parent.now child separator) }
+    ensures none { IfNone result (NoLinkPlace parent.now child separator) }
+{
+    let links = links_on(parent);
+    let at = find_child(links, child)?;
+    if fits_behind(links, at, &separator, &parent.high) {
+        Some(at)
+    } else {
+        None
+    }
+}
+
+// The parent with the downlink of the right half `new`, and the left half, its split finished.
+fn linked(parent: Page, page: Page, at: usize, separator: Bound, new: u32) -> [Page; 2]
+    requires place { IsLinkPlace parent page.block separator at }
+    requires room { length (links_of parent.items) < 50 }
+    ensures { AreLinked parent page separator new result }
+{
+    let mut parent = parent;
+    let mut page = page;
+    add_link(&mut parent, at, separator, new);
+    clear_split(&mut page);
+    [parent, page]
+}
+
+impl FinishOp {
+    // Puts the downlink of the right half on the parent, this page, if it is one still.
+    pub fn link<S: PageStore>(&mut self, store: &mut S, way: Way) -> Result<FinishStep, Fault>
+        requires { self.old.at ≡ FinishAt.Link way }
+        ensures { FinishSteps S.PageStore self.old self.new store.old store.new result }
+    {
+        let (page, parent) = look_at_both(store, self.session, self.target.block, way.block)?;
+        match self.turn_at_parent(&page, &parent, way)? {
+            Some(step) => Ok(step),
+            None => self.put_link(store, page, parent),
+        }
+    }
+
+    fn put_link<S: PageStore>(
+        &mut self,
+        store: &mut S,
+        page: Page,
+        parent: Page,
+    ) -> Result<FinishStep, Fault> {
+        let Some(new) = page.right else {
+            return Err(Fault::PageDamaged(page.block));
+        };
+        let separator = self.target.separator;
+        let Some(at) = place_behind(&parent, page.block, separator) else {
+            return Err(Fault::PageDamaged(parent.block));
+        };
+        if links_on(&parent).len() < store.limits().items as usize {
+            self.add(store, page, parent, at, new)
+        } else {
+            self.split_parent(store, page, parent, at, new)
+        }
+    }
+
+    // The parent has room.
+    fn add<S: PageStore>(
+        &mut self,
+        store: &mut S,
+        page: Page,
+        parent: Page,
+        at: usize,
+        new: u32,
+    ) -> Result<FinishStep, Fault> {
+        let pages = linked(parent, page, at, self.target.separator, new);
+        act_on(store, &pages)?;
+        Ok(self.pop())
+    }
+}

@@ -1,0 +1,100 @@
+//! A full parent is split for the downlink of a right half.
+
+use crate::acting::act_on;
+use crate::finish::{FinishAt, FinishOp, FinishStep, Target};
+use descent::{ask_for, look_to_change};
+use index_model::{Bound, Fault, Session};
+use latch_table::Mode;
+use page_action::PageStore;
+use page_codec::Page;
+use tree_shape::{clear_split, may_be_mended, mend_left, split_links};
+
+// The page to the right of the parent, if there is one.
+fn read_right<S: PageStore>(
+    store: &mut S,
+    session: Session,
+    right: Option<u32>,
+) -> Result<Option<Page>, Fault> {
+    let Some(block) = right else {
+        return Ok(None);
+    };
+    let page = look_to_change(store, session, block)?;
+    if !may_be_mended(&page) {
+        return Err(Fault::PageDamaged(block));
+    }
+    Ok(Some(page))
+}
+
+// ... with its left link mended.
+fn mended(right: Option<Page>, fresh: u32) -> Option<Page> {
+    match right {
+        None => None,
+        Some(page) => {
+            let mut page = page;
+            mend_left(&mut page, fresh);
+            Some(page)
+        }
+    }
+}
+
+// The page, its split finished.
+pub fn cleared(page: Page) -> Page {
+    let mut page = page;
+    clear_split(&mut page);
+    page
+}
+
+// A full parent in two halves, and its left half as a target.
+struct Parted {
+    left: Page,
+    half: Page,
+    target: Target,
+}
+
+// Splits the parent, with the downlink of the right half `new` behind the one at `at`; its own right half is on the block
+// `fresh`.
+fn part(parent: Page, at: usize, separator: Bound, new: u32, fresh: u32) -> Parted {
+    let mut left = parent;
+    let half = split_links(&mut left, at, separator, new, fresh);
+    let target = Target {
+        block: left.block,
+        level: left.level,
+        separator: left.high.unwrap_or(separator),
+    };
+    Parted { left, half, target }
+}
+
+// Acts on the halves of the parent, the page to the right of them and the page whose split is finished.
+fn act_on_halves<S: PageStore>(
+    store: &mut S,
+    left: Page,
+    half: Page,
+    right: Option<Page>,
+    page: Page,
+) -> Result<(), Fault> {
+    match right {
+        None => act_on(store, &[left, half, page]),
+        Some(right) => act_on(store, &[left, half, right, page]),
+    }
+}
+
+impl FinishOp {
+    // The parent is full.
+    pub fn split_parent<S: PageStore>(
+        &mut self,
+        store: &mut S,
+        page: Page,
+        parent: Page,
+        at: usize,
+        new: u32,
+    ) -> Result<FinishStep, Fault> {
+        let right = read_right(store, self.session, parent.right)?;
+        let fresh = store.fresh()?;
+        ask_for(store, self.session, fresh, Mode::Exclusive)?;
+        let Parted { left, half, target } = part(parent, at, self.target.separator, new, fresh);
+        act_on_halves(store, left, half, mended(right, fresh), cleared(page))?;
+        self.target = target;
+        self.at = FinishAt::Start;
+        Ok(FinishStep::Going)
+    }
+}
