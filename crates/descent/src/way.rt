@@ -6,7 +6,7 @@ ghost use Rattle.tree_shape.specs.Aims.{aim_of};
 ghost use Rattle.tree_shape.specs.Tree.{IsMetaOf};
 ghost use Rattle.tree_shape.specs.Walks.{is_within};
 ghost use Rattle.tree_acts.specs.Trees.{HasTree};
-ghost use Rattle.descent.specs.Onward.{IsOnWay, LeadsOnward, LeavesLess, way_from, right_of, going, DownTo};
+ghost use Rattle.descent.specs.Onward.{IsOnWay, LeadsOnward, LeavesLess, HasArrived, way_from, right_of, going, DownTo};
 
 use page_codec::{Items, Page, PageState};
 use tree_shape::{Aim, child_toward};
@@ -59,6 +59,8 @@ fn is_live(state: PageState) -> bool
 fn is_astray(page: &Page, way: &Way) -> bool
     ensures live { result ≡ true → page.now.state ≡ PageState.Live }
     ensures level { result ≡ true → page.now.level ≢ way.now.level }
+    ensures in_place { result ≡ false → page.now.state ≡ PageState.Live
+        → page.now.level ≡ way.now.level }
 {
     is_live(page.state) && page.level != way.level
 }
@@ -116,6 +118,7 @@ pub fn lead(page: &Page, way: &Way, aim: &Aim, to: u8, most: u32) -> Option<Onwa
         → (clear ≡ true → page.now.split ≡ false) → length st.pages ≤ most
         → LeadsOnward st start (aim_of aim.now) clear to way.now result }
     ensures less { LeavesLess to most way.now result }
+    ensures here { result ≡ Some Onward.Here → HasArrived page.now (aim_of aim.now) to }
 {
     if is_astray(page, way) {
         return None;

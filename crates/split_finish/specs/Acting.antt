@@ -13,15 +13,6 @@ use Rattle.tree_shape.specs.LinkPlaces.{HasLinks, FitsBehind, child_at}
 use Rattle.tree_shape.specs.Nodes.{node_of, links_of}
 use Rattle.tree_acts.specs.Acts.{IsClear}
 
--- why an act of so many images is refused whose pages may be changed
-abbrev pub ActRefused : State → Backing → Backing → ℕ → Fault → Type 0
-ActRefused st old new images = HasCause (record nothing_wrong {
-  device_failed = has_failed old new;
-  is_stopped = old.stopped || is_at_end st.acts;
-  log_is_full = nat_le old.promised images;
-  frames_are_pinned = nat_lt st.frames (images + count_apart (pinned_blocks st.table));
-})
-
 -- the downlink at this place leads to the child, and one with the separator for its bound may stand behind it
 pub record IsLinkPlace (parent : Page) (child : ℕ) (separator : Bound) (at : ℕ) : Type 0 where
   pub internal : HasLinks parent.items

@@ -1,9 +1,10 @@
 //! Acts on pages that may be any.
 
 ghost use Rattle.std.specs.Prelude.{◌≡◌, ◌≤◌, ◌<◌, true, IfErr, OnOk, OnErr, Err, length};
+ghost use Rattle.index_model.specs.Faults.{HasCause};
+ghost use Rattle.page_action.specs.Causes.{where_acted};
 ghost use Rattle.page_action.specs.States.{Continues, after_act};
 ghost use Rattle.page_action.specs.Stored.{AreActable};
-ghost use Rattle.split_finish.specs.Acting.{ActRefused};
 
 use index_model::Fault;
 use page_action::{PageStore, find_misplaced};
@@ -18,8 +19,8 @@ pub fn act_on<S: PageStore>(store: &mut S, pages: &[Page]) -> Result<(), Fault>
     ensures done { OnOk result (S.state store.new ≡ after_act pages.now (S.state store.old)) }
     ensures refused { OnErr result (S.state store.new ≡ S.state store.old) }
     ensures cause { AreActable (S.state store.old).limits (length (S.state store.old).pages) pages.now
-        → IfErr result (ActRefused (S.state store.old) (S.backing store.old)
-        (S.backing store.new) (length pages.now)) }
+        → IfErr result (HasCause (where_acted (S.state store.old) (S.backing store.old)
+        (S.backing store.new) pages.now)) }
 {
     if let Some(block) = find_misplaced(pages, store.used(), store.limits()) {
         return Err(Fault::PageDamaged(block));

@@ -44,24 +44,22 @@ pub fn cleared(page: Page) -> Page {
     page
 }
 
-// A full parent in two halves, and its left half as a target.
-struct Parted {
-    left: Page,
-    half: Page,
-    target: Target,
+// The high key, or that bound where there is none.
+fn high_or(page: &Page, otherwise: Bound) -> Bound {
+    match page.high {
+        Some(high) => high,
+        None => otherwise,
+    }
 }
 
-// Splits the parent, with the downlink of the right half `new` behind the one at `at`; its own right half is on the block
-// `fresh`.
-fn part(parent: Page, at: usize, separator: Bound, new: u32, fresh: u32) -> Parted {
-    let mut left = parent;
-    let half = split_links(&mut left, at, separator, new, fresh);
-    let target = Target {
+// The left half of a full parent as a target.
+fn target_of(left: &Page, otherwise: Bound) -> Target {
+    let separator = high_or(left, otherwise);
+    Target {
         block: left.block,
         level: left.level,
-        separator: left.high.unwrap_or(separator),
-    };
-    Parted { left, half, target }
+        separator,
+    }
 }
 
 // Acts on the halves of the parent, the page to the right of them and the page whose split is finished.
@@ -91,7 +89,9 @@ impl FinishOp {
         let right = read_right(store, self.session, parent.right)?;
         let fresh = store.fresh()?;
         ask_for(store, self.session, fresh, Mode::Exclusive)?;
-        let Parted { left, half, target } = part(parent, at, self.target.separator, new, fresh);
+        let mut left = parent;
+        let half = split_links(&mut left, at, self.target.separator, new, fresh);
+        let target = target_of(&left, self.target.separator);
         act_on_halves(store, left, half, mended(right, fresh), cleared(page))?;
         self.target = target;
         self.at = FinishAt::Start;

@@ -37,6 +37,8 @@ impl FinishOp {
     pub fn pop(&mut self) -> FinishStep
         ensures { Popped self.old self.new result }
     {
+        let count = self.below.len();
+        prove!(count <= 31);
         match self.below.pop() {
             Some(target) => {
                 self.target = target;
@@ -47,13 +49,19 @@ impl FinishOp {
         }
     }
 
-    // There is a newer target.
-    fn push(&mut self, target: Target)
+    // There is a newer target. The check has to be told of the types that the older one is made of.
+    fn push(&mut self, newer: Target)
         requires { length self.old.below.items < 31 }
-        ensures { Pushed target self.old self.new }
+        ensures { Pushed newer self.old self.new }
     {
-        self.below.push(self.target);
-        self.target = target;
+        let older = self.target;
+        let Bound { key, row } = older.separator;
+        self.below.push(Target {
+            block: older.block,
+            level: older.level,
+            separator: Bound { key, row },
+        });
+        self.target = newer;
         self.at = FinishAt::Start;
     }
 
