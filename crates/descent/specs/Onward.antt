@@ -7,8 +7,8 @@ use Rattle.page_codec.specs.declared.page.PageState.TheVariants.{Live}
 use Rattle.page_action.specs.States.{State}
 use Rattle.tree_shape.specs.Aims.{aim_of, IsToward}
 use Rattle.tree_shape.specs.Nodes.{links_of}
-use Rattle.tree_shape.specs.declared.aim.Aim.{Aim}
 use Rattle.tree_shape.specs.Walks.{is_within}
+use Rattle.tree_shape.specs.declared.aim.Aim.{Aim}
 use Rattle.tree_acts.specs.Trees.{HasPlace, HasCover, HasTrail}
 use Rattle.descent.specs.declared.way.Onward.{Onward}
 use Rattle.descent.specs.declared.way.Onward.TheVariants.{Going, Here}
@@ -67,8 +67,7 @@ LeavesLess to most way (Some (Going on)) = IsShorter to most way on
 LeavesLess to most way (Some Here) = Unit {0}
 LeavesLess to most way None = Unit {0}
 
--- a live page of the level, with what is looked for within its high key
-pub record HasArrived (page : Page) (aim : Bound → Bool) (to : ℕ) : Type 0 where
+-- the page is live, and what is looked for isn't beyond its high key
+pub record IsArrived (page : Page) (aim : Bound → Bool) : Type 0 where
   pub alive : page.state ≡ Live
-  pub level_is : page.level ≡ to
   pub within : is_within aim page.high ≡ true

@@ -1,12 +1,12 @@
 //! The way from the root down to a page of a level, one page a step.
 
-ghost use Rattle.std.specs.Prelude.{◌≡◌, ◌≢◌, ◌⊎◌, ◌≤◌, ◌<◌, ◌↔◌, IsTrue, ℕ, Bool, true, false, Some, length, slice_get};
+ghost use Rattle.std.specs.Prelude.{◌≡◌, ◌≢◌, ◌⊎◌, ◌≤◌, ◌<◌, ◌↔◌, IsTrue, ℕ, Bool, true, false, Some, IfSome, length, slice_get};
 ghost use Rattle.page_action.specs.States.{State};
 ghost use Rattle.tree_shape.specs.Aims.{aim_of};
 ghost use Rattle.tree_shape.specs.Tree.{IsMetaOf};
 ghost use Rattle.tree_shape.specs.Walks.{is_within};
 ghost use Rattle.tree_acts.specs.Trees.{HasTree};
-ghost use Rattle.descent.specs.Onward.{IsOnWay, LeadsOnward, LeavesLess, HasArrived, way_from, right_of, going, DownTo};
+ghost use Rattle.descent.specs.Onward.{IsOnWay, LeadsOnward, LeavesLess, IsArrived, way_from, right_of, going, DownTo};
 
 use page_codec::{Items, Page, PageState};
 use tree_shape::{Aim, child_toward};
@@ -35,6 +35,7 @@ pub enum Onward {
 pub fn way_down(meta: &Page) -> Option<Way>
     ensures named { (root : ℕ) → IsMetaOf meta.now root meta.now.level
         → result ≡ Some (way_from root meta.now.level) }
+    ensures level { IfSome result (λ way. way.level ≡ meta.now.level) }
 {
     if !matches!(meta.items, Items::Meta) {
         return None;
@@ -118,7 +119,8 @@ pub fn lead(page: &Page, way: &Way, aim: &Aim, to: u8, most: u32) -> Option<Onwa
         → (clear ≡ true → page.now.split ≡ false) → length st.pages ≤ most
         → LeadsOnward st start (aim_of aim.now) clear to way.now result }
     ensures less { LeavesLess to most way.now result }
-    ensures here { result ≡ Some Onward.Here → HasArrived page.now (aim_of aim.now) to }
+    ensures here { result ≡ Some Onward.Here → IsArrived page.now (aim_of aim.now) }
+    ensures level { result ≡ Some Onward.Here → page.now.level ≡ to }
 {
     if is_astray(page, way) {
         return None;

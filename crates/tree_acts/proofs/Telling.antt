@@ -1,24 +1,32 @@
 -- What a page tells, on the pages of a store.
-use Rattle.std.proofs.Common.{◌≡◌, ℕ, suc, ◌<◌, ◌≤◌, true, [], ◌∷◌, length, slice_get, slice_index, Option, Some, refl, sym, ap, subst, ◌∙◌, arith}
+use Rattle.std.proofs.Common.{◌≡◌, ◌≢◌, ℕ, zero, suc, ◌<◌, ◌≤◌, inl, inr, Bool, true, false, not, ◌&&◌, List, [], ◌∷◌, length, slice_get, slice_index, Option, Some, None, refl, sym, ap, subst, ◌∙◌, arith}
 use Rattle.index_model.specs.Order.{is_among}
 use Rattle.index_model.specs.declared.bound.Bound.{Bound}
 use Rattle.page_codec.specs.Edits.{entries_of}
+use Rattle.page_codec.specs.Grammar.{IsOfKind, IsMeta}
+use Rattle.page_codec.specs.declared.page.Items.TheVariants.{Meta}
 use Rattle.page_codec.specs.declared.page.Page.{Page}
+use Rattle.page_codec.specs.declared.page.PageState.{PageState}
+use Rattle.page_codec.specs.declared.page.PageState.TheVariants.{Live}
 use Rattle.page_action.specs.Contents.{entry_on_live_leaf}
 use Rattle.page_action.specs.States.{State}
 use Rattle.tree_shape.specs.Tree.{IsMetaOf}
-use Rattle.tree_shape.specs.Nodes.{Node, nodes_of}
-use Rattle.tree_shape.specs.Chains.{IsIn, first_spot}
+use Rattle.tree_shape.specs.Nodes.{Node, node_from, nodes_of}
+use Rattle.tree_shape.specs.Chains.{IsIn, AreDistinct, IsRunOf, FitsState, Rises, Spot, past, first_spot}
 use Rattle.tree_shape.specs.Edits.{IsBetween}
 use Rattle.tree_shape.specs.Laws.{HasLink}
-use Rattle.tree_shape.specs.Walks.{entry_aim, bound_aim, frontier_aim, is_within, is_fit, IsFitOn, IsPlace, on_chain}
+use Rattle.tree_shape.specs.Walks.{entry_aim, bound_aim, frontier_aim, is_beyond, is_within, is_fit, IsFitOn, IsPlace, on_chain, by_deleted}
+use Rattle.tree_shape.proofs.LeafSplit.{first_in}
+use Rattle.tree_shape.proofs.Members.{member, not_in_apart, apart_back}
+use Rattle.tree_shape.proofs.Runs.{run_back, split_at}
 use Rattle.tree_shape.proofs.Trails.{trail_begins, trail_goes_on, here_apart, trail_is_short}
 use Rattle.tree_shape.proofs.Told.{root_is_a_place, places_go_right, places_cover, covers_lead_down, held_on_its_cover, frontier_covers_entries, flagged_has_its_link, separator_fits_behind, only_the_root_is_clear}
-use Rattle.tree_acts.specs.Trees.{HasTree}
-use Rattle.tree_acts.specs.Ways.{MetapageTells, PassedTells, LiveTells, InternalTells, LeafTells, FrontierTells, ParentTells, SeparatorTells, RootTells, UnfinishedIsBelow, TrailBegins, TrailGoesRight, TrailIsShort}
+use Rattle.page_action.proofs.StoredPages.{stored_page}
+use Rattle.tree_acts.specs.Trees.{IsTree, HasTree}
+use Rattle.tree_acts.specs.Ways.{MetapageTells, PassedTells, LiveTells, InternalTells, LeafTells, FrontierTells, ParentTells, SeparatorTells, RootTells, UnfinishedIsBelow, TrailBegins, TrailGoesRight, TrailIsShort, PlacesWiden, HighTells, NeighbourTells}
 use Rattle.tree_acts.proofs.Overlays.{node_there}
 use Rattle.tree_acts.proofs.Words.{place_in, cover_in, contents_held, only_leaves, same_test, trail_in}
-use Rattle.tree_acts.proofs.Lasting.{Stands, stands, deleted_in_use}
+use Rattle.tree_acts.proofs.Lasting.{Stands, stands, deleted_in_use, right_on_chain}
 use Rattle.tree_acts.proofs.Finishing.{p_here, p_on, covered}
 
 meta_is : (st : State) (h : HasTree st) (meta : Page) → slice_get st.pages 0 ≡ Some meta → h.tree.meta ≡ meta
@@ -161,3 +169,112 @@ trail_is_short_here st start level block moves h trail =
     let t = trail_in st h.tree start level block moves trail in
     let s = trail_is_short (nodes_of st.pages) (slice_index st.counted) (length st.pages) h.tree.root h.tree.meta.level h.tree.chain h.tree.is level start t.in_tree (deleted_in_use st h) t.passed t.steps block t.distinct t.trail in
     subst (λ (n : ℕ). suc n < length st.pages) t.count s
+
+-- what is fit for an aim is fit for one that looks farther
+wider : (aim farther : Bound → Bool) (clear clear' : Bool) (s : Spot) → ((b : Bound) → aim b ≡ true → farther b ≡ true) → (clear' ≡ true → clear ≡ true)
+    → is_fit aim clear s ≡ true → is_fit farther clear' s ≡ true
+wider aim farther clear clear' s more eased fit = go clear clear' s.behind s.low eased fit
+  where
+    low : (l : Option Bound) → is_beyond aim l ≡ true → is_beyond farther l ≡ true
+    low None p = refl
+    low (Some l) p = more l p
+
+    go : (c c' w : Bool) (l : Option Bound) → (c' ≡ true → c ≡ true) → not (c && w) && is_beyond aim l ≡ true → not (c' && w) && is_beyond farther l ≡ true
+    go false false w l eased p = low l p
+    go true false false l eased p = low l p
+    go true false true l eased p = cc
+    go false true w l eased p = absurd (clash (eased refl))
+      where
+        clash : false ≡ true → ⊥
+        clash e = cc
+    go true true false l eased p = low l p
+    go true true true l eased p = cc
+
+pub places_widen : PlacesWiden
+places_widen st start level aim farther clear clear' block more eased place =
+    record { tree = place.tree; in_tree = place.in_tree; place = far block place.place }
+  where
+    on : (s : Spot) (xs : List ℕ) (c : ℕ) → IsFitOn (nodes_of st.pages) s xs (is_fit aim clear) c → IsFitOn (nodes_of st.pages) s xs (is_fit farther clear') c
+    on s [] c i = absurd i
+    on s (x ∷ xs) c (inl h) = inl (h.0, wider aim farther clear clear' s more eased h.1)
+    on s (x ∷ xs) c (inr i) = inr (on (past x (nodes_of st.pages x) s) xs c i)
+
+    far : (c : ℕ) → IsPlace (nodes_of st.pages) (slice_index st.counted) (place.tree.chain level) start (is_fit aim clear) c
+        → IsPlace (nodes_of st.pages) (slice_index st.counted) (place.tree.chain level) start (is_fit farther clear') c
+    far c (on_chain i) = on_chain (on first_spot (place.tree.chain level) c i)
+    far c (by_deleted r kept right rest) = by_deleted r kept right (far r rest)
+
+-- a live page of a run is fit for its own high key
+own_high : (at : ℕ → Node) (level : ℕ) (s : Spot) (xs : List ℕ) (aim : Bound → Bool) (clear : Bool) (b : ℕ) (high : Bound) → IsRunOf at level s xs None → (at b).state ≡ Live → (at b).high ≡ Some high
+    → IsFitOn at s xs (is_fit aim clear) b → IsFitOn at s xs (is_fit (bound_aim high) clear) b
+own_high at level s [] aim clear b high run alive is i = absurd i
+own_high at level s (x ∷ xs) aim clear b high run alive is (inr i) = inr (own_high at level (past x (at x) s) xs aim clear b high run.1 alive is i)
+own_high at level s (x ∷ xs) aim clear b high run alive is (inl h) = inl (h.0, go clear s.behind s.low (below s.low rises) h.1)
+  where
+    fits : FitsState Live level s (at x)
+    fits = subst (λ (st : PageState). FitsState st level s (at x)) (subst (λ (c : ℕ). (at c).state ≡ Live) (h.0) alive) run.0.fits
+
+    rises : Rises s.low (Some high)
+    rises = subst (Rises s.low) (subst (λ (c : ℕ). (at c).high ≡ Some high) (h.0) is) fits.0
+
+    below : (low : Option Bound) → Rises low (Some high) → is_beyond (bound_aim high) low ≡ true
+    below None r = refl
+    below (Some l) r = r
+
+    go : (c w : Bool) (low : Option Bound) → is_beyond (bound_aim high) low ≡ true → not (c && w) && is_beyond aim low ≡ true → not (c && w) && is_beyond (bound_aim high) low ≡ true
+    go false w low lies p = lies
+    go true false low lies p = lies
+    go true true low lies p = cc
+
+pub high_tells : HighTells
+high_tells st start level aim clear page high h found place alive is =
+    let here = node_there st.pages page.block page found in
+    let lives = ap (λ (n : Node). n.state) here ∙ alive in
+    let on = stands st h.tree start level aim clear page.block place lives in
+    record {
+      tree = h.tree;
+      in_tree = on.in_tree;
+      place = on_chain (own_high (nodes_of st.pages) level first_spot (h.tree.chain level) aim clear page.block high (h.tree.is.runs level on.in_tree) lives (ap (λ (n : Node). n.high) here ∙ is) on.fits);
+    }
+
+-- each block in use has its page
+page_within : (pages : List Page) (b : ℕ) → b < length pages → (page : Page) × (slice_get pages b ≡ Some page)
+page_within [] b lt = absurd (omega arith)
+page_within (page ∷ pages) zero lt = (page, refl)
+page_within (page ∷ pages) (suc b) lt = page_within pages b (omega arith)
+
+-- a stored page of another block than 0 isn't the metapage
+no_meta_above : (st : State) (h : HasTree st) (block : ℕ) (page : Page) → slice_get st.pages block ≡ Some page → 0 < block → page.items ≢ Meta
+no_meta_above st h block page found above is =
+    let s = stored_page st.limits block st.pages page h.stored found in
+    let kind : IsMeta page = subst (IsOfKind page) is s.storable.admitted.kind in
+    let zero_is : block ≡ 0 = sym s.block_is ∙ kind.block in
+    omega arith
+
+-- the right link of a page of a chain names another page
+right_is_another : (st : State) (tree : IsTree st.pages) (level b r : ℕ) → level ≤ tree.meta.level → IsIn b (tree.chain level) → (nodes_of st.pages b).right ≡ Some r → r ≢ b
+right_is_another st tree level b r in_top i right =
+    let w = split_at b (tree.chain level) i in
+    let run = subst (λ (xs : List ℕ). IsRunOf (nodes_of st.pages) level first_spot xs None) w.is (tree.is.runs level in_top) in
+    let here = run_back (nodes_of st.pages) level first_spot w.front (b ∷ w.back) None run in
+    let apart = apart_back w.front (b ∷ w.back) (subst AreDistinct w.is (tree.is.distinct level in_top)) in
+    λ same. not_in_apart b r w.back apart.0 (first_in r w.back (sym here.0.right_is ∙ right)) (sym same)
+
+pub neighbour_tells : NeighbourTells
+neighbour_tells st start level aim clear page right h found place alive is =
+    let here = node_there st.pages page.block page found in
+    let lives = ap (λ (n : Node). n.state) here ∙ alive in
+    let on = stands st h.tree start level aim clear page.block place lives in
+    let link = ap (λ (n : Node). n.right) here ∙ is in
+    let i = right_on_chain st h.tree level page.block right on.in_tree on.on_chain link in
+    let m = member (nodes_of st.pages) level first_spot (h.tree.chain level) None right (h.tree.is.runs level on.in_tree) i in
+    let u = h.tree.is.in_use level right on.in_tree i in
+    let there = page_within st.pages right u.1 in
+    let seen = ap node_from there.1 in
+    record {
+      page = there.0;
+      found = there.1;
+      level_is = sym (ap (λ (n : Node). n.level) seen) ∙ m.0;
+      mends = record { no_meta = no_meta_above st h right there.0 there.1 u.0; in_use = λ gone. m.1 (ap (λ (n : Node). n.state) seen ∙ gone) };
+      apart = right_is_another st h.tree level page.block right on.in_tree on.on_chain link;
+    }

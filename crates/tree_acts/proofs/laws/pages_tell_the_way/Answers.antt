@@ -1,4 +1,4 @@
-use Rattle.tree_acts.proofs.Telling.{metapage_tells, passed_tells, live_tells, internal_tells, leaf_tells, frontier_tells, trail_begins_here, trail_goes_right, trail_is_short_here}
+use Rattle.tree_acts.proofs.Telling.{metapage_tells, passed_tells, live_tells, internal_tells, leaf_tells, frontier_tells, trail_begins_here, trail_goes_right, trail_is_short_here, places_widen, high_tells, neighbour_tells}
 use Rattle.tree_acts.proofs.laws.pages_tell_the_way.Goals as goal
 
 pub returns-clause-metapage : goal.returns-clause-metapage
@@ -27,3 +27,12 @@ returns-clause-goes_on c = trail_goes_right
 
 pub returns-clause-short : goal.returns-clause-short
 returns-clause-short c = trail_is_short_here
+
+pub returns-clause-farther : goal.returns-clause-farther
+returns-clause-farther c = places_widen
+
+pub returns-clause-high : goal.returns-clause-high
+returns-clause-high c = high_tells
+
+pub returns-clause-neighbour : goal.returns-clause-neighbour
+returns-clause-neighbour c = neighbour_tells

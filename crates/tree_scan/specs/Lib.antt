@@ -1,0 +1,4 @@
+pub mod Ready
+pub mod Scans
+pub mod Work
+pub mod Laws
