@@ -1,0 +1,3 @@
+pub mod Counting
+pub mod Standing
+pub mod Turning
