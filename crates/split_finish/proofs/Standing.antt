@@ -2,7 +2,13 @@
 use Rattle.std.proofs.Common.{◌≡◌, ◌⊎◌, ℕ, zero, suc, ◌+◌, ◌<◌, ◌≤◌, Bool, true, false, Option, Some, None, List, [], ◌∷◌, ◌++◌, length, slice_get, refl, sym, ap, subst, inl, inr, ◌∙◌, arith, length-append}
 use Rattle.index_model.specs.declared.bound.Bound.{Bound}
 use Rattle.page_codec.specs.declared.page.Page.{Page}
-use Rattle.page_codec.specs.declared.page.PageState.TheVariants.{Live}
+use Rattle.page_codec.specs.Grammar.{IsPage, IsOfKind, IsMeta, IsLeafIn}
+use Rattle.page_codec.specs.declared.page.Items.{Items}
+use Rattle.page_codec.specs.declared.page.Items.TheVariants.{Meta, Entries, Downlinks}
+use Rattle.page_codec.specs.declared.page.PageState.{PageState}
+use Rattle.page_codec.specs.declared.page.PageState.TheVariants.{Live, HalfDead, Deleted}
+use Rattle.index_model.specs.declared.entry.Entry.{Entry}
+use Rattle.std.specs.Prelude.{IsSome}
 use Rattle.page_action.specs.States.{State}
 use Rattle.page_action.proofs.StoredPages.{stored_page}
 use Rattle.tree_shape.specs.Tree.{IsMetaOf}
@@ -53,3 +59,108 @@ starts_down st start target meta way h found lower named =
           place = r.place;
           trail = trail_begins_here st start meta.level (bound_aim target.separator) true r.root h r.place;
         })
+
+-- an item of a list and one more
+get_last : (xs : List Target) (y : Target) (i : ℕ) (t : Target) → slice_get (xs ++ y ∷ []) i ≡ Some t → (slice_get xs i ≡ Some t) ⊎ ((i ≡ length xs) × (y ≡ t))
+get_last [] y zero t h = inr (refl, (let k : y ≡ t = cc in k))
+get_last [] y (suc i) t h = absurd cc
+get_last (x ∷ xs) y zero t h = inl h
+get_last (x ∷ xs) y (suc i) t h =
+    elim (get_last xs y i t h) [
+      | inl k ↦ inl k
+      | inr k ↦ inr (ap suc k.0, k.1)
+    ]
+
+pub get_at_end : (xs : List Target) (y : Target) → slice_get (xs ++ y ∷ []) (length xs) ≡ Some y
+get_at_end [] y = refl
+get_at_end (x ∷ xs) y = get_at_end xs y
+
+pub get_before : (xs : List Target) (y : Target) (i : ℕ) (t : Target) → slice_get xs i ≡ Some t → slice_get (xs ++ y ∷ []) i ≡ Some t
+get_before [] y i t h = absurd cc
+get_before (x ∷ xs) y zero t h = h
+get_before (x ∷ xs) y (suc i) t h = get_before xs y i t h
+
+-- each of the targets is one, the newest too
+pub each_target : (st : State) (op : FinishOp) (fits : FinishFits st op) (i : ℕ) (t : Target) → slice_get (targets_of op) i ≡ Some t → IsTarget st fits.start i t
+each_target st op fits i t h =
+    elim (get_last op.below.items op.target i t h) [
+      | inl k ↦ fits.below i t k
+      | inr k ↦ subst (λ (n : ℕ). IsTarget st fits.start n t) (sym k.0) (subst (IsTarget st fits.start (length op.below.items)) k.1 fits.newest)
+    ]
+
+-- a flagged page with a high key, on the way, as a newer target
+pub rises_to : (st : State) (op after : FinishOp) (way : Way) (page : Page) (separator : Bound) → HasTree st → (fits : FinishFits st op)
+    → Pushed (record { block = way.block; level = way.level; separator = separator }) op after → FinishStands st fits.start op.target (Down way)
+    → slice_get st.pages way.block ≡ Some page → page.state ≡ Live → page.high ≡ Some separator → FinishFits st after
+rises_to st op after way page separator h fits pushed on found alive high =
+    let there : page.block ≡ way.block = (stored_page st.limits way.block st.pages page h.stored found).block_is in
+    let found_there : slice_get st.pages page.block ≡ Some page = subst (λ (b : ℕ). slice_get st.pages b ≡ Some page) (sym there) found in
+    let place_there = subst (HasPlace st fits.start way.level (bound_aim op.target.separator) true) (sym there) on.place in
+    let newer : Target = record { block = way.block; level = way.level; separator = separator } in
+    let place : HasPlace st fits.start way.level (bound_aim separator) true way.block =
+        subst (HasPlace st fits.start way.level (bound_aim separator) true) there
+        (high_tells st fits.start way.level (bound_aim op.target.separator) true page separator h found_there place_there alive high) in
+    let count : length after.below.items ≡ suc (length op.below.items) = ap length pushed.below_is ∙ length-append op.below.items (op.target ∷ []) ∙ omega arith in
+    record {
+      session = subst (λ (s : ℕ). s < 64) (sym pushed.session) fits.session;
+      free = rw pushed.session fits.free;
+      start = fits.start;
+      running = rw pushed.session fits.running;
+      newest = subst (IsTarget st fits.start (length after.below.items)) (sym pushed.target_is) (record {
+        high_enough = (let a = fits.newest.high_enough in let b = on.not_below in omega arith);
+        place = place;
+      });
+      below = λ i t is. each_target st op fits i t (subst (λ (xs : List Target). slice_get xs i ≡ Some t) pushed.below_is is);
+      stands = subst (FinishStands st fits.start after.target) (sym pushed.at_is) tt;
+    }
+
+-- a level of a tree is one that the format has
+pub low_level : (st : State) (start level : ℕ) (aim : Bound → Bool) (clear : Bool) (block : ℕ) → HasTree st → HasPlace st start level aim clear block → level ≤ 31
+low_level st start level aim clear block h place =
+    let s = stored_page st.limits 0 st.pages place.tree.meta h.stored place.tree.meta_at in
+    let kind : IsMeta place.tree.meta = subst (IsOfKind place.tree.meta) place.tree.names_root.kind s.storable.admitted.kind in
+    let a = kind.level in
+    let b = place.in_tree in
+    omega arith
+
+-- a live page that is a place is on its level
+pub live_level : (st : State) (start level : ℕ) (aim : Bound → Bool) (clear : Bool) (block : ℕ) (page : Page) → HasTree st → HasPlace st start level aim clear block → slice_get st.pages block ≡ Some page
+    → page.state ≡ Live → page.level ≡ level
+live_level st start level aim clear block page h place found alive =
+    let there : page.block ≡ block = (stored_page st.limits block st.pages page h.stored found).block_is in
+    (live_tells st start level aim clear page h (subst (λ (b : ℕ). slice_get st.pages b ≡ Some page) (sym there) found) (subst (HasPlace st start level aim clear) (sym there) place) alive).level_is
+
+some_none : {A : Type 0} (x : Option A) → IsSome x → x ≡ None → ⊥
+some_none None h is = cc
+some_none (Some x) h is = cc
+
+-- a flagged page has a high key, by the format, and is live
+pub flagged_has : (page : Page) → IsPage page → page.split ≡ true → (page.high ≡ None → ⊥) × (page.state ≡ Live) × (page.right ≡ None → ⊥)
+flagged_has page admitted flagged = by page.items refl admitted.kind
+  where
+    no : false ≡ true → ⊥
+    no e = cc
+
+    leaf : (es : List Entry) (state : PageState) → page.state ≡ state → IsLeafIn state page es → (page.high ≡ None → ⊥) × (page.state ≡ Live) × (page.right ≡ None → ⊥)
+    leaf es Live is h = ((λ none. some_none page.high (h.high.1 (h.split flagged)) none), is, (λ none. some_none page.right (h.split flagged) none))
+    leaf es HalfDead is h = absurd (no (sym h.split ∙ flagged))
+    leaf es Deleted is h = absurd (no (sym h.split ∙ flagged))
+
+    by : (items : Items) → page.items ≡ items → IsOfKind page items → (page.high ≡ None → ⊥) × (page.state ≡ Live) × (page.right ≡ None → ⊥)
+    by Meta is h = absurd (no (sym h.split ∙ flagged))
+    by (Entries v) is h = leaf v.items page.state refl h.rest
+    by (Downlinks v) is h = ((λ none. some_none page.high (h.high.1 (h.split flagged)) none), h.state, (λ none. some_none page.right (h.split flagged) none))
+
+pub flagged_in : (st : State) (block : ℕ) (page : Page) → HasTree st → slice_get st.pages block ≡ Some page → page.split ≡ true → (page.high ≡ None → ⊥) × (page.state ≡ Live) × (page.right ≡ None → ⊥)
+flagged_in st block page h found = flagged_has page (stored_page st.limits block st.pages page h.stored found).storable.admitted
+
+true_false : true ≡ false → ⊥
+true_false h = cc
+
+-- in a tree a page that is not both live and flagged isn't flagged
+pub not_flagged : (st : State) (block : ℕ) (page : Page) → HasTree st → slice_get st.pages block ≡ Some page → (page.state ≡ Live → page.split ≡ false) → page.split ≡ false
+not_flagged st block page h found whole = by page.split refl
+  where
+    by : (b : Bool) → page.split ≡ b → page.split ≡ false
+    by false is = is
+    by true is = absurd (true_false (sym is ∙ whole (flagged_in st block page h found is).1))

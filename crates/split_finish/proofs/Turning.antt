@@ -1,14 +1,27 @@
 -- Turns, by what is changed of the call.
-use Rattle.std.proofs.Common.{◌≡◌, ◌⊎◌, ℕ, zero, suc, ◌+◌, ◌<◌, ◌≤◌, Bool, true, false, Option, Some, None, Result, Ok, Err, List, [], ◌∷◌, ◌++◌, length, slice_get, refl, sym, ap, subst, inl, inr, ◌∙◌, arith, length-append}
+use Rattle.std.proofs.Common.{◌≡◌, ◌⊎◌, ℕ, zero, suc, ◌+◌, ◌<◌, ◌≤◌, ◌||◌, ◌==◌, Bool, true, false, Option, Some, None, Result, Ok, Err, List, [], ◌∷◌, ◌++◌, length, slice_get, refl, sym, ap, subst, inl, inr, ◌∙◌, arith, length-append, eq-eqb}
+use Rattle.std.proofs.lemmas.Bool.{eqb-true}
+use Rattle.std.proofs.lemmas.Cmp.{tied_itself}
+use Rattle.std.specs.Ordering.{is_eq}
+use Rattle.index_model.specs.Order.{bound_cmp}
+use Rattle.index_model.proofs.Order.{bounds_total}
+use Rattle.index_model.specs.declared.bound.Bound.{Bound}
+use Rattle.page_codec.specs.declared.page.Page.{Page}
+use Rattle.page_codec.specs.declared.page.PageState.TheVariants.{Live}
 use Rattle.page_action.specs.States.{State}
 use Rattle.tree_shape.specs.Nodes.{nodes_of}
 use Rattle.tree_acts.specs.Trees.{HasTree}
-use Rattle.split_finish.specs.Targets.{FinishStands, FinishFits}
-use Rattle.split_finish.specs.Turns.{TurnGoesOn}
+use Rattle.tree_acts.proofs.Overlays.{node_there}
+use Rattle.descent.specs.declared.way.Way.{Way}
+use Rattle.tree_shape.specs.Walks.{bound_aim, is_within}
+use Rattle.split_finish.specs.Targets.{FinishStands, FinishFits, targets_of, is_among_targets, is_as_read, is_ready}
+use Rattle.split_finish.specs.Turns.{TurnGoesOn, Popped, Pushed, Retaken}
 use Rattle.split_finish.specs.declared.finish.FinishAt.{FinishAt}
+use Rattle.split_finish.specs.declared.finish.FinishAt.TheVariants.{Start, Down, Link, Root}
 use Rattle.split_finish.specs.declared.finish.FinishOp.{FinishOp}
-use Rattle.split_finish.proofs.Counting.{left}
-use Rattle.split_finish.proofs.Standing.{fits_moved}
+use Rattle.split_finish.specs.declared.finish.Target.{Target}
+use Rattle.split_finish.proofs.Counting.{left, less_pushed, less_popped, less_retaken}
+use Rattle.split_finish.proofs.Standing.{fits_moved, rises_to}
 
 -- the same targets, and another step
 pub turn_moved : (st : State) (op : FinishOp) (spot at : FinishAt) → op.at ≡ spot
@@ -20,3 +33,65 @@ turn_moved st op spot at is less stands = record {
   fits = λ h fits. fits_moved st op at fits (stands h fits (subst (FinishStands st fits.start op.target) is fits.stands));
   flags = λ h. h;
 }
+
+or_cases : (a b : Bool) → (a || b) ≡ true → (a ≡ true) ⊎ (b ≡ true)
+or_cases true b h = inl refl
+or_cases false b h = inr h
+
+or_left : (a b : Bool) → a ≡ true → (a || b) ≡ true
+or_left true b h = refl
+or_left false b h = absurd cc
+
+or_right : (a b : Bool) → b ≡ true → (a || b) ≡ true
+or_right true b h = refl
+or_right false b h = h
+
+pub among_more : (xs ys : List Target) (block : ℕ) → is_among_targets xs block ≡ true → is_among_targets (xs ++ ys) block ≡ true
+among_more [] ys block h = absurd cc
+among_more (x ∷ xs) ys block h =
+    elim (or_cases (x.block == block) (is_among_targets xs block) h) [
+      | inl k ↦ or_left (x.block == block) _ k
+      | inr k ↦ or_right (x.block == block) _ (among_more xs ys block k)
+    ]
+
+-- a target other than the last one is among those before it
+pub among_fewer : (xs : List Target) (y : Target) (block : ℕ) → is_among_targets (xs ++ y ∷ []) block ≡ true → (y.block ≡ block → ⊥) → is_among_targets xs block ≡ true
+among_fewer [] y block h ne =
+    elim (or_cases (y.block == block) false h) [
+      | inl k ↦ absurd (ne (eqb-true y.block block k))
+      | inr k ↦ absurd cc
+    ]
+among_fewer (x ∷ xs) y block h ne =
+    elim (or_cases (x.block == block) (is_among_targets (xs ++ y ∷ []) block) h) [
+      | inl k ↦ or_left (x.block == block) _ k
+      | inr k ↦ or_right (x.block == block) _ (among_fewer xs y block k ne)
+    ]
+
+-- a bound is itself
+pub same_bound : (b : Bound) → is_eq (bound_cmp b b) ≡ true
+same_bound b = ap is_eq (tied_itself bounds_total b)
+
+-- a page that was read is as it was read
+pub as_read : (st : State) (target : Target) (page : Page) → slice_get st.pages target.block ≡ Some page → page.split ≡ true → page.high ≡ Some target.separator
+    → is_as_read (nodes_of st.pages) target ≡ true
+as_read st target page found flagged high =
+    rw (node_there st.pages target.block page found, flagged, high) (same_bound target.separator)
+
+pub turn_risen : (st : State) (op after : FinishOp) (way : Way) (page : Page) (separator : Bound) → op.at ≡ Down way
+    → Pushed (record { block = way.block; level = way.level; separator = separator }) op after
+    → slice_get st.pages way.block ≡ Some page → page.state ≡ Live → page.split ≡ true → page.high ≡ Some separator → length op.below.items < 31
+    → TurnGoesOn st op after
+turn_risen st op after way page separator is pushed found alive flagged high few =
+    let newer : Target = record { block = way.block; level = way.level; separator = separator } in
+    let list : targets_of after ≡ targets_of op ++ newer ∷ [] = rw (pushed.below_is, pushed.target_is) refl in
+    record {
+      less = rw (pushed.below_is, pushed.target_is, pushed.at_is) (less_pushed st.limits.pages (nodes_of st.pages) op.below.items op.target newer op.at (as_read st newer page found flagged high) few);
+      fits = λ h fits. rises_to st op after way page separator h fits pushed (subst (FinishStands st fits.start op.target) is fits.stands) found alive high;
+      flags = λ h block k. subst (λ (ts : List Target). is_among_targets ts block ≡ true) (sym list) (among_more (targets_of op) (newer ∷ []) block (h block k));
+    }
+
+-- the page may take a downlink
+pub ready_page : (st : State) (block level : ℕ) (separator : Bound) (page : Page) → slice_get st.pages block ≡ Some page → page.state ≡ Live → page.split ≡ false → page.level ≡ level
+    → is_within (bound_aim separator) page.high ≡ true → is_ready (nodes_of st.pages block) level separator ≡ true
+ready_page st block level separator page found alive whole is within =
+    rw (node_there st.pages block page found, alive, whole, eq-eqb page.level level is, within) refl
