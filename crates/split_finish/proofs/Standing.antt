@@ -10,10 +10,12 @@ use Rattle.page_codec.specs.declared.page.PageState.TheVariants.{Live, HalfDead,
 use Rattle.index_model.specs.declared.entry.Entry.{Entry}
 use Rattle.std.specs.Prelude.{IsSome}
 use Rattle.page_action.specs.States.{State}
+use Rattle.latch_table.specs.Holdings.{holding_of, nothing_held}
 use Rattle.page_action.proofs.StoredPages.{stored_page}
 use Rattle.tree_shape.specs.Tree.{IsMetaOf}
 use Rattle.tree_shape.specs.Walks.{bound_aim}
 use Rattle.tree_acts.specs.Trees.{HasTree, HasPlace, HasTrail}
+use Rattle.tree_acts.specs.Acts.{IsUnfinished}
 use Rattle.tree_acts.specs.Ways.{RootIsThere}
 use Rattle.tree_acts.proofs.Telling.{metapage_tells, live_tells, high_tells, trail_begins_here}
 use Rattle.descent.specs.Onward.{IsOnWay, way_from}
@@ -164,3 +166,66 @@ not_flagged st block page h found whole = by page.split refl
     by : (b : Bool) → page.split ≡ b → page.split ≡ false
     by false is = is
     by true is = absurd (true_false (sym is ∙ whole (flagged_in st block page h found is).1))
+
+-- behind the newest target the ones below it are left
+pub fits_popped : (st : State) (before after : FinishOp) (start : ℕ) → Popped before after Going → before.session < 64 → holding_of st.table before.session ≡ nothing_held
+    → slice_get st.running before.session ≡ Some (Some start) → ((i : ℕ) (t : Target) → slice_get before.below.items i ≡ Some t → IsTarget st start i t) → FinishFits st after
+fits_popped st before after start popped session free running below = record {
+  session = subst (λ (s : ℕ). s < 64) (sym popped.session) session;
+  free = rw popped.session free;
+  start = start;
+  running = rw popped.session running;
+  newest = below (length after.below.items) after.target (rw popped.list_is (get_at_end after.below.items after.target));
+  below = λ i t is. below i t (rw popped.list_is (get_before after.below.items after.target i t is));
+  stands = subst (FinishStands st start after.target) (sym popped.at_is) tt;
+}
+
+-- the newest target as its page is now
+pub fits_retaken : (st : State) (op after : FinishOp) (separator : Bound) (at : FinishAt) (page : Page) → HasTree st → (fits : FinishFits st op) → Retaken separator at op after
+    → slice_get st.pages op.target.block ≡ Some page → page.state ≡ Live → page.high ≡ Some separator → FinishStands st fits.start after.target at → FinishFits st after
+fits_retaken st op after separator at page h fits taken found alive high stands =
+    let there : page.block ≡ op.target.block = (stored_page st.limits op.target.block st.pages page h.stored found).block_is in
+    let found_there : slice_get st.pages page.block ≡ Some page = subst (λ (b : ℕ). slice_get st.pages b ≡ Some page) (sym there) found in
+    let place_there = subst (HasPlace st fits.start op.target.level (bound_aim op.target.separator) true) (sym there) fits.newest.place in
+    let place : HasPlace st fits.start op.target.level (bound_aim separator) true op.target.block =
+        subst (HasPlace st fits.start op.target.level (bound_aim separator) true) there
+        (high_tells st fits.start op.target.level (bound_aim op.target.separator) true page separator h found_there place_there alive high) in
+    record {
+      session = subst (λ (s : ℕ). s < 64) (sym taken.session) fits.session;
+      free = rw taken.session fits.free;
+      start = fits.start;
+      running = rw taken.session fits.running;
+      newest = rw (taken.target_is, taken.below_is) (record { high_enough = fits.newest.high_enough; place = place });
+      below = λ i t is. fits.below i t (subst (λ (v : _). slice_get v.items i ≡ Some t) taken.below_is is);
+      stands = subst (FinishStands st fits.start after.target) (sym taken.at_is) stands;
+    }
+
+-- the split of a flagged page that is a place is to be finished
+pub record ToFinish (st : State) (start level : ℕ) (page : Page) : Type 0 where
+  pub separator : Bound
+  pub new : ℕ
+  pub is : IsUnfinished st start level separator page new
+
+some_is : {A : Type 0} (x : Option A) → (x ≡ None → ⊥) → (a : A) × (x ≡ Some a)
+some_is None h = absurd (h refl)
+some_is (Some a) h = (a, refl)
+
+pub to_finish : (st : State) (start level : ℕ) (aim : Bound → Bool) (block : ℕ) (page : Page) → HasTree st → HasPlace st start level aim true block → slice_get st.pages block ≡ Some page → page.split ≡ true
+    → ToFinish st start level page
+to_finish st start level aim block page h place found flagged =
+    let has = flagged_in st block page h found flagged in
+    let high = some_is page.high has.0 in
+    let right = some_is page.right has.2 in
+    let there : page.block ≡ block = (stored_page st.limits block st.pages page h.stored found).block_is in
+    let found_there : slice_get st.pages page.block ≡ Some page = subst (λ (b : ℕ). slice_get st.pages b ≡ Some page) (sym there) found in
+    record {
+      separator = high.0;
+      new = right.0;
+      is = record {
+        found = found_there;
+        place = high_tells st start level aim true page high.0 h found_there (subst (HasPlace st start level aim true) (sym there) place) has.1 high.1;
+        flagged = flagged;
+        high_is = high.1;
+        right_is = right.1;
+      };
+    }

@@ -1,5 +1,5 @@
 -- Turns: what a step does that reads pages and changes nothing but the call itself.
-use Rattle.std.specs.Prelude.{◌≡◌, ℕ, suc, ◌<◌, ◌≤◌, nat_le, true, false, Option, Some, None, Result, Ok, Err, [], ◌∷◌, ◌++◌, length}
+use Rattle.std.specs.Prelude.{◌≡◌, ℕ, suc, ◌*◌, ◌<◌, ◌≤◌, nat_le, true, false, Option, Some, None, Result, Ok, Err, [], ◌∷◌, ◌++◌, length}
 use Rattle.index_model.specs.Faults.{Circumstances, HasCause}
 use Rattle.index_model.specs.declared.bound.Bound.{Bound}
 use Rattle.index_model.specs.declared.fault.Fault.{Fault}
@@ -11,7 +11,7 @@ use Rattle.tree_shape.specs.Nodes.{node_of}
 use Rattle.tree_acts.specs.Trees.{HasTree}
 use Rattle.descent.specs.Shared.{is_flagged}
 use Rattle.descent.specs.Ways.{root_level}
-use Rattle.split_finish.specs.Targets.{targets_of, OnlyTargetsAreFlagged, FinishFits, finish_left, is_ready}
+use Rattle.split_finish.specs.Targets.{targets_of, OnlyTargetsAreFlagged, FinishFits, finish_left, walk_length, is_ready}
 use Rattle.split_finish.specs.declared.finish.FinishAt.{FinishAt}
 use Rattle.split_finish.specs.declared.finish.FinishAt.TheVariants.{Start}
 use Rattle.split_finish.specs.declared.finish.FinishOp.{FinishOp}
@@ -19,10 +19,16 @@ use Rattle.split_finish.specs.declared.finish.FinishStep.{FinishStep}
 use Rattle.split_finish.specs.declared.finish.FinishStep.TheVariants.{Going, Done}
 use Rattle.split_finish.specs.declared.finish.Target.{Target}
 
--- the newest target is gone, and the one below it, if there is one, is the newest
+-- the newest target is gone, and the one below it is the newest
+pub record IsBackAt (before after : FinishOp) : Type 0 where
+  pub list_is : before.below.items ≡ targets_of after
+  pub at_is : after.at ≡ Start
+  pub session : after.session ≡ before.session
+  pub few : length before.below.items ≤ 31
+
+-- ... if there is one
 abbrev pub Popped : FinishOp → FinishOp → FinishStep → Type 0
-Popped before after Going = (before.below.items ≡ targets_of after)
-    × ((after.at ≡ Start) × ((after.session ≡ before.session) × (length before.below.items ≤ 31)))
+Popped before after Going = IsBackAt before after
 Popped before after Done = (before.below.items ≡ []) × (after ≡ before)
 
 -- there is a newer target
@@ -45,6 +51,12 @@ pub record TurnGoesOn (st : State) (before after : FinishOp) : Type 0 where
   pub fits : HasTree st → FinishFits st before → FinishFits st after
   pub flags : OnlyTargetsAreFlagged st (targets_of before) → OnlyTargetsAreFlagged st (targets_of after)
 
+-- the last turn: the only target needn't be finished, so as much was left to do as before the first step for it; and if only
+-- targets were flagged, no page is
+pub record TurnIsOver (st : State) (before : FinishOp) : Type 0 where
+  pub over : 34 * suc (walk_length st.limits.pages) ≤ finish_left st.limits.pages st.pages before
+  pub flags : OnlyTargetsAreFlagged st (targets_of before) → (block : ℕ) → is_flagged st block ≡ false
+
 -- why a turn is refused, in a tree: only a root on the highest level is a reason
 abbrev pub where_turned : State → Circumstances
 where_turned st = record nothing_wrong { root_is_at_31 = nat_le 31 (root_level st.pages) }
@@ -52,8 +64,7 @@ where_turned st = record nothing_wrong { root_is_at_31 = nat_le 31 (root_level s
 -- what a turn does, by what it answers
 abbrev pub Turned : State → FinishOp → FinishOp → Result FinishStep Fault → Type 0
 Turned st before after (Ok Going) = TurnGoesOn st before after
-Turned st before after (Ok Done) = OnlyTargetsAreFlagged st (targets_of before)
-    → (block : ℕ) → is_flagged st block ≡ false
+Turned st before after (Ok Done) = TurnIsOver st before
 Turned st before after (Err fault) = HasTree st → FinishFits st before → HasCause (where_turned st) fault
 
 -- ... where it may also answer that an act is to be done

@@ -1,6 +1,8 @@
 //! Where pages lead a call that changes nothing in the store.
 
 ghost use Rattle.std.specs.Prelude.{◌≡◌, ◌≤◌, ◌<◌, ◌↔◌, IsTrue, ℕ, suc, true, false, Some, None, OnErr, length, slice_get};
+ghost use Rattle.std.specs.Ordering.{is_eq};
+ghost use Rattle.index_model.specs.Order.{bound_cmp};
 ghost use Rattle.page_action.specs.States.{State};
 ghost use Rattle.tree_shape.specs.Nodes.{node_of};
 ghost use Rattle.split_finish.specs.Targets.{is_ready, ends_at};
@@ -10,6 +12,7 @@ use crate::finish::{FinishAt, FinishOp, FinishStep, Target};
 use descent::{Onward, Way, lead, way_down};
 use index_model::{Bound, Fault};
 use page_codec::{Items, Page, PageState};
+use std::cmp::Ordering;
 use tree_shape::Aim;
 
 // Whether a downlink for the separator may be put on the page: it is live, not flagged, one level above this one, and the
@@ -21,6 +24,14 @@ fn is_ready(page: &Page, below: u8, separator: Bound) -> bool
         && !page.split
         && u32::from(page.level) == u32::from(below) + 1
         && Aim::Below(separator).is_within(&page.high)
+}
+
+// Whether the two bounds are one.
+fn are_same(a: &Bound, b: &Bound) -> bool
+    ensures value { result ≡ is_eq (bound_cmp a.now b.now) }
+    ensures same { result ≡ true → a.now ≡ b.now }
+{
+    a.compare(b) == Ordering::Equal
 }
 
 // Whether it is a live page whose split is to be finished.
@@ -159,13 +170,15 @@ impl FinishOp {
             → TurnedOrReady st self.old self.new result }
         ensures ready { result ≡ Ok None → IsReadyToLink page.now parent.now self.old self.new }
     {
+        let count = self.below.len();
+        prove!(count <= 31);
         if !page.split {
             return Ok(Some(self.pop()));
         }
         let Some(high) = page.high else {
             return Err(Fault::PageDamaged(self.target.block));
         };
-        if high != self.target.separator {
+        if !are_same(&high, &self.target.separator) {
             self.retake(high, FinishAt::Start);
             return Ok(Some(FinishStep::Going));
         }
@@ -189,6 +202,8 @@ impl FinishOp {
             → TurnedOrReady st self.old self.new result }
         ensures ready { result ≡ Ok None → IsReadyToGrow meta.now page.now self.old self.new }
     {
+        let count = self.below.len();
+        prove!(count <= 31);
         if !page.split {
             return Ok(Some(self.pop()));
         }
@@ -208,7 +223,7 @@ impl FinishOp {
         let Some(high) = page.high else {
             return Err(Fault::PageDamaged(self.target.block));
         };
-        if high == self.target.separator {
+        if are_same(&high, &self.target.separator) {
             return Ok(None);
         }
         self.retake(high, FinishAt::Root);
