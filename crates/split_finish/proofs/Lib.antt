@@ -1,3 +1,4 @@
 pub mod Counting
 pub mod Standing
 pub mod Turning
+pub mod Stepping

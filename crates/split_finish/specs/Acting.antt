@@ -1,17 +1,24 @@
--- The acts by which splits are finished: which pages they write.
-use Rattle.std.specs.Prelude.{◌≡◌, ◌≢◌, ◌⊎◌, ℕ, suc, ◌+◌, ◌<◌, ◌≤◌, ◌||◌, nat_le, nat_lt, true, false, All, Option, Some, None, List, [], ◌∷◌, ◌++◌, length}
-use Rattle.index_model.specs.Faults.{Circumstances, HasCause}
+-- The acts by which splits are finished: which pages they write, and what they do.
+use Rattle.std.specs.Prelude.{◌≡◌, ◌≢◌, ◌⊎◌, ℕ, suc, ◌+◌, ◌<◌, ◌≤◌, Bool, true, false, All, Option, Some, None, Result, OnOk, OnErr, List, [], ◌∷◌, ◌++◌, length, slice_get}
 use Rattle.index_model.specs.declared.bound.Bound.{Bound}
 use Rattle.index_model.specs.declared.fault.Fault.{Fault}
+use Rattle.latch_table.specs.Holdings.{is_held_by_another}
+use Rattle.latch_table.specs.declared.mode.Mode.TheVariants.{Exclusive}
 use Rattle.page_codec.specs.declared.page.Downlink.{Downlink}
 use Rattle.page_codec.specs.declared.page.Page.{Page}
 use Rattle.page_codec.specs.Grammar.{IsBlock, IsPage, IsWhole}
-use Rattle.page_action.specs.Causes.{nothing_wrong, has_failed, is_at_end, pinned_blocks, count_apart}
-use Rattle.page_action.specs.States.{State, Backing}
+use Rattle.page_action.specs.States.{State, Continues}
+use Rattle.page_action.specs.Stored.{IsStored}
+use Rattle.page_action.specs.declared.page_store.PageStore.{Ghosts}
 use Rattle.tree_shape.specs.Edits.{IsLinkAdded, with_links}
 use Rattle.tree_shape.specs.LinkPlaces.{HasLinks, FitsBehind, child_at}
 use Rattle.tree_shape.specs.Nodes.{node_of, links_of}
 use Rattle.tree_acts.specs.Acts.{IsClear}
+use Rattle.descent.specs.Shared.{IsInOrder, IsOneStep}
+use Rattle.split_finish.specs.Targets.{FinishFits}
+use Rattle.split_finish.specs.Finishes.{FinishStays, FinishStepped}
+use Rattle.split_finish.specs.declared.finish.FinishOp.{FinishOp}
+use Rattle.split_finish.specs.declared.finish.FinishStep.{FinishStep}
 
 -- the downlink at this place leads to the child, and one with the separator for its bound may stand behind it
 pub record IsLinkPlace (parent : Page) (child : ℕ) (separator : Bound) (at : ℕ) : Type 0 where
@@ -42,3 +49,23 @@ pub record AreLinked (parent page : Page) (separator : Bound) (new : ℕ) (pages
   pub internal : HasLinks parent_after.items
   pub admitted : IsPage parent → IsBlock new → IsWhole separator → IsPage parent_after
   pub left_admitted : IsPage page → IsPage page_after
+
+-- the page of this block as it was read to be changed: no other session holds it
+pub record IsRead (st : State) (honest : Bool) (session block : ℕ) (page : Page) : Type 0 where
+  pub found : honest ≡ true → slice_get st.pages block ≡ Some page
+  pub stored : IsStored st.limits block page
+  pub free : is_held_by_another st.table session block Exclusive ≡ false
+
+-- What the part of a step does that acts, behind its readings: one act, or nothing. On pages in order: what it does, and why
+-- it is refused.
+pub record FinishActs {S : Type 0} (g : Ghosts S) (before after : FinishOp) (old new : S)
+    (result : Result FinishStep Fault) : Type 0 where
+  pub steps : Continues g.follows old new
+  pub session : after.session ≡ before.session
+  pub kept : IsOneStep (g.state old) (g.state new)
+  pub table : (g.state new).table ≡ (g.state old).table
+  pub refused : OnErr result (FinishStays (g.state old) (g.state new) before after)
+  pub acted : OnOk result ((g.state new).acts ≡ suc (g.state old).acts)
+  pub stepped : (g.backing new).honest ≡ true → IsInOrder (g.state old)
+      → FinishFits (g.state old) before
+      → FinishStepped (g.state old) (g.backing old) (g.state new) (g.backing new) before after result

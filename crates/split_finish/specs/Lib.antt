@@ -1,4 +1,4 @@
 pub mod Targets
 pub mod Turns
-pub mod Acting
 pub mod Finishes
+pub mod Acting

@@ -1,7 +1,6 @@
 //! Splits are finished: the downlink of the right half is put on the parent, one page a step.
 #![tactic(auto)]
 
-mod acting;
 mod finish;
 mod link;
 mod parent;

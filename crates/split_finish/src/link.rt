@@ -8,9 +8,8 @@ ghost use Rattle.split_finish.specs.Finishes.{FinishSteps};
 ghost use Rattle.split_finish.specs.Acting.{IsLinkPlace, NoLinkPlace, AreLinked};
 ghost use Rattle.split_finish.specs.Turns.{IsReadyToLink};
 
-use crate::acting::act_on;
 use crate::finish::{FinishAt, FinishOp, FinishStep};
-use descent::{Way, look_at_both};
+use descent::{Way, act_on, look_at_both};
 use index_model::{Bound, Fault};
 use page_action::PageStore;
 use page_codec::Page;

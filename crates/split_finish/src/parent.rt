@@ -1,31 +1,13 @@
 //! A full parent is split for the downlink of a right half.
 
-use crate::acting::act_on;
 use crate::finish::{FinishAt, FinishOp, FinishStep, Target};
-use descent::{ask_for, look_to_change};
-use index_model::{Bound, Fault, Session};
-use latch_table::Mode;
+use descent::{act_on, read_right, take_block};
+use index_model::{Bound, Fault};
 use page_action::PageStore;
 use page_codec::Page;
-use tree_shape::{clear_split, may_be_mended, mend_left, split_links};
+use tree_shape::{clear_split, mend_left, split_links};
 
-// The page to the right of the parent, if there is one.
-fn read_right<S: PageStore>(
-    store: &mut S,
-    session: Session,
-    right: Option<u32>,
-) -> Result<Option<Page>, Fault> {
-    let Some(block) = right else {
-        return Ok(None);
-    };
-    let page = look_to_change(store, session, block)?;
-    if !may_be_mended(&page) {
-        return Err(Fault::PageDamaged(block));
-    }
-    Ok(Some(page))
-}
-
-// ... with its left link mended.
+// The page, if there is one, with its left link mended.
 fn mended(right: Option<Page>, fresh: u32) -> Option<Page> {
     match right {
         None => None,
@@ -69,7 +51,7 @@ fn act_on_halves<S: PageStore>(
     half: Page,
     right: Option<Page>,
     page: Page,
-) -> Result<(), Fault> {
+) -> Result<u64, Fault> {
     match right {
         None => act_on(store, &[left, half, page]),
         Some(right) => act_on(store, &[left, half, right, page]),
@@ -87,8 +69,7 @@ impl FinishOp {
         new: u32,
     ) -> Result<FinishStep, Fault> {
         let right = read_right(store, self.session, parent.right)?;
-        let fresh = store.fresh()?;
-        ask_for(store, self.session, fresh, Mode::Exclusive)?;
+        let fresh = take_block(store, self.session)?;
         let mut left = parent;
         let half = split_links(&mut left, at, self.target.separator, new, fresh);
         let target = target_of(&left, self.target.separator);

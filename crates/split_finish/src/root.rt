@@ -3,11 +3,9 @@
 ghost use Rattle.std.specs.Prelude.{◌≡◌};
 ghost use Rattle.split_finish.specs.Finishes.{FinishSteps};
 
-use crate::acting::act_on;
 use crate::finish::{FinishAt, FinishOp, FinishStep};
-use descent::{ask_for, look_at_both};
+use descent::{act_on, look_at_both, take_block};
 use index_model::{Bound, Fault};
-use latch_table::Mode;
 use page_action::PageStore;
 use page_codec::Page;
 use tree_shape::{clear_split, point_to_root, root_over};
@@ -45,8 +43,7 @@ impl FinishOp {
         let Some(new) = page.right else {
             return Err(Fault::PageDamaged(page.block));
         };
-        let fresh = store.fresh()?;
-        ask_for(store, self.session, fresh, Mode::Exclusive)?;
+        let fresh = take_block(store, self.session)?;
         let pages = grown(meta, page, self.target.separator, new, fresh);
         act_on(store, &pages)?;
         Ok(self.pop())
