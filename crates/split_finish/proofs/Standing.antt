@@ -1,5 +1,5 @@
 -- Where a call stands, in a tree.
-use Rattle.std.proofs.Common.{◌≡◌, ◌⊎◌, ℕ, zero, suc, ◌+◌, ◌<◌, ◌≤◌, Bool, true, false, Option, Some, None, List, [], ◌∷◌, ◌++◌, length, slice_get, refl, sym, ap, subst, inl, inr, ◌∙◌, arith, length-append}
+use Rattle.std.proofs.Common.{◌≡◌, ◌⊎◌, ℕ, zero, suc, ◌+◌, ◌<◌, ◌≤◌, Bool, true, false, Option, Some, None, List, [], ◌∷◌, ◌++◌, length, slice_get, slice_index, refl, sym, ap, subst, inl, inr, ◌∙◌, arith, length-append}
 use Rattle.index_model.specs.declared.bound.Bound.{Bound}
 use Rattle.page_codec.specs.declared.page.Page.{Page}
 use Rattle.page_codec.specs.Grammar.{IsPage, IsOfKind, IsMeta, IsLeafIn}
@@ -10,10 +10,15 @@ use Rattle.page_codec.specs.declared.page.PageState.TheVariants.{Live, HalfDead,
 use Rattle.index_model.specs.declared.entry.Entry.{Entry}
 use Rattle.std.specs.Prelude.{IsSome}
 use Rattle.page_action.specs.States.{State}
-use Rattle.latch_table.specs.Holdings.{holding_of, nothing_held}
+use Rattle.latch_table.specs.Holdings.{Holding, HasRoom, holding_of, nothing_held}
 use Rattle.page_action.proofs.StoredPages.{stored_page}
 use Rattle.tree_shape.specs.Tree.{IsMetaOf}
-use Rattle.tree_shape.specs.Walks.{bound_aim}
+use Rattle.tree_shape.specs.Nodes.{nodes_of}
+use Rattle.tree_shape.specs.Walks.{bound_aim, is_fit}
+use Rattle.tree_shape.proofs.Told.{places_keep_their_level}
+use Rattle.tree_acts.proofs.Lasting.{deleted_in_use}
+use Rattle.tree_acts.proofs.Overlays.{inside}
+use Rattle.tree_acts.proofs.Words.{place_in}
 use Rattle.tree_acts.specs.Trees.{HasTree, HasPlace, HasTrail}
 use Rattle.tree_acts.specs.Acts.{IsUnfinished}
 use Rattle.tree_acts.specs.Ways.{RootIsThere}
@@ -229,3 +234,20 @@ to_finish st start level aim block page h place found flagged =
         right_is = right.1;
       };
     }
+
+-- a place is the block of a page in use
+pub place_inside : (st : State) (start level : ℕ) (aim : Bound → Bool) (clear : Bool) (block : ℕ) → HasTree st → HasPlace st start level aim clear block → block < length st.pages
+place_inside st start level aim clear block h place =
+    let p = place_in st h.tree start level aim clear block place in
+    elim (places_keep_their_level (nodes_of st.pages) (slice_index st.counted) (length st.pages) h.tree.root h.tree.meta.level h.tree.chain level start (is_fit aim clear) block h.tree.is p.in_tree p.place) [
+      | inl gone ↦ (deleted_in_use st h block gone).1
+      | inr on ↦ (h.tree.is.in_use level block p.in_tree on.1).1
+    ]
+
+-- there is a metapage
+pub meta_inside : (st : State) → HasTree st → 0 < length st.pages
+meta_inside st h = inside st.pages 0 h.tree.meta h.tree.meta_at
+
+-- a session that holds nothing may latch a page
+pub has_room : (st : State) (op : FinishOp) → FinishFits st op → HasRoom st.table op.session
+has_room st op fits = subst (λ (held : Holding). length held.latches < 8) (sym fits.free) (omega arith)

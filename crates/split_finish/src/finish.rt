@@ -109,8 +109,12 @@ impl FinishOp {
         requires { self.old.at ≡ FinishAt.Down way }
         ensures { FinishSteps S.PageStore self.old self.new store.old store.new result }
     {
-        let page = look(store, self.session, way.block)?;
-        let most = store.limits().pages;
-        self.leave_page(&page, way, most)
+        match look(store, self.session, way.block) {
+            Ok(page) => {
+                let most = store.limits().pages;
+                self.leave_page(&page, way, most)
+            }
+            Err(fault) => Err(fault),
+        }
     }
 }

@@ -1,7 +1,12 @@
 //! A full parent is split for the downlink of a right half.
 
+ghost use Rattle.std.specs.Prelude.{◌≡◌, ◌≤◌, Some, length};
+ghost use Rattle.tree_shape.specs.Nodes.{links_of};
+ghost use Rattle.split_finish.specs.Acting.{IsLinkPlace, IsRead, FinishActs};
+ghost use Rattle.split_finish.specs.Turns.{IsReadyToLink};
+
 use crate::finish::{FinishAt, FinishOp, FinishStep, Target};
-use descent::{act_on, read_right, take_block};
+use descent::{Way, act_on, read_right, take_block};
 use index_model::{Bound, Fault};
 use page_action::PageStore;
 use page_codec::Page;
@@ -63,12 +68,39 @@ impl FinishOp {
     pub fn split_parent<S: PageStore>(
         &mut self,
         store: &mut S,
+        way: Way,
         page: Page,
         parent: Page,
         at: usize,
         new: u32,
+    ) -> Result<FinishStep, Fault>
+        requires at { self.old.at ≡ FinishAt.Link way }
+        requires read { IsRead (S.state store.old) (S.backing store.old).honest self.old.session
+            self.old.target.block page }
+        requires read_parent { IsRead (S.state store.old) (S.backing store.old).honest
+            self.old.session way.block parent }
+        requires ready { IsReadyToLink page parent self.old self.old }
+        requires right { page.right ≡ Some new }
+        requires place { IsLinkPlace parent page.block self.old.target.separator at }
+        requires full { 4 ≤ length (links_of parent.items) }
+        ensures { FinishActs S.PageStore self.old self.new store.old store.new result }
+    {
+        match read_right(store, self.session, parent.right) {
+            Ok(right) => self.split_beside(store, page, parent, right, at, new),
+            Err(fault) => Err(fault),
+        }
+    }
+
+    // ... and the page to the right of it has been read.
+    fn split_beside<S: PageStore>(
+        &mut self,
+        store: &mut S,
+        page: Page,
+        parent: Page,
+        right: Option<Page>,
+        at: usize,
+        new: u32,
     ) -> Result<FinishStep, Fault> {
-        let right = read_right(store, self.session, parent.right)?;
         let fresh = take_block(store, self.session)?;
         let mut left = parent;
         let half = split_links(&mut left, at, self.target.separator, new, fresh);
