@@ -2,3 +2,4 @@ pub mod Counting
 pub mod Standing
 pub mod Turning
 pub mod Stepping
+pub mod Parting
