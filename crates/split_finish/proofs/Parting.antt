@@ -322,15 +322,15 @@ pub record BesideParent (st : State) (page parent : Page) : Type 0 where
 
 pub beside_parent : (st : State) (session : ℕ) (honest : Bool) (op : FinishOp) (way : Way) (page parent : Page) (order : IsInOrder st) (fits : FinishFits st op) → op.at ≡ Link way → honest ≡ true
     → IsRead st honest session op.target.block page → IsRead st honest session way.block parent → IsReadyToLink page parent op op → BesideParent st page parent
-beside_parent st session honest op way page parent order fits at_is yes read read_parent is_ready =
+beside_parent st session honest op way page parent order fits at_is kept_model read read_parent ready_to =
     by parent.right refl
   where
     ready : ReadyParent parent (suc op.target.level) op.target.separator
-    ready = ready_parent parent (suc op.target.level) op.target.separator is_ready.ready
+    ready = ready_parent parent (suc op.target.level) op.target.separator ready_to.ready
     found : slice_get st.pages page.block ≡ Some page
-    found = subst (λ (b : ℕ). slice_get st.pages b ≡ Some page) (sym read.stored.block_is) (read.found yes)
+    found = subst (λ (b : ℕ). slice_get st.pages b ≡ Some page) (sym read.stored.block_is) (read.found kept_model)
     found_parent : slice_get st.pages parent.block ≡ Some parent
-    found_parent = subst (λ (b : ℕ). slice_get st.pages b ≡ Some parent) (sym read_parent.stored.block_is) (read_parent.found yes)
+    found_parent = subst (λ (b : ℕ). slice_get st.pages b ≡ Some parent) (sym read_parent.stored.block_is) (read_parent.found kept_model)
     stands : (way.level ≡ suc op.target.level) × IsOnWay st fits.start (bound_aim op.target.separator) true (suc op.target.level) way
     stands = subst (FinishStands st fits.start op.target) at_is fits.stands
     place : HasPlace st fits.start (suc op.target.level) (bound_aim op.target.separator) true parent.block
@@ -351,7 +351,7 @@ beside_parent st session honest op way page parent order fits at_is yes read rea
           apart_parent = λ k. n.apart (some_same r parent.block (sym is ∙ k));
           apart_page = λ k.
               let same : n.page ≡ page = (let e : Some n.page ≡ Some page = sym n.found ∙ ap (slice_get st.pages) (some_same r page.block (sym is ∙ k)) ∙ found in cc) in
-              let levels : suc op.target.level ≡ op.target.level = sym n.level_is ∙ ap (λ (x : Page). x.level) same ∙ is_ready.level_is in omega arith;
+              let levels : suc op.target.level ≡ op.target.level = sym n.level_is ∙ ap (λ (x : Page). x.level) same ∙ ready_to.level_is in omega arith;
         }
       where
         some_same : (a b : ℕ) → Some a ≡ Some b → a ≡ b
@@ -360,3 +360,11 @@ beside_parent st session honest op way page parent order fits at_is yes read rea
 pub few_parts : (left half clear : Page) (right : Option Page) → length (halves_and left half right clear) ≤ 4
 few_parts left half clear None = omega arith
 few_parts left half clear (Some page) = omega arith
+
+-- the split as it is made: of the parent that has a downlink to the page
+pub split_as_read : (parent : Page) (fresh child page new : ℕ) (separator : Bound) (left half : Page) → child ≡ page → half.block ≡ fresh
+    → LinkSplit (node_of parent) parent.block fresh child new separator (node_of left) (node_of half)
+    → LinkSplit (node_of parent) parent.block half.block page new separator (node_of left) (node_of half)
+split_as_read parent fresh child page new separator left half leads is_new h =
+    subst (λ (b : ℕ). LinkSplit (node_of parent) parent.block b page new separator (node_of left) (node_of half)) (sym is_new)
+    (subst (λ (c : ℕ). LinkSplit (node_of parent) parent.block fresh c new separator (node_of left) (node_of half)) leads h)

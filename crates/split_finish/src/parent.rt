@@ -85,6 +85,7 @@ impl FinishOp {
         requires right { page.right ≡ Some new }
         requires place { IsLinkPlace parent page.block self.old.target.separator at }
         requires full { 4 ≤ length (links_of parent.items) }
+        requires some { 0 < length (S.state store.old).pages }
         ensures { FinishActs S.PageStore self.old self.new store.old store.new result }
     {
         match read_right(store, self.session, parent.right) {
@@ -113,6 +114,7 @@ impl FinishOp {
         requires right { page.right ≡ Some new }
         requires place { IsLinkPlace parent page.block self.old.target.separator at }
         requires full { 4 ≤ length (links_of parent.items) }
+        requires some { 0 < length (S.state store.old).pages }
         requires beside { RightIsStored (S.state store.old) self.old.session parent.right right }
         requires beside_found { (S.backing store.old).honest ≡ true
             → RightIsFound (S.state store.old) parent.right right }
