@@ -2,3 +2,5 @@ pub mod Counting
 pub mod Standing
 pub mod Turning
 pub mod Stepping
+pub mod Doing
+pub mod Growing
