@@ -4,3 +4,4 @@ pub mod Turning
 pub mod Stepping
 pub mod Doing
 pub mod Growing
+pub mod Linking
