@@ -5,3 +5,4 @@ pub mod Stepping
 pub mod Doing
 pub mod Growing
 pub mod Linking
+pub mod Placing
