@@ -6,3 +6,4 @@ pub mod Doing
 pub mod Growing
 pub mod Linking
 pub mod Placing
+pub mod Parting

@@ -1,13 +1,14 @@
 //! A full parent is split for the downlink of a right half.
 
-ghost use Rattle.std.specs.Prelude.{◌≡◌, ◌≤◌, ◌<◌, false, Some, IfErr, OnOk, OnErr, length, unwrap_or};
+ghost use Rattle.std.specs.Prelude.{◌≡◌, ◌≤◌, ◌<◌, false, Some, IfErr, IfSome, OnOk, OnErr, length, unwrap_or};
 ghost use Rattle.index_model.specs.Faults.{HasCause};
 ghost use Rattle.latch_table.specs.Holdings.{is_held_by_another};
-ghost use Rattle.page_codec.specs.Grammar.{IsBlock};
+ghost use Rattle.page_codec.specs.Grammar.{IsBlock, IsPage};
 ghost use Rattle.page_action.specs.Causes.{where_acted};
 ghost use Rattle.page_action.specs.Reuse.{IsFresh};
 ghost use Rattle.page_action.specs.States.{Continues, after_act};
 ghost use Rattle.page_action.specs.Stored.{AreActable};
+ghost use Rattle.tree_shape.specs.Mending.{MayBeMended};
 ghost use Rattle.tree_shape.specs.Nodes.{links_of};
 ghost use Rattle.descent.specs.Splitting.{mended_to};
 ghost use Rattle.split_finish.specs.Acting.{IsLinkPlace, IsRead, IsRightRead, FinishActs, list_of, halves_of};
@@ -23,7 +24,9 @@ use tree_shape::{clear_split, mend_left, split_links};
 
 // The page, if there is one, with its left link mended.
 fn mended(right: Option<Page>, fresh: u32) -> Option<Page>
-    ensures { list_of result ≡ mended_to fresh right }
+    ensures list { list_of result ≡ mended_to fresh right }
+    ensures pages { IfSome right (λ page. IsPage page → MayBeMended page → IsBlock fresh
+        → IsPage (record page { left = Some fresh })) }
 {
     match right {
         None => None,
