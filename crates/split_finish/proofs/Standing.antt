@@ -2,22 +2,23 @@
 use Rattle.std.proofs.Common.{◌≡◌, ◌⊎◌, ℕ, zero, suc, ◌+◌, ◌<◌, ◌≤◌, Bool, true, false, Option, Some, None, List, [], ◌∷◌, ◌++◌, length, slice_get, slice_index, refl, sym, ap, subst, inl, inr, ◌∙◌, arith, length-append}
 use Rattle.index_model.specs.declared.bound.Bound.{Bound}
 use Rattle.page_codec.specs.declared.page.Page.{Page}
-use Rattle.page_codec.specs.Grammar.{IsPage, IsOfKind, IsMeta, IsLeafIn}
+use Rattle.page_codec.specs.Grammar.{IsPage, IsOfKind, IsMeta, IsLeafIn, IsBlock, IsWhole}
 use Rattle.page_codec.specs.declared.page.Items.{Items}
 use Rattle.page_codec.specs.declared.page.Items.TheVariants.{Meta, Entries, Downlinks}
 use Rattle.page_codec.specs.declared.page.PageState.{PageState}
 use Rattle.page_codec.specs.declared.page.PageState.TheVariants.{Live, HalfDead, Deleted}
 use Rattle.index_model.specs.declared.entry.Entry.{Entry}
-use Rattle.std.specs.Prelude.{IsSome}
+use Rattle.std.specs.Prelude.{IsSome, IfSome}
 use Rattle.page_action.specs.States.{State}
 use Rattle.latch_table.specs.Holdings.{Holding, HasRoom, holding_of, nothing_held}
 use Rattle.page_action.proofs.StoredPages.{stored_page}
 use Rattle.tree_shape.specs.Tree.{IsMetaOf}
-use Rattle.tree_shape.specs.Nodes.{nodes_of}
+use Rattle.tree_shape.specs.Nodes.{Node, nodes_of}
 use Rattle.tree_shape.specs.Walks.{bound_aim, is_fit}
 use Rattle.tree_shape.proofs.Told.{places_keep_their_level}
-use Rattle.tree_acts.proofs.Lasting.{deleted_in_use}
-use Rattle.tree_acts.proofs.Overlays.{inside}
+use Rattle.tree_acts.proofs.Lasting.{deleted_in_use, fresh_free}
+use Rattle.page_action.specs.Reuse.{IsFresh}
+use Rattle.tree_acts.proofs.Overlays.{inside, node_there}
 use Rattle.tree_acts.proofs.Words.{place_in}
 use Rattle.tree_acts.specs.Trees.{HasTree, HasPlace, HasTrail}
 use Rattle.tree_acts.specs.Acts.{IsUnfinished}
@@ -251,3 +252,35 @@ meta_inside st h = inside st.pages 0 h.tree.meta h.tree.meta_at
 -- a session that holds nothing may latch a page
 pub has_room : (st : State) (op : FinishOp) → FinishFits st op → HasRoom st.table op.session
 has_room st op fits = subst (λ (held : Holding). length held.latches < 8) (sym fits.free) (omega arith)
+
+-- a flagged page isn't the metapage, by the format
+pub flagged_block : (page : Page) → IsPage page → page.split ≡ true → IsBlock page.block
+flagged_block page admitted flagged = by page.items refl admitted.kind
+  where
+    no : false ≡ true → ⊥
+    no e = cc
+
+    by : (items : Items) → page.items ≡ items → IsOfKind page items → IsBlock page.block
+    by Meta is h = absurd (no (sym h.split ∙ flagged))
+    by (Entries v) is h = h.block
+    by (Downlinks v) is h = h.block
+
+if_some : {A : Type 0} (P : A → Type 0) (x : Option A) (a : A) → IfSome x P → x ≡ Some a → P a
+if_some P None a h is = absurd cc
+if_some P (Some b) a h is = subst P (let k : b ≡ a = cc in k) h
+
+pub right_block : (page : Page) (new : ℕ) → IsPage page → page.right ≡ Some new → IsBlock new
+right_block page new admitted is = if_some IsBlock page.right new admitted.right is
+
+pub high_whole : (page : Page) (high : Bound) → IsPage page → page.high ≡ Some high → IsWhole high
+high_whole page high admitted is = if_some IsWhole page.high high admitted.high is
+
+-- a fresh block isn't that of a live page
+pub fresh_not_live : (st : State) (fresh block : ℕ) (page : Page) → HasTree st → IsFresh st fresh → slice_get st.pages block ≡ Some page → page.state ≡ Live → block ≡ fresh → ⊥
+fresh_not_live st fresh block page h new found alive same =
+    let free = fresh_free st fresh h new in
+    let gone = free.not_in_use (subst (λ (b : ℕ). b < length st.pages) same (inside st.pages block page found)) in
+    live_deleted (sym alive ∙ sym (ap (λ (n : Node). n.state) (node_there st.pages fresh page (subst (λ (b : ℕ). slice_get st.pages b ≡ Some page) same found))) ∙ gone)
+  where
+    live_deleted : Live ≡ Deleted → ⊥
+    live_deleted e = cc

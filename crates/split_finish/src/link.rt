@@ -67,6 +67,7 @@ impl FinishOp {
             self.old.target.block page }
         requires read_parent { IsRead (S.state store.old) (S.backing store.old).honest
             self.old.session way.block parent }
+        requires some { 0 < length (S.state store.old).pages }
         ensures { FinishActs S.PageStore self.old self.new store.old store.new result }
     {
         match self.turn_at_parent(&page, &parent, way) {
@@ -90,6 +91,7 @@ impl FinishOp {
         requires read_parent { IsRead (S.state store.old) (S.backing store.old).honest
             self.old.session way.block parent }
         requires ready { IsReadyToLink page parent self.old self.old }
+        requires some { 0 < length (S.state store.old).pages }
         ensures { FinishActs S.PageStore self.old self.new store.old store.new result }
     {
         let Some(new) = page.right else {

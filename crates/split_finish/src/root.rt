@@ -1,6 +1,7 @@
 //! A root over the halves of the one before it.
 
-ghost use Rattle.std.specs.Prelude.{◌≡◌, ◌<◌, false, Some};
+ghost use Rattle.std.specs.Prelude.{◌≡◌, ◌<◌, false, Some, length};
+ghost use Rattle.page_codec.specs.Grammar.{IsBlock};
 ghost use Rattle.latch_table.specs.Holdings.{is_held_by_another};
 ghost use Rattle.page_action.specs.Reuse.{IsFresh};
 ghost use Rattle.split_finish.specs.Acting.{IsRead, FinishActs, AreGrown};
@@ -53,6 +54,7 @@ impl FinishOp {
             self.old.session 0 meta }
         requires read { IsRead (S.state store.old) (S.backing store.old).honest self.old.session
             self.old.target.block page }
+        requires some { 0 < length (S.state store.old).pages }
         ensures { FinishActs S.PageStore self.old self.new store.old store.new result }
     {
         match self.turn_at_root(&meta, &page) {
@@ -75,6 +77,7 @@ impl FinishOp {
         requires read { IsRead (S.state store.old) (S.backing store.old).honest self.old.session
             self.old.target.block page }
         requires ready { IsReadyToGrow meta page self.old self.old }
+        requires some { 0 < length (S.state store.old).pages }
         ensures { FinishActs S.PageStore self.old self.new store.old store.new result }
     {
         let Some(new) = page.right else {
@@ -103,10 +106,13 @@ impl FinishOp {
         requires ready { IsReadyToGrow meta page self.old self.old }
         requires right { page.right ≡ Some new }
         requires fresh { IsFresh (S.state store.old) fresh }
+        requires block { IsBlock fresh }
         requires free { is_held_by_another (S.state store.old).table self.old.session fresh
             Mode.Exclusive ≡ false }
         ensures { FinishActs S.PageStore self.old self.new store.old store.new result }
     {
+        let least = store.limits().items;
+        prove!(2 <= least);
         let separator = self.target.separator;
         let pages = grown(meta, page, separator, new, fresh);
         match act_on(store, &pages) {
