@@ -60,6 +60,8 @@ fn is_live(state: PageState) -> bool
 fn is_astray(page: &Page, way: &Way) -> bool
     ensures live { result ≡ true → page.now.state ≡ PageState.Live }
     ensures level { result ≡ true → page.now.level ≢ way.now.level }
+    ensures in_place { result ≡ false → page.now.state ≡ PageState.Live
+        → page.now.level ≡ way.now.level }
 {
     is_live(page.state) && page.level != way.level
 }
@@ -118,6 +120,7 @@ pub fn lead(page: &Page, way: &Way, aim: &Aim, to: u8, most: u32) -> Option<Onwa
         → LeadsOnward st start (aim_of aim.now) clear to way.now result }
     ensures less { LeavesLess to most way.now result }
     ensures here { result ≡ Some Onward.Here → IsArrived page.now (aim_of aim.now) }
+    ensures level { result ≡ Some Onward.Here → page.now.level ≡ to }
 {
     if is_astray(page, way) {
         return None;

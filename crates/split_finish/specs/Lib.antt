@@ -1,2 +1,5 @@
 pub mod Targets
+pub mod Turns
 pub mod Finishes
+pub mod Acting
+pub mod Parting

@@ -2,8 +2,13 @@
 #![tactic(auto)]
 
 mod finish;
+mod link;
+mod parent;
+mod root;
+mod turns;
 
 pub use finish::{FinishAt, FinishOp, FinishStep, Target};
+pub use parent::half_to_finish;
 
 #[cfg(test)]
 mod tests;

@@ -1,0 +1,117 @@
+-- What is left to do, while the pages are as they are.
+use Rattle.std.proofs.Common.{◌≡◌, ◌⊎◌, ℕ, zero, suc, ◌+◌, ◌-◌, ◌*◌, ◌<◌, ◌≤◌, ◌&&◌, ◌||◌, ◌==◌, not, if◌then◌else◌, Bool, true, false, Option, Some, None, List, [], ◌∷◌, ◌++◌, length, slice_get, refl, sym, ap, subst, inl, inr, ◌∙◌, arith, length-append}
+use Rattle.std.proofs.Math.Nat.{mul-le-mul_right, mul-le-mul_left}
+use Rattle.index_model.specs.declared.bound.Bound.{Bound}
+use Rattle.page_codec.specs.declared.page.Page.{Page}
+use Rattle.tree_shape.specs.Nodes.{Node, node_of, nodes_of}
+use Rattle.descent.specs.declared.way.Way.{Way}
+use Rattle.descent.specs.Onward.{IsShorter}
+use Rattle.split_finish.specs.Targets.{targets_of, is_as_read, ends_at, stale_count, is_ready, one_unless, detour, walks_left, way_left, walk_length, walk_left, finish_left}
+use Rattle.split_finish.specs.Turns.{Popped, Pushed, Retaken}
+use Rattle.split_finish.specs.declared.finish.FinishAt.{FinishAt}
+use Rattle.split_finish.specs.declared.finish.FinishAt.TheVariants.{Start, Down, Link, Root}
+use Rattle.split_finish.specs.declared.finish.FinishOp.{FinishOp}
+use Rattle.split_finish.specs.declared.finish.FinishStep.{FinishStep}
+use Rattle.split_finish.specs.declared.finish.FinishStep.TheVariants.{Going, Done}
+use Rattle.split_finish.specs.declared.finish.Target.{Target}
+
+-- the walks that are left outweigh one walk
+fewer_walks : (fewer more walk a b : ℕ) → fewer < more → a ≤ walk → fewer * suc walk + a < more * suc walk + b
+fewer_walks fewer more walk a b lt le =
+    let k : suc fewer * suc walk ≤ more * suc walk = mul-le-mul_right (suc walk) lt in
+    let e : suc fewer * suc walk ≡ fewer * suc walk + suc walk = omega arith in
+    omega arith
+
+same_walks : (walks walk a b : ℕ) → a < b → walks * suc walk + a < walks * suc walk + b
+same_walks walks walk a b lt = omega arith
+
+stale_append : (at : ℕ → Node) (xs ys : List Target) → stale_count at (xs ++ ys) ≡ stale_count at xs + stale_count at ys
+stale_append at [] ys = (let n = stale_count at ys in omega arith)
+stale_append at (x ∷ xs) ys = (let h = stale_append at xs ys in omega arith)
+
+stale_one : (at : ℕ → Node) (target : Target) → is_as_read at target ≡ false → stale_count at (target ∷ []) ≡ 1
+stale_one at target is = rw is refl
+
+fresh_one : (at : ℕ → Node) (target : Target) → is_as_read at target ≡ true → stale_count at (target ∷ []) ≡ 0
+fresh_one at target is = rw is refl
+
+-- what is left, by the parts of a call
+abbrev pub left : ℕ → (ℕ → Node) → List Target → Target → FinishAt → ℕ
+left most at below target spot =
+    ((33 + (2 * stale_count at (below ++ target ∷ []) + detour at target spot)) - length (below ++ target ∷ [])) * suc (walk_length most) + walk_left most spot
+
+walk_is_long : (most : ℕ) (way : Way) → way.level ≤ 255 → way_left most way < walk_length most
+walk_is_long most way low =
+    let k : way.level * (most + 4) ≤ 255 * (most + 4) = mul-le-mul_right (most + 4) low in
+    omega arith
+
+module _ (most : ℕ) (at : ℕ → Node) (below : List Target) (target : Target) where
+  walk : ℕ
+  walk = walk_length most
+
+  many : length (below ++ target ∷ []) ≡ suc (length below)
+  many = length-append below (target ∷ []) ∙ omega arith
+
+  pub less_root : ((at 0).level == target.level) ≡ true → left most at below target Root < left most at below target Start
+  less_root is = rw is (same_walks _ (walk_length most) 0 (walk_length most) (omega arith))
+
+  pub less_down : (way : Way) → way.level ≤ 255 → left most at below target (Down way) < left most at below target Start
+  less_down way low = same_walks _ (walk_length most) (way_left most way) (walk_length most) (walk_is_long most way low)
+
+  pub less_onward : (to : ℕ) (way on : Way) → IsShorter to most way on → left most at below target (Down on) < left most at below target (Down way)
+  less_onward to way on h = same_walks _ (walk_length most) (way_left most on) (way_left most way) (shorter h.shorter)
+    where
+      shorter : (on.level < way.level) ⊎ ((on.level ≡ way.level) × ((on.moves ≡ suc way.moves) × (on.moves ≤ most))) → way_left most on < way_left most way
+      shorter (inl lt) =
+          let k : suc on.level * (most + 4) ≤ way.level * (most + 4) = mul-le-mul_right (most + 4) lt in
+          let e : suc on.level * (most + 4) ≡ on.level * (most + 4) + (most + 4) = omega arith in
+          omega arith
+      shorter (inr e) =
+          let same : on.level * (most + 4) ≡ way.level * (most + 4) = ap (λ (n : ℕ). n * (most + 4)) e.0 in
+          let moved = e.1.0 in
+          let few = e.1.1 in
+          omega arith
+
+  pub less_link : (way : Way) → is_ready (at way.block) (suc target.level) target.separator ≡ true → left most at below target (Link way) < left most at below target (Down way)
+  less_link way is = rw is (same_walks _ (walk_length most) 0 (way_left most way) (omega arith))
+
+  pub less_back : (way : Way) → way.level ≤ 255 → is_ready (at way.block) (suc target.level) target.separator ≡ false → length below ≤ 31
+      → left most at below target (Down way) < left most at below target (Link way)
+  less_back way low is few = rw is (fewer_walks _ _ (walk_length most) (way_left most way) 0 (let m = many in omega arith) (let l = walk_is_long most way low in omega arith))
+
+  pub less_again : ((at 0).level == target.level) ≡ false → length below ≤ 31 → left most at below target Start < left most at below target Root
+  less_again is few = rw is (fewer_walks _ _ (walk_length most) (walk_length most) 0 (let m = many in omega arith) (omega arith))
+
+  stale : is_as_read at target ≡ false → stale_count at (below ++ target ∷ []) ≡ suc (stale_count at below)
+  stale is = stale_append at below (target ∷ []) ∙ (let k = stale_one at target is in omega arith)
+
+  pub less_retaken : (newer : Target) (spot next : FinishAt) → is_as_read at target ≡ false → is_as_read at newer ≡ true → detour at newer next ≡ 0 → walk_left most next ≤ walk_length most → length below ≤ 31
+      → left most at below newer next < left most at below target spot
+  less_retaken newer spot next was is straight short few =
+      fewer_walks _ _ (walk_length most) (walk_left most next) (walk_left most spot)
+      (let m = many in let n : length (below ++ newer ∷ []) ≡ suc (length below) = length-append below (newer ∷ []) ∙ omega arith in
+      let s = stale was in let f : stale_count at (below ++ newer ∷ []) ≡ stale_count at below = stale_append at below (newer ∷ []) ∙ (let k = fresh_one at newer is in omega arith) in
+      omega arith) short
+
+  pub less_pushed : (newer : Target) (spot : FinishAt) → is_as_read at newer ≡ true → length below < 31
+      → left most at (below ++ target ∷ []) newer Start < left most at below target spot
+  less_pushed newer spot is few =
+      fewer_walks _ _ (walk_length most) (walk_length most) (walk_left most spot)
+      (let m = many in let n : length ((below ++ target ∷ []) ++ newer ∷ []) ≡ suc (length (below ++ target ∷ [])) = length-append (below ++ target ∷ []) (newer ∷ []) ∙ omega arith in
+      let f : stale_count at ((below ++ target ∷ []) ++ newer ∷ []) ≡ stale_count at (below ++ target ∷ []) = stale_append at (below ++ target ∷ []) (newer ∷ []) ∙ (let k = fresh_one at newer is in omega arith) in
+      omega arith) (omega arith)
+
+  pub less_popped : (rest : List Target) (last : Target) (spot : FinishAt) → below ≡ rest ++ last ∷ [] → is_as_read at target ≡ false → length below ≤ 31
+      → left most at rest last Start < left most at below target spot
+  less_popped rest last spot is was few =
+      fewer_walks _ _ (walk_length most) (walk_length most) (walk_left most spot)
+      (let m = many in let n : length (rest ++ last ∷ []) ≡ length below = ap length (sym is) in
+      let s = stale was in let f : stale_count at (rest ++ last ∷ []) ≡ stale_count at below = ap (stale_count at) (sym is) in
+      omega arith) (omega arith)
+
+-- a last target that needn't be finished leaves so much
+pub over_alone : (most : ℕ) (at : ℕ → Node) (target : Target) (spot : FinishAt) → is_as_read at target ≡ false → 34 * suc (walk_length most) ≤ left most at [] target spot
+over_alone most at target spot was =
+    rw was (
+    let k : 34 * suc (walk_length most) ≤ ((33 + (2 * (1 + 0) + detour at target spot)) - 1) * suc (walk_length most) = mul-le-mul_right (suc (walk_length most)) (omega arith) in
+    omega arith)

@@ -1,0 +1,106 @@
+-- What the acts by which splits are finished leave to the call.
+use Rattle.std.proofs.Common.{◌≡◌, ◌≢◌, ◌⊎◌, ℕ, zero, suc, ◌+◌, ◌*◌, ◌<◌, ◌≤◌, ◌==◌, if◌then◌else◌, Bool, true, false, Option, Some, None, Result, Ok, Err, List, [], ◌∷◌, ◌++◌, length, slice_get, slice_index, refl, sym, ap, subst, inl, inr, ◌∙◌, arith}
+use Rattle.std.proofs.lemmas.Bool.{eqb-true, eq-eqb}
+use Rattle.index_model.specs.Actions.{Shape}
+use Rattle.index_model.specs.Faults.{HasCause}
+use Rattle.index_model.specs.declared.bound.Bound.{Bound}
+use Rattle.index_model.specs.declared.fault.Fault.{Fault}
+use Rattle.page_codec.specs.declared.page.Page.{Page}
+use Rattle.page_action.specs.Causes.{where_acted}
+use Rattle.page_action.specs.States.{State, Backing, Continues, IsLater, after_act}
+use Rattle.page_action.specs.declared.page_store.PageStore.{Ghosts}
+use Rattle.tree_shape.specs.Walks.{bound_aim}
+use Rattle.tree_shape.proofs.Fits.{bound_falls}
+use Rattle.tree_acts.specs.Acts.{TreeLasts}
+use Rattle.tree_acts.specs.Flags.{FlagsMove, is_block, flag_after}
+use Rattle.tree_acts.specs.Trees.{HasTree, HasPlace}
+use Rattle.descent.specs.Shared.{IsInOrder, IsOneStep, Does, is_flagged, where_working}
+use Rattle.descent.proofs.Acting.{one_act, one_nothing}
+use Rattle.descent.proofs.Working.{act_cause_of}
+use Rattle.split_finish.specs.Targets.{FinishFits, FinishStands, IsTarget, OnlyTargetsAreFlagged, is_among_targets, targets_of}
+use Rattle.split_finish.specs.Turns.{Popped}
+use Rattle.split_finish.specs.Finishes.{FinishSteps, FinishStays, FinishStepped, FinishGoesOn, FinishIsDone, images_of, frames_of}
+use Rattle.split_finish.specs.Acting.{FinishActs}
+use Rattle.split_finish.specs.declared.finish.FinishAt.{FinishAt}
+use Rattle.split_finish.specs.declared.finish.FinishAt.TheVariants.{Start, Down, Link, Root}
+use Rattle.split_finish.specs.declared.finish.FinishOp.{FinishOp}
+use Rattle.split_finish.specs.declared.finish.FinishStep.{FinishStep}
+use Rattle.split_finish.specs.declared.finish.FinishStep.TheVariants.{Going, Done}
+use Rattle.split_finish.specs.declared.finish.Target.{Target}
+use Rattle.split_finish.proofs.Standing.{fits_popped}
+use Rattle.split_finish.proofs.Stepping.{acts_not}
+use Rattle.split_finish.proofs.Turning.{flags_popped, flags_gone, among_fewer, among_more}
+
+-- an act was done
+pub acts_done : {S : Type 0} (g : Ghosts S) (before after : FinishOp) (old new : S) (step : FinishStep) (changed : List Page) → Continues g.follows old new → g.state new ≡ after_act changed (g.state old)
+    → after.session ≡ before.session
+    → ((g.backing new).honest ≡ true → IsInOrder (g.state old) → FinishFits (g.state old) before
+        → FinishStepped (g.state old) (g.backing old) (after_act changed (g.state old)) (g.backing new) before after (Ok step))
+    → FinishActs g before after old new (Ok step)
+acts_done g before after old new step changed steps is session stepped = record {
+  steps = steps;
+  session = session;
+  kept = one_act (g.state old) (g.state new) changed is;
+  table = ap (λ (st : State). st.table) is;
+  refused = tt;
+  less = λ honest going same. absurd (acted (sym (ap (λ (st : State). st.acts) is) ∙ same));
+  over = λ honest done same. absurd (acted (sym (ap (λ (st : State). st.acts) is) ∙ same));
+  stepped = λ honest order fits. subst (λ (st : State). FinishStepped (g.state old) (g.backing old) st (g.backing new) before after (Ok step)) (sym is) (stepped honest order fits);
+}
+  where
+    acted : {n : ℕ} → suc n ≡ n → ⊥
+    acted {n} h = omega arith
+
+-- a target is one still, after an act that lasts
+pub target_lasts : (old new : State) (session start i : ℕ) (t : Target) → slice_get old.running session ≡ Some (Some start) → TreeLasts old new → IsTarget old start i t → IsTarget new start i t
+target_lasts old new session start i t runs lasts is = record {
+  high_enough = is.high_enough;
+  place = lasts.places start t.level (bound_aim t.separator) true t.block (record { session = session; is = runs }) (bound_falls t.separator) is.place;
+}
+
+if_false : (b x : Bool) → (if b then false else x) ≡ true → (b ≡ false) × (x ≡ true)
+if_false true x h = absurd cc
+if_false false x h = (refl, h)
+
+-- only the newest target was cleared
+pub only_cleared : (old new : State) (cleared : ℕ) → FlagsMove None (Some cleared) old new → (block : ℕ) → is_flagged new block ≡ true → (is_flagged old block ≡ true) × (cleared ≡ block → ⊥)
+only_cleared old new cleared moves block h =
+    let k = if_false (block == cleared) (is_flagged old block) (sym (moves block) ∙ h) in
+    (k.1, λ same. no (sym (eq-eqb block cleared (sym same)) ∙ k.0))
+  where
+    no : true ≡ false → ⊥
+    no e = cc
+
+-- an act that clears the newest target, and nothing more
+pub clears : (old new : State) (old_backing new_backing : Backing) (op after : FinishOp) (step : FinishStep) → (fits : FinishFits old op) → Does op.session (Some Shape) old new → new.table ≡ old.table
+    → new.running ≡ old.running → TreeLasts old new → FlagsMove None (Some op.target.block) old new → Popped op after step
+    → FinishStepped old old_backing new new_backing op after (Ok step)
+clears old new old_backing new_backing op after Going fits does table running lasts moves popped = record {
+  effect = Some Shape;
+  shapes = inr refl;
+  does = does;
+  table = table;
+  fits = fits_popped new op after fits.start popped fits.session (rw table fits.free) (rw running fits.running)
+      (λ i t is. target_lasts old new op.session fits.start i t fits.running lasts (fits.below i t is));
+  flags = λ h. flags_popped old new op after popped h (only_cleared old new op.target.block moves);
+}
+clears old new old_backing new_backing op after Done fits does table running lasts moves popped = record {
+  effect = Some Shape;
+  shapes = inr refl;
+  does = does;
+  table = table;
+  flags = λ h. flags_gone old new op after popped h (only_cleared old new op.target.block moves);
+}
+
+-- the act is refused
+pub act_refused : {S : Type 0} (g : Ghosts S) (op : FinishOp) (old new : S) (fault : Fault) (changed : List Page) (most : ℕ) → Continues g.follows old new → g.state new ≡ g.state old
+    → length changed ≤ most → images_of op.at ≡ most → frames_of op.at ≡ most
+    → ((g.backing new).honest ≡ true → IsInOrder (g.state old) → FinishFits (g.state old) op → HasCause (where_acted (g.state old) (g.backing old) (g.backing new) changed) fault)
+    → FinishActs g op op old new (Err fault)
+act_refused g op old new fault changed most steps same few images frames cause =
+    acts_not g op old new fault steps same (λ honest order fits.
+        rw (images, frames) (act_cause_of (g.state old) (g.backing old) (g.backing old) (g.backing new) op.session most changed fault (omega arith) (λ h. h) refl few (cause honest order fits)))
+
+pub popped_session : (op after : FinishOp) (step : FinishStep) → Popped op after step → after.session ≡ op.session
+popped_session op after Going popped = popped.session
+popped_session op after Done popped = ap (λ (o : FinishOp). o.session) popped.1

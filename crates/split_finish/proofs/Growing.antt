@@ -1,0 +1,127 @@
+-- A new root: what the act is, and what it leaves.
+use Rattle.std.proofs.Common.{◌≡◌, ◌≢◌, ◌⊎◌, ℕ, zero, suc, ◌+◌, ◌<◌, ◌≤◌, Bool, true, false, Option, Some, None, Ok, List, [], ◌∷◌, ◌++◌, length, slice_get, refl, sym, ap, subst, inl, inr, ◌∙◌, arith}
+use Rattle.index_model.specs.Actions.{Shape}
+use Rattle.latch_table.specs.Holdings.{is_held_by_another}
+use Rattle.latch_table.specs.declared.mode.Mode.TheVariants.{Exclusive}
+use Rattle.page_codec.specs.Grammar.{IsBlock}
+use Rattle.page_codec.specs.Spelling.{count_of}
+use Rattle.page_codec.specs.declared.page.Items.{Items}
+use Rattle.page_codec.specs.declared.page.Page.{Page}
+use Rattle.page_codec.specs.declared.page.PageState.TheVariants.{Live}
+use Rattle.page_action.specs.Reuse.{IsFresh}
+use Rattle.page_action.specs.States.{State, Backing, after_act}
+use Rattle.page_action.specs.Stored.{IsStored, IsStorable}
+use Rattle.tree_shape.specs.Tree.{IsMetaOf}
+use Rattle.tree_shape.specs.Nodes.{nodes_of}
+use Rattle.tree_acts.specs.Acts.{IsUnfinished, MayAct, RootIsSplit}
+use Rattle.tree_acts.specs.Flags.{FlagsMove}
+use Rattle.tree_acts.specs.Trees.{HasTree}
+use Rattle.tree_acts.proofs.Finishing.{root_split_lasts}
+use Rattle.tree_acts.proofs.Flagging.{root_split_flags}
+use Rattle.tree_acts.proofs.Weighed.{root_split_weighs}
+use Rattle.tree_acts.proofs.Lasting.{fresh_free}
+use Rattle.tree_acts.proofs.Overlays.{inside, node_there}
+use Rattle.descent.specs.Shared.{IsInOrder, Does, FinishesASplit, is_flagged}
+use Rattle.descent.proofs.Acting.{AreFree, does_finish}
+use Rattle.split_finish.specs.Targets.{FinishFits}
+use Rattle.split_finish.specs.Turns.{IsReadyToGrow, Popped}
+use Rattle.split_finish.specs.Finishes.{FinishStepped}
+use Rattle.split_finish.specs.Acting.{AreGrown, IsRead}
+use Rattle.split_finish.specs.declared.finish.FinishOp.{FinishOp}
+use Rattle.split_finish.specs.declared.finish.FinishStep.{FinishStep}
+use Rattle.split_finish.proofs.Standing.{flagged_has, flagged_block, right_block, high_whole, fresh_not_live}
+use Rattle.split_finish.proofs.Doing.{clears}
+use Rattle.tree_shape.specs.Nodes.{Node}
+
+module _ (st : State) (op : FinishOp) (honest : Bool) (meta page : Page) (new fresh : ℕ) (pages : List Page) (order : IsInOrder st) (fits : FinishFits st op) (sound : honest ≡ true)
+    (read_meta : IsRead st honest op.session 0 meta) (read : IsRead st honest op.session op.target.block page) (ready : IsReadyToGrow meta page op op) (right : page.right ≡ Some new)
+    (free_block : IsFresh st fresh) (block : IsBlock fresh) (free : is_held_by_another st.table op.session fresh Exclusive ≡ false)
+    (few : length st.pages ≤ st.limits.pages) (items : 2 ≤ st.limits.items) (grown : AreGrown meta page op.target.separator new fresh pages) where
+  has : HasTree st
+  has = order.tree
+
+  found : slice_get st.pages page.block ≡ Some page
+  found = subst (λ (b : ℕ). slice_get st.pages b ≡ Some page) (sym read.stored.block_is) (read.found sound)
+
+  alive : page.state ≡ Live
+  alive = (flagged_has page read.stored.storable.admitted ready.flagged).1
+
+  apart_page : page.block ≡ fresh → ⊥
+  apart_page same = fresh_not_live st fresh page.block page has free_block found alive same
+
+  count_same : (limits : ℕ) (a b : Items) → a ≡ b → count_of b ≤ limits → count_of a ≤ limits
+  count_same limits a b is h = subst (λ (i : Items). count_of i ≤ limits) (sym is) h
+
+  pub may_grow : MayAct st (grown.root ∷ grown.meta_after ∷ grown.page_after ∷ [])
+  may_grow =
+      let blocked = flagged_block page read.stored.storable.admitted ready.flagged in
+      let meta_at : grown.meta_after.block ≡ 0 = grown.meta_block ∙ read_meta.stored.block_is in
+      let meta_in = inside st.pages 0 meta (read_meta.found sound) in
+      let page_in = inside st.pages page.block page found in
+      let page_at = grown.clear.block_is in
+      let root_at = grown.root_block in
+      (record {
+        admitted = grown.root_admitted block blocked (high_whole page op.target.separator read.stored.storable.admitted ready.high_is) (right_block page new read.stored.storable.admitted right);
+        few = subst (λ (n : ℕ). n ≤ st.limits.items) (sym grown.root_items) items;
+      },
+      (subst (λ (b : ℕ). b ≤ length st.pages) (sym root_at) free_block.within, subst (λ (b : ℕ). b < st.limits.pages) (sym root_at) free_block.inside),
+      ((λ same. (let above = block.0 in omega arith)), ((λ same. apart_page (sym page_at ∙ same ∙ root_at)), tt)),
+      (record {
+        admitted = grown.meta_admitted read_meta.stored.storable.admitted ready.meta_is block;
+        few = count_same st.limits.items grown.meta_after.items meta.items grown.meta_items read_meta.stored.storable.few;
+      },
+      (omega arith, omega arith),
+      ((λ same. (let above = blocked.0 in omega arith)), tt),
+      (record {
+        admitted = grown.page_admitted read.stored.storable.admitted;
+        few = count_same st.limits.items grown.page_after.items page.items grown.page_items read.stored.storable.few;
+      },
+      (omega arith, omega arith), tt, tt)))
+
+  unfinished : IsUnfinished st fits.start meta.level op.target.separator page new
+  unfinished = record {
+    found = found;
+    place = rw (ready.root_level_is, read.stored.block_is) fits.newest.place;
+    flagged = ready.flagged;
+    high_is = ready.high_is;
+    right_is = right;
+  }
+
+  pub root_splits : RootIsSplit st fits.start op.target.separator meta grown.meta_after page grown.page_after grown.root new
+  root_splits = record {
+    meta_found = read_meta.found sound;
+    unfinished = unfinished;
+    meta_is = subst (λ (b : ℕ). IsMetaOf grown.meta_after b (suc meta.level)) (sym grown.root_block) (grown.meta_is ready.meta_is);
+    meta_block = grown.meta_block ∙ read_meta.stored.block_is;
+    root_is = grown.root_is;
+    fresh = subst (IsFresh st) (sym grown.root_block) free_block;
+    clear = grown.clear;
+    may = may_grow;
+  }
+
+  pub may_grow_all : MayAct st pages
+  may_grow_all = subst (MayAct st) (sym grown.pages_are) may_grow
+
+  pub grows : (old_backing new_backing : Backing) (after : FinishOp) (step : FinishStep) → Popped op after step
+      → FinishStepped st old_backing (after_act pages st) new_backing op after (Ok step)
+  grows old_backing new_backing after step popped =
+      subst (λ (ps : List Page). FinishStepped st old_backing (after_act ps st) new_backing op after (Ok step)) (sym grown.pages_are)
+      (let changed : List Page = grown.root ∷ grown.meta_after ∷ grown.page_after ∷ [] in
+      let lasts = root_split_lasts st fits.start op.target.separator meta grown.meta_after page grown.page_after grown.root new has root_splits in
+      let moves = root_split_flags st fits.start op.target.separator meta grown.meta_after page grown.page_after grown.root new has root_splits in
+      let less = root_split_weighs st fits.start op.target.separator meta grown.meta_after page grown.page_after grown.root new has root_splits in
+      let at_page : page.block ≡ op.target.block = read.stored.block_is in
+      clears st (after_act changed st) old_backing new_backing op after step fits
+      (does_finish st op.session changed order may_grow lasts.0 lasts.1 (record {
+        cleared = page.block;
+        was = ap (λ (n : Node). n.split) (node_there st.pages page.block page found) ∙ ready.flagged;
+        raised = None;
+        higher = tt;
+        moves = moves;
+        less = less;
+      }) (
+        subst (λ (b : ℕ). is_held_by_another st.table op.session b Exclusive ≡ false) (sym grown.root_block) free,
+        (subst (λ (b : ℕ). is_held_by_another st.table op.session b Exclusive ≡ false) (sym (grown.meta_block ∙ read_meta.stored.block_is)) read_meta.free,
+        (subst (λ (b : ℕ). is_held_by_another st.table op.session b Exclusive ≡ false) (sym (grown.clear.block_is ∙ at_page)) read.free,
+        tt))))
+      refl refl lasts.0 (subst (λ (b : ℕ). FlagsMove None (Some b) st (after_act changed st)) at_page moves) popped)

@@ -1,0 +1,286 @@
+-- Where a call stands, in a tree.
+use Rattle.std.proofs.Common.{◌≡◌, ◌⊎◌, ℕ, zero, suc, ◌+◌, ◌<◌, ◌≤◌, Bool, true, false, Option, Some, None, List, [], ◌∷◌, ◌++◌, length, slice_get, slice_index, refl, sym, ap, subst, inl, inr, ◌∙◌, arith, length-append}
+use Rattle.index_model.specs.declared.bound.Bound.{Bound}
+use Rattle.page_codec.specs.declared.page.Page.{Page}
+use Rattle.page_codec.specs.Grammar.{IsPage, IsOfKind, IsMeta, IsLeafIn, IsBlock, IsWhole}
+use Rattle.page_codec.specs.declared.page.Items.{Items}
+use Rattle.page_codec.specs.declared.page.Items.TheVariants.{Meta, Entries, Downlinks}
+use Rattle.page_codec.specs.declared.page.PageState.{PageState}
+use Rattle.page_codec.specs.declared.page.PageState.TheVariants.{Live, HalfDead, Deleted}
+use Rattle.index_model.specs.declared.entry.Entry.{Entry}
+use Rattle.std.specs.Prelude.{IsSome, IfSome}
+use Rattle.page_action.specs.States.{State}
+use Rattle.latch_table.specs.Holdings.{Holding, HasRoom, holding_of, nothing_held}
+use Rattle.page_action.proofs.StoredPages.{stored_page}
+use Rattle.tree_shape.specs.Tree.{IsMetaOf}
+use Rattle.tree_shape.specs.Nodes.{Node, nodes_of}
+use Rattle.tree_shape.specs.Walks.{bound_aim, is_fit}
+use Rattle.tree_shape.proofs.Told.{places_keep_their_level}
+use Rattle.tree_acts.proofs.Lasting.{deleted_in_use, fresh_free}
+use Rattle.page_action.specs.Reuse.{IsFresh}
+use Rattle.tree_acts.proofs.Overlays.{inside, node_there}
+use Rattle.tree_acts.proofs.Words.{place_in}
+use Rattle.tree_acts.specs.Trees.{HasTree, HasPlace, HasTrail}
+use Rattle.tree_acts.specs.Acts.{IsUnfinished}
+use Rattle.tree_acts.specs.Ways.{RootIsThere}
+use Rattle.tree_acts.proofs.Telling.{metapage_tells, live_tells, high_tells, trail_begins_here}
+use Rattle.descent.specs.Onward.{IsOnWay, way_from}
+use Rattle.descent.specs.declared.way.Way.{Way}
+use Rattle.split_finish.specs.Targets.{targets_of, IsTarget, FinishStands, FinishFits}
+use Rattle.split_finish.specs.Turns.{Popped, Pushed, Retaken}
+use Rattle.split_finish.specs.declared.finish.FinishAt.{FinishAt}
+use Rattle.split_finish.specs.declared.finish.FinishAt.TheVariants.{Start, Down, Link, Root}
+use Rattle.split_finish.specs.declared.finish.FinishOp.{FinishOp}
+use Rattle.split_finish.specs.declared.finish.FinishStep.{FinishStep}
+use Rattle.split_finish.specs.declared.finish.FinishStep.TheVariants.{Going, Done}
+use Rattle.split_finish.specs.declared.finish.Target.{Target}
+
+-- the metapage that is read is the tree's
+pub meta_same : (st : State) (start level : ℕ) (aim : Bound → Bool) (clear : Bool) (block : ℕ) (meta : Page) → HasPlace st start level aim clear block → slice_get st.pages 0 ≡ Some meta → level ≤ meta.level
+meta_same st start level aim clear block meta place found =
+    let same : place.tree.meta ≡ meta = (let k : Some place.tree.meta ≡ Some meta = sym place.tree.meta_at ∙ found in cc) in
+    subst (λ (m : Page). level ≤ m.level) same place.in_tree
+
+-- the same targets, and another step
+pub fits_moved : (st : State) (op : FinishOp) (at : FinishAt) (fits : FinishFits st op) → FinishStands st fits.start op.target at → FinishFits st (record op { at = at })
+fits_moved st op at fits stands = record {
+  session = fits.session;
+  free = fits.free;
+  start = fits.start;
+  running = fits.running;
+  newest = fits.newest;
+  below = fits.below;
+  stands = stands;
+}
+
+-- from the metapage to the root
+pub starts_down : (st : State) (start : ℕ) (target : Target) (meta : Page) (way : Way) → HasTree st → slice_get st.pages 0 ≡ Some meta → target.level < meta.level
+    → ((root : ℕ) → IsMetaOf meta root meta.level → Some way ≡ Some (way_from root meta.level)) → FinishStands st start target (Down way)
+starts_down st start target meta way h found lower named =
+    by (metapage_tells st start (bound_aim target.separator) true meta h found)
+  where
+    by : RootIsThere st start (bound_aim target.separator) true meta → FinishStands st start target (Down way)
+    by r =
+        let same : way_from r.root meta.level ≡ way = (let k = named r.root r.names in cc) in
+        subst (IsOnWay st start (bound_aim target.separator) true (suc target.level)) same (record {
+          not_below = omega arith;
+          place = r.place;
+          trail = trail_begins_here st start meta.level (bound_aim target.separator) true r.root h r.place;
+        })
+
+-- an item of a list and one more
+get_last : (xs : List Target) (y : Target) (i : ℕ) (t : Target) → slice_get (xs ++ y ∷ []) i ≡ Some t → (slice_get xs i ≡ Some t) ⊎ ((i ≡ length xs) × (y ≡ t))
+get_last [] y zero t h = inr (refl, (let k : y ≡ t = cc in k))
+get_last [] y (suc i) t h = absurd cc
+get_last (x ∷ xs) y zero t h = inl h
+get_last (x ∷ xs) y (suc i) t h =
+    elim (get_last xs y i t h) [
+      | inl k ↦ inl k
+      | inr k ↦ inr (ap suc k.0, k.1)
+    ]
+
+pub get_at_end : (xs : List Target) (y : Target) → slice_get (xs ++ y ∷ []) (length xs) ≡ Some y
+get_at_end [] y = refl
+get_at_end (x ∷ xs) y = get_at_end xs y
+
+pub get_before : (xs : List Target) (y : Target) (i : ℕ) (t : Target) → slice_get xs i ≡ Some t → slice_get (xs ++ y ∷ []) i ≡ Some t
+get_before [] y i t h = absurd cc
+get_before (x ∷ xs) y zero t h = h
+get_before (x ∷ xs) y (suc i) t h = get_before xs y i t h
+
+-- each of the targets is one, the newest too
+pub each_target : (st : State) (op : FinishOp) (fits : FinishFits st op) (i : ℕ) (t : Target) → slice_get (targets_of op) i ≡ Some t → IsTarget st fits.start i t
+each_target st op fits i t h =
+    elim (get_last op.below.items op.target i t h) [
+      | inl k ↦ fits.below i t k
+      | inr k ↦ subst (λ (n : ℕ). IsTarget st fits.start n t) (sym k.0) (subst (IsTarget st fits.start (length op.below.items)) k.1 fits.newest)
+    ]
+
+-- a flagged page with a high key, on the way, as a newer target
+pub rises_to : (st : State) (op after : FinishOp) (way : Way) (page : Page) (separator : Bound) → HasTree st → (fits : FinishFits st op)
+    → Pushed (record { block = way.block; level = way.level; separator = separator }) op after → FinishStands st fits.start op.target (Down way)
+    → slice_get st.pages way.block ≡ Some page → page.state ≡ Live → page.high ≡ Some separator → FinishFits st after
+rises_to st op after way page separator h fits pushed on found alive high =
+    let there : page.block ≡ way.block = (stored_page st.limits way.block st.pages page h.stored found).block_is in
+    let found_there : slice_get st.pages page.block ≡ Some page = subst (λ (b : ℕ). slice_get st.pages b ≡ Some page) (sym there) found in
+    let place_there = subst (HasPlace st fits.start way.level (bound_aim op.target.separator) true) (sym there) on.place in
+    let newer : Target = record { block = way.block; level = way.level; separator = separator } in
+    let place : HasPlace st fits.start way.level (bound_aim separator) true way.block =
+        subst (HasPlace st fits.start way.level (bound_aim separator) true) there
+        (high_tells st fits.start way.level (bound_aim op.target.separator) true page separator h found_there place_there alive high) in
+    let count : length after.below.items ≡ suc (length op.below.items) = ap length pushed.below_is ∙ length-append op.below.items (op.target ∷ []) ∙ omega arith in
+    record {
+      session = subst (λ (s : ℕ). s < 64) (sym pushed.session) fits.session;
+      free = rw pushed.session fits.free;
+      start = fits.start;
+      running = rw pushed.session fits.running;
+      newest = subst (IsTarget st fits.start (length after.below.items)) (sym pushed.target_is) (record {
+        high_enough = (let a = fits.newest.high_enough in let b = on.not_below in omega arith);
+        place = place;
+      });
+      below = λ i t is. each_target st op fits i t (subst (λ (xs : List Target). slice_get xs i ≡ Some t) pushed.below_is is);
+      stands = subst (FinishStands st fits.start after.target) (sym pushed.at_is) tt;
+    }
+
+-- a level of a tree is one that the format has
+pub low_level : (st : State) (start level : ℕ) (aim : Bound → Bool) (clear : Bool) (block : ℕ) → HasTree st → HasPlace st start level aim clear block → level ≤ 31
+low_level st start level aim clear block h place =
+    let s = stored_page st.limits 0 st.pages place.tree.meta h.stored place.tree.meta_at in
+    let kind : IsMeta place.tree.meta = subst (IsOfKind place.tree.meta) place.tree.names_root.kind s.storable.admitted.kind in
+    let a = kind.level in
+    let b = place.in_tree in
+    omega arith
+
+-- a live page that is a place is on its level
+pub live_level : (st : State) (start level : ℕ) (aim : Bound → Bool) (clear : Bool) (block : ℕ) (page : Page) → HasTree st → HasPlace st start level aim clear block → slice_get st.pages block ≡ Some page
+    → page.state ≡ Live → page.level ≡ level
+live_level st start level aim clear block page h place found alive =
+    let there : page.block ≡ block = (stored_page st.limits block st.pages page h.stored found).block_is in
+    (live_tells st start level aim clear page h (subst (λ (b : ℕ). slice_get st.pages b ≡ Some page) (sym there) found) (subst (HasPlace st start level aim clear) (sym there) place) alive).level_is
+
+some_none : {A : Type 0} (x : Option A) → IsSome x → x ≡ None → ⊥
+some_none None h is = cc
+some_none (Some x) h is = cc
+
+-- a flagged page has a high key, by the format, and is live
+pub flagged_has : (page : Page) → IsPage page → page.split ≡ true → (page.high ≡ None → ⊥) × (page.state ≡ Live) × (page.right ≡ None → ⊥)
+flagged_has page admitted flagged = by page.items refl admitted.kind
+  where
+    no : false ≡ true → ⊥
+    no e = cc
+
+    leaf : (es : List Entry) (state : PageState) → page.state ≡ state → IsLeafIn state page es → (page.high ≡ None → ⊥) × (page.state ≡ Live) × (page.right ≡ None → ⊥)
+    leaf es Live is h = ((λ none. some_none page.high (h.high.1 (h.split flagged)) none), is, (λ none. some_none page.right (h.split flagged) none))
+    leaf es HalfDead is h = absurd (no (sym h.split ∙ flagged))
+    leaf es Deleted is h = absurd (no (sym h.split ∙ flagged))
+
+    by : (items : Items) → page.items ≡ items → IsOfKind page items → (page.high ≡ None → ⊥) × (page.state ≡ Live) × (page.right ≡ None → ⊥)
+    by Meta is h = absurd (no (sym h.split ∙ flagged))
+    by (Entries v) is h = leaf v.items page.state refl h.rest
+    by (Downlinks v) is h = ((λ none. some_none page.high (h.high.1 (h.split flagged)) none), h.state, (λ none. some_none page.right (h.split flagged) none))
+
+pub flagged_in : (st : State) (block : ℕ) (page : Page) → HasTree st → slice_get st.pages block ≡ Some page → page.split ≡ true → (page.high ≡ None → ⊥) × (page.state ≡ Live) × (page.right ≡ None → ⊥)
+flagged_in st block page h found = flagged_has page (stored_page st.limits block st.pages page h.stored found).storable.admitted
+
+true_false : true ≡ false → ⊥
+true_false h = cc
+
+-- in a tree a page that is not both live and flagged isn't flagged
+pub not_flagged : (st : State) (block : ℕ) (page : Page) → HasTree st → slice_get st.pages block ≡ Some page → (page.state ≡ Live → page.split ≡ false) → page.split ≡ false
+not_flagged st block page h found whole = by page.split refl
+  where
+    by : (b : Bool) → page.split ≡ b → page.split ≡ false
+    by false is = is
+    by true is = absurd (true_false (sym is ∙ whole (flagged_in st block page h found is).1))
+
+-- behind the newest target the ones below it are left
+pub fits_popped : (st : State) (before after : FinishOp) (start : ℕ) → Popped before after Going → before.session < 64 → holding_of st.table before.session ≡ nothing_held
+    → slice_get st.running before.session ≡ Some (Some start) → ((i : ℕ) (t : Target) → slice_get before.below.items i ≡ Some t → IsTarget st start i t) → FinishFits st after
+fits_popped st before after start popped session free running below = record {
+  session = subst (λ (s : ℕ). s < 64) (sym popped.session) session;
+  free = rw popped.session free;
+  start = start;
+  running = rw popped.session running;
+  newest = below (length after.below.items) after.target (rw popped.list_is (get_at_end after.below.items after.target));
+  below = λ i t is. below i t (rw popped.list_is (get_before after.below.items after.target i t is));
+  stands = subst (FinishStands st start after.target) (sym popped.at_is) tt;
+}
+
+-- the newest target as its page is now
+pub fits_retaken : (st : State) (op after : FinishOp) (separator : Bound) (at : FinishAt) (page : Page) → HasTree st → (fits : FinishFits st op) → Retaken separator at op after
+    → slice_get st.pages op.target.block ≡ Some page → page.state ≡ Live → page.high ≡ Some separator → FinishStands st fits.start after.target at → FinishFits st after
+fits_retaken st op after separator at page h fits taken found alive high stands =
+    let there : page.block ≡ op.target.block = (stored_page st.limits op.target.block st.pages page h.stored found).block_is in
+    let found_there : slice_get st.pages page.block ≡ Some page = subst (λ (b : ℕ). slice_get st.pages b ≡ Some page) (sym there) found in
+    let place_there = subst (HasPlace st fits.start op.target.level (bound_aim op.target.separator) true) (sym there) fits.newest.place in
+    let place : HasPlace st fits.start op.target.level (bound_aim separator) true op.target.block =
+        subst (HasPlace st fits.start op.target.level (bound_aim separator) true) there
+        (high_tells st fits.start op.target.level (bound_aim op.target.separator) true page separator h found_there place_there alive high) in
+    record {
+      session = subst (λ (s : ℕ). s < 64) (sym taken.session) fits.session;
+      free = rw taken.session fits.free;
+      start = fits.start;
+      running = rw taken.session fits.running;
+      newest = rw (taken.target_is, taken.below_is) (record { high_enough = fits.newest.high_enough; place = place });
+      below = λ i t is. fits.below i t (subst (λ (v : _). slice_get v.items i ≡ Some t) taken.below_is is);
+      stands = subst (FinishStands st fits.start after.target) (sym taken.at_is) stands;
+    }
+
+-- the split of a flagged page that is a place is to be finished
+pub record ToFinish (st : State) (start level : ℕ) (page : Page) : Type 0 where
+  pub separator : Bound
+  pub new : ℕ
+  pub is : IsUnfinished st start level separator page new
+
+some_is : {A : Type 0} (x : Option A) → (x ≡ None → ⊥) → (a : A) × (x ≡ Some a)
+some_is None h = absurd (h refl)
+some_is (Some a) h = (a, refl)
+
+pub to_finish : (st : State) (start level : ℕ) (aim : Bound → Bool) (block : ℕ) (page : Page) → HasTree st → HasPlace st start level aim true block → slice_get st.pages block ≡ Some page → page.split ≡ true
+    → ToFinish st start level page
+to_finish st start level aim block page h place found flagged =
+    let has = flagged_in st block page h found flagged in
+    let high = some_is page.high has.0 in
+    let right = some_is page.right has.2 in
+    let there : page.block ≡ block = (stored_page st.limits block st.pages page h.stored found).block_is in
+    let found_there : slice_get st.pages page.block ≡ Some page = subst (λ (b : ℕ). slice_get st.pages b ≡ Some page) (sym there) found in
+    record {
+      separator = high.0;
+      new = right.0;
+      is = record {
+        found = found_there;
+        place = high_tells st start level aim true page high.0 h found_there (subst (HasPlace st start level aim true) (sym there) place) has.1 high.1;
+        flagged = flagged;
+        high_is = high.1;
+        right_is = right.1;
+      };
+    }
+
+-- a place is the block of a page in use
+pub place_inside : (st : State) (start level : ℕ) (aim : Bound → Bool) (clear : Bool) (block : ℕ) → HasTree st → HasPlace st start level aim clear block → block < length st.pages
+place_inside st start level aim clear block h place =
+    let p = place_in st h.tree start level aim clear block place in
+    elim (places_keep_their_level (nodes_of st.pages) (slice_index st.counted) (length st.pages) h.tree.root h.tree.meta.level h.tree.chain level start (is_fit aim clear) block h.tree.is p.in_tree p.place) [
+      | inl gone ↦ (deleted_in_use st h block gone).1
+      | inr on ↦ (h.tree.is.in_use level block p.in_tree on.1).1
+    ]
+
+-- there is a metapage
+pub meta_inside : (st : State) → HasTree st → 0 < length st.pages
+meta_inside st h = inside st.pages 0 h.tree.meta h.tree.meta_at
+
+-- a session that holds nothing may latch a page
+pub has_room : (st : State) (op : FinishOp) → FinishFits st op → HasRoom st.table op.session
+has_room st op fits = subst (λ (held : Holding). length held.latches < 8) (sym fits.free) (omega arith)
+
+-- a flagged page isn't the metapage, by the format
+pub flagged_block : (page : Page) → IsPage page → page.split ≡ true → IsBlock page.block
+flagged_block page admitted flagged = by page.items refl admitted.kind
+  where
+    no : false ≡ true → ⊥
+    no e = cc
+
+    by : (items : Items) → page.items ≡ items → IsOfKind page items → IsBlock page.block
+    by Meta is h = absurd (no (sym h.split ∙ flagged))
+    by (Entries v) is h = h.block
+    by (Downlinks v) is h = h.block
+
+if_some : {A : Type 0} (P : A → Type 0) (x : Option A) (a : A) → IfSome x P → x ≡ Some a → P a
+if_some P None a h is = absurd cc
+if_some P (Some b) a h is = subst P (let k : b ≡ a = cc in k) h
+
+pub right_block : (page : Page) (new : ℕ) → IsPage page → page.right ≡ Some new → IsBlock new
+right_block page new admitted is = if_some IsBlock page.right new admitted.right is
+
+pub high_whole : (page : Page) (high : Bound) → IsPage page → page.high ≡ Some high → IsWhole high
+high_whole page high admitted is = if_some IsWhole page.high high admitted.high is
+
+-- a fresh block isn't that of a live page
+pub fresh_not_live : (st : State) (fresh block : ℕ) (page : Page) → HasTree st → IsFresh st fresh → slice_get st.pages block ≡ Some page → page.state ≡ Live → block ≡ fresh → ⊥
+fresh_not_live st fresh block page h new found alive same =
+    let free = fresh_free st fresh h new in
+    let gone = free.not_in_use (subst (λ (b : ℕ). b < length st.pages) same (inside st.pages block page found)) in
+    live_deleted (sym alive ∙ sym (ap (λ (n : Node). n.state) (node_there st.pages fresh page (subst (λ (b : ℕ). slice_get st.pages b ≡ Some page) same found))) ∙ gone)
+  where
+    live_deleted : Live ≡ Deleted → ⊥
+    live_deleted e = cc

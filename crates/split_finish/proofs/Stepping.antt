@@ -1,0 +1,268 @@
+-- Steps that read and change nothing but the call, and those that act behind their readings.
+use Rattle.std.proofs.Common.{◌≡◌, ◌⊎◌, ℕ, zero, suc, ◌+◌, ◌*◌, ◌<◌, ◌≤◌, ◌||◌, nat_lt, nat_le, Bool, true, false, Option, Some, None, Result, Ok, Err, length, slice_get, refl, sym, ap, subst, inl, inr, ◌∙◌, arith}
+use Rattle.std.proofs.lemmas.Bool.{ltb-true, lt-ltb}
+use Rattle.std.specs.Prelude.{OnOk, OnErr}
+use Rattle.index_model.specs.Faults.{HasCause}
+use Rattle.index_model.specs.declared.fault.Fault.{Fault}
+use Rattle.index_model.specs.declared.fault.Fault.TheVariants.{NoMemory, Io, Stopped, Blocked, Exists, KeyTooLong, BadRow, IndexFull, LogFull, NoFrame, VacuumRunning, NoSession, SessionBusy, BadSuper, BadVersion, LogDamaged, PageDamaged, BadLimits, TooTall, DeviceTooSmall}
+use Rattle.page_action.specs.Causes.{is_at_end}
+use Rattle.page_action.specs.States.{State, Backing, Continues}
+use Rattle.page_action.specs.declared.page_store.PageStore.{Ghosts}
+use Rattle.descent.specs.Shared.{IsInOrder, IsOneStep, Does, is_flagged, where_working}
+use Rattle.descent.proofs.Acting.{one_nothing, nothing_else}
+use Rattle.split_finish.specs.Targets.{FinishFits, OnlyTargetsAreFlagged, targets_of, finish_left, walk_length}
+use Rattle.split_finish.specs.Turns.{Turned, TurnGoesOn, TurnIsOver, where_turned}
+use Rattle.split_finish.specs.Finishes.{FinishSteps, FinishStays, FinishStepped, FinishGoesOn, FinishIsDone, images_of, frames_of}
+use Rattle.split_finish.specs.Acting.{FinishActs}
+use Rattle.split_finish.specs.declared.finish.FinishOp.{FinishOp}
+use Rattle.split_finish.specs.declared.finish.FinishStep.{FinishStep}
+use Rattle.split_finish.specs.declared.finish.FinishStep.TheVariants.{Going, Done}
+
+-- a step that is refused before anything is changed
+pub refuses : {S : Type 0} (g : Ghosts S) (op : FinishOp) (old new : S) (fault : Fault) → Continues g.follows old new → g.state new ≡ g.state old
+    → ((g.backing old).stopped ≡ true → fault ≡ Stopped)
+    → ((g.backing new).honest ≡ true → IsInOrder (g.state old) → FinishFits (g.state old) op
+        → HasCause (where_working (g.state old) (g.backing old) (g.backing new) op.session (images_of op.at) (frames_of op.at)) fault)
+    → FinishSteps g op op old new (Err fault)
+refuses g op old new fault steps same stops cause = record {
+  steps = steps;
+  session = refl;
+  kept = one_nothing (g.state old) (g.state new) same;
+  table = ap (λ (st : State). st.table) same;
+  refused = record { state = same; op = refl };
+  stopped = λ h. ap Err (stops h);
+  less = λ honest is. absurd cc;
+  over = λ honest is. absurd cc;
+  stepped = cause;
+}
+
+-- why a turn is refused, a step is
+pub turn_cause : (st : State) (first third : Backing) (session images frames : ℕ) (fault : Fault) → HasCause (where_turned st) fault → HasCause (where_working st first third session images frames) fault
+turn_cause st first third session images frames TooTall h = h
+turn_cause st first third session images frames NoMemory h = h
+turn_cause st first third session images frames Io h = absurd cc
+turn_cause st first third session images frames Stopped h = absurd cc
+turn_cause st first third session images frames (Blocked b) h = absurd cc
+turn_cause st first third session images frames Exists h = h
+turn_cause st first third session images frames KeyTooLong h = h
+turn_cause st first third session images frames BadRow h = h
+turn_cause st first third session images frames IndexFull h = absurd cc
+turn_cause st first third session images frames LogFull h = absurd cc
+turn_cause st first third session images frames NoFrame h = absurd cc
+turn_cause st first third session images frames VacuumRunning h = h
+turn_cause st first third session images frames NoSession h = h
+turn_cause st first third session images frames SessionBusy h = h
+turn_cause st first third session images frames BadSuper h = h
+turn_cause st first third session images frames BadVersion h = h
+turn_cause st first third session images frames LogDamaged h = h
+turn_cause st first third session images frames (PageDamaged b) h = h
+turn_cause st first third session images frames BadLimits h = h
+turn_cause st first third session images frames DeviceTooSmall h = h
+
+going_done : Going ≡ Done → ⊥
+going_done e = cc
+
+-- a step that reads, and turns
+pub turns : {S : Type 0} (g : Ghosts S) (before after : FinishOp) (old new : S) (result : Result FinishStep Fault) → Continues g.follows old new → g.state new ≡ g.state old
+    → after.session ≡ before.session → OnErr result (after ≡ before) → ((g.backing old).stopped ≡ true → ⊥)
+    → ((g.backing new).honest ≡ true → Turned (g.state old) before after result)
+    → FinishSteps g before after old new result
+turns g before after old new (Ok Going) steps same session kept runs turned = record {
+  steps = steps;
+  session = session;
+  kept = one_nothing (g.state old) (g.state new) same;
+  table = ap (λ (st : State). st.table) same;
+  refused = tt;
+  stopped = λ h. absurd (runs h);
+  less = λ honest is acts. subst (λ (st : State). finish_left st.limits.pages st.pages after < finish_left (g.state old).limits.pages (g.state old).pages before) (sym same) (turned honest).less;
+  over = λ honest is. absurd cc;
+  stepped = λ honest order fits. record {
+    effect = None;
+    shapes = inl refl;
+    does = nothing_else before.session (g.state old) (g.state new) same order;
+    table = ap (λ (st : State). st.table) same;
+    fits = subst (λ (st : State). FinishFits st after) (sym same) ((turned honest).fits order.tree fits);
+    flags = λ h. subst (λ (st : State). OnlyTargetsAreFlagged st (targets_of after)) (sym same) ((turned honest).flags h);
+  };
+}
+turns g before after old new (Ok Done) steps same session kept runs turned = record {
+  steps = steps;
+  session = session;
+  kept = one_nothing (g.state old) (g.state new) same;
+  table = ap (λ (st : State). st.table) same;
+  refused = tt;
+  stopped = λ h. absurd (runs h);
+  less = λ honest is. absurd cc;
+  over = λ honest is acts. (turned honest).over;
+  stepped = λ honest order fits. record {
+    effect = None;
+    shapes = inl refl;
+    does = nothing_else before.session (g.state old) (g.state new) same order;
+    table = ap (λ (st : State). st.table) same;
+    flags = λ h. subst (λ (st : State). (block : ℕ) → is_flagged st block ≡ false) (sym same) ((turned honest).flags h);
+  };
+}
+turns g before after old new (Err fault) steps same session kept runs turned = record {
+  steps = steps;
+  session = session;
+  kept = one_nothing (g.state old) (g.state new) same;
+  table = ap (λ (st : State). st.table) same;
+  refused = record { state = same; op = kept };
+  stopped = λ h. absurd (runs h);
+  less = λ honest is. absurd cc;
+  over = λ honest is. absurd cc;
+  stepped = λ honest order fits. turn_cause (g.state old) (g.backing old) (g.backing new) before.session (images_of before.at) (frames_of before.at) fault (turned honest order.tree fits);
+}
+
+or_first : (a b c : Bool) → (a ≡ true → c ≡ true) → (a || b) ≡ true → (c || b) ≡ true
+or_first true b c f h = rw (f refl) refl
+or_first false b true f h = refl
+or_first false b false f h = h
+
+-- a cause behind the readings is one from the start
+pub earlier_cause : (st : State) (first second third : Backing) (session images frames : ℕ) (fault : Fault)
+    → first.failures ≤ second.failures → (second.stopped ≡ true → first.stopped ≡ true) → second.promised ≡ first.promised
+    → HasCause (where_working st second third session images frames) fault → HasCause (where_working st first third session images frames) fault
+earlier_cause st first second third session images frames Io le alive promised h =
+    (let k : second.failures < third.failures = ltb-true second.failures third.failures h in lt-ltb first.failures third.failures (omega arith))
+earlier_cause st first second third session images frames Stopped le alive promised h = or_first second.stopped (is_at_end st.acts) first.stopped alive h
+earlier_cause st first second third session images frames LogFull le alive promised h = subst (λ (n : ℕ). nat_le n images ≡ true) promised h
+earlier_cause st first second third session images frames NoFrame le alive promised h = h
+earlier_cause st first second third session images frames TooTall le alive promised h = h
+earlier_cause st first second third session images frames IndexFull le alive promised h = h
+earlier_cause st first second third session images frames (Blocked b) le alive promised h = h
+earlier_cause st first second third session images frames (PageDamaged b) le alive promised h = h
+earlier_cause st first second third session images frames NoMemory le alive promised h = h
+earlier_cause st first second third session images frames Exists le alive promised h = h
+earlier_cause st first second third session images frames KeyTooLong le alive promised h = h
+earlier_cause st first second third session images frames BadRow le alive promised h = h
+earlier_cause st first second third session images frames VacuumRunning le alive promised h = h
+earlier_cause st first second third session images frames NoSession le alive promised h = h
+earlier_cause st first second third session images frames SessionBusy le alive promised h = h
+earlier_cause st first second third session images frames BadSuper le alive promised h = h
+earlier_cause st first second third session images frames BadVersion le alive promised h = h
+earlier_cause st first second third session images frames LogDamaged le alive promised h = h
+earlier_cause st first second third session images frames BadLimits le alive promised h = h
+earlier_cause st first second third session images frames DeviceTooSmall le alive promised h = h
+
+-- what a step did behind its readings, it did from the start
+earlier_stepped : (old new : State) (first second third : Backing) (before after : FinishOp) (result : Result FinishStep Fault)
+    → first.failures ≤ second.failures → (second.stopped ≡ true → first.stopped ≡ true) → second.promised ≡ first.promised
+    → FinishStepped old second new third before after result → FinishStepped old first new third before after result
+earlier_stepped old new first second third before after (Ok Going) le alive promised h = h
+earlier_stepped old new first second third before after (Ok Done) le alive promised h = h
+earlier_stepped old new first second third before after (Err fault) le alive promised h =
+    earlier_cause old first second third before.session (images_of before.at) (frames_of before.at) fault le alive promised h
+
+-- the readings before
+pub record HasRead {S : Type 0} (g : Ghosts S) (old mid : S) : Type 0 where
+  pub steps : Continues g.follows old mid
+  pub same : g.state mid ≡ g.state old
+  pub failures : (g.backing old).failures ≤ (g.backing mid).failures
+  pub alive : (g.backing mid).stopped ≡ true → (g.backing old).stopped ≡ true
+  pub promised : (g.backing mid).promised ≡ (g.backing old).promised
+
+at_start : {S : Type 0} (g : Ghosts S) (before after : FinishOp) (old mid new : S) (result : Result FinishStep Fault) (P : State → Type 0) → HasRead g old mid → P (g.state mid) → P (g.state old)
+at_start g before after old mid new result P read h = subst P read.same h
+
+-- the whole step, from its readings on
+pub behind : {S : Type 0} (g : Ghosts S) (before after : FinishOp) (old mid new : S) (result : Result FinishStep Fault) → HasRead g old mid → ((g.backing old).stopped ≡ true → ⊥)
+    → FinishActs g before after mid new result → FinishSteps g before after old new result
+behind g before after old mid new result read runs acts = record {
+  steps = λ first h. acts.steps first (read.steps first h);
+  session = acts.session;
+  kept = subst (λ (st : State). IsOneStep st (g.state new)) read.same acts.kept;
+  table = subst (λ (st : State). (g.state new).table ≡ st.table) read.same acts.table;
+  refused = subst (λ (st : State). OnErr result (FinishStays st (g.state new) before after)) read.same acts.refused;
+  stopped = λ h. absurd (runs h);
+  less = λ honest is same. subst (λ (st : State). finish_left (g.state new).limits.pages (g.state new).pages after < finish_left st.limits.pages st.pages before) read.same
+      (acts.less honest is (same ∙ ap (λ (st : State). st.acts) (sym read.same)));
+  over = λ honest is same. subst (λ (st : State). 34 * suc (walk_length st.limits.pages) ≤ finish_left st.limits.pages st.pages before) read.same
+      (acts.over honest is (same ∙ ap (λ (st : State). st.acts) (sym read.same)));
+  stepped = λ honest order fits. earlier_stepped (g.state old) (g.state new) (g.backing old) (g.backing mid) (g.backing new) before after result read.failures read.alive read.promised
+      (subst (λ (st : State). FinishStepped st (g.backing mid) (g.state new) (g.backing new) before after result) read.same
+      (acts.stepped honest (subst IsInOrder (sym read.same) order) (subst (λ (st : State). FinishFits st before) (sym read.same) fits)));
+}
+
+-- a further reading, and then the act
+pub behind_more : {S : Type 0} (g : Ghosts S) (before after : FinishOp) (old mid new : S) (result : Result FinishStep Fault) → HasRead g old mid
+    → FinishActs g before after mid new result → FinishActs g before after old new result
+behind_more g before after old mid new result read acts = record {
+  steps = λ first h. acts.steps first (read.steps first h);
+  session = acts.session;
+  kept = subst (λ (st : State). IsOneStep st (g.state new)) read.same acts.kept;
+  table = subst (λ (st : State). (g.state new).table ≡ st.table) read.same acts.table;
+  refused = subst (λ (st : State). OnErr result (FinishStays st (g.state new) before after)) read.same acts.refused;
+  less = λ honest is same. subst (λ (st : State). finish_left (g.state new).limits.pages (g.state new).pages after < finish_left st.limits.pages st.pages before) read.same
+      (acts.less honest is (same ∙ ap (λ (st : State). st.acts) (sym read.same)));
+  over = λ honest is same. subst (λ (st : State). 34 * suc (walk_length st.limits.pages) ≤ finish_left st.limits.pages st.pages before) read.same
+      (acts.over honest is (same ∙ ap (λ (st : State). st.acts) (sym read.same)));
+  stepped = λ honest order fits. earlier_stepped (g.state old) (g.state new) (g.backing old) (g.backing mid) (g.backing new) before after result read.failures read.alive read.promised
+      (subst (λ (st : State). FinishStepped st (g.backing mid) (g.state new) (g.backing new) before after result) read.same
+      (acts.stepped honest (subst IsInOrder (sym read.same) order) (subst (λ (st : State). FinishFits st before) (sym read.same) fits)));
+}
+
+-- a step behind its readings that is refused, with nothing changed
+pub acts_not : {S : Type 0} (g : Ghosts S) (op : FinishOp) (old new : S) (fault : Fault) → Continues g.follows old new → g.state new ≡ g.state old
+    → ((g.backing new).honest ≡ true → IsInOrder (g.state old) → FinishFits (g.state old) op
+        → HasCause (where_working (g.state old) (g.backing old) (g.backing new) op.session (images_of op.at) (frames_of op.at)) fault)
+    → FinishActs g op op old new (Err fault)
+acts_not g op old new fault steps same cause = record {
+  steps = steps;
+  session = refl;
+  kept = one_nothing (g.state old) (g.state new) same;
+  table = ap (λ (st : State). st.table) same;
+  refused = record { state = same; op = refl };
+  less = λ honest is. absurd cc;
+  over = λ honest is. absurd cc;
+  stepped = cause;
+}
+
+-- a turn behind its readings
+pub turns_behind : {S : Type 0} (g : Ghosts S) (before after : FinishOp) (old : S) (result : Result FinishStep Fault)
+    → after.session ≡ before.session → OnErr result (after ≡ before)
+    → ((g.backing old).honest ≡ true → Turned (g.state old) before after result)
+    → FinishActs g before after old old result
+turns_behind g before after old (Ok Going) session kept turned = record {
+  steps = λ first h. h;
+  session = session;
+  kept = one_nothing (g.state old) (g.state old) refl;
+  table = refl;
+  refused = tt;
+  less = λ honest is acts. (turned honest).less;
+  over = λ honest is. absurd cc;
+  stepped = λ honest order fits. record {
+    effect = None;
+    shapes = inl refl;
+    does = nothing_else before.session (g.state old) (g.state old) refl order;
+    table = refl;
+    fits = (turned honest).fits order.tree fits;
+    flags = (turned honest).flags;
+  };
+}
+turns_behind g before after old (Ok Done) session kept turned = record {
+  steps = λ first h. h;
+  session = session;
+  kept = one_nothing (g.state old) (g.state old) refl;
+  table = refl;
+  refused = tt;
+  less = λ honest is. absurd cc;
+  over = λ honest is acts. (turned honest).over;
+  stepped = λ honest order fits. record {
+    effect = None;
+    shapes = inl refl;
+    does = nothing_else before.session (g.state old) (g.state old) refl order;
+    table = refl;
+    flags = (turned honest).flags;
+  };
+}
+turns_behind g before after old (Err fault) session kept turned = record {
+  steps = λ first h. h;
+  session = session;
+  kept = one_nothing (g.state old) (g.state old) refl;
+  table = refl;
+  refused = record { state = refl; op = kept };
+  less = λ honest is. absurd cc;
+  over = λ honest is. absurd cc;
+  stepped = λ honest order fits. turn_cause (g.state old) (g.backing old) (g.backing old) before.session (images_of before.at) (frames_of before.at) fault (turned honest order.tree fits);
+}

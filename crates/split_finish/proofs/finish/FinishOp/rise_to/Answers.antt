@@ -1,0 +1,33 @@
+use Rattle.std.proofs.Common.{◌≡◌, ◌<◌, ◌≤◌, ◌==◌, ℕ, true, false, length, subst, sym, ◌∙◌, arith}
+use Rattle.std.proofs.lemmas.Bool.{eqb-true}
+use Rattle.std.proofs.lemmas.Bool.Decides.{eqb_tells}
+use Rattle.std.proofs.Common.{inl, inr}
+use Rattle.split_finish.specs.Targets.{FinishStands}
+use Rattle.split_finish.proofs.Standing.{low_level, live_level, flagged_in}
+use Rattle.split_finish.proofs.Turning.{turn_risen}
+use Rattle.split_finish.proofs.finish.FinishOp.rise_to.Goals as goal
+use Rattle.split_finish.proofs.finish.FinishOp.rise_to.Goals.{then-page-way-via-then-page-way, then-page-way-via-else-page-way+then-is_full}
+
+pub returns-then-page-way-clause-turn : goal.returns-then-page-way-clause-turn
+returns-then-page-way-clause-turn c = λ st found h fits.
+    let on = subst (FinishStands st fits.start c.args.self.now.target) c.requires.down fits.stands in
+    elim c.then-page-way.branch [
+      | then-page-way-via-then-page-way w ↦ absurd (w.if-page-way.true (live_level st fits.start c.args.way.level _ true c.args.way.block c.args.page.now h on.place found c.requires.live))
+      | then-page-way-via-else-page-way+then-is_full w ↦ absurd (
+          let full : length c.args.self.now.below.items ≡ 31 = eqb-true _ 31 (sym w.is_full.ensures.value ∙ w.if-is_full.true) in
+          let low = low_level st fits.start c.args.way.level _ true c.args.way.block h on.place in
+          let a = on.not_below in
+          let b = fits.newest.high_enough in
+          omega arith)
+    ]
+
+pub returns-in_default-clause-turn : goal.returns-in_default-clause-turn
+returns-in_default-clause-turn c = λ st found h fits. absurd ((flagged_in st c.args.way.block c.args.page.now h found c.requires.flagged).0 c.in_default.is)
+
+pub returns-clause-turn : goal.returns-clause-turn
+returns-clause-turn c = λ st found.
+    turn_risen st c.args.self.now c.push.new.self c.args.way c.args.page.now c.in-Some.separator c.requires.down c.push.ensures found c.requires.live c.requires.flagged c.in-Some.is
+    (by (length c.args.self.now.below.items) c.is_full.ensures.fits (sym c.is_full.ensures.value ∙ c.if-is_full.false))
+  where
+    by : (n : ℕ) → n ≤ 31 → (n == 31) ≡ false → n < 31
+    by n le ne = elim (eqb_tells n 31) [ inl k ↦ absurd cc | inr k ↦ (let z = k.1 in omega arith) ]

@@ -1,0 +1,100 @@
+-- The acts by which splits are finished: which pages they write, and what they do.
+use Rattle.std.specs.Prelude.{◌≡◌, ◌≢◌, ◌⊎◌, ℕ, suc, ◌+◌, ◌*◌, ◌<◌, ◌≤◌, Bool, true, false, All, Option, Some, None, Result, Ok, OnErr, List, [], ◌∷◌, ◌++◌, length, slice_get}
+use Rattle.index_model.specs.declared.bound.Bound.{Bound}
+use Rattle.index_model.specs.declared.fault.Fault.{Fault}
+use Rattle.latch_table.specs.Holdings.{is_held_by_another}
+use Rattle.latch_table.specs.declared.mode.Mode.TheVariants.{Exclusive}
+use Rattle.page_codec.specs.declared.page.Downlink.{Downlink}
+use Rattle.page_codec.specs.declared.page.Page.{Page}
+use Rattle.page_codec.specs.Grammar.{IsBlock, IsPage, IsWhole}
+use Rattle.page_action.specs.States.{State, Continues}
+use Rattle.page_action.specs.Stored.{IsStored}
+use Rattle.page_action.specs.declared.page_store.PageStore.{Ghosts}
+use Rattle.tree_shape.specs.Edits.{IsLinkAdded, with_links, new_root}
+use Rattle.tree_shape.specs.Tree.{IsMetaOf}
+use Rattle.page_codec.specs.Spelling.{count_of}
+use Rattle.page_codec.specs.declared.page.Items.TheVariants.{Meta}
+use Rattle.tree_shape.specs.LinkPlaces.{HasLinks, FitsBehind, child_at}
+use Rattle.tree_shape.specs.Nodes.{node_of, links_of}
+use Rattle.tree_acts.specs.Acts.{IsClear}
+use Rattle.descent.specs.Shared.{IsInOrder, IsOneStep}
+use Rattle.split_finish.specs.Targets.{FinishFits, finish_left, walk_length}
+use Rattle.split_finish.specs.Finishes.{FinishStays, FinishStepped}
+use Rattle.split_finish.specs.declared.finish.FinishOp.{FinishOp}
+use Rattle.split_finish.specs.declared.finish.FinishStep.{FinishStep}
+use Rattle.split_finish.specs.declared.finish.FinishStep.TheVariants.{Going, Done}
+
+-- the downlink at this place leads to the child, and one with the separator for its bound may stand behind it
+pub record IsLinkPlace (parent : Page) (child : ℕ) (separator : Bound) (at : ℕ) : Type 0 where
+  pub internal : HasLinks parent.items
+  pub inside : at < length (links_of parent.items)
+  pub leads : child_at (links_of parent.items) at ≡ child
+  pub fits : FitsBehind (links_of parent.items) at separator parent.high
+
+-- no downlink leads to the child, or the separator doesn't fit behind one that does
+abbrev pub NoLinkPlace : Page → ℕ → Bound → Type 0
+NoLinkPlace parent child separator =
+    All (λ d. d.child ≢ child) (links_of parent.items)
+    ⊎ ((at : ℕ) × (at < length (links_of parent.items))
+    × (child_at (links_of parent.items) at ≡ child)
+    × (FitsBehind (links_of parent.items) at separator parent.high → ⊥))
+
+-- the pages of an act that puts a downlink on a parent with room
+pub record AreLinked (parent page : Page) (separator : Bound) (new : ℕ) (pages : List Page)
+    : Type 0 where
+  pub parent_after : Page
+  pub page_after : Page
+  pub pages_are : pages ≡ parent_after ∷ page_after ∷ []
+  pub added : IsLinkAdded page.block new separator (links_of parent.items) (links_of parent_after.items)
+  pub after_is : node_of parent_after ≡ with_links (node_of parent) (links_of parent_after.items)
+  pub block_is : parent_after.block ≡ parent.block
+  pub clear : IsClear page page_after
+  pub count : count_of parent_after.items ≡ suc (length (links_of parent.items))
+  pub admitted : IsPage parent → IsBlock new → IsWhole separator → IsPage parent_after
+  pub page_items : page_after.items ≡ page.items
+  pub page_admitted : IsPage page → IsPage page_after
+
+-- the pages of an act that makes a new root over a page and its right half
+pub record AreGrown (meta page : Page) (separator : Bound) (new fresh : ℕ) (pages : List Page)
+    : Type 0 where
+  pub root : Page
+  pub meta_after : Page
+  pub page_after : Page
+  pub pages_are : pages ≡ root ∷ meta_after ∷ page_after ∷ []
+  pub root_is : node_of root ≡ new_root (suc meta.level) page.block separator new
+  pub root_block : root.block ≡ fresh
+  pub root_items : count_of root.items ≡ 2
+  pub root_admitted : IsBlock fresh → IsBlock page.block → IsWhole separator → IsBlock new → IsPage root
+  pub meta_is : meta.items ≡ Meta → IsMetaOf meta_after fresh (suc meta.level)
+  pub meta_block : meta_after.block ≡ meta.block
+  pub meta_items : meta_after.items ≡ meta.items
+  pub meta_admitted : IsPage meta → meta.items ≡ Meta → IsBlock fresh → IsPage meta_after
+  pub clear : IsClear page page_after
+  pub page_items : page_after.items ≡ page.items
+  pub page_admitted : IsPage page → IsPage page_after
+
+-- the page of this block as it was read to be changed: no other session holds it
+pub record IsRead (st : State) (honest : Bool) (session block : ℕ) (page : Page) : Type 0 where
+  pub found : honest ≡ true → slice_get st.pages block ≡ Some page
+  pub stored : IsStored st.limits block page
+  pub free : is_held_by_another st.table session block Exclusive ≡ false
+
+-- What the part of a step does that stands behind its readings: what a step does, but that the log may have stopped before.
+pub record FinishActs {S : Type 0} (g : Ghosts S) (before after : FinishOp) (old new : S)
+    (result : Result FinishStep Fault) : Type 0 where
+  pub steps : Continues g.follows old new
+  pub session : after.session ≡ before.session
+  pub kept : IsOneStep (g.state old) (g.state new)
+  pub table : (g.state new).table ≡ (g.state old).table
+  pub refused : OnErr result (FinishStays (g.state old) (g.state new) before after)
+  pub less : (g.backing new).honest ≡ true → result ≡ Ok Going
+      → (g.state new).acts ≡ (g.state old).acts
+      → finish_left (g.state new).limits.pages (g.state new).pages after
+      < finish_left (g.state old).limits.pages (g.state old).pages before
+  pub over : (g.backing new).honest ≡ true → result ≡ Ok Done
+      → (g.state new).acts ≡ (g.state old).acts
+      → 34 * suc (walk_length (g.state old).limits.pages)
+      ≤ finish_left (g.state old).limits.pages (g.state old).pages before
+  pub stepped : (g.backing new).honest ≡ true → IsInOrder (g.state old)
+      → FinishFits (g.state old) before
+      → FinishStepped (g.state old) (g.backing old) (g.state new) (g.backing new) before after result

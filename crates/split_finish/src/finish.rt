@@ -1,0 +1,120 @@
+//! The call, and which step it makes next.
+
+ghost use Rattle.std.specs.Prelude.{◌≡◌, []};
+ghost use Rattle.split_finish.specs.Finishes.{FinishSteps};
+
+use arrayvec::ArrayVec;
+use descent::{Way, look};
+use index_model::{Bound, Fault, Key, Session};
+use page_action::PageStore;
+
+/// A page whose split is to be finished.
+#[derive(Clone, Copy)]
+pub struct Target {
+    /// Its block, 1 to 65,535.
+    pub block: u32,
+    /// Its level, 0 to 31.
+    pub level: u8,
+    /// Its high key, which parts it from its right half.
+    pub separator: Bound,
+}
+
+impl Default for Target {
+    fn default() -> Target {
+        Target {
+            block: 0,
+            level: 0,
+            separator: Bound {
+                key: Key::EMPTY,
+                row: None,
+            },
+        }
+    }
+}
+
+/// What the next step does.
+#[derive(Clone, Copy)]
+pub enum FinishAt {
+    /// It reads the metapage.
+    Start,
+    /// It reads a page on the way to the parent of the newest target.
+    Down(Way),
+    /// It puts the downlink of the right half on this page, the parent.
+    Link(Way),
+    /// It makes a new root over the newest target and its right half.
+    Root,
+}
+
+/// The splits that a call finishes, each after those above it.
+#[derive(Drop)]
+pub struct FinishOp {
+    /// The session of the call.
+    pub session: Session,
+    /// The newest target, which is finished first.
+    pub target: Target,
+    /// The older ones, oldest first, 31 at most.
+    pub below: ArrayVec<Target, 31>,
+    /// What the next step does.
+    pub at: FinishAt,
+}
+
+/// What a step answers.
+#[derive(Clone, Copy)]
+pub enum FinishStep {
+    /// There are more steps to make.
+    Going,
+    /// No target is left.
+    Done,
+}
+
+impl FinishOp {
+    /// Finishes the split of this page, and of those that are met on the way.
+    pub fn new(session: Session, target: Target) -> FinishOp
+        ensures session { result.session ≡ session }
+        ensures target { result.target ≡ target }
+        ensures below { result.below.items ≡ [] }
+        ensures at { result.at ≡ FinishAt.Start }
+    {
+        FinishOp {
+            session,
+            target,
+            below: ArrayVec::new(),
+            at: FinishAt::Start,
+        }
+    }
+
+    /// Makes one step. Refused with `Blocked` (4), and the same step may be made again; with `IndexFull` (8), `Io` (2),
+    /// `Stopped` (3), `LogFull` (9), `NoFrame` (10); with `TooTall` (19) where the root is split on level 31; with
+    /// `PageDamaged` (17) on pages that are no tree. A refused step changes nothing.
+    pub fn step<S: PageStore>(&mut self, store: &mut S) -> Result<FinishStep, Fault>
+        ensures { FinishSteps S.PageStore self.old self.new store.old store.new result }
+    {
+        match self.at {
+            FinishAt::Start => self.read_metapage(store),
+            FinishAt::Down(way) => self.read_page(store, way),
+            FinishAt::Link(way) => self.link(store, way),
+            FinishAt::Root => self.grow(store),
+        }
+    }
+
+    fn read_metapage<S: PageStore>(&mut self, store: &mut S) -> Result<FinishStep, Fault>
+        requires { self.old.at ≡ FinishAt.Start }
+        ensures { FinishSteps S.PageStore self.old self.new store.old store.new result }
+    {
+        let meta = look(store, self.session, 0)?;
+        self.leave_metapage(&meta)
+    }
+
+    fn read_page<S: PageStore>(&mut self, store: &mut S, way: Way) -> Result<FinishStep, Fault>
+        requires { self.old.at ≡ FinishAt.Down way }
+        ensures { FinishSteps S.PageStore self.old self.new store.old store.new result }
+    {
+        match look(store, self.session, way.block) {
+            Ok(page) => {
+                let most = store.limits().pages;
+                self.leave_page(&page, way, most)
+            }
+            Err(fault) => Err(fault),
+        }
+    }
+}

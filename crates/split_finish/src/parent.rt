@@ -1,0 +1,144 @@
+//! A full parent is split for the downlink of a right half.
+
+ghost use Rattle.std.specs.Prelude.{◌≡◌, ◌≤◌, ◌<◌, true, Some, None, suc, ℕ, IfSome, IfNone, IfOk, IfErr, OnOk, OnErr, length};
+ghost use Rattle.index_model.specs.Faults.{HasCause};
+ghost use Rattle.page_action.specs.Causes.{where_acted};
+ghost use Rattle.page_action.specs.States.{Continues, after_act};
+ghost use Rattle.page_action.specs.Stored.{AreActable};
+ghost use Rattle.tree_shape.specs.Nodes.{links_of};
+ghost use Rattle.descent.specs.Splitting.{RightIsStored, RightIsFound};
+ghost use Rattle.split_finish.specs.Acting.{IsLinkPlace, IsRead, FinishActs};
+ghost use Rattle.split_finish.specs.Parting.{halves_and};
+ghost use Rattle.split_finish.specs.Turns.{IsReadyToLink};
+
+use crate::finish::{FinishAt, FinishOp, FinishStep, Target};
+use descent::{Way, act_on, read_right, take_block};
+use index_model::Fault;
+use page_action::PageStore;
+use page_codec::Page;
+use tree_shape::{clear_split, mend_left, split_links};
+
+/// The left half of a page, whose split is to be finished; None where it has no high key.
+pub fn half_to_finish(left: &Page) -> Option<Target>
+    ensures target { IfSome result (λ t. (t.block ≡ left.now.block) × (t.level ≡ left.now.level)
+        × (left.now.high ≡ Some t.separator)) }
+    ensures none { IfNone result (left.now.high ≡ None) }
+{
+    match left.high {
+        Some(separator) => Some(Target {
+            block: left.block,
+            level: left.level,
+            separator,
+        }),
+        None => None,
+    }
+}
+
+// Acts on the halves of the parent, the page to the right of them, whose left link is mended, and the page whose split is
+// finished.
+fn act_on_halves<S: PageStore>(
+    store: &mut S,
+    left: Page,
+    half: Page,
+    right: Option<Page>,
+    page: Page,
+) -> Result<u64, Fault>
+    ensures steps { Continues S.follows store.old store.new }
+    ensures may { OnOk result
+        (AreActable (S.state store.old).limits (length (S.state store.old).pages)
+        (halves_and left half right page)) }
+    ensures done { OnOk result (S.state store.new
+        ≡ after_act (halves_and left half right page) (S.state store.old)) }
+    ensures refused { OnErr result (S.state store.new ≡ S.state store.old) }
+    ensures cause { AreActable (S.state store.old).limits (length (S.state store.old).pages)
+        (halves_and left half right page)
+        → IfErr result (HasCause (where_acted (S.state store.old) (S.backing store.old)
+        (S.backing store.new) (halves_and left half right page))) }
+{
+    match right {
+        None => act_on(store, &[left, half, page]),
+        Some(neighbour) => {
+            let mut neighbour = neighbour;
+            mend_left(&mut neighbour, half.block);
+            act_on(store, &[left, half, neighbour, page])
+        }
+    }
+}
+
+impl FinishOp {
+    // The parent is full.
+    pub fn split_parent<S: PageStore>(
+        &mut self,
+        store: &mut S,
+        way: Way,
+        page: Page,
+        parent: Page,
+        at: usize,
+        new: u32,
+    ) -> Result<FinishStep, Fault>
+        requires at { self.old.at ≡ FinishAt.Link way }
+        requires read { IsRead (S.state store.old) (S.backing store.old).honest self.old.session
+            self.old.target.block page }
+        requires read_parent { IsRead (S.state store.old) (S.backing store.old).honest
+            self.old.session way.block parent }
+        requires ready { IsReadyToLink page parent self.old self.old }
+        requires right { page.right ≡ Some new }
+        requires place { IsLinkPlace parent page.block self.old.target.separator at }
+        requires full { 4 ≤ length (links_of parent.items) }
+        requires some { 0 < length (S.state store.old).pages }
+        ensures { FinishActs S.PageStore self.old self.new store.old store.new result }
+    {
+        match read_right(store, self.session, parent.right) {
+            Ok(right) => self.split_beside(store, way, page, parent, right, at, new),
+            Err(fault) => Err(fault),
+        }
+    }
+
+    // ... and the page to the right of it has been read.
+    fn split_beside<S: PageStore>(
+        &mut self,
+        store: &mut S,
+        way: Way,
+        page: Page,
+        parent: Page,
+        right: Option<Page>,
+        at: usize,
+        new: u32,
+    ) -> Result<FinishStep, Fault>
+        requires at { self.old.at ≡ FinishAt.Link way }
+        requires read { IsRead (S.state store.old) (S.backing store.old).honest self.old.session
+            self.old.target.block page }
+        requires read_parent { IsRead (S.state store.old) (S.backing store.old).honest
+            self.old.session way.block parent }
+        requires ready { IsReadyToLink page parent self.old self.old }
+        requires right { page.right ≡ Some new }
+        requires place { IsLinkPlace parent page.block self.old.target.separator at }
+        requires full { 4 ≤ length (links_of parent.items) }
+        requires some { 0 < length (S.state store.old).pages }
+        requires beside { RightIsStored (S.state store.old) self.old.session parent.right right }
+        requires beside_found { (S.backing store.old).honest ≡ true
+            → RightIsFound (S.state store.old) parent.right right }
+        ensures { FinishActs S.PageStore self.old self.new store.old store.new result }
+    {
+        let fresh = match take_block(store, self.session) {
+            Ok(fresh) => fresh,
+            Err(fault) => return Err(fault),
+        };
+        let mut left = parent;
+        let half = split_links(&mut left, at, self.target.separator, new, fresh);
+        let target = match half_to_finish(&left) {
+            Some(target) => target,
+            None => return Err(Fault::PageDamaged(left.block)),
+        };
+        let mut page = page;
+        clear_split(&mut page);
+        match act_on_halves(store, left, half, right, page) {
+            Ok(_) => {
+                self.target = target;
+                self.at = FinishAt::Start;
+                Ok(FinishStep::Going)
+            }
+            Err(fault) => Err(fault),
+        }
+    }
+}

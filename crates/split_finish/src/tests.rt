@@ -1,0 +1,221 @@
+use super::*;
+use arrayvec::ArrayVec;
+use index_model::{Bound, Entry, Fault, Key, Limits, RowAddr, Session};
+use latch_table::Mode;
+use page_action::{MapStore, PageStore};
+use page_codec::{Downlink, Items, Page, PageState};
+use std::alloc::Global;
+use std::test::*;
+use tree_shape::links_on;
+
+const LIMITS: Limits = Limits {
+    items: 4,
+    pages: 12,
+    log_bytes: 65_536,
+};
+
+fn entry(key: u8) -> Entry {
+    Entry {
+        key: Key::new(&[key]).unwrap_or(Key::EMPTY),
+        row: RowAddr::new(1, 1).unwrap_or_default(),
+    }
+}
+
+fn bound(key: u8) -> Bound {
+    entry(key).bound()
+}
+
+// A live page of this level, with these neighbours and this high key.
+fn page(block: u32, level: u8, sides: (Option<u32>, Option<u32>), high: Option<Bound>) -> Page {
+    Page {
+        block,
+        level,
+        state: PageState::Live,
+        split: false,
+        left: sides.0,
+        right: sides.1,
+        high,
+        cycle: 0,
+        deletion: 0,
+        items: Items::Meta,
+    }
+}
+
+fn meta(root: u32, level: u8) -> Page {
+    page(0, level, (None, Some(root)), None)
+}
+
+// A leaf with one entry, its high key.
+fn leaf(block: u32, left: u32, right: u32, key: u8) -> Page {
+    let mut page = page(
+        block,
+        0,
+        (Some(left).filter(|b| *b > 0), Some(right).filter(|b| *b > 0)),
+        None,
+    );
+    if right > 0 {
+        page.high = Some(bound(key));
+    }
+    let mut entries = ArrayVec::new();
+    let _ = entries.try_push(entry(key));
+    page.items = Items::Entries(entries);
+    page
+}
+
+// An internal page of level 1 whose first child is the first of these, and each other's bound its key.
+fn parent(block: u32, first: u32, others: &[(u8, u32)]) -> Page {
+    let mut page = page(block, 1, (None, None), None);
+    let mut links = ArrayVec::new();
+    let _ = links.try_push(Downlink {
+        bound: None,
+        child: first,
+    });
+    for (key, child) in others {
+        let _ = links.try_push(Downlink {
+            bound: Some(bound(*key)),
+            child: *child,
+        });
+    }
+    page.items = Items::Downlinks(links);
+    page
+}
+
+fn flagged(page: Page) -> Page {
+    let mut page = page;
+    page.split = true;
+    page
+}
+
+// A leaf as the root, split into pages 1 and 2.
+fn split_root(alloc: Global) -> Result<MapStore, Fault> {
+    let mut store = MapStore::new(alloc, LIMITS)?;
+    store.add(meta(1, 0))?;
+    store.add(flagged(leaf(1, 0, 2, 3)))?;
+    store.add(leaf(2, 1, 0, 5))?;
+    Ok(store)
+}
+
+// A root on page 1 over so many leaves from page 2 on, of which the first one's split is unfinished.
+fn split_leaf(alloc: Global, full: bool) -> Result<MapStore, Fault> {
+    let mut store = MapStore::new(alloc, LIMITS)?;
+    store.add(meta(1, 1))?;
+    if full {
+        store.add(parent(1, 2, &[(5, 4), (7, 5), (9, 6)]))?;
+    } else {
+        store.add(parent(1, 2, &[(5, 4), (7, 5)]))?;
+    }
+    store.add(flagged(leaf(2, 0, 3, 3)))?;
+    store.add(leaf(3, 2, 4, 5))?;
+    store.add(leaf(4, 3, 5, 7))?;
+    if full {
+        store.add(leaf(5, 4, 6, 9))?;
+        store.add(leaf(6, 5, 0, 11))?;
+    } else {
+        store.add(leaf(5, 4, 0, 9))?;
+    }
+    Ok(store)
+}
+
+// All steps for this target; the number of those that went on.
+fn finish(store: &mut MapStore, session: Session, target: Target) -> Result<u32, Fault> {
+    store.begin(session)?;
+    let mut op = FinishOp::new(session, target);
+    let mut steps = 0;
+    for _ in 0..20 {
+        match op.step(store) {
+            Ok(FinishStep::Going) => steps += 1,
+            Ok(FinishStep::Done) => break,
+            Err(fault) => {
+                store.end(session);
+                return Err(fault);
+            }
+        }
+    }
+    store.end(session);
+    Ok(steps)
+}
+
+fn target(block: u32, key: u8) -> Target {
+    Target {
+        block,
+        level: 0,
+        separator: bound(key),
+    }
+}
+
+fn count_of(store: &mut MapStore, block: u32) -> usize {
+    store.page(block).map_or(0, |page| links_on(&page).len())
+}
+
+fn child_of(store: &mut MapStore, block: u32, at: usize) -> u32 {
+    store.page(block).map_or(0, |page| {
+        links_on(&page).get(at).map_or(0, |link| link.child)
+    })
+}
+
+fn is_flagged(store: &mut MapStore, block: u32) -> bool {
+    store.page(block).map_or(true, |page| page.split)
+}
+
+#[test]
+fn new_root_over_a_split_leaf(rt: HostRuntime) {
+    let (Ok(mut store), Ok(one)) = (split_root(rt.alloc()), Session::new(1)) else {
+        assert!(rt; false);
+        return;
+    };
+    assert_eq!(rt; finish(&mut store, one, target(1, 3)), Ok(1));
+    assert_eq!(rt; store.acts(), 1);
+    assert_eq!(rt; store.page(0).map(|page| page.right), Ok(Some(3)));
+    assert_eq!(rt; store.page(0).map(|page| page.level), Ok(1));
+    assert_eq!(rt; child_of(&mut store, 3, 0), 1);
+    assert_eq!(rt; child_of(&mut store, 3, 1), 2);
+    assert_eq!(rt; is_flagged(&mut store, 1), false);
+}
+
+#[test]
+fn downlink_on_a_parent_with_room(rt: HostRuntime) {
+    let (Ok(mut store), Ok(one)) = (split_leaf(rt.alloc(), false), Session::new(1)) else {
+        assert!(rt; false);
+        return;
+    };
+    assert_eq!(rt; finish(&mut store, one, target(2, 3)), Ok(2));
+    assert_eq!(rt; count_of(&mut store, 1), 4);
+    assert_eq!(rt; child_of(&mut store, 1, 1), 3);
+    assert_eq!(rt; is_flagged(&mut store, 2), false);
+    // Once more: there is nothing to do.
+    assert_eq!(rt; finish(&mut store, one, target(2, 3)), Ok(2));
+    assert_eq!(rt; store.acts(), 1);
+}
+
+#[test]
+fn full_parent_and_the_root_are_split(rt: HostRuntime) {
+    let (Ok(mut store), Ok(one)) = (split_leaf(rt.alloc(), true), Session::new(1)) else {
+        assert!(rt; false);
+        return;
+    };
+    assert_eq!(rt; finish(&mut store, one, target(2, 3)), Ok(4));
+    assert_eq!(rt; store.acts(), 2);
+    // Page 1 keeps three of five downlinks, page 7 has two, and page 8 is the root over them.
+    assert_eq!(rt; count_of(&mut store, 1), 3);
+    assert_eq!(rt; count_of(&mut store, 7), 2);
+    assert_eq!(rt; child_of(&mut store, 8, 1), 7);
+    assert!(rt; store.page(1).is_ok_and(|page| page.high == Some(bound(7))));
+    assert_eq!(rt; is_flagged(&mut store, 1), false);
+}
+
+#[test]
+fn separator_is_read_again_and_latches_block(rt: HostRuntime) {
+    let (Ok(mut store), Ok(one), Ok(other)) = (
+        split_leaf(rt.alloc(), false),
+        Session::new(1),
+        Session::new(2),
+    ) else {
+        assert!(rt; false);
+        return;
+    };
+    assert_eq!(rt; store.latch(other, 1, Mode::Exclusive), Ok(()));
+    assert_eq!(rt; finish(&mut store, one, target(2, 2)), Err(Fault::Blocked(1)));
+    store.release(other, 1);
+    assert_eq!(rt; finish(&mut store, one, target(2, 2)), Ok(5));
+    assert_eq!(rt; child_of(&mut store, 1, 1), 3);
+}
