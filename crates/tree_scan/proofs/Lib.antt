@@ -1,1 +1,9 @@
-
+pub mod Resting
+pub mod Standing
+pub mod Causes
+pub mod Behind
+pub mod Counting
+pub mod Leaf
+pub mod Rooting
+pub mod Moving
+pub mod Lasting
