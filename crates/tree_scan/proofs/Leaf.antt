@@ -1,5 +1,5 @@
 -- What the leaf behind the frontier gives a scan.
-use Rattle.std.proofs.Common.{◌≡◌, ℕ, ◌≤◌, ◌<◌, Bool, true, false, not, ◌&&◌, if◌then◌else◌, Option, Some, None, List, length, slice_get, IsSome, ◌↔◌, inl, inr, refl, sym, ap, subst, ◌∙◌, arith}
+use Rattle.std.proofs.Common.{◌≡◌, ℕ, Bool, true, false, not, ◌&&◌, if◌then◌else◌, Option, Some, None, List, slice_get, IsSome, ◌↔◌, inl, inr, refl, sym, ap, subst, ◌∙◌}
 use Rattle.std.proofs.lemmas.Bool.{cases_Bool, and_parts}
 use Rattle.index_model.specs.Order.{is_among, is_past, IsUpTo}
 use Rattle.index_model.specs.Range.{from_admits, below_admits}
@@ -16,7 +16,7 @@ use Rattle.tree_shape.specs.Walks.{entry_aim, frontier_aim, is_within}
 use Rattle.tree_acts.specs.Trees.{HasTree, HasCover}
 use Rattle.tree_acts.proofs.Telling.{leaf_tells, frontier_tells}
 use Rattle.descent.specs.declared.way.Way.{Way}
-use Rattle.tree_scan.specs.Scans.{waiting, IsBehind, LeafIsRead, behind, behind_leaf, frontier_past}
+use Rattle.tree_scan.specs.Scans.{IsBehind, LeafIsRead, behind, behind_leaf, frontier_past}
 use Rattle.tree_scan.specs.declared.steps.ScanAt.{ScanAt}
 use Rattle.tree_scan.specs.declared.steps.ScanAt.TheVariants.{At, Last}
 use Rattle.tree_scan.specs.declared.steps.ScanOp.{ScanOp}

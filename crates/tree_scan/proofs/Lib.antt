@@ -5,5 +5,6 @@ pub mod Behind
 pub mod Counting
 pub mod Leaf
 pub mod Rooting
+pub mod Arriving
 pub mod Moving
 pub mod Lasting

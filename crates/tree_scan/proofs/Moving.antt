@@ -1,24 +1,22 @@
 -- What the steps of a scan leave it.
-use Rattle.std.proofs.Common.{◌≡◌, ℕ, ◌+◌, ◌*◌, ◌<◌, ◌≤◌, Bool, true, false, not, if◌then◌else◌, Option, Some, None, List, [], length, slice_get, IsSome, inl, inr, refl, sym, ap, subst, ◌∙◌, arith}
-use Rattle.index_model.specs.Order.{is_past}
-use Rattle.index_model.specs.Range.{from_admits, below_admits}
+use Rattle.std.proofs.Common.{◌≡◌, ℕ, ◌+◌, ◌<◌, ◌≤◌, Bool, true, false, if◌then◌else◌, Option, Some, None, List, length, slice_get, inr, refl, sym, ap, subst, ◌∙◌, arith}
+use Rattle.index_model.specs.Range.{below_admits}
 use Rattle.index_model.specs.declared.bound.Bound.{Bound}
 use Rattle.index_model.specs.declared.entry.Entry.{Entry}
-use Rattle.latch_table.specs.Holdings.{Table, holding_of, pinned}
+use Rattle.latch_table.specs.Holdings.{Table, pinned}
 use Rattle.page_codec.specs.declared.page.Page.{Page}
-use Rattle.page_codec.specs.declared.page.PageState.TheVariants.{Live}
 use Rattle.page_action.specs.States.{State, with_table}
 use Rattle.tree_shape.specs.Nodes.{node_of}
 use Rattle.tree_shape.specs.Laws.{IsPassedBy}
 use Rattle.tree_shape.specs.Walks.{frontier_aim, is_within}
-use Rattle.tree_acts.specs.Trees.{HasTree, HasPlace, HasTrail}
+use Rattle.tree_acts.specs.Trees.{HasTree, HasPlace}
 use Rattle.tree_acts.specs.Ways.{RightIsThere}
 use Rattle.tree_acts.proofs.Telling.{passed_tells, places_widen, trail_begins_here, trail_goes_right}
 use Rattle.descent.specs.Onward.{IsOnWay, IsArrived, IsShorter}
 use Rattle.descent.specs.Shared.{IsInOrder, Does}
 use Rattle.descent.specs.declared.way.Way.{Way}
-use Rattle.tree_scan.specs.Scans.{waiting, without_leaf, leaf_pinned, gone_to, behind, behind_leaf, frontier_past, ScanStands, ScanFits}
-use Rattle.tree_scan.specs.Work.{scan_left, leaves_left, walk_left, walk_length, way_left, count_ahead, is_ahead}
+use Rattle.tree_scan.specs.Scans.{waiting, without_leaf, gone_to, behind, behind_leaf, frontier_past, ScanStands, ScanFits}
+use Rattle.tree_scan.specs.Work.{scan_left, leaves_left, walk_left, way_left, count_ahead, is_ahead}
 use Rattle.tree_scan.specs.declared.steps.ScanAt.{ScanAt}
 use Rattle.tree_scan.specs.declared.steps.ScanAt.TheVariants.{Start, At, Last}
 use Rattle.tree_scan.specs.declared.steps.ScanOp.{ScanOp}

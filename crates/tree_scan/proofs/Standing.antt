@@ -1,7 +1,7 @@
 -- What a scan holds.
-use Rattle.std.proofs.Common.{◌≡◌, ◌≢◌, ℕ, ◌<◌, Bool, Option, Some, None, List, [], ◌∷◌, length, cond, refl, sym, ap, subst, ◌∙◌, arith}
+use Rattle.std.proofs.Common.{◌≡◌, ◌≢◌, ℕ, ◌<◌, Bool, Option, Some, None, [], ◌∷◌, length, cond, refl, sym, ap, subst, ◌∙◌, arith}
 use Rattle.std.proofs.lemmas.Bool.{eq-eqb}
-use Rattle.latch_table.specs.Holdings.{Holding, Table, holding_of, without_pin, pinned, unpinned}
+use Rattle.latch_table.specs.Holdings.{Holding, Table, holding_of, without_pin, pinned}
 use Rattle.latch_table.proofs.Tables.{length-pinned, length-unpinned, holding_of-pinned, holding_of-unpinned, holding_of-pinned_other, holding_of-unpinned_other}
 use Rattle.descent.specs.Steps.{AreApart}
 use Rattle.descent.proofs.Tables.{apart_pins}

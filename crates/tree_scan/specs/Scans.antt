@@ -1,5 +1,5 @@
 -- What a scan knows between its steps, and what a step of it does.
-use Rattle.std.specs.Prelude.{◌≡◌, ◌⊎◌, ℕ, suc, ◌+◌, ◌<◌, ◌≤◌, if◌then◌else◌, nat_lt, Bool, true, false, Option, Some, None, Result, Ok, Err, OnErr, List, [], ◌∷◌, length, slice_get}
+use Rattle.std.specs.Prelude.{◌≡◌, ◌⊎◌, ℕ, suc, ◌+◌, ◌<◌, ◌≤◌, if◌then◌else◌, nat_lt, true, false, Option, Some, None, Result, Ok, Err, OnErr, List, [], ◌∷◌, length, slice_get}
 use Rattle.std.specs.Ordering.{is_lt}
 use Rattle.index_model.specs.Faults.{Circumstances, HasCause}
 use Rattle.index_model.specs.Order.{bound_cmp, is_among, is_past, AscendsPast}
@@ -11,7 +11,6 @@ use Rattle.index_model.specs.declared.fault.Fault.TheVariants.{Stopped}
 use Rattle.index_model.specs.declared.range.Range.{Range}
 use Rattle.latch_table.specs.Holdings.{Holding, Table, holding_of, unpinned, is_held_by_another}
 use Rattle.latch_table.specs.declared.mode.Mode.TheVariants.{Shared}
-use Rattle.page_codec.specs.declared.page.Page.{Page}
 use Rattle.page_action.specs.Causes.{nothing_wrong, has_failed, pinned_blocks, count_apart}
 use Rattle.page_action.specs.Contents.{entry_on_live_leaf}
 use Rattle.page_action.specs.States.{State, Backing, Continues, with_table}

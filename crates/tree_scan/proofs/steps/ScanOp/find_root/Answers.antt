@@ -1,7 +1,11 @@
-use Rattle.std.proofs.Common.{rules, ◌≡◌, ℕ, Some, slice_get, refl, sym, ap, subst, ◌∙◌}
+use Rattle.std.proofs.Common.{rules, ◌≡◌, ◌<◌, false, Some, slice_get, sym, ap, subst, ◌∙◌, arith}
 use Rattle.page_codec.specs.declared.page.Page.{Page}
 use Rattle.page_action.specs.States.{State, IsLater, with_table}
-use Rattle.tree_scan.specs.Scans.{without_leaf, ScanFits, ScanLeavesLess}
+use Rattle.tree_shape.specs.Walks.{frontier_aim}
+use Rattle.descent.specs.Onward.{IsOnWay}
+use Rattle.descent.specs.declared.way.Way.{Way}
+use Rattle.tree_scan.specs.Scans.{without_leaf, ScanFits, IsUnderway}
+use Rattle.tree_scan.specs.Work.{scan_left}
 use Rattle.tree_scan.specs.declared.steps.ScanOp.{ScanOp}
 use Rattle.tree_scan.proofs.Moving.{going_does, going_fits, first_less}
 use Rattle.tree_scan.proofs.Resting.{quiet_by, rests}
@@ -15,10 +19,13 @@ returns g c =
     let before : ScanOp = c.args.self.now in
     let after : ScanOp = c.go_on.new.self in
     let page : Page = c.in_ok-page.page in
+    let way : Way = c.in-Some.way in
     let is : new ≡ with_table old (without_leaf old.table before.session before.leaf) =
     c.go_on.ensures.state ∙ ap (λ (st : State). with_table st (without_leaf st.table before.session before.leaf)) c.look.ensures.state in
-    let low = search rules in
-    let less = first_less old.limits.pages old.pages before c.in-Some.way c.requires.at low in
+    let low : way.level < 256 = search rules in
+    let less : scan_left old.limits.pages old.pages after < scan_left old.limits.pages old.pages before =
+    subst (λ (op : ScanOp). scan_left old.limits.pages old.pages op < scan_left old.limits.pages old.pages before) (sym c.go_on.ensures.op)
+    (first_less old.limits.pages old.pages before way c.requires.at low) in
     record {
       steps = search rules;
       session = ap (λ (op : ScanOp). op.session) c.go_on.ensures.op;
@@ -28,7 +35,21 @@ returns g c =
       refused = tt;
       stopped = search rules;
       ready = tt;
-      less = λ honest. ?;
-      no_more = λ honest. ?;
-      stepped = λ honest order fits. ?;
+      less = λ honest. less;
+      no_more = λ honest. omega arith;
+      stepped = λ honest order fits.
+          let later : IsLater (g.S.PageStore.backing c.look.new.store) (g.S.PageStore.backing c.go_on.new.store) = g.met.S.PageStore.laws.follows_later _ _ (c.go_on.ensures.steps _ (g.met.S.PageStore.laws.follows_same _)) in
+          let found : slice_get old.pages 0 ≡ Some page = c.in_ok-page.ensures.page (later.honest honest) in
+          let root = root_way old fits.start (frontier_aim before.frontier) false page order.tree found in
+          let named : Some way ≡ Some _ = sym c.in-Some.is ∙ c.way_down.ensures.named root.root root.names in
+          let same : way ≡ _ = cc in
+          record {
+            does = going_does old new before order fits is;
+            fits = subst (ScanFits new) (sym c.go_on.ensures.op)
+                (going_fits old new before order fits is way (subst (IsOnWay old fits.start (frontier_aim before.frontier) false 0) (sym same) root.on));
+            none = c.requires.none;
+            from = subst IsUnderway (sym c.requires.at) tt;
+            way = way;
+            op = c.go_on.ensures.op;
+          };
     }
