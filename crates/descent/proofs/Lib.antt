@@ -3,3 +3,5 @@ pub mod Tables
 pub mod Contents
 pub mod Quiet
 pub mod Leading
+pub mod Working
+pub mod Acting

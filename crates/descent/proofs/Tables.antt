@@ -89,7 +89,7 @@ out_of_table (h ∷ table) zero le = absurd (omega arith)
 out_of_table (h ∷ table) (suc other) le = out_of_table table other (omega arith)
 
 -- where nothing of another's excludes a latch, its latches don't
-free_of : (table : Table) (session block : ℕ) (mode : Mode) (other : ℕ) → other ≢ session → is_held_by_another table session block mode ≡ false → latches_exclude (holding_of table other).latches block mode ≡ false
+pub free_of : (table : Table) (session block : ℕ) (mode : Mode) (other : ℕ) → other ≢ session → is_held_by_another table session block mode ≡ false → latches_exclude (holding_of table other).latches block mode ≡ false
 free_of table session block mode other differ free =
     elim (cases_lt other (length table)) [
       | inl lt ↦ or_left_false (latches_exclude (holding_of table other).latches block mode) (pins_exclude (holding_of table other).pins block mode) (is_held_by_another-free table session block mode other lt differ free)

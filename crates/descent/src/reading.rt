@@ -4,6 +4,7 @@ ghost use Rattle.std.specs.Prelude.{◌≡◌, ◌<◌, ◌≤◌, true, false, 
 ghost use Rattle.index_model.specs.Faults.{HasCause};
 ghost use Rattle.latch_table.specs.Holdings.{HasRoom, is_held_by_another};
 ghost use Rattle.page_action.specs.States.{State, Continues};
+ghost use Rattle.page_action.specs.Room.{KeepsRoom};
 ghost use Rattle.page_action.specs.Stored.{IsStored};
 ghost use Rattle.tree_shape.specs.Tree.{IsBlinkTree, IsMetaOf};
 ghost use Rattle.descent.specs.Causes.{where_looked};
@@ -84,6 +85,7 @@ pub fn look_to_change<S: PageStore>(
         (is_held_by_another (S.state store.old).table session block Mode.Exclusive ≡ false) }
     ensures alive { OnOk result
         ((S.backing store.new).stopped ≡ true → (S.backing store.old).stopped ≡ true) }
+    ensures room { KeepsRoom (S.state store.old) (S.backing store.old) (S.backing store.new) }
     ensures stopped { (S.backing store.old).stopped ≡ true → result ≡ Err Fault.Stopped }
     ensures cause { (S.backing store.new).honest ≡ true
         → HasRoom (S.state store.old).table session → block < length (S.state store.old).pages
@@ -122,6 +124,7 @@ pub fn look_at_both<S: PageStore>(
         × (is_held_by_another (S.state store.old).table session second Mode.Exclusive ≡ false)) }
     ensures alive { OnOk result
         ((S.backing store.new).stopped ≡ true → (S.backing store.old).stopped ≡ true) }
+    ensures room { KeepsRoom (S.state store.old) (S.backing store.old) (S.backing store.new) }
     ensures stopped { (S.backing store.old).stopped ≡ true → result ≡ Err Fault.Stopped }
     ensures cause { (S.backing store.new).honest ≡ true
         → HasRoom (S.state store.old).table session → first < length (S.state store.old).pages
@@ -136,8 +139,10 @@ pub fn look_at_both<S: PageStore>(
     ask_for(store, session, first, Mode::Exclusive)?;
     ask_for(store, session, second, Mode::Exclusive)?;
     let page = store.page(first)?;
-    let other = store.page(second)?;
-    Ok((page, other))
+    match store.page(second) {
+        Ok(other) => Ok((page, other)),
+        Err(fault) => Err(fault),
+    }
 }
 
 /// Reads the metapage and answers the block of the root, which is a leaf until leaves split. Refused with the faults

@@ -1,6 +1,6 @@
 //! The way from the root down to a page of a level, one page a step.
 
-ghost use Rattle.std.specs.Prelude.{◌≡◌, ◌≢◌, ◌⊎◌, ◌≤◌, ◌<◌, ◌↔◌, IsTrue, ℕ, Bool, true, false, Some, length, slice_get};
+ghost use Rattle.std.specs.Prelude.{◌≡◌, ◌≢◌, ◌⊎◌, ◌≤◌, ◌<◌, ◌↔◌, IsTrue, ℕ, Bool, true, false, Some, IfSome, length, slice_get};
 ghost use Rattle.page_action.specs.States.{State};
 ghost use Rattle.tree_shape.specs.Aims.{aim_of};
 ghost use Rattle.tree_shape.specs.Tree.{IsMetaOf};
@@ -35,6 +35,7 @@ pub enum Onward {
 pub fn way_down(meta: &Page) -> Option<Way>
     ensures named { (root : ℕ) → IsMetaOf meta.now root meta.now.level
         → result ≡ Some (way_from root meta.now.level) }
+    ensures level { IfSome result (λ way. way.level ≡ meta.now.level) }
 {
     if !matches!(meta.items, Items::Meta) {
         return None;

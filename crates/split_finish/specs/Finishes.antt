@@ -1,5 +1,5 @@
 -- What a step does by which splits are finished.
-use Rattle.std.specs.Prelude.{◌≡◌, ◌⊎◌, ℕ, suc, ◌<◌, Bool, true, false, Option, Some, None, Result, Ok, Err, OnErr}
+use Rattle.std.specs.Prelude.{◌≡◌, ◌⊎◌, ℕ, suc, ◌*◌, ◌<◌, ◌≤◌, Bool, true, false, Option, Some, None, Result, Ok, Err, OnErr}
 use Rattle.index_model.specs.Actions.{Effect, Shape}
 use Rattle.index_model.specs.Faults.{HasCause}
 use Rattle.index_model.specs.declared.fault.Fault.{Fault}
@@ -8,7 +8,7 @@ use Rattle.latch_table.specs.Holdings.{holding_of, nothing_held}
 use Rattle.page_action.specs.States.{State, Backing, Continues}
 use Rattle.page_action.specs.declared.page_store.PageStore.{Ghosts}
 use Rattle.descent.specs.Shared.{IsInOrder, Does, IsOneStep, is_flagged, where_working}
-use Rattle.split_finish.specs.Targets.{targets_of, OnlyTargetsAreFlagged, FinishFits, finish_left}
+use Rattle.split_finish.specs.Targets.{targets_of, OnlyTargetsAreFlagged, FinishFits, finish_left, walk_length}
 use Rattle.split_finish.specs.declared.finish.FinishAt.{FinishAt}
 use Rattle.split_finish.specs.declared.finish.FinishAt.TheVariants.{Start, Down, Link, Root}
 use Rattle.split_finish.specs.declared.finish.FinishOp.{FinishOp}
@@ -82,6 +82,11 @@ pub record FinishSteps {S : Type 0} (g : Ghosts S) (before after : FinishOp) (ol
       → (g.state new).acts ≡ (g.state old).acts
       → finish_left (g.state new).limits.pages (g.state new).pages after
       < finish_left (g.state old).limits.pages (g.state old).pages before
+  -- one that is done without an act found that its last target needn't be finished
+  pub over : (g.backing new).honest ≡ true → result ≡ Ok Done
+      → (g.state new).acts ≡ (g.state old).acts
+      → 34 * suc (walk_length (g.state old).limits.pages)
+      ≤ finish_left (g.state old).limits.pages (g.state old).pages before
   pub stepped : (g.backing new).honest ≡ true → IsInOrder (g.state old)
       → FinishFits (g.state old) before
       → FinishStepped (g.state old) (g.backing old) (g.state new) (g.backing new) before after result

@@ -1,0 +1,154 @@
+-- What an act on a tree leaves to the sessions that share it.
+use Rattle.std.proofs.Common.{◌≡◌, ◌≢◌, ◌⊎◌, inl, inr, ℕ, suc, ◌+◌, ◌<◌, ◌≤◌, Bool, true, false, ◌||◌, Option, Some, None, if◌then◌else◌, List, [], ◌∷◌, length, slice_get, refl, sym, ap, subst, ◌∙◌, arith}
+use Rattle.std.specs.Prelude.{unwrap_or}
+use Rattle.index_model.specs.Actions.{Effect, Add, Shape, said_of}
+use Rattle.index_model.specs.Order.{same_entry}
+use Rattle.index_model.specs.declared.entry.Entry.{Entry}
+use Rattle.index_model.specs.declared.bound.Bound.{Bound}
+use Rattle.latch_table.specs.Holdings.{Holding, Table, holding_of, latches_exclude, is_held_by_another}
+use Rattle.latch_table.specs.declared.mode.Mode.TheVariants.{Shared, Exclusive}
+use Rattle.page_codec.specs.declared.page.Page.{Page}
+use Rattle.page_action.specs.Contents.{entry_on_live_leaf}
+use Rattle.page_action.specs.States.{State, with_table, with_pages, after_act}
+use Rattle.page_action.specs.Stored.{AreActable, IsApartFrom}
+use Rattle.tree_shape.specs.Walks.{IsAim}
+use Rattle.tree_acts.specs.Acts.{MayAct, TreeLasts, ContentsStay, ContentsGain}
+use Rattle.tree_acts.specs.Trees.{HasTree, HasPlace, HasTrail, IsStart, PlacesLast, TrailsLast}
+use Rattle.tree_acts.proofs.Overlays.{pages_other}
+use Rattle.descent.specs.Steps.{HoldsAlone, AreApart, Changes}
+use Rattle.descent.specs.Shared.{IsInOrder, NumbersStay, MayRely, OthersRely, SplitsALeaf, FinishesASplit, MovesFlags, Does, IsOneStep}
+use Rattle.descent.proofs.Tables.{any_excluded, free_of}
+
+-- nothing of another session's is in the way of changing these pages
+abbrev pub AreFree : State → ℕ → List Page → Type 0
+AreFree st session [] = Unit {0}
+AreFree st session (page ∷ changed) =
+    (is_held_by_another st.table session page.block Exclusive ≡ false) × AreFree st session changed
+
+true_false : true ≡ false → ⊥
+true_false h = cc
+
+-- what another session holds alone is none of these pages
+apart_from_held : (st : State) (session other block : ℕ) (changed : List Page) → other ≢ session → HoldsAlone st.table other block → AreFree st session changed → IsApartFrom block changed
+apart_from_held st session other block [] differ alone free = tt
+apart_from_held st session other block (page ∷ changed) differ alone free = (
+    (λ same. true_false (sym (any_excluded (holding_of st.table other).latches page.block Exclusive (subst (λ (b : ℕ). HoldsAlone st.table other b) (sym same) alone))
+        ∙ free_of st.table session page.block Exclusive other differ free.0)),
+    apart_from_held st session other block changed differ alone free.1,
+)
+
+-- the numbers that a call keeps stay good over an act that lasts
+pub numbers_stay : (old new : State) (session start : ℕ) → slice_get old.running session ≡ Some (Some start) → PlacesLast old new → TrailsLast old new → NumbersStay start old new
+numbers_stay old new session start runs places trails = record {
+  places = λ level aim clear block aims place. places start level aim clear block (record { session = session; is = runs }) aims place;
+  trails = λ level block moves trail. trails start level block moves (record { session = session; is = runs }) trail;
+}
+
+pub others_rely : (st : State) (session : ℕ) (changed : List Page) → MayAct st changed → TreeLasts st (after_act changed st) → AreFree st session changed
+    → OthersRely session st (after_act changed st)
+others_rely st session changed may lasts free other differ = record {
+  held = refl;
+  number = refl;
+  pages = λ block alone. pages_other st.limits (length st.pages) st.pages changed block may (omega arith) (apart_from_held st session other block changed differ alone free);
+  numbers = λ start runs. numbers_stay st (after_act changed st) other start runs lasts.places lasts.trails;
+}
+
+in_order_after : (st : State) (changed : List Page) → IsInOrder st → TreeLasts st (after_act changed st) → IsInOrder (after_act changed st)
+in_order_after st changed order lasts = record { tree = lasts.has; apart = order.apart; holdings = order.holdings; calls = order.calls }
+
+-- an act on the shape alone, by which a split is finished
+pub does_finish : (st : State) (session : ℕ) (changed : List Page) → IsInOrder st → MayAct st changed → TreeLasts st (after_act changed st) → ContentsStay st (after_act changed st)
+    → FinishesASplit st (after_act changed st) → AreFree st session changed → Does session (Some Shape) st (after_act changed st)
+does_finish st session changed order may lasts stay finishes free = record {
+  changes = record { acts = refl; apt = tt; contents = stay };
+  flags = finishes;
+  limits = refl;
+  frames = refl;
+  begun = refl;
+  running = refl;
+  order = in_order_after st changed order lasts;
+  others = others_rely st session changed may lasts free;
+}
+
+said : (e x : Entry) (was : Bool) → unwrap_or (said_of (Add e) x) was ≡ (same_entry e x || was)
+said e x was = by (same_entry e x)
+  where
+    by : (b : Bool) → unwrap_or (if b then Some true else None) was ≡ (b || was)
+    by true = refl
+    by false = refl
+
+-- an act that puts an entry which wasn't there
+pub does_add : (st : State) (session : ℕ) (e : Entry) (changed : List Page) → IsInOrder st → MayAct st changed → TreeLasts st (after_act changed st) → ContentsGain e st (after_act changed st)
+    → entry_on_live_leaf st.pages e ≡ false → SplitsALeaf st (after_act changed st) → AreFree st session changed → Does session (Some (Add e)) st (after_act changed st)
+does_add st session e changed order may lasts gain absent splits free = record {
+  changes = record {
+    acts = refl;
+    apt = absent;
+    contents = λ x. gain x ∙ sym (said e x (entry_on_live_leaf st.pages x));
+  };
+  flags = splits;
+  limits = refl;
+  frames = refl;
+  begun = refl;
+  running = refl;
+  order = in_order_after st changed order lasts;
+  others = others_rely st session changed may lasts free;
+}
+
+-- what this session holds changed, and nothing else
+pub holds_else : (session : ℕ) (old new : State) (table : Table) → new ≡ with_table old table → IsInOrder old → AreApart table → length table ≡ 64
+    → ((other : ℕ) → other ≢ session → holding_of table other ≡ holding_of old.table other) → Does session None old new
+holds_else session old new table is order apart many kept = subst (λ (st : State). Does session None old st) (sym is) (record {
+  changes = refl;
+  flags = tt;
+  limits = refl;
+  frames = refl;
+  begun = refl;
+  running = refl;
+  order = record { tree = record { tree = order.tree.tree; stored = order.tree.stored; counted = order.tree.counted }; apart = apart; holdings = many; calls = order.calls };
+  others = λ other differ. record {
+    held = kept other differ;
+    number = refl;
+    pages = λ block alone. refl;
+    numbers = λ start runs. record {
+      places = λ level aim clear block aims place. record { tree = place.tree; in_tree = place.in_tree; place = place.place };
+      trails = λ level block moves trail. record { tree = trail.tree; in_tree = trail.in_tree; passed = trail.passed; count = trail.count; distinct = trail.distinct; steps = trail.steps; trail = trail.trail };
+    };
+  };
+})
+
+-- nothing changed
+pub nothing_else : (session : ℕ) (old new : State) → new ≡ old → IsInOrder old → Does session None old new
+nothing_else session old new same order = holds_else session old new old.table same order order.apart order.holdings (λ other differ. refl)
+
+-- a place is one whoever holds what
+pub place_held_else : (st : State) (table : Table) (start level : ℕ) (aim : Bound → Bool) (clear : Bool) (block : ℕ) → HasPlace st start level aim clear block → HasPlace (with_table st table) start level aim clear block
+place_held_else st table start level aim clear block place = record { tree = place.tree; in_tree = place.in_tree; place = place.place }
+
+pub trail_held_else : (st : State) (table : Table) (start level block moves : ℕ) → HasTrail st start level block moves → HasTrail (with_table st table) start level block moves
+trail_held_else st table start level block moves trail =
+    record { tree = trail.tree; in_tree = trail.in_tree; passed = trail.passed; count = trail.count; distinct = trail.distinct; steps = trail.steps; trail = trail.trail }
+
+-- one step: one act, or nothing but who holds what
+pub one_act : (old new : State) (changed : List Page) → new ≡ after_act changed old → IsOneStep old new
+one_act old new changed is = subst (λ (s : State). IsOneStep old s) (sym is) (record {
+  acts = inr refl;
+  quiet = λ h. absurd (let k : suc old.acts ≡ old.acts = h in omega arith);
+  limits = refl;
+  frames = refl;
+  begun = refl;
+  running = refl;
+})
+
+pub one_table : (old new : State) (table : Table) → new ≡ with_table old table → IsOneStep old new
+one_table old new table is = subst (λ (s : State). IsOneStep old s) (sym is) (record {
+  acts = inl refl;
+  quiet = λ h. refl;
+  limits = refl;
+  frames = refl;
+  begun = refl;
+  running = refl;
+})
+
+pub one_nothing : (old new : State) → new ≡ old → IsOneStep old new
+one_nothing old new same = one_table old new old.table same

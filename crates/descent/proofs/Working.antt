@@ -1,0 +1,132 @@
+-- Why steps are refused, by the calls that they make.
+use Rattle.std.proofs.Common.{◌≡◌, ◌⊎◌, ℕ, zero, suc, ◌+◌, ◌<◌, ◌≤◌, Bool, true, false, not, ◌&&◌, ◌||◌, ◌==◌, nat_lt, nat_le, if◌then◌else◌, List, [], ◌∷◌, ◌++◌, length, map, refl, sym, ap, subst, inl, inr, ◌∙◌, arith}
+use Rattle.std.proofs.lemmas.Bool.{cases_Bool, ltb-true, lt-ltb, leb-true, le-leb, and_parts}
+use Rattle.index_model.specs.Faults.{HasCause}
+use Rattle.index_model.specs.declared.fault.Fault.{Fault}
+use Rattle.index_model.specs.declared.fault.Fault.TheVariants.{NoMemory, Io, Stopped, Blocked, Exists, KeyTooLong, BadRow, IndexFull, LogFull, NoFrame, VacuumRunning, NoSession, SessionBusy, BadSuper, BadVersion, LogDamaged, PageDamaged, BadLimits, TooTall, DeviceTooSmall}
+use Rattle.latch_table.specs.Holdings.{has_pin, is_held_by_another}
+use Rattle.latch_table.specs.declared.mode.Mode.{Mode}
+use Rattle.latch_table.specs.declared.mode.Mode.TheVariants.{Shared, Exclusive, Cleanup}
+use Rattle.page_codec.specs.declared.page.Page.{Page}
+use Rattle.page_action.specs.Causes.{where_read, where_acted, is_at_end, count_apart, pinned_blocks}
+use Rattle.page_action.specs.Room.{KeepsRoom}
+use Rattle.page_action.specs.Reuse.{IsFull, is_reusable}
+use Rattle.page_action.specs.States.{State, Backing}
+use Rattle.descent.specs.Shared.{where_working, any_is_reusable, is_out_of_blocks}
+
+or_left : (a b c : Bool) → (a ≡ true → c ≡ true) → (a || b) ≡ true → (c || b) ≡ true
+or_left true b c f h = rw (f refl) refl
+or_left false b true f h = refl
+or_left false b false f h = h
+
+or_here : (a b : Bool) → a ≡ true → (a || b) ≡ true
+or_here true b h = refl
+or_here false b h = absurd cc
+
+or_there : (a b : Bool) → b ≡ true → (a || b) ≡ true
+or_there true b h = refl
+or_there false b h = h
+
+counted_one : (c : Bool) (n m k : ℕ) → n ≤ m + k → (if c then n else suc n) ≤ suc m + k
+counted_one true n m k le = omega (arith, le)
+counted_one false n m k le = omega (arith, le)
+
+-- what is counted apart of these blocks and others is no more than these and what is counted of the others
+pub apart_few : (blocks pins : List ℕ) → count_apart (blocks ++ pins) ≤ length blocks + count_apart pins
+apart_few [] pins = omega arith
+apart_few (b ∷ blocks) pins = counted_one (has_pin (blocks ++ pins) b) (count_apart (blocks ++ pins)) (length blocks) (count_apart pins) (apart_few blocks pins)
+
+-- with so many blocks the frames fall short, so they fall short of so many
+pub frames_short : (frames : ℕ) (blocks pins : List ℕ) (most : ℕ) → length blocks ≤ most → nat_lt frames (count_apart (blocks ++ pins)) ≡ true → nat_lt frames (most + count_apart pins) ≡ true
+frames_short frames blocks pins most le h =
+    let few = apart_few blocks pins in
+    let short : frames < count_apart (blocks ++ pins) = ltb-true frames (count_apart (blocks ++ pins)) h in
+    lt-ltb frames (most + count_apart pins) (omega arith)
+
+later_failed : (first second third : Backing) → first.failures ≤ second.failures → nat_lt second.failures third.failures ≡ true → nat_lt first.failures third.failures ≡ true
+later_failed first second third le h =
+    let k : second.failures < third.failures = ltb-true second.failures third.failures h in
+    lt-ltb first.failures third.failures (omega arith)
+
+in_use_read : (a n : ℕ) (honest : Bool) → honest ≡ true → a < n → (not honest || nat_le n a) ≡ true → ⊥
+in_use_read a n true is lt h = (let k : n ≤ a = leb-true n a h in omega arith)
+in_use_read a n false is lt h = absurd cc
+
+-- why a page that is in use isn't read
+pub read_cause : (st : State) (first second third : Backing) (session images frames block : ℕ) (fault : Fault)
+    → first.failures ≤ second.failures → (second.stopped ≡ true → first.stopped ≡ true) → third.honest ≡ true → block < length st.pages → 1 ≤ frames
+    → HasCause (where_read st second third block) fault → HasCause (where_working st first third session images frames) fault
+read_cause st first second third session images frames block Io le alive honest used some h = later_failed first second third le h
+read_cause st first second third session images frames block Stopped le alive honest used some h = or_here first.stopped (is_at_end st.acts) (alive h)
+read_cause st first second third session images frames block NoFrame le alive honest used some h = frames_short st.frames (block ∷ []) (pinned_blocks st.table) frames some h
+read_cause st first second third session images frames block (PageDamaged b) le alive honest used some h =
+    absurd (in_use_read block (length st.pages) third.honest honest used
+    (let p = and_parts (b == block) (not third.honest || nat_le (length st.pages) block) h in p.1))
+read_cause st first second third session images frames block (Blocked b) le alive honest used some h = absurd cc
+read_cause st first second third session images frames block NoMemory le alive honest used some h = h
+read_cause st first second third session images frames block Exists le alive honest used some h = h
+read_cause st first second third session images frames block IndexFull le alive honest used some h = absurd cc
+read_cause st first second third session images frames block LogFull le alive honest used some h = absurd cc
+read_cause st first second third session images frames block TooTall le alive honest used some h = absurd cc
+read_cause st first second third session images frames block fault le alive honest used some h = h
+
+-- why an act of these pages isn't done
+pub act_cause : (st : State) (first second third : Backing) (session images frames : ℕ) (changed : List Page) (fault : Fault)
+    → first.failures ≤ second.failures → (second.stopped ≡ true → first.stopped ≡ true) → second.promised ≡ first.promised → length changed ≤ images
+    → count_apart (map (λ (page : Page). page.block) changed ++ pinned_blocks st.table) ≤ frames + count_apart (pinned_blocks st.table)
+    → HasCause (where_acted st second third changed) fault → HasCause (where_working st first third session images frames) fault
+act_cause st first second third session images frames changed Io le alive promised few short h = later_failed first second third le h
+act_cause st first second third session images frames changed Stopped le alive promised few short h = or_left second.stopped (is_at_end st.acts) first.stopped alive h
+act_cause st first second third session images frames changed LogFull le alive promised few short h =
+    let k : second.promised ≤ length changed = leb-true second.promised (length changed) h in
+    le-leb first.promised images (omega arith)
+act_cause st first second third session images frames changed NoFrame le alive promised few short h =
+    let k : st.frames < count_apart (map (λ (page : Page). page.block) changed ++ pinned_blocks st.table) = ltb-true st.frames _ h in
+    lt-ltb st.frames (frames + count_apart (pinned_blocks st.table)) (omega arith)
+act_cause st first second third session images frames changed (PageDamaged b) le alive promised few short h = h
+act_cause st first second third session images frames changed (Blocked b) le alive promised few short h = absurd cc
+act_cause st first second third session images frames changed NoMemory le alive promised few short h = h
+act_cause st first second third session images frames changed Exists le alive promised few short h = h
+act_cause st first second third session images frames changed IndexFull le alive promised few short h = absurd cc
+act_cause st first second third session images frames changed TooTall le alive promised few short h = absurd cc
+act_cause st first second third session images frames changed fault le alive promised few short h = h
+
+length_map : {A B : Type 0} (f : A → B) (xs : List A) → length (map f xs) ≡ length xs
+length_map f [] = refl
+length_map f (x ∷ xs) = ap suc (length_map f xs)
+
+-- ... where each of them may need a frame
+pub act_cause_of : (st : State) (first second third : Backing) (session most : ℕ) (changed : List Page) (fault : Fault)
+    → first.failures ≤ second.failures → (second.stopped ≡ true → first.stopped ≡ true) → second.promised ≡ first.promised → length changed ≤ most
+    → HasCause (where_acted st second third changed) fault → HasCause (where_working st first third session most most) fault
+act_cause_of st first second third session most changed fault le alive promised few h =
+    act_cause st first second third session most most changed fault le alive promised few
+    (let a = apart_few (map (λ (page : Page). page.block) changed) (pinned_blocks st.table) in
+    let l = length_map (λ (page : Page). page.block) changed in omega arith) h
+
+-- another session holds the page
+pub held_cause : (st : State) (first third : Backing) (session images frames block : ℕ) (mode : Mode) → (mode ≡ Shared) ⊎ (mode ≡ Exclusive)
+    → is_held_by_another st.table session block mode ≡ true → HasCause (where_working st first third session images frames) (Blocked block)
+held_cause st first third session images frames block mode (inl is) h =
+    or_here (is_held_by_another st.table session block Shared) _ (subst (λ (m : Mode). is_held_by_another st.table session block m ≡ true) is h)
+held_cause st first third session images frames block mode (inr is) h =
+    or_there (is_held_by_another st.table session block Shared) _ (subst (λ (m : Mode). is_held_by_another st.table session block m ≡ true) is h)
+
+none_below : (st : State) (n : ℕ) → ((b : ℕ) → b < n → is_reusable st b ≡ false) → any_is_reusable st n ≡ false
+none_below st zero none = refl
+none_below st (suc n) none = rw (none n (omega arith), none_below st n (λ b lt. none b (omega arith))) refl
+
+-- no block is free
+pub full_cause : (st : State) (first third : Backing) (session images frames : ℕ) → IsFull st → HasCause (where_working st first third session images frames) IndexFull
+full_cause st first third session images frames full = rw (le-leb st.limits.pages (length st.pages) full.used, none_below st (length st.pages) full.none) refl
+
+-- the log had stopped
+pub stopped_cause : (st : State) (first third : Backing) (session images frames : ℕ) → first.stopped ≡ true → HasCause (where_working st first third session images frames) Stopped
+stopped_cause st first third session images frames h = or_here first.stopped (is_at_end st.acts) h
+
+-- what two readings leave of the room
+pub keeps_room_on : (st : State) (first second third : Backing) → first.durable ≤ second.durable → second.durable ≤ st.acts → KeepsRoom st first second → KeepsRoom st second third → KeepsRoom st first third
+keeps_room_on st first second third up few one two = record {
+  promised = two.promised ∙ one.promised;
+  idle = λ h. two.idle (omega (arith, h)) ∙ one.idle h;
+}

@@ -1,0 +1,58 @@
+use Rattle.std.proofs.Common.{rules, ◌≡◌, ◌≤◌, Some, ℕ, slice_get, sym, ap, subst, ◌∙◌, true}
+use Rattle.index_model.specs.Faults.{HasCause}
+use Rattle.page_action.specs.Causes.{where_read}
+use Rattle.page_action.specs.Room.{KeepsRoom}
+use Rattle.page_action.specs.States.{State, Backing, IsLater}
+use Rattle.descent.proofs.Working.{read_cause, keeps_room_on}
+use Rattle.descent.proofs.reading.look_at_both.Goals as goal
+
+pub returns-in-Ok-clause-pages : goal.returns-in-Ok-clause-pages
+returns-in-Ok-clause-pages g c honest =
+    let later : IsLater (g.S.PageStore.backing c.page.new.self) (g.S.PageStore.backing c.page-2.new.self) = g.met.S.PageStore.laws.follows_later _ _ (c.page-2.ensures.steps _ (g.met.S.PageStore.laws.follows_same _)) in
+    let before = c.ask_for-2.ensures.state ∙ c.ask_for.ensures.state in
+    (ap (λ (s : State). slice_get s.pages c.args.first) (sym before) ∙ c.in_ok-page.ensures.page (later.honest honest),
+    ap (λ (s : State). slice_get s.pages c.args.second) (sym before ∙ sym c.page.ensures.state) ∙ c.in-Ok.ensures.page honest)
+
+pub returns-in-Ok-clause-room : goal.returns-in-Ok-clause-room
+returns-in-Ok-clause-room g c =
+    let st : State = g.S.PageStore.state c.args.store.now in
+    let first : Backing = g.S.PageStore.backing c.args.store.now in
+    let second : Backing = g.S.PageStore.backing c.page.new.self in
+    let third : Backing = g.S.PageStore.backing c.page-2.new.self in
+    let later : IsLater (g.S.PageStore.backing c.ask_for-2.new.store) second = g.met.S.PageStore.laws.follows_later _ _ (c.page.ensures.steps _ (g.met.S.PageStore.laws.follows_same _)) in
+    let started = c.ask_for-2.ensures.state ∙ c.ask_for.ensures.state in
+    let before = c.page.ensures.state ∙ started in
+    let was = c.ask_for-2.ensures.backing ∙ c.ask_for.ensures.backing in
+    keeps_room_on st first second third (subst (λ (b : Backing). b.durable ≤ second.durable) was later.durable)
+    (subst (λ (s : State). second.durable ≤ s.acts) before (g.met.S.PageStore.laws.durable_few c.page.new.self))
+    (subst (λ (s : State). KeepsRoom s first second) started (subst (λ (b : Backing). KeepsRoom (g.S.PageStore.state c.ask_for-2.new.store) b second) was c.page.ensures.room))
+    (subst (λ (s : State). KeepsRoom s second third) before c.page-2.ensures.room)
+
+pub returns-in-Err-clause-room : goal.returns-in-Err-clause-room
+returns-in-Err-clause-room g c =
+    let st : State = g.S.PageStore.state c.args.store.now in
+    let first : Backing = g.S.PageStore.backing c.args.store.now in
+    let second : Backing = g.S.PageStore.backing c.page.new.self in
+    let third : Backing = g.S.PageStore.backing c.page-2.new.self in
+    let later : IsLater (g.S.PageStore.backing c.ask_for-2.new.store) second = g.met.S.PageStore.laws.follows_later _ _ (c.page.ensures.steps _ (g.met.S.PageStore.laws.follows_same _)) in
+    let started = c.ask_for-2.ensures.state ∙ c.ask_for.ensures.state in
+    let before = c.page.ensures.state ∙ started in
+    let was = c.ask_for-2.ensures.backing ∙ c.ask_for.ensures.backing in
+    keeps_room_on st first second third (subst (λ (b : Backing). b.durable ≤ second.durable) was later.durable)
+    (subst (λ (s : State). second.durable ≤ s.acts) before (g.met.S.PageStore.laws.durable_few c.page.new.self))
+    (subst (λ (s : State). KeepsRoom s first second) started (subst (λ (b : Backing). KeepsRoom (g.S.PageStore.state c.ask_for-2.new.store) b second) was c.page.ensures.room))
+    (subst (λ (s : State). KeepsRoom s second third) before c.page-2.ensures.room)
+
+pub returns-in-Err-clause-cause : goal.returns-in-Err-clause-cause
+returns-in-Err-clause-cause g c honest room one two images frames some =
+    let st : State = g.S.PageStore.state c.args.store.now in
+    let first : Backing = g.S.PageStore.backing c.args.store.now in
+    let second : Backing = g.S.PageStore.backing c.page.new.self in
+    let third : Backing = g.S.PageStore.backing c.page-2.new.self in
+    let later : IsLater (g.S.PageStore.backing c.ask_for-2.new.store) second = g.met.S.PageStore.laws.follows_later _ _ (c.page.ensures.steps _ (g.met.S.PageStore.laws.follows_same _)) in
+    let before = c.page.ensures.state ∙ c.ask_for-2.ensures.state ∙ c.ask_for.ensures.state in
+    let was = c.ask_for-2.ensures.backing ∙ c.ask_for.ensures.backing in
+    let earlier : IsLater first second = subst (λ (b : Backing). IsLater b second) was later in
+    read_cause st first second third c.args.session images frames c.args.second c.in-Err.fault earlier.failures
+    (λ h. ap (λ (b : Backing). b.stopped) (sym was) ∙ c.in_ok-page.ensures.alive h) honest two some
+    (subst (λ (s : State). HasCause (where_read s second third c.args.second) c.in-Err.fault) before c.in-Err.ensures.cause)

@@ -1,0 +1,58 @@
+//! The free blocks of an index.
+
+ghost use Rattle.std.specs.Prelude.{◌≡◌, ◌<◌, ◌≤◌, length, replicate, slice_set, None, IfOk, IfSome, IfNone};
+
+use crate::tree::{self, Shape};
+use std::alloc::{AllocError, Global};
+use std::marker::Model;
+
+/// For each block a number since when it is free, or none. It has a fixed size and never allocates after `new`.
+/// Contracts see a list of the numbers by block.
+#[derive(Drop)]
+pub struct FreeBlocks {
+    // The winner tree.
+    tree: Vec<Option<u64>>,
+    shape: Shape,
+}
+
+impl Model for FreeBlocks {
+    ghost use Rattle.std.specs.Prelude.{List, Option, ℕ, drop};
+    ghost use Rattle.free_blocks.specs.Tree.{IsTree};
+
+    ghost Value = { List (Option ℕ) };
+
+    ghost view = { λ b. drop b.shape.size b.tree.items };
+
+    ghost invariant = { λ b. IsTree b.shape.size b.tree.items };
+}
+
+impl FreeBlocks {
+    ghost use Rattle.free_blocks.specs.Numbers.{IsLowest, AreBeyond};
+
+    /// So many blocks, at most 65,536, none of them free.
+    pub fn new(alloc: Global, places: u32) -> Result<FreeBlocks, AllocError>
+        requires few { places ≤ 65536 }
+        ensures made { IfOk result (λ free. free ≡ replicate places None) }
+    {
+        let shape = Shape::new(places);
+        let mut tree = Vec::new(alloc);
+        tree.resize((shape.size + places) as usize, None)?;
+        Ok(FreeBlocks { tree, shape })
+    }
+
+    /// Says since when a block is free, or that it isn't, in at most 17 writes.
+    pub fn set(&mut self, block: u32, number: Option<u64>)
+        requires place { block < length self.old }
+        ensures { self.new ≡ slice_set self.old block number }
+    {
+        tree::put(&mut self.tree, self.shape, block, number);
+    }
+
+    /// The lowest block whose number is at most this, in at most 17 looks.
+    pub fn lowest(&self, most: u64) -> Option<u32>
+        ensures found { IfSome result (IsLowest most self.now) }
+        ensures none { IfNone result (AreBeyond most self.now) }
+    {
+        tree::lowest(&self.tree, self.shape, most)
+    }
+}

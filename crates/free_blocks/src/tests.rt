@@ -1,0 +1,16 @@
+use super::*;
+use std::test::*;
+
+#[test]
+fn lowest_of_three_blocks(rt: HostRuntime) -> Result<(), Fail> {
+    let mut free = FreeBlocks::new(rt.alloc(), 3)?;
+    assert_eq!(rt; free.lowest(u64::MAX), None);
+    free.set(2, Some(7));
+    free.set(1, Some(9));
+    assert_eq!(rt; free.lowest(6), None);
+    assert_eq!(rt; free.lowest(7), Some(2));
+    assert_eq!(rt; free.lowest(9), Some(1));
+    free.set(1, None);
+    assert_eq!(rt; free.lowest(u64::MAX), Some(2));
+    Ok(())
+}

@@ -1,0 +1,64 @@
+-- Steps of an insert that change nothing but where it stands.
+use Rattle.std.proofs.Common.{◌≡◌, ◌⊎◌, ℕ, suc, ◌<◌, Bool, true, false, Option, Some, None, Result, Ok, Err, List, refl, sym, ap, subst, inl, inr, ◌∙◌, arith}
+use Rattle.index_model.specs.Faults.{HasCause}
+use Rattle.index_model.specs.declared.fault.Fault.{Fault}
+use Rattle.index_model.specs.declared.fault.Fault.TheVariants.{Stopped}
+use Rattle.page_action.specs.States.{State, Backing, Continues}
+use Rattle.page_action.specs.declared.page_store.PageStore.{Ghosts}
+use Rattle.descent.specs.Shared.{IsInOrder, IsOneStep}
+use Rattle.descent.proofs.Acting.{one_nothing, nothing_else}
+use Rattle.split_finish.specs.Targets.{OnlyTargetsAreFlagged}
+use Rattle.tree_insert.specs.Inserts.{InsertFits, InsertSteps, InsertGoesOn, AnswersStopped, insert_left, targets_at, where_inserting}
+use Rattle.tree_insert.specs.declared.insert.InsertOp.{InsertOp}
+use Rattle.tree_insert.specs.declared.insert.InsertStep.{InsertStep}
+use Rattle.tree_insert.specs.declared.insert.InsertStep.TheVariants.{Going, Added}
+
+runs_no_more : (b : Bool) {A : Type 0} → b ≡ false → b ≡ true → A
+runs_no_more b alive stopped = absurd cc
+
+-- a step that is refused before anything is changed
+pub refuses : {S : Type 0} (g : Ghosts S) (op : InsertOp) (old new : S) (fault : Fault) → Continues g.follows old new → g.state new ≡ g.state old
+    → (g.backing old).stopped ≡ false
+    → ((g.backing new).honest ≡ true → IsInOrder (g.state old) → InsertFits (g.state old) op → HasCause (where_inserting (g.state old) (g.backing old) (g.backing new) op.session op.entry op.at) fault)
+    → InsertSteps g op op old new (Err fault)
+refuses g op old new fault steps same alive cause = record {
+  steps = steps;
+  session = refl;
+  entry = refl;
+  kept = one_nothing (g.state old) (g.state new) same;
+  refused = record { state = same; op = refl };
+  stopped = λ h. runs_no_more (g.backing old).stopped alive h;
+  less = λ honest is. absurd cc;
+  stepped = cause;
+}
+
+-- where it stands after such a step
+pub record StandsNow (st : State) (before after : InsertOp) : Type 0 where
+  pub fits : InsertFits st after
+  pub added : after.added ≡ before.added
+  pub flags : OnlyTargetsAreFlagged st (targets_at before.at) → OnlyTargetsAreFlagged st (targets_at after.at)
+
+-- a step that reads, and goes on
+pub goes_on : {S : Type 0} (g : Ghosts S) (before after : InsertOp) (old new : S) → Continues g.follows old new → g.state new ≡ g.state old
+    → after.session ≡ before.session → after.entry ≡ before.entry → (g.backing old).stopped ≡ false
+    → ((g.backing new).honest ≡ true → insert_left (g.state old).limits.pages (g.state old).pages after.at < insert_left (g.state old).limits.pages (g.state old).pages before.at)
+    → ((g.backing new).honest ≡ true → IsInOrder (g.state old) → InsertFits (g.state old) before → StandsNow (g.state old) before after)
+    → InsertSteps g before after old new (Ok Going)
+goes_on g before after old new steps same session entry alive less stands = record {
+  steps = steps;
+  session = session;
+  entry = entry;
+  kept = one_nothing (g.state old) (g.state new) same;
+  refused = tt;
+  stopped = λ h. runs_no_more (g.backing old).stopped alive h;
+  less = λ honest is acts. subst (λ (st : State). insert_left st.limits.pages st.pages after.at < insert_left (g.state old).limits.pages (g.state old).pages before.at) (sym same) (less honest);
+  stepped = λ honest order fits.
+      let now = stands honest order fits in
+      record {
+        effect = None;
+        does = nothing_else before.session (g.state old) (g.state new) same order;
+        noted = now.added;
+        fits = subst (λ (st : State). InsertFits st after) (sym same) now.fits;
+        flags = λ only. subst (λ (st : State). OnlyTargetsAreFlagged st (targets_at after.at)) (sym same) (now.flags only);
+      };
+}

@@ -1,0 +1,34 @@
+-- Where an insert stands on its way.
+use Rattle.std.proofs.Common.{◌≡◌, ℕ, zero, suc, ◌≤◌, Bool, true, false, Option, Some, None, slice_get, refl, sym, ap, subst, ◌∙◌, arith}
+use Rattle.index_model.specs.declared.bound.Bound.{Bound}
+use Rattle.page_codec.specs.Grammar.{IsPage, IsOfKind}
+use Rattle.page_codec.specs.declared.page.Items.{Items}
+use Rattle.page_codec.specs.declared.page.Items.TheVariants.{Meta, Entries, Downlinks}
+use Rattle.page_codec.specs.declared.page.Page.{Page}
+use Rattle.page_action.specs.States.{State}
+use Rattle.tree_shape.specs.Tree.{IsMetaOf}
+use Rattle.tree_acts.specs.Trees.{HasTree, HasPlace}
+use Rattle.tree_acts.proofs.Telling.{metapage_tells, trail_begins_here}
+use Rattle.descent.specs.Onward.{IsOnWay, way_from}
+use Rattle.descent.specs.declared.way.Way.{Way}
+
+-- a page of the format is on a level up to 31
+pub level_low : (page : Page) → IsPage page → page.level ≤ 31
+level_low page admitted = by page.items admitted.kind
+  where
+    by : (items : Items) → IsOfKind page items → page.level ≤ 31
+    by Meta h = h.level
+    by (Entries v) h = (let z : page.level ≡ 0 = h.level in omega arith)
+    by (Downlinks v) h = h.level.1
+
+-- the root is on the way, whatever is looked for
+pub on_way_from_root : (st : State) (start : ℕ) (aim : Bound → Bool) (clear : Bool) (to : ℕ) (meta : Page) (way : Way) → HasTree st → slice_get st.pages 0 ≡ Some meta → to ≤ meta.level
+    → ((root : ℕ) → IsMetaOf meta root meta.level → Some way ≡ Some (way_from root meta.level)) → IsOnWay st start aim clear to way
+on_way_from_root st start aim clear to meta way tree found le named =
+    let there = metapage_tells st start aim clear meta tree found in
+    let is : way ≡ way_from there.root meta.level = (let k = named there.root there.names in cc) in
+    subst (IsOnWay st start aim clear to) (sym is) (record {
+      not_below = le;
+      place = there.place;
+      trail = trail_begins_here st start meta.level aim clear there.root tree there.place;
+    })

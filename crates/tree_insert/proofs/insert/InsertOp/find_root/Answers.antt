@@ -1,0 +1,34 @@
+use Rattle.std.proofs.Common.{rules, arith, ◌≡◌, ℕ, ◌≤◌, ◌<◌, ◌+◌, Some, true, refl, sym, ap, subst, ◌∙◌, slice_get}
+use Rattle.page_action.specs.States.{State}
+use Rattle.tree_shape.specs.Walks.{entry_aim}
+use Rattle.split_finish.specs.Targets.{OnlyTargetsAreFlagged, way_left, walk_length}
+use Rattle.tree_insert.specs.Inserts.{InsertStands, IsToCome, insert_left, targets_at}
+use Rattle.tree_insert.specs.declared.insert.InsertAt.{InsertAt}
+use Rattle.tree_insert.proofs.Left.{way_short}
+use Rattle.tree_insert.proofs.Steps.{goes_on}
+use Rattle.tree_insert.proofs.Ways.{on_way_from_root, level_low}
+use Rattle.tree_insert.proofs.insert.InsertOp.find_root.Goals as goal
+
+pub returns : goal.returns
+returns g c =
+    let old : State = g.S.PageStore.state c.args.store.now in
+    let most : ℕ = old.limits.pages in
+    let low : c.in-Some.way.level ≤ 255 = (let l = level_low c.in-Ok.meta c.in-Ok.ensures.stored.storable.admitted in let e = c.in-Some.ensures.level in omega arith) in
+    let shorter = way_short most c.in-Some.way low in
+    goes_on g.S.PageStore c.args.self.now _ c.args.store.now c.look.new.store c.look.ensures.steps c.look.ensures.state refl refl c.requires.alive
+    (λ honest. rw c.requires.at (omega (arith, shorter)))
+    (λ honest order fits.
+    let session = c.args.self.now.session in
+    let free = subst (InsertStands old session fits.start c.args.self.now.entry) c.requires.at fits.stands in
+    record {
+      fits = record {
+        session = fits.session;
+        start = fits.start;
+        running = fits.running;
+        stands = (free, on_way_from_root old fits.start (entry_aim c.args.self.now.entry) true 0 c.in-Ok.meta c.in-Some.way order.tree (c.in-Ok.ensures.page honest) (omega arith)
+            (λ root names. sym c.in-Some.is ∙ c.way_down.ensures.named root names));
+        to_come = subst (λ (a : InsertAt). IsToCome a c.args.self.now.added) c.requires.at fits.to_come;
+      };
+      added = refl;
+      flags = λ only. subst (λ (a : InsertAt). OnlyTargetsAreFlagged old (targets_at a)) c.requires.at only;
+    })

@@ -1,0 +1,224 @@
+//! An insert, and which step it makes next.
+
+ghost use Rattle.std.specs.Prelude.{◌≡◌, Err, Ok, Some, None, IfSome, IfNone, OnErr, true, false};
+ghost use Rattle.latch_table.specs.Holdings.{HasRoom};
+ghost use Rattle.page_action.specs.States.{Continues};
+ghost use Rattle.tree_insert.specs.Inserts.{InsertSteps, AnswersStopped};
+ghost use Rattle.tree_insert.specs.Turns.{Meets, Takes};
+
+use descent::{Onward, Way, lead, look, way_down};
+use index_model::{Entry, Fault, Session};
+use latch_table::Mode;
+use page_action::PageStore;
+use page_codec::{Page, PageState};
+use split_finish::{FinishOp, FinishStep, Target};
+use tree_shape::{Aim, may_hold};
+
+/// Where an insert is between its steps.
+#[derive(Drop)]
+pub enum InsertAt {
+    /// Before its first step.
+    Start,
+    /// On its way to the leaf of its entry.
+    At(Way),
+    /// It holds this leaf latched, and pinned.
+    Holding(u32),
+    /// It finishes splits: its own, behind which it is over, or one that it met, behind which it starts again.
+    Finishing(FinishOp),
+}
+
+/// An insert of one session.
+#[derive(Drop)]
+pub struct InsertOp {
+    pub session: Session,
+    pub entry: Entry,
+    pub at: InsertAt,
+    /// The number of the action that added the entry.
+    pub added: Option<u64>,
+}
+
+/// What a step of an insert answers.
+#[derive(Clone, Copy)]
+pub enum InsertStep {
+    /// There are more steps to make.
+    Going,
+    /// The entry is added, by the action of this number; a split that could not be finished has this fault.
+    Added {
+        action: u64,
+        unfinished: Option<Fault>,
+    },
+}
+
+impl InsertOp {
+    /// An insert of the entry before its first step.
+    pub fn new(session: Session, entry: Entry) -> InsertOp
+        ensures { result ≡ record {
+          session = session;
+          entry = entry;
+          at = InsertAt.Start;
+          added = None;
+        } }
+    {
+        InsertOp {
+            session,
+            entry,
+            at: InsertAt::Start,
+            added: None,
+        }
+    }
+
+    /// Makes one step. After `Added` and after each fault but `Blocked` the call is over, and its store's `end` is due.
+    ///
+    /// Refused with `Blocked` (4), and the same step may be made again; with `Exists` (5) where the entry is there; with
+    /// `IndexFull` (8) where a page would be split and no block is free; with `Io` (2), `Stopped` (3), `LogFull` (9),
+    /// `NoFrame` (10); with `TooTall` (19) where a split that it meets would be one of a root on level 31; with `PageDamaged`
+    /// (17) on pages that are no tree. A refused step changes nothing. Once the entry is logged, each of these but `Blocked`
+    /// stands in `unfinished` of `Added`.
+    pub fn step<S: PageStore>(&mut self, store: &mut S) -> Result<InsertStep, Fault>
+        ensures { InsertSteps S.PageStore self.old self.new store.old store.new result }
+    {
+        if store.is_stopped() {
+            return self.stop();
+        }
+        match self.at {
+            InsertAt::Start => self.find_root(store),
+            InsertAt::At(way) => self.walk(store, way),
+            InsertAt::Holding(block) => self.add(store, block),
+            InsertAt::Finishing(_) => self.finish(store),
+        }
+    }
+
+    // What is answered on a stopped log.
+    fn stop(&self) -> Result<InsertStep, Fault>
+        ensures { AnswersStopped self.now.added result }
+    {
+        match self.added {
+            Some(action) => Ok(InsertStep::Added {
+                action,
+                unfinished: Some(Fault::Stopped),
+            }),
+            None => Err(Fault::Stopped),
+        }
+    }
+
+    // The first step: reads the metapage.
+    fn find_root<S: PageStore>(&mut self, store: &mut S) -> Result<InsertStep, Fault>
+        requires at { self.old.at ≡ InsertAt.Start }
+        requires alive { (S.backing store.old).stopped ≡ false }
+        ensures { InsertSteps S.PageStore self.old self.new store.old store.new result }
+    {
+        let meta = match look(store, self.session, 0) {
+            Ok(meta) => meta,
+            Err(fault) => return Err(fault),
+        };
+        let Some(way) = way_down(&meta) else {
+            return Err(Fault::PageDamaged(0));
+        };
+        self.at = InsertAt::At(way);
+        Ok(InsertStep::Going)
+    }
+
+    // Reads a page on its way.
+    fn walk<S: PageStore>(&mut self, store: &mut S, way: Way) -> Result<InsertStep, Fault>
+        requires at { self.old.at ≡ InsertAt.At way }
+        requires alive { (S.backing store.old).stopped ≡ false }
+        ensures { InsertSteps S.PageStore self.old self.new store.old store.new result }
+    {
+        let page = match look(store, self.session, way.block) {
+            Ok(page) => page,
+            Err(fault) => return Err(fault),
+        };
+        if is_unfinished(&page) {
+            return self.meet(&page, way);
+        }
+        let aim = Aim::Below(self.entry.bound());
+        match lead(&page, &way, &aim, 0, store.limits().pages) {
+            Some(Onward::Going(on)) => {
+                self.at = InsertAt::At(on);
+                Ok(InsertStep::Going)
+            }
+            Some(Onward::Here) => self.take(store, &page),
+            None => Err(Fault::PageDamaged(way.block)),
+        }
+    }
+
+    // Finishes the split of a page that it met on its way.
+    fn meet(&mut self, page: &Page, way: Way) -> Result<InsertStep, Fault>
+        ensures { Meets page.now way self.old self.new result }
+    {
+        match target_of(page, way) {
+            Some(target) => {
+                self.at = InsertAt::Finishing(FinishOp::new(self.session, target));
+                Ok(InsertStep::Going)
+            }
+            None => Err(Fault::PageDamaged(way.block)),
+        }
+    }
+
+    // Latches its leaf exclusively, and pins it.
+    fn take<S: PageStore>(&mut self, store: &mut S, page: &Page) -> Result<InsertStep, Fault>
+        ensures steps { Continues S.follows store.old store.new }
+        ensures backing { S.backing store.new ≡ S.backing store.old }
+        ensures takes { HasRoom (S.state store.old).table self.old.session
+            → Takes page.now self.old self.new (S.state store.old) (S.state store.new) result }
+        ensures state { OnErr result (S.state store.new ≡ S.state store.old) }
+        ensures op { OnErr result (self.new ≡ self.old) }
+    {
+        if !may_hold(page, &self.entry) {
+            return Err(Fault::PageDamaged(page.block));
+        }
+        match store.latch(self.session, page.block, Mode::Exclusive) {
+            Ok(()) => {
+                store.pin(self.session, page.block);
+                self.at = InsertAt::Holding(page.block);
+                Ok(InsertStep::Going)
+            }
+            Err(fault) => Err(fault),
+        }
+    }
+
+    // Puts the entry into the leaf that it holds.
+    fn add<S: PageStore>(&mut self, store: &mut S, block: u32) -> Result<InsertStep, Fault>
+        requires at { self.old.at ≡ InsertAt.Holding block }
+        requires alive { (S.backing store.old).stopped ≡ false }
+        ensures { InsertSteps S.PageStore self.old self.new store.old store.new result }
+    {
+        Err(Fault::PageDamaged(block))
+    }
+
+    // Makes a step by which splits are finished.
+    fn finish<S: PageStore>(&mut self, store: &mut S) -> Result<InsertStep, Fault>
+        requires alive { (S.backing store.old).stopped ≡ false }
+        ensures { InsertSteps S.PageStore self.old self.new store.old store.new result }
+    {
+        Err(Fault::Stopped)
+    }
+}
+
+// Whether it is a live page whose split is to be finished.
+fn is_unfinished(page: &Page) -> bool
+    ensures live { result ≡ true → page.now.state ≡ PageState.Live }
+    ensures flagged { result ≡ true → page.now.split ≡ true }
+    ensures whole { result ≡ false → page.now.state ≡ PageState.Live → page.now.split ≡ false }
+{
+    matches!(page.state, PageState::Live) && page.split
+}
+
+// What is to be finished of a page, met on this way; None where it is on another level, or has no high key.
+fn target_of(page: &Page, way: Way) -> Option<Target>
+    ensures target { IfSome result (λ t. (t.block ≡ way.block) × (t.level ≡ way.level)
+        × (page.now.level ≡ way.level) × (page.now.high ≡ Some t.separator)) }
+    ensures none { page.now.level ≡ way.level → IfNone result (page.now.high ≡ None) }
+{
+    if page.level != way.level {
+        return None;
+    }
+    match page.high {
+        Some(separator) => Some(Target {
+            block: way.block,
+            level: way.level,
+            separator,
+        }),
+        None => None,
+    }
+}
