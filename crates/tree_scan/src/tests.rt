@@ -169,20 +169,31 @@ fn scan_goes_on_by_the_saved_link(rt: HostRuntime) {
 
 #[test]
 fn leaf_stays_pinned_until_another_page_is_read(rt: HostRuntime) {
-    let (Ok(mut store), Ok(session), Ok(other)) =
-        (tree(rt.alloc()), Session::new(0), Session::new(1))
-    else {
+    let (Ok(mut store), Ok(session), Ok(other)) = (
+        tree(rt.alloc()),
+        Session::new(0),
+        Session::new(1),
+    ) else {
         assert!(rt; false);
         return;
     };
     let mut op = ScanOp::new(session, range(None, None));
     assert!(rt; gives(&mut op, &mut store, &[10, 20]));
-    assert_eq!(rt; store.latch(other, 1, Mode::Cleanup), Err(Fault::Blocked(1)));
+    assert_eq!(rt;
+        store.latch(other, 1, Mode::Cleanup),
+        Err(Fault::Blocked(1))
+    );
     assert_eq!(rt; store.latch(other, 2, Mode::Exclusive), Ok(()));
     assert_eq!(rt; leaf_of(&mut op, &mut store).err(), Some(Fault::Blocked(2)));
-    assert_eq!(rt; store.latch(other, 1, Mode::Cleanup), Err(Fault::Blocked(1)));
+    assert_eq!(rt;
+        store.latch(other, 1, Mode::Cleanup),
+        Err(Fault::Blocked(1))
+    );
     store.release(other, 2);
     assert!(rt; gives(&mut op, &mut store, &[30, 40]));
     assert_eq!(rt; store.latch(other, 1, Mode::Cleanup), Ok(()));
-    assert_eq!(rt; store.latch(other, 2, Mode::Cleanup), Err(Fault::Blocked(2)));
+    assert_eq!(rt;
+        store.latch(other, 2, Mode::Cleanup),
+        Err(Fault::Blocked(2))
+    );
 }

@@ -1,15 +1,19 @@
-use Rattle.std.proofs.Common.{rules, ◌≡◌, ◌<◌, false, Some, slice_get, sym, ap, subst, ◌∙◌, arith}
+use Rattle.std.proofs.Common.{rules, ◌≡◌, ◌<◌, false, Some, slice_get, sym, ap, subst, ◌∙◌, arith, Ok, suc}
 use Rattle.page_codec.specs.declared.page.Page.{Page}
 use Rattle.page_action.specs.States.{State, IsLater, with_table}
 use Rattle.tree_shape.specs.Walks.{frontier_aim}
-use Rattle.descent.specs.Onward.{IsOnWay}
+use Rattle.descent.specs.Onward.{IsOnWay, way_from}
 use Rattle.descent.specs.declared.way.Way.{Way}
+use Rattle.tree_scan.specs.declared.steps.ScanAt.{ScanAt}
 use Rattle.tree_scan.specs.Scans.{without_leaf, ScanFits, IsUnderway}
+use Rattle.tree_scan.specs.Straight.{straight_steps, CountsDown}
 use Rattle.tree_scan.specs.Work.{scan_left}
+use Rattle.tree_scan.specs.declared.steps.ScanStep.TheVariants.{Going}
+use Rattle.tree_acts.specs.Trees.{HasCover}
 use Rattle.tree_scan.specs.declared.steps.ScanOp.{ScanOp}
 use Rattle.tree_scan.proofs.Moving.{going_does, going_fits, first_less}
 use Rattle.tree_scan.proofs.Resting.{quiet_by, rests}
-use Rattle.tree_scan.proofs.Rooting.{root_way}
+use Rattle.tree_scan.proofs.Rooting.{root_way, straight_root}
 use Rattle.tree_scan.proofs.steps.ScanOp.find_root.Goals as goal
 
 pub returns : goal.returns
@@ -41,8 +45,8 @@ returns g c =
           let later : IsLater (g.S.PageStore.backing c.look.new.store) (g.S.PageStore.backing c.go_on.new.store) = g.met.S.PageStore.laws.follows_later _ _ (c.go_on.ensures.steps _ (g.met.S.PageStore.laws.follows_same _)) in
           let found : slice_get old.pages 0 ≡ Some page = c.in_ok-page.ensures.page (later.honest honest) in
           let root = root_way old fits.start (frontier_aim before.frontier) false page order.tree found in
-          let named : Some way ≡ Some _ = sym c.in-Some.is ∙ c.way_down.ensures.named root.root root.names in
-          let same : way ≡ _ = cc in
+          let named : Some way ≡ Some (way_from root.root page.level) = sym c.in-Some.is ∙ c.way_down.ensures.named root.root root.names in
+          let same : way ≡ way_from root.root page.level = cc in
           record {
             does = going_does old new before order fits is;
             fits = subst (ScanFits new) (sym c.go_on.ensures.op)
@@ -52,4 +56,15 @@ returns g c =
             way = way;
             op = c.go_on.ensures.op;
           };
+      straight = λ honest order whole none starts.
+          let later : IsLater (g.S.PageStore.backing c.look.new.store) (g.S.PageStore.backing c.go_on.new.store) = g.met.S.PageStore.laws.follows_later _ _ (c.go_on.ensures.steps _ (g.met.S.PageStore.laws.follows_same _)) in
+          let found : slice_get old.pages 0 ≡ Some page = c.in_ok-page.ensures.page (later.honest honest) in
+          let root = straight_root old (frontier_aim before.frontier) page order.tree whole found in
+          let named : Some way ≡ Some (way_from root.root page.level) = sym c.in-Some.is ∙ c.way_down.ensures.named root.root root.names in
+          let same : way ≡ way_from root.root page.level = cc in
+          subst (λ (op : ScanOp). CountsDown old before op (Ok Going)) (sym c.go_on.ensures.op) (
+            subst (λ (w : Way). HasCover old w.level (frontier_aim before.frontier) w.block) (sym same) root.covers,
+            subst (λ (a : ScanAt). suc (suc way.level) ≡ straight_steps old.pages a) (sym c.requires.at)
+                (let l : way.level ≡ page.level = ap (λ (w : Way). w.level) same in let m = root.level_is in omega arith),
+          );
     }

@@ -1,4 +1,4 @@
-use Rattle.std.proofs.Common.{rules, ◌≡◌, ℕ, ◌<◌, ◌≤◌, false, true, Some, List, length, slice_get, inr, refl, sym, ap, subst, ◌∙◌, arith}
+use Rattle.std.proofs.Common.{rules, ◌≡◌, suc, Ok, ℕ, ◌<◌, ◌≤◌, false, true, Some, List, length, slice_get, inr, refl, sym, ap, subst, ◌∙◌, arith}
 use Rattle.std.specs.Prelude.{IfErr}
 use Rattle.index_model.specs.Faults.{HasCause}
 use Rattle.index_model.specs.Order.{IsAscending}
@@ -12,11 +12,14 @@ use Rattle.tree_shape.specs.Leaf.{IsCopiedFrom}
 use Rattle.tree_shape.specs.Walks.{frontier_aim}
 use Rattle.tree_acts.specs.Trees.{HasPlace, HasCover}
 use Rattle.descent.proofs.Looking.{if_err}
-use Rattle.descent.specs.Onward.{IsOnWay, LeadsOnward, LeavesLess, IsShorter, IsArrived}
+use Rattle.descent.specs.Onward.{IsOnWay, LeadsOnward, LeadsStraight, LeavesLess, IsShorter, IsArrived}
 use Rattle.descent.specs.declared.way.Way.{Way}
-use Rattle.descent.specs.declared.way.Onward.TheVariants.{Going}
+use Rattle.descent.specs.declared.way.Onward.TheVariants.{Going, Here}
+use Rattle.tree_scan.specs.declared.steps.ScanAt.{ScanAt}
 use Rattle.tree_scan.specs.Scans.{behind, without_leaf, where_scanning, ScanStands, ScanFits, IsUnderway, LeafIsRead}
+use Rattle.tree_scan.specs.Straight.{straight_steps, IsStraight, CountsDown}
 use Rattle.tree_scan.specs.Work.{scan_left}
+use Rattle.tree_scan.specs.declared.steps.ScanStep.TheVariants.{Going as Goes}
 use Rattle.tree_scan.specs.declared.steps.ScanOp.{ScanOp}
 use Rattle.tree_scan.proofs.Arriving.{leaf_has_entries, other_items, live_leaf, scan_has_room}
 use Rattle.tree_scan.proofs.Causes.{scanning_cause}
@@ -48,6 +51,7 @@ returns-in_err-page g c = record {
       if_err c.look.result _ _ (λ f h. scanning_cause old (g.S.PageStore.backing c.args.store.now) (g.S.PageStore.backing c.look.new.store) before.session way.block f honest used h)
       (c.look.ensures.cause (scan_has_room old before fits)) in
       search rules;
+  straight = λ honest order whole none starts. search rules;
 }
 
 pub returns-in_default : goal.returns-in_default
@@ -80,6 +84,7 @@ returns-in_default g c = record {
       let cover : HasCover old 0 (frontier_aim before.frontier) page.block = subst (HasCover old 0 (frontier_aim before.frontier)) (sym block_is) here.1 in
       let has = leaf_has_entries old (frontier_aim before.frontier) page order.tree there admitted cover in
       absurd (other_items page.items c.in_default.not-Entries has);
+  straight = λ honest order whole none starts. tt;
 }
 
 pub returns-in-None : goal.returns-in-None
@@ -105,6 +110,7 @@ returns-in-None g c = record {
       let led : LeadsOnward old fits.start (frontier_aim before.frontier) false 0 way c.lead.result =
       c.lead.ensures.goes old fits.start false order.tree found on_way (λ e. cc) few in
       absurd (subst (LeadsOnward old fits.start (frontier_aim before.frontier) false 0 way) c.in-None.is led);
+  straight = λ honest order whole none starts. tt;
 }
 
 pub returns-in-Some-Going : goal.returns-in-Some-Going
@@ -152,6 +158,14 @@ returns-in-Some-Going g c =
             way = on;
             op = c.go_on.ensures.op;
           };
+      straight = λ honest order whole none starts.
+          let later : IsLater (g.S.PageStore.backing c.look.new.store) (g.S.PageStore.backing c.go_on.new.store) = g.met.S.PageStore.laws.follows_later _ _ (c.go_on.ensures.steps _ (g.met.S.PageStore.laws.follows_same _)) in
+          let found : slice_get old.pages c.args.way.block ≡ Some c.in_ok-page.page = c.in_ok-page.ensures.page (later.honest honest) in
+          let cover : HasCover old c.args.way.level (frontier_aim before.frontier) c.args.way.block = subst (IsStraight old before.frontier) c.requires.at starts in
+          let led : LeadsStraight old (frontier_aim before.frontier) 0 c.args.way (Some (Going on)) =
+          subst (LeadsStraight old (frontier_aim before.frontier) 0 c.args.way) answer (c.lead.ensures.straight old order.tree whole found cover) in
+          subst (λ (op : ScanOp). CountsDown old before op (Ok Goes)) (sym c.go_on.ensures.op)
+          (led.1, subst (λ (a : ScanAt). suc (suc on.level) ≡ straight_steps old.pages a) (sym c.requires.at) (ap suc led.0));
     }
 
 pub returns-in-Entries : goal.returns-in-Entries
@@ -186,11 +200,11 @@ returns-in-Entries g c =
       no_more = λ honest. (let l = less honest in omega arith);
       stepped = λ honest order fits.
           let on_way : IsOnWay old fits.start (frontier_aim before.frontier) false 0 way = subst (ScanStands old fits.start before.leaf before.frontier) c.requires.at fits.stands in
-              let found : slice_get old.pages way.block ≡ Some page = c.in_ok-page.ensures.page (later.honest honest) in
+          let found : slice_get old.pages way.block ≡ Some page = c.in_ok-page.ensures.page (later.honest honest) in
           let few : length old.pages ≤ c.limits-most.result.pages = subst (λ (n : ℕ). length old.pages ≤ n) (ap (λ (l : Limits). l.pages) (sym (c.limits-most.ensures.value ∙ ap (λ (st : State). st.limits) c.look.ensures.state))) c.in_ok-page.ensures.inside in
           let led : LeadsOnward old fits.start (frontier_aim before.frontier) false 0 way c.lead.result =
           c.lead.ensures.goes old fits.start false order.tree found on_way (λ e. cc) few in
-      let here : (way.level ≡ 0) × HasCover old 0 (frontier_aim before.frontier) way.block =
+          let here : (way.level ≡ 0) × HasCover old 0 (frontier_aim before.frontier) way.block =
           subst (LeadsOnward old fits.start (frontier_aim before.frontier) false 0 way) (c.in-Some-Here.is ∙ ap Some c.in-Some-Here.field-0-is) led in
           let admitted = c.in_ok-page.ensures.stored.storable.admitted in
           let block_is : page.block ≡ way.block = c.in_ok-page.ensures.stored.block_is in
@@ -218,4 +232,10 @@ returns-in-Entries g c =
                 (reads_leaf old before (Some way.block) way page es order.tree c.requires.at fits.started there cover live copied);
             count_is = c.ready.ensures;
           });
+      straight = λ honest order whole none starts.
+          let found : slice_get old.pages way.block ≡ Some page = c.in_ok-page.ensures.page (later.honest honest) in
+          let cover : HasCover old way.level (frontier_aim before.frontier) way.block = subst (IsStraight old before.frontier) c.requires.at starts in
+          let led : LeadsStraight old (frontier_aim before.frontier) 0 way (Some Here) =
+          subst (LeadsStraight old (frontier_aim before.frontier) 0 way) (c.in-Some-Here.is ∙ ap Some c.in-Some-Here.field-0-is) (c.lead.ensures.straight old order.tree whole found cover) in
+          subst (λ (a : ScanAt). straight_steps old.pages a ≡ 1) (sym c.requires.at) (ap suc led);
     }
