@@ -5,3 +5,4 @@ pub mod Quiet
 pub mod Leading
 pub mod Working
 pub mod Acting
+pub mod Blocks

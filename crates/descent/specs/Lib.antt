@@ -3,3 +3,4 @@ pub mod Steps
 pub mod Ways
 pub mod Onward
 pub mod Shared
+pub mod Splitting

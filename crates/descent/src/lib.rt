@@ -3,9 +3,11 @@
 #![tactic(auto)]
 
 mod reading;
+mod splitting;
 mod way;
 
 pub use reading::{ask_for, look, look_at_both, look_to_change, root};
+pub use splitting::{act_on, read_right, take_block};
 pub use way::{Onward, Way, lead, way_down};
 
 #[cfg(test)]

@@ -1,5 +1,6 @@
 -- Steps of an insert that change nothing but where it stands.
 use Rattle.std.proofs.Common.{◌≡◌, ◌⊎◌, ℕ, suc, ◌<◌, Bool, true, false, Option, Some, None, Result, Ok, Err, List, refl, sym, ap, subst, inl, inr, ◌∙◌, arith}
+use Rattle.std.specs.Prelude.{OnOk, OnErr, IfOk}
 use Rattle.index_model.specs.Faults.{HasCause}
 use Rattle.index_model.specs.declared.fault.Fault.{Fault}
 use Rattle.index_model.specs.declared.fault.Fault.TheVariants.{Stopped}
@@ -13,7 +14,7 @@ use Rattle.tree_insert.specs.declared.insert.InsertOp.{InsertOp}
 use Rattle.tree_insert.specs.declared.insert.InsertStep.{InsertStep}
 use Rattle.tree_insert.specs.declared.insert.InsertStep.TheVariants.{Going, Added}
 
-runs_no_more : (b : Bool) {A : Type 0} → b ≡ false → b ≡ true → A
+pub runs_no_more : (b : Bool) {A : Type 0} → b ≡ false → b ≡ true → A
 runs_no_more b alive stopped = absurd cc
 
 -- a step that is refused before anything is changed
@@ -62,3 +63,16 @@ goes_on g before after old new steps same session entry alive less stands = reco
         flags = λ only. subst (λ (st : State). OnlyTargetsAreFlagged st (targets_at after.at)) (sym same) (now.flags only);
       };
 }
+
+pub on_ok : {A E : Type 0} (r : Result A E) (x : A) (P : Type 0) → OnOk r P → r ≡ Ok x → P
+on_ok (Ok y) x P h is = h
+on_ok (Err e) x P h is = absurd cc
+
+pub on_err : {A E : Type 0} (r : Result A E) (x : E) (P : Type 0) → OnErr r P → r ≡ Err x → P
+on_err (Ok y) x P h is = absurd cc
+on_err (Err e) x P h is = h
+
+pub only_going : (r : Result InsertStep Fault) (action : ℕ) (unfinished : Option Fault) → IfOk r (λ step. step ≡ Going) → r ≡ Ok (Added action unfinished) → ⊥
+only_going (Ok Going) action unfinished h is = cc
+only_going (Ok (Added a u)) action unfinished h is = cc
+only_going (Err fault) action unfinished h is = cc

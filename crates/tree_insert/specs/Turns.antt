@@ -1,11 +1,19 @@
 -- What the parts of a step of an insert do.
-use Rattle.std.specs.Prelude.{◌≡◌, ◌⊎◌, ℕ, true, false, Option, Some, None, Result, Ok, Err, []}
+use Rattle.std.specs.Prelude.{◌≡◌, ◌≢◌, ◌⊎◌, ◌≤◌, ℕ, suc, Bool, true, false, Option, Some, None, Result, Ok, Err, [], ◌∷◌, length, slice_get}
+use Rattle.index_model.specs.Order.{is_among}
+use Rattle.index_model.specs.declared.entry.Entry.{Entry}
 use Rattle.index_model.specs.declared.fault.Fault.{Fault}
-use Rattle.index_model.specs.declared.fault.Fault.TheVariants.{Blocked, PageDamaged}
-use Rattle.latch_table.specs.Holdings.{Table, latched, pinned, is_held_by_another}
+use Rattle.index_model.specs.declared.fault.Fault.TheVariants.{Blocked, Exists, PageDamaged}
+use Rattle.latch_table.specs.Holdings.{Table, latched, pinned, released, unpinned, is_held_by_another}
 use Rattle.latch_table.specs.declared.mode.Mode.TheVariants.{Exclusive}
 use Rattle.page_codec.specs.declared.page.Page.{Page}
-use Rattle.page_action.specs.States.{State, with_table}
+use Rattle.page_codec.specs.Edits.{entries_of}
+use Rattle.page_action.specs.Reuse.{IsFresh}
+use Rattle.page_action.specs.States.{State, with_table, after_act}
+use Rattle.page_action.specs.Stored.{IsStored, AreActable}
+use Rattle.tree_shape.specs.Edits.{LeafHalves}
+use Rattle.tree_shape.specs.Nodes.{node_of}
+use Rattle.descent.specs.Splitting.{RightIsMendable, RightIsStored, RightIsFound, mended_to}
 use Rattle.tree_shape.specs.Leaf.{MayHold}
 use Rattle.descent.specs.declared.way.Way.{Way}
 use Rattle.split_finish.specs.declared.finish.FinishAt.TheVariants.{Start}
@@ -66,3 +74,39 @@ Takes page before after old new (Ok Going) = TakesLeaf page before after old new
 Takes page before after old new (Ok (Added action unfinished)) = ⊥
 Takes page before after old new (Err fault) =
     (new ≡ old) × (after ≡ before) × IsNotTaken page before old fault
+
+-- why a page gives no place for an entry
+abbrev pub PlaceRefused : Page → Entry → Fault → Type 0
+PlaceRefused page e fault =
+    ((fault ≡ PageDamaged page.block) × (MayHold page e → ⊥))
+    ⊎ ((fault ≡ Exists) × (is_among (entries_of page.items) e ≡ true))
+
+-- the page stands at its block, with no more entries than the limits allow, and the page to its right may be mended
+pub record IsSplittable (st : State) (page : Page) : Type 0 where
+  pub found : slice_get st.pages page.block ≡ Some page
+  pub stored : IsStored st.limits page.block page
+  pub few : length st.pages ≤ st.limits.pages
+  pub mendable : RightIsMendable st page.right
+  pub apart : page.right ≢ Some page.block
+
+-- The leaf is split with the entry, on a block that was free, and let go; its split is to be finished.
+pub record SplitsLeaf (honest : Bool) (page : Page) (before after : InsertOp) (old new : State)
+    : Type 0 where
+  pub left : Page
+  pub half : Page
+  pub right : Option Page
+  pub halves : LeafHalves (node_of page) page.block half.block before.entry
+      (node_of left) (node_of half)
+  pub left_block : left.block ≡ page.block
+  pub fresh : IsFresh old half.block
+  pub free : is_held_by_another old.table before.session half.block Exclusive ≡ false
+  pub right_stored : RightIsStored old before.session page.right right
+  pub right_found : honest ≡ true → RightIsFound old page.right right
+  pub may : AreActable old.limits (length old.pages) (left ∷ half ∷ mended_to half.block right)
+  pub state : new ≡ with_table (after_act (left ∷ half ∷ mended_to half.block right) old)
+      (unpinned (released old.table before.session page.block) before.session page.block)
+  pub target : Target
+  pub block_is : target.block ≡ page.block
+  pub level_is : target.level ≡ left.level
+  pub high_is : left.high ≡ Some target.separator
+  pub finishes : FinishesOne target (record before { added = Some (suc old.acts) }) after

@@ -1,8 +1,8 @@
 //! An insert, and which step it makes next.
 
-ghost use Rattle.std.specs.Prelude.{◌≡◌, Err, Ok, Some, None, IfSome, IfNone, OnErr, true, false};
-ghost use Rattle.latch_table.specs.Holdings.{HasRoom};
-ghost use Rattle.page_action.specs.States.{Continues};
+ghost use Rattle.std.specs.Prelude.{◌≡◌, Err, Ok, Some, None, IfSome, IfNone, IfOk, OnOk, OnErr, true, false};
+ghost use Rattle.latch_table.specs.Holdings.{HasRoom, latched, pinned};
+ghost use Rattle.page_action.specs.States.{Continues, with_table};
 ghost use Rattle.tree_insert.specs.Inserts.{InsertSteps, AnswersStopped};
 ghost use Rattle.tree_insert.specs.Turns.{Meets, Takes};
 
@@ -161,6 +161,11 @@ impl InsertOp {
         ensures backing { S.backing store.new ≡ S.backing store.old }
         ensures takes { HasRoom (S.state store.old).table self.old.session
             → Takes page.now self.old self.new (S.state store.old) (S.state store.new) result }
+        ensures going { IfOk result (λ step. step ≡ InsertStep.Going) }
+        ensures taken { OnOk result ((S.state store.new ≡ with_table (S.state store.old)
+            (pinned (latched (S.state store.old).table self.old.session page.now.block Mode.Exclusive)
+            self.old.session page.now.block))
+            × (self.new ≡ record self.old { at = InsertAt.Holding page.now.block })) }
         ensures state { OnErr result (S.state store.new ≡ S.state store.old) }
         ensures op { OnErr result (self.new ≡ self.old) }
     {

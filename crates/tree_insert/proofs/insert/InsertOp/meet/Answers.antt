@@ -5,9 +5,9 @@ pub returns-in-Some : goal.returns-in-Some
 returns-in-Some c = record {
   target = c.in-Some.target;
   block_is = c.in-Some.ensures.target.0;
-  level_is = c.in-Some.ensures.target.1.0;
-  page_level = c.in-Some.ensures.target.1.1.0;
-  high_is = c.in-Some.ensures.target.1.1.1;
+  level_is = c.in-Some.ensures.target.1;
+  page_level = c.in-Some.ensures.target.2;
+  high_is = c.in-Some.ensures.target.3;
   finishes = record {
     op = c.new.result;
     after_is = refl;

@@ -1,0 +1,35 @@
+-- A block for a new page.
+use Rattle.std.proofs.Common.{◌≡◌, ℕ, zero, suc, ◌<◌, ◌≤◌, Bool, true, false, ◌&&◌, Option, Some, None, List, [], ◌∷◌, length, slice_get, refl, sym, ap, subst, ◌∙◌, arith}
+use Rattle.std.proofs.lemmas.Bool.{and_parts}
+use Rattle.index_model.specs.declared.limits.Limits.{Limits}
+use Rattle.page_codec.specs.Grammar.{IsPage, IsOfKind}
+use Rattle.page_codec.specs.declared.page.Items.{Items}
+use Rattle.page_codec.specs.declared.page.Items.TheVariants.{Meta, Entries, Downlinks}
+use Rattle.page_codec.specs.declared.page.Page.{Page}
+use Rattle.page_codec.specs.declared.page.PageState.{PageState}
+use Rattle.page_codec.specs.declared.page.PageState.TheVariants.{Live}
+use Rattle.page_action.specs.Reuse.{IsFresh, is_deleted, is_deleted_state}
+use Rattle.page_action.specs.States.{State}
+use Rattle.page_action.specs.Stored.{AreStored}
+
+true_false : true ≡ false → ⊥
+true_false h = cc
+
+-- a page of block 0 is live
+live_at_0 : (page : Page) → IsPage page → page.block ≡ 0 → page.state ≡ Live
+live_at_0 page admitted is = by page.items admitted.kind
+  where
+    by : (items : Items) → IsOfKind page items → page.state ≡ Live
+    by Meta h = h.state
+    by (Entries v) h = absurd (let k : 0 < page.block = h.block.0 in omega arith)
+    by (Downlinks v) h = absurd (let k : 0 < page.block = h.block.0 in omega arith)
+
+not_deleted_at_0 : (limits : Limits) (pages : List Page) → AreStored limits 0 pages → is_deleted pages 0 ≡ true → ⊥
+not_deleted_at_0 limits [] stored gone = absurd cc
+not_deleted_at_0 limits (page ∷ pages) stored gone =
+    true_false (sym gone ∙ ap is_deleted_state (live_at_0 page stored.0.storable.admitted stored.0.block_is))
+
+-- a block for a new page isn't that of the metapage
+pub fresh_past_meta : (st : State) (block : ℕ) → AreStored st.limits 0 st.pages → 0 < length st.pages → IsFresh st block → 0 < block
+fresh_past_meta st zero stored some fresh = absurd (not_deleted_at_0 st.limits st.pages stored (and_parts (is_deleted st.pages 0) _ (fresh.reusable some)).0)
+fresh_past_meta st (suc block) stored some fresh = omega arith

@@ -1,0 +1,25 @@
+use Rattle.std.proofs.Common.{rules, arith, ◌≡◌, ◌<◌, ◌≤◌, ℕ, ap, sym, subst, ◌∙◌, inl, inr, length}
+use Rattle.index_model.specs.Faults.{HasCause}
+use Rattle.index_model.specs.declared.fault.Fault.{Fault}
+use Rattle.index_model.specs.declared.limits.Limits.{Limits}
+use Rattle.page_action.specs.States.{State}
+use Rattle.descent.specs.Shared.{where_working}
+use Rattle.descent.proofs.Blocks.{fresh_past_meta}
+use Rattle.descent.proofs.Working.{held_cause, full_cause}
+use Rattle.descent.proofs.splitting.take_block.Goals as goal
+
+pub returns-in-Ok-ask_for-clause-block : goal.returns-in-Ok-ask_for-clause-block
+returns-in-Ok-ask_for-clause-block g c some =
+    let st : State = g.S.PageStore.state c.args.store.now in
+    let fresh = c.in-Ok.ensures.fresh in
+    let most : c.limits-limits.result.pages ≡ st.limits.pages = ap (λ (l : Limits). l.pages) c.limits-limits.ensures.value in
+    let few : c.limits-limits.result.pages ≤ 65536 = c.limits-limits.ensures.allowed.pages_to in
+    let inside : c.in-Ok.block < st.limits.pages = fresh.inside in
+    (fresh_past_meta st c.in-Ok.block (g.met.S.PageStore.laws.stored c.args.store.now) some fresh, omega (arith, most))
+
+pub returns-in-Err-clause-cause : goal.returns-in-Err-clause-cause
+returns-in-Err-clause-cause g c room images frames =
+    let st : State = g.S.PageStore.state c.args.store.now in
+    let old = g.S.PageStore.backing c.args.store.now in
+    subst (HasCause (where_working st old old c.args.session images frames)) (sym c.in-Err.ensures.fault)
+    (full_cause st old old c.args.session images frames c.in-Err.ensures.full)

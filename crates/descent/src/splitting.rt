@@ -1,0 +1,96 @@
+//! What a split needs beside the page.
+
+ghost use Rattle.std.specs.Prelude.{◌≡◌, ◌<◌, ◌≤◌, ◌+◌, true, false, Err, IfOk, IfErr, OnOk, OnErr, ℕ, suc, length};
+ghost use Rattle.index_model.specs.Faults.{HasCause};
+ghost use Rattle.latch_table.specs.Holdings.{HasRoom, is_held_by_another};
+ghost use Rattle.page_codec.specs.Grammar.{IsBlock};
+ghost use Rattle.page_action.specs.Causes.{where_acted};
+ghost use Rattle.page_action.specs.Reuse.{IsFresh};
+ghost use Rattle.page_action.specs.Room.{KeepsRoom};
+ghost use Rattle.page_action.specs.States.{Continues, after_act};
+ghost use Rattle.page_action.specs.Stored.{AreActable};
+ghost use Rattle.descent.specs.Shared.{where_working};
+ghost use Rattle.descent.specs.Splitting.{RightIsMendable, RightIsStored, RightIsFound};
+
+use crate::reading::{ask_for, look_to_change};
+use index_model::{Fault, Session};
+use latch_table::Mode;
+use page_action::{PageStore, find_misplaced};
+use page_codec::Page;
+use tree_shape::may_be_mended;
+
+/// Reads the page to the right of one that is split, if there is one, to mend its left link. Refused as
+/// [`look_to_change`], and with `PageDamaged` for a page that has no left link to mend: the metapage, or a deleted page.
+pub fn read_right<S: PageStore>(
+    store: &mut S,
+    session: Session,
+    right: Option<u32>,
+) -> Result<Option<Page>, Fault>
+    ensures steps { Continues S.follows store.old store.new }
+    ensures state { S.state store.new ≡ S.state store.old }
+    ensures found { (S.backing store.new).honest ≡ true
+        → IfOk result (RightIsFound (S.state store.old) right) }
+    ensures stored { IfOk result (RightIsStored (S.state store.old) session right) }
+    ensures alive { OnOk result
+        ((S.backing store.new).stopped ≡ true → (S.backing store.old).stopped ≡ true) }
+    ensures room { KeepsRoom (S.state store.old) (S.backing store.old) (S.backing store.new) }
+    ensures cause { (S.backing store.new).honest ≡ true
+        → HasRoom (S.state store.old).table session → RightIsMendable (S.state store.old) right
+        → (images frames : ℕ) → 1 ≤ frames
+        → IfErr result (HasCause (where_working (S.state store.old) (S.backing store.old)
+        (S.backing store.new) session images frames)) }
+{
+    let Some(block) = right else {
+        return Ok(None);
+    };
+    match look_to_change(store, session, block) {
+        Ok(page) if may_be_mended(&page) => Ok(Some(page)),
+        Ok(_) => Err(Fault::PageDamaged(block)),
+        Err(fault) => Err(fault),
+    }
+}
+
+/// The block of a new page, which no other session holds. Refused with `IndexFull` where there is none, and with `Blocked`.
+pub fn take_block<S: PageStore>(store: &mut S, session: Session) -> Result<u32, Fault>
+    ensures steps { Continues S.follows store.old store.new }
+    ensures state { S.state store.new ≡ S.state store.old }
+    ensures backing { S.backing store.new ≡ S.backing store.old }
+    ensures fresh { IfOk result (IsFresh (S.state store.old)) }
+    ensures free { IfOk result (λ block.
+        is_held_by_another (S.state store.old).table session block Mode.Exclusive ≡ false) }
+    ensures block { 0 < length (S.state store.old).pages → IfOk result IsBlock }
+    ensures cause { HasRoom (S.state store.old).table session → (images frames : ℕ)
+        → IfErr result (HasCause (where_working (S.state store.old) (S.backing store.old)
+        (S.backing store.new) session images frames)) }
+{
+    let _limits = store.limits();
+    match store.fresh() {
+        Ok(block) => match ask_for(store, session, block, Mode::Exclusive) {
+            Ok(()) => Ok(block),
+            Err(fault) => Err(fault),
+        },
+        Err(fault) => Err(fault),
+    }
+}
+
+/// Changes one to four pages at once, which may be any, and answers the number of the act. Refused with `PageDamaged` for a
+/// page that may not be changed beside those behind it, and with the faults of [`PageStore::act`].
+pub fn act_on<S: PageStore>(store: &mut S, pages: &[Page]) -> Result<u64, Fault>
+    requires some { 1 ≤ length pages.now }
+    requires few { length pages.now ≤ 4 }
+    ensures steps { Continues S.follows store.old store.new }
+    ensures may { OnOk result
+        (AreActable (S.state store.old).limits (length (S.state store.old).pages) pages.now) }
+    ensures done { OnOk result (S.state store.new ≡ after_act pages.now (S.state store.old)) }
+    ensures number { IfOk result (λ n. n ≡ suc (S.state store.old).acts) }
+    ensures refused { OnErr result (S.state store.new ≡ S.state store.old) }
+    ensures cause { AreActable (S.state store.old).limits
+        (length (S.state store.old).pages) pages.now
+        → IfErr result (HasCause (where_acted (S.state store.old) (S.backing store.old)
+        (S.backing store.new) pages.now)) }
+{
+    if let Some(block) = find_misplaced(pages, store.used(), store.limits()) {
+        return Err(Fault::PageDamaged(block));
+    }
+    store.act(pages)
+}
