@@ -48,8 +48,8 @@ impl FreeBlocks {
         tree::put(&mut self.tree, self.shape, block, number);
     }
 
-    /// The lowest block whose number is at most this, in at most 17 looks.
-    pub fn lowest(&self, most: u64) -> Option<u32>
+    /// The lowest block whose number is at most this, in at most 17 looks. Where `most` is none, each number is.
+    pub fn lowest(&self, most: Option<u64>) -> Option<u32>
         ensures found { IfSome result (IsLowest most self.now) }
         ensures none { IfNone result (AreBeyond most self.now) }
     {
