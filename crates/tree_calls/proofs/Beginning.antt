@@ -1,0 +1,123 @@
+-- Beginnings over histories.
+use Rattle.std.proofs.Common.{◌≡◌, ℕ, ◌+◌, ◌<◌, Bool, true, false, not, Option, Some, None, List, [], ◌∷◌, length, refl, sym, ap, subst, ◌∙◌, arith, length-set}
+use Rattle.std.specs.Prelude.{unwrap_or}
+use Rattle.index_model.specs.Actions.{Action}
+use Rattle.index_model.specs.Calls.{Running, GivesOnly, Meets}
+use Rattle.index_model.specs.Order.{is_past}
+use Rattle.index_model.specs.Range.{matches, from_admits, below_admits, start_of}
+use Rattle.index_model.specs.declared.entry.Entry.{Entry}
+use Rattle.index_model.specs.declared.range.Range.{Range}
+use Rattle.index_model.proofs.Order.{from_key}
+use Rattle.page_action.specs.States.{State, after_begin}
+use Rattle.page_codec.specs.declared.page.Page.{Page}
+use Rattle.descent.specs.Steps.{IsInOrder, OthersRely}
+use Rattle.descent.specs.Ways.{root_level, NoneIsFlagged}
+use Rattle.tree_calls.specs.Due.{IsServable, IsDueIn, steps_for, HasSteps}
+use Rattle.tree_calls.specs.Ops.{DeadSets, asked_by, op_before}
+use Rattle.tree_calls.specs.Sessions.{Matches, IsIdle, HasStarted, OpRuns, begun_call, work_left, SessionBegins}
+use Rattle.tree_calls.specs.declared.request.Request.{Request}
+use Rattle.tree_calls.specs.declared.request.Request.TheVariants.{Insert as ToInsert, Scan as ToScan}
+use Rattle.tree_calls.specs.declared.op.Op.{Op}
+use Rattle.tree_calls.proofs.Lists.{get_set_same, get_set_other}
+use Rattle.std.proofs.lemmas.Bool.{and_parts}
+
+begun_order : (st : State) (session : ℕ) → IsInOrder st → IsInOrder (after_begin session st)
+begun_order st session order = record {
+  tree = order.tree;
+  apart = order.apart;
+  holdings = order.holdings;
+  calls = length-set {A = Option ℕ} st.running session (Some st.begun) ∙ order.calls;
+}
+
+begun_matches : (st : State) (session : ℕ) (start : Entry → Bool) (history : List Action) → Matches st start history → Matches (after_begin session st) start history
+begun_matches st session start history m = record { contents = m.contents; count = m.count; order = begun_order st session m.order }
+
+begun_others : (st : State) (session : ℕ) → OthersRely session st (after_begin session st)
+begun_others st session other differ = record {
+  held = refl;
+  number = get_set_other st.running session other (Some st.begun) differ;
+  pages = λ block alone. refl;
+}
+
+-- an entry lies beyond the start of a range exactly if its key isn't before the range
+pub past_start : (range : Range) (e : Entry) → is_past (start_of range) e ≡ from_admits range.from e.key
+past_start range e = by range.from
+  where
+    none : (key : List ℕ) (e' : Entry) → is_past (record { key = []; row = None }) (record e' { key = key }) ≡ true
+    none [] e' = refl
+    none (x ∷ xs) e' = refl
+
+    by : (from : Option (List ℕ)) → is_past (record { key = unwrap_or from []; row = None }) e ≡ from_admits from e.key
+    by None = none e.key e
+    by (Some k) = from_key k e
+
+true_false : true ≡ false → ⊥
+true_false h = cc
+
+not_before : (range : Range) (e : Entry) → matches range e ≡ true → is_past (start_of range) e ≡ false → ⊥
+not_before range e match not = true_false (sym (past_start range e ∙ (and_parts (from_admits range.from e.key) (below_admits range.below e.key) match).0) ∙ not)
+
+nothing_given : (start : Entry → Bool) (history : List Action) (range : Range) (began : ℕ) → GivesOnly start history range began began []
+nothing_given start history range began = record { ascending = tt; matched = λ e h. absurd cc; was_there = λ e h. absurd cc }
+
+module _ (old : State) (sets : DeadSets) (start : Entry → Bool) (history : List Action) (number session : ℕ) (low : session < 64) (m : Matches old start history) (idle : IsIdle old session) where
+  abbrev then_state : State
+  then_state = after_begin session old
+
+  has_started : HasStarted then_state session
+  has_started = (let many : length old.running ≡ 64 = m.order.calls in
+      record { number = old.begun; is = ap (λ (o : Option (Option ℕ)). unwrap_or o None) (get_set_same old.running session (Some old.begun) (omega arith)) })
+
+  begun_meets : (request : Request) → Meets start history number (begun_call session (asked_by sets request) (length history))
+  begun_meets (ToInsert e) = record { began = omega arith; until = omega arith; right = record { add = tt; end = tt } }
+  begun_meets (ToScan range) = record {
+    began = omega arith;
+    until = omega arith;
+    right = record { only = nothing_given start history range (length history); all = λ e within match through. absurd within };
+  }
+
+  begun_runs : (request : Request) → OpRuns then_state sets start history (begun_call session (asked_by sets request) (length history)) (op_before session request)
+  begun_runs (ToInsert e) = record { ask = refl; session = refl; added = refl; started = has_started; fits = record { session = low; stands = idle.holds }; knows = tt }
+  begun_runs (ToScan range) = record {
+    ask = refl;
+    session = refl;
+    added = refl;
+    started = has_started;
+    fits = record { session = low; stands = idle.holds; started = λ e past. sym (past_start range e) ∙ past };
+    knows = record {
+      ascending = tt;
+      matched = λ e h. absurd cc;
+      was_there = λ e h. absurd cc;
+      complete = λ e behind match through. absurd (not_before range e match behind);
+      reached = λ e h. absurd cc;
+      onward = λ e not. tt;
+    };
+  }
+
+  running_from : (request : Request) → (begun_call session (asked_by sets request) (length history)).ending ≡ Running
+  running_from request = refl
+
+  pub begins : (new : State) (request : Request) (slot : Option Op) → new ≡ after_begin session old → slot ≡ Some (op_before session request) → SessionBegins old new sets start history number session request slot
+  begins new request slot is slot_is =
+      subst (λ (st : State). SessionBegins old st sets start history number session request slot) (sym is)
+      (subst (λ (x : Option Op). SessionBegins old then_state sets start history number session request x) (sym slot_is) (record {
+        world = begun_matches old session start history m;
+        others = begun_others old session;
+        meets = begun_meets request;
+        holds = (refl, begun_runs request);
+      }))
+
+-- a request that its leaf can serve is due after so many steps
+due_from : (old : State) (session : ℕ) (request : Request) → NoneIsFlagged old.pages → IsServable old request
+    → IsDueIn (after_begin session old) (Some (op_before session request)) (root_level old.pages + steps_for request)
+due_from old session (ToInsert e) whole servable = record { steps_are = refl; whole = whole; way = tt; absent = servable.0; room = servable.1 }
+due_from old session (ToScan range) whole servable = record { steps_are = refl; whole = whole; way = tt; none = refl }
+
+few_from : (pages : List Page) (session : ℕ) (request : Request) → work_left pages (Some (op_before session request)) < 281474976710656
+few_from pages session (ToInsert e) = omega arith
+few_from pages session (ToScan range) = omega arith
+
+pub has_steps : (old new : State) (session : ℕ) (request : Request) (slot : Option Op) → new ≡ after_begin session old → slot ≡ Some (op_before session request) → HasSteps old new request slot
+has_steps old new session request slot is slot_is =
+    subst (λ (st : State). HasSteps old st request slot) (sym is) (subst (λ (x : Option Op). HasSteps old (after_begin session old) request x) (sym slot_is)
+    (record { due = due_from old session request; bounded = few_from old.pages session request }))

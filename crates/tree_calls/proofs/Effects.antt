@@ -1,0 +1,75 @@
+-- What a step does to the pages, over histories; and the end of a call, which lets go what its session held.
+use Rattle.std.proofs.Common.{◌≡◌, ℕ, suc, ◌<◌, Bool, Option, Some, None, List, [], ◌∷◌, ◌++◌, length, refl, sym, ap, subst, ◌∙◌, arith, length-append, length-set}
+use Rattle.std.specs.Prelude.{unwrap_or}
+use Rattle.std.proofs.lemmas.List.{append-nil}
+use Rattle.index_model.specs.Actions.{Effect, Action, said_of}
+use Rattle.index_model.specs.declared.entry.Entry.{Entry}
+use Rattle.index_model.proofs.Histories.{contents_after-append}
+use Rattle.latch_table.specs.Holdings.{Holding, nothing_held, latches_exclude}
+use Rattle.latch_table.specs.declared.mode.Mode.TheVariants.{Shared}
+use Rattle.latch_table.proofs.Tables.{length-with_holding, holding_of-with_holding, holding_of-with_holding_other}
+use Rattle.page_action.specs.States.{State, after_end}
+use Rattle.descent.specs.Steps.{IsInOrder, MayRely, OthersRely, Does}
+use Rattle.descent.proofs.Tables.{apart_nothing}
+use Rattle.tree_calls.specs.Sessions.{Matches, IsIdle, HasStarted, acts_of}
+use Rattle.tree_calls.proofs.Lists.{get_set_same, get_set_other}
+
+-- the pages match the history with the event's action
+pub matches_after : (session : ℕ) (effect : Option Effect) (old new : State) (start : Entry → Bool) (history : List Action) (number : ℕ)
+    → Matches old start history → Does session effect old new → Matches new start (history ++ acts_of number effect)
+matches_after session None old new start history number m does = subst (λ (l : List Action). Matches new start l) (sym (append-nil history)) (record {
+  contents = λ e. rw does.changes (m.contents e);
+  count = ap (λ (st : State). st.acts) does.changes ∙ m.count;
+  order = does.order;
+})
+matches_after session (Some effect) old new start history number m does = record {
+  contents = λ e. does.changes.contents e ∙ ap (unwrap_or (said_of effect e)) (m.contents e)
+      ∙ sym (contents_after-append start history (record { by = number; effect = effect } ∷ []) e);
+  count = does.changes.acts ∙ ap suc m.count ∙ sym (length_more effect);
+  order = does.order;
+}
+  where
+    length_more : (x : Effect) → length (history ++ acts_of number (Some x)) ≡ suc (length history)
+    length_more x = omega (arith, length-append history (acts_of number (Some x)))
+
+-- a call goes on having its start number
+pub started_after : (session of : ℕ) (effect : Option Effect) (old new : State) → Does session effect old new → HasStarted old of → HasStarted new of
+started_after session of effect old new does h = record { number = h.number; is = rw does.running h.is }
+
+pub rely_trans : (session : ℕ) (a b c : State) → MayRely session a b → MayRely session b c → MayRely session a c
+rely_trans session a b c one two = record {
+  held = two.held ∙ one.held;
+  number = two.number ∙ one.number;
+  pages = λ block alone. two.pages block (ap (λ (h : Holding). latches_exclude h.latches block Shared) one.held ∙ alone) ∙ one.pages block alone;
+}
+
+pub ended_order : (st : State) (session : ℕ) → session < 64 → IsInOrder st → IsInOrder (after_end session st)
+ended_order st session low order =
+    let many : length st.table ≡ 64 = order.holdings in
+    let calls : length st.running ≡ 64 = order.calls in
+    record {
+      tree = order.tree;
+      apart = apart_nothing st.table session (omega arith) order.apart;
+      holdings = length-with_holding st.table session nothing_held ∙ many;
+      calls = length-set {A = Option ℕ} st.running session None ∙ calls;
+    }
+
+pub ended_matches : (st : State) (session : ℕ) (start : Entry → Bool) (history : List Action) → session < 64 → Matches st start history → Matches (after_end session st) start history
+ended_matches st session start history low m = record { contents = m.contents; count = m.count; order = ended_order st session low m.order }
+
+pub ended_others : (old st : State) (session : ℕ) → OthersRely session old st → OthersRely session old (after_end session st)
+ended_others old st session rely other differ = rely_trans other old st (after_end session st) (rely other differ) (record {
+  held = holding_of-with_holding_other st.table session other nothing_held differ;
+  number = get_set_other st.running session other None differ;
+  pages = λ block alone. refl;
+})
+
+-- a session whose call has ended is idle
+pub ended_idle : (session : ℕ) (st : State) → session < 64 → IsInOrder st → IsIdle (after_end session st) session
+ended_idle session st low order =
+    let many : length st.table ≡ 64 = order.holdings in
+    let calls : length st.running ≡ 64 = order.calls in
+    record {
+      holds = holding_of-with_holding st.table session nothing_held (omega arith);
+      number = ap (λ (o : Option (Option ℕ)). unwrap_or o None) (get_set_same st.running session None (omega arith));
+    }

@@ -1,0 +1,237 @@
+-- Steps of operations over histories, and the events that they make.
+use Rattle.std.proofs.Common.{◌≡◌, ℕ, suc, ◌+◌, ◌<◌, Bool, true, false, if◌then◌else◌, Option, Some, None, List, [], ◌++◌, length, refl, sym, ap, subst, ◌∙◌}
+use Rattle.std.proofs.lemmas.List.{append-nil}
+use Rattle.index_model.specs.Actions.{Effect, Action, contents_after}
+use Rattle.index_model.specs.Calls.{AskInsert, Running, Added as EndsAdded, GivenUp, Failed, Call, InsertMayFail, Meets}
+use Rattle.index_model.specs.Faults.{Circumstances, HasCause}
+use Rattle.index_model.specs.declared.entry.Entry.{Entry}
+use Rattle.index_model.specs.declared.fault.Fault.{Fault}
+use Rattle.page_action.specs.Contents.{entry_on_live_leaf}
+use Rattle.page_action.specs.States.{State, after_end}
+use Rattle.descent.specs.Steps.{Does}
+use Rattle.descent.proofs.Quiet.{does_nothing, pages_stay}
+use Rattle.tree_calls.specs.Ops.{DeadSets, session_of, asked_of, add_of, OpFits, OpKnows, IsCaused, IsFaultCaused, is_last, ends_call}
+use Rattle.tree_calls.specs.Sessions.{Matches, OpRuns, CallFits, acts_of, act_count, IsAsked, add_after, noted, ended, Told, SessionGoes, OpGoes, HoldsOn}
+use Rattle.tree_calls.specs.declared.answer.Answer.{Answer}
+use Rattle.tree_calls.specs.declared.answer.Answer.TheVariants.{Going, Added, Ready, Ended, Refused}
+use Rattle.tree_calls.specs.declared.op.Op.{Op}
+use Rattle.tree_calls.specs.declared.op.Op.TheVariants.{Insert, Scan}
+use Rattle.page_action.specs.Causes.{nothing_wrong}
+use Rattle.tree_calls.proofs.Telling.{told_same}
+use Rattle.tree_calls.proofs.Effects.{matches_after, started_after, ended_matches, ended_others, ended_idle}
+use Rattle.tree_calls.proofs.Meeting.{grown, began_before, meets_noted, meets_failed, meets_given_up, meets_ended_added, there_at_present}
+
+-- a step of an operation is an event of its session; where its answer is the last, what the session held is let go
+module _ {sets : DeadSets} (at : Circumstances) (old mid new : State) (start : Entry → Bool) (history : List Action) (number : ℕ) (call : Call) (op : Op) (answer : Answer)
+    (matches : Matches old start history) (low : call.session < 64) (goes : OpGoes at old mid sets start history number call op answer) where
+  mid_matches : Matches mid start (history ++ acts_of number goes.effect)
+  mid_matches = matches_after call.session goes.effect old mid start history number matches goes.does
+
+  mid_pages : goes.effect ≡ None → mid.pages ≡ old.pages
+  mid_pages none = pages_stay call.session old mid (subst (λ (x : Option Effect). Does call.session x old mid) none goes.does)
+
+  by_last : (b : Bool) → new ≡ (if b then after_end call.session mid else mid) → HoldsOn b mid sets start (history ++ acts_of number goes.effect) goes.then_call op → goes.then_call.session ≡ call.session
+      → SessionGoes at old new sets start history number call (if b then None else Some op) answer
+  by_last true is holds same = subst (λ (st : State). SessionGoes at old st sets start history number call None answer) (sym is) (record {
+    effect = goes.effect;
+    after = goes.then_call;
+    asked = goes.asked;
+    told = goes.told;
+    caused = goes.caused;
+    world = ended_matches mid call.session start (history ++ acts_of number goes.effect) low mid_matches;
+    limits = goes.does.limits;
+    frames = goes.does.frames;
+    pages = mid_pages;
+    others = ended_others old mid call.session goes.does.others;
+    meets = goes.meets;
+    holds = (holds, rw same (ended_idle call.session mid low mid_matches.order));
+  })
+  by_last false is holds same = subst (λ (st : State). SessionGoes at old st sets start history number call (Some op) answer) (sym is) (record {
+    effect = goes.effect;
+    after = goes.then_call;
+    asked = goes.asked;
+    told = goes.told;
+    caused = goes.caused;
+    world = mid_matches;
+    limits = goes.does.limits;
+    frames = goes.does.frames;
+    pages = mid_pages;
+    others = goes.does.others;
+    meets = goes.meets;
+    holds = holds;
+  })
+
+  same_session : call.ending ≡ Running → goes.then_call.session ≡ call.session
+  same_session running = (told_same (history ++ acts_of number goes.effect) (length history) goes.effect call goes.then_call running (grown history number goes.effect) answer goes.told).session
+
+  pub event_of_last : is_last answer ≡ true → new ≡ after_end call.session mid → call.ending ≡ Running → SessionGoes at old new sets start history number call None answer
+  event_of_last last is running = by_last true is
+      (subst (λ (b : Bool). HoldsOn b mid sets start (history ++ acts_of number goes.effect) goes.then_call op) last goes.holds) (same_session running)
+
+  pub event_of_more : is_last answer ≡ false → new ≡ mid → call.ending ≡ Running → SessionGoes at old new sets start history number call (Some op) answer
+  event_of_more more is running = by_last false is
+      (subst (λ (b : Bool). HoldsOn b mid sets start (history ++ acts_of number goes.effect) goes.then_call op) more goes.holds) (same_session running)
+
+-- an operation is one of a session that exists
+pub low_of : (st : State) (op : Op) → OpFits st op → session_of op < 64
+low_of st (Insert op) fits = fits.session
+low_of st (Scan op) fits = fits.session
+
+-- a running call that is given up
+pub event_of_end : {sets : DeadSets} (old new : State) (start : Entry → Bool) (history : List Action) (number : ℕ) (call : Call) (op : Op) → CallFits old sets start history number call op → new ≡ after_end (session_of op) old
+    → SessionGoes nothing_wrong old new sets start history number call None Ended
+event_of_end {sets} old new start history number call op fits is =
+    let low : call.session < 64 = subst (λ (t : ℕ). t < 64) fits.runs.session (low_of old op fits.runs.fits) in
+    let mine : new ≡ after_end call.session old = is ∙ ap (λ (t : ℕ). after_end t old) fits.runs.session in
+    subst (λ (st : State). SessionGoes nothing_wrong old st sets start history number call None Ended) (sym mine) (record {
+      effect = None;
+      after = ended call GivenUp (length history);
+      asked = tt;
+      told = record { none = refl; after_is = refl };
+      caused = tt;
+      world = subst (λ (l : List Action). Matches (after_end call.session old) start l) (sym (append-nil history)) (ended_matches old call.session start history low fits.world);
+      limits = refl;
+      frames = refl;
+      pages = λ none. refl;
+      others = ended_others old old call.session (does_nothing call.session old old refl fits.world.order).others;
+      meets = subst (λ (l : List Action). Meets start l number (ended call GivenUp (length history))) (sym (append-nil history)) (meets_given_up start history number call fits.meets fits.running);
+      holds = (λ h. cc, ended_idle call.session old low fits.world.order);
+    })
+
+-- an event with no action, which changes nothing of the pages
+pub event_of_nothing : {sets : DeadSets} (at : Circumstances) (old new : State) (start : Entry → Bool) (history : List Action) (number : ℕ) (call after : Call) (op : Op) (answer : Answer)
+    → Matches old start history → new ≡ old → Told answer (length history) None call after → IsCaused at answer → Meets start history number after → after.ending ≡ Running → OpRuns new sets start history after op
+    → SessionGoes at old new sets start history number call (Some op) answer
+event_of_nothing {sets} at old new start history number call after op answer m same told caused meets running runs = record {
+  effect = None;
+  after = after;
+  asked = tt;
+  told = told;
+  caused = caused;
+  world = matches_after call.session None old new start history number m (does_nothing call.session old new same m.order);
+  limits = ap (λ (st : State). st.limits) same;
+  frames = ap (λ (st : State). st.frames) same;
+  pages = λ none. ap (λ (st : State). st.pages) same;
+  others = (does_nothing call.session old new same m.order).others;
+  meets = subst (λ (l : List Action). Meets start l number after) (sym (append-nil history)) meets;
+  holds = (running, subst (λ (l : List Action). OpRuns new sets start l after op) (sym (append-nil history)) runs);
+}
+
+-- the steps of an operation that runs a call
+module _ {sets : DeadSets} (at : Circumstances) (old new : State) (start : Entry → Bool) (history : List Action) (number : ℕ) (call : Call) (before after : Op)
+    (fits : CallFits old sets start history number call before) (session : session_of after ≡ session_of before) (ask : asked_of sets after ≡ asked_of sets before) where
+  -- one that goes on
+  pub step_goes_on : (effect : Option Effect) → Does (session_of before) effect old new → IsAsked (contents_after start history) call.ask call.added effect
+      → add_of after ≡ add_after (add_of before) (suc (length history)) effect → OpFits new after → OpKnows start (history ++ acts_of number effect) call.began call.given after
+      → OpGoes at old new sets start history number call after Going
+  step_goes_on effect does asked add then_fits knows =
+      let mine : Does call.session effect old new = subst (λ (t : ℕ). Does t effect old new) fits.runs.session does in
+      record {
+        effect = effect;
+        then_call = noted call (length history) effect;
+        does = mine;
+        asked = asked;
+        told = refl;
+        caused = tt;
+        meets = meets_noted start history number call fits.meets fits.running effect asked;
+        holds = (
+          fits.running,
+          record {
+            ask = fits.runs.ask ∙ sym ask;
+            session = session ∙ fits.runs.session;
+            added = ap (λ (o : Option ℕ). add_after o (suc (length history)) effect) fits.runs.added ∙ sym add;
+            started = started_after call.session call.session effect old new mine fits.runs.started;
+            fits = then_fits;
+            knows = knows;
+          },
+        );
+      }
+
+  -- one that finds entries
+  pub step_is_ready : (count : ℕ) → Does (session_of before) None old new → add_of after ≡ add_of before → OpFits new after → OpKnows start history call.began call.given after
+      → OpGoes at old new sets start history number call after (Ready count)
+  step_is_ready count does add then_fits knows =
+      let mine : Does call.session None old new = subst (λ (t : ℕ). Does t None old new) fits.runs.session does in
+      record {
+        effect = None;
+        then_call = call;
+        does = mine;
+        asked = tt;
+        told = record { none = refl; after_is = refl };
+        caused = tt;
+        meets = subst (λ (l : List Action). Meets start l number call) (sym (append-nil history)) fits.meets;
+        holds = (
+          fits.running,
+          subst (λ (l : List Action). OpRuns new sets start l call after) (sym (append-nil history)) (record {
+            ask = fits.runs.ask ∙ sym ask;
+            session = session ∙ fits.runs.session;
+            added = fits.runs.added ∙ sym add;
+            started = started_after call.session call.session None old new mine fits.runs.started;
+            fits = then_fits;
+            knows = knows;
+          }),
+        );
+      }
+
+  -- an insert that is over with its Add, which it may make now
+  pub step_adds : (e : Entry) (action : ℕ) (unfinished : Option Fault) (effect : Option Effect) → asked_of sets before ≡ AskInsert e → Does (session_of before) effect old new
+      → IsAsked (contents_after start history) call.ask call.added effect → add_after (add_of before) (suc (length history)) effect ≡ Some action → IsFaultCaused at unfinished
+      → OpGoes at old new sets start history number call after (Added action unfinished)
+  step_adds e action unfinished effect inserts does asked add caused =
+      let more : List Action = history ++ acts_of number effect in
+      let then_call : Call = noted call (length history) effect in
+      let noted_is : then_call.added ≡ Some action = ap (λ (o : Option ℕ). add_after o (suc (length history)) effect) fits.runs.added ∙ add in
+      record {
+        effect = effect;
+        then_call = ended then_call (EndsAdded action unfinished) (act_count effect + length history);
+        does = subst (λ (t : ℕ). Does t effect old new) fits.runs.session does;
+        asked = asked;
+        told = record { noted_is = noted_is; after_is = refl };
+        caused = caused;
+        meets = subst (λ (n : ℕ). Meets start more number (ended then_call (EndsAdded action unfinished) n)) (grown history number effect)
+            (meets_ended_added start more number then_call (meets_noted start history number call fits.meets fits.running effect asked) fits.running e action unfinished (fits.runs.ask ∙ inserts) noted_is);
+        holds = λ h. absurd cc;
+      }
+
+  -- one that is refused
+  pub step_is_refused : (fault : Fault) → new ≡ old → after ≡ before → HasCause at fault → add_of before ≡ None
+      → ((e : Entry) → asked_of sets before ≡ AskInsert e → at.entry_was_there ≡ true → entry_on_live_leaf old.pages e ≡ true)
+      → OpGoes at old new sets start history number call after (Refused fault)
+  step_is_refused fault same same_op cause none there = by_end (ends_call fault) refl
+    where
+      may : (e : Entry) → call.ask ≡ AskInsert e → (call.added ≡ None) × InsertMayFail start history call.began (length history) e fault
+      may e asked = (
+        fits.runs.added ∙ none,
+        λ is. there_at_present old start history call.began e fits.world (began_before start history number call fits.meets fits.running)
+            (there e (sym fits.runs.ask ∙ asked) (subst (λ (f : Fault). HasCause at f) is cause)),
+      )
+
+      does : Does call.session None old new
+      does = does_nothing call.session old new same fits.world.order
+
+      by_end : (b : Bool) → ends_call fault ≡ b → OpGoes at old new sets start history number call after (Refused fault)
+      by_end true ends = record {
+        effect = None;
+        then_call = ended call (Failed fault) (length history);
+        does = does;
+        asked = tt;
+        told = (refl, rw ends refl);
+        caused = cause;
+        meets = subst (λ (l : List Action). Meets start l number (ended call (Failed fault) (length history))) (sym (append-nil history))
+            (meets_failed start history number call fits.meets fits.running fault may);
+        holds = subst (λ (b : Bool). HoldsOn b new sets start (history ++ []) (ended call (Failed fault) (length history)) after) (sym ends) (λ h. cc);
+      }
+      by_end false ends = record {
+        effect = None;
+        then_call = call;
+        does = does;
+        asked = tt;
+        told = (refl, rw ends refl);
+        caused = cause;
+        meets = subst (λ (l : List Action). Meets start l number call) (sym (append-nil history)) fits.meets;
+        holds = subst (λ (b : Bool). HoldsOn b new sets start (history ++ []) call after) (sym ends) (
+          fits.running,
+          subst (λ (l : List Action). OpRuns new sets start l call after) (sym (append-nil history))
+              (subst (λ (st : State). OpRuns st sets start history call after) (sym same) (subst (λ (op : Op). OpRuns old sets start history call op) (sym same_op) fits.runs)),
+        );
+      }

@@ -1,0 +1,9 @@
+pub mod Lists
+pub mod Telling
+pub mod Meeting
+pub mod Effects
+pub mod Going
+pub mod Inserting
+pub mod Scanning
+pub mod Undisturbed
+pub mod Beginning

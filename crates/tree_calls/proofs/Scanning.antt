@@ -1,0 +1,248 @@
+-- Events of scans over histories.
+use Rattle.std.proofs.Common.{◌≡◌, ◌⊎◌, ℕ, ◌≤◌, Bool, true, false, ◌||◌, Option, Some, None, List, [], ◌∷◌, ◌++◌, length, refl, sym, ap, subst, inl, inr, ◌∙◌, arith, append_assoc}
+use Rattle.std.proofs.lemmas.List.{append-nil}
+use Rattle.std.proofs.lemmas.Bool.{or_cases}
+use Rattle.std.specs.List.{AllByRecursion}
+use Rattle.index_model.specs.Actions.{Action}
+use Rattle.index_model.specs.Calls.{Ask, AskScan, Ending, Running, Finished as EndsFinished, Call, IsReached, IsUpToLast, IsScanAnswer, IsScanAnswerSoFar, AnswersRight, end_of, Meets}
+use Rattle.index_model.specs.Faults.{Circumstances}
+use Rattle.index_model.specs.Order.{bound_of, same_entry, is_among, is_past, IsPast, AscendsPast, IsAscending, last_or}
+use Rattle.index_model.specs.Range.{matches}
+use Rattle.index_model.specs.declared.bound.Bound.{Bound}
+use Rattle.index_model.specs.declared.entry.Entry.{Entry}
+use Rattle.index_model.specs.declared.range.Range.{Range}
+use Rattle.index_model.proofs.Ascending.{is_past-falls, same_entry-is, same_entry-self, three_ways, IsPast-trans, is_among-append, is_among-past, AscendsPast-append, AscendsPast-front, AscendsPast-back, AscendsPast-from, last_or-append}
+use Rattle.index_model.proofs.Histories.{there_now}
+use Rattle.page_action.specs.Contents.{entry_on_live_leaf}
+use Rattle.page_action.specs.States.{State}
+use Rattle.scan.specs.Scans.{waiting, ScanFits, IsNext, IsBehind, LeafIsRead, IsMoving, IsReading, IsWaiting, IsDone}
+use Rattle.scan.specs.declared.steps.ScanAt.{ScanAt}
+use Rattle.scan.specs.declared.steps.ScanAt.TheVariants.{Start, At, Last}
+use Rattle.scan.specs.declared.steps.ScanOp.{ScanOp}
+use Rattle.tree_calls.specs.Ops.{DeadSets, IsScanSoFar}
+use Rattle.tree_calls.specs.Sessions.{Matches, OpRuns, CallFits, ended, given_one, SessionGoes, OpGoes}
+use Rattle.tree_calls.specs.declared.answer.Answer.TheVariants.{Going, Ready, Done, Gave}
+use Rattle.tree_calls.specs.declared.op.Op.TheVariants.{Scan}
+use Rattle.descent.proofs.Quiet.{does_nothing}
+use Rattle.tree_calls.proofs.Going.{event_of_nothing, step_goes_on, step_is_ready}
+use Rattle.tree_calls.proofs.Meeting.{began_before, there_at_present}
+
+or_left : (a b : Bool) → a ≡ true → (a || b) ≡ true
+or_left true b h = refl
+or_left false b h = absurd cc
+
+or_right : (a b : Bool) → b ≡ true → (a || b) ≡ true
+or_right true b h = refl
+or_right false b h = h
+
+true_false : true ≡ false → ⊥
+true_false h = cc
+
+all_past : (low : Option Bound) (xs : List Entry) → AscendsPast low xs → AllByRecursion (IsPast low) xs
+all_past low [] h = tt
+all_past low (x ∷ xs) h = (h.0, weaken xs (all_past (Some (bound_of x)) xs h.1))
+  where
+    weaken : (ys : List Entry) → AllByRecursion (IsPast (Some (bound_of x))) ys → AllByRecursion (IsPast low) ys
+    weaken [] k = tt
+    weaken (y ∷ ys) k = (IsPast-trans low x y h.0 k.0, weaken ys k.1)
+
+all_by : (P Q : Entry → Type 0) (xs : List Entry) → ((x : Entry) → P x → Q x) → AllByRecursion P xs → AllByRecursion Q xs
+all_by P Q [] f h = tt
+all_by P Q (x ∷ xs) f h = (f x h.0, all_by P Q xs f h.1)
+
+-- the last leaf brings a scan on
+module _ (st : State) (start : Entry → Bool) (history : List Action) (began : ℕ) (given : List Entry) (before after : ScanOp) (m : Matches st start history) (le : began ≤ length history)
+    (range : after.range ≡ before.range) (none : waiting before ≡ []) (from : (block : ℕ) × (before.at ≡ At block)) (last : after.at ≡ Last) (read : LeafIsRead st before after)
+    (far : IsScanSoFar start history began given before) where
+  was_given : given ++ waiting before ≡ given
+  was_given = ap (λ (xs : List Entry). given ++ xs) none ∙ append-nil given
+
+  -- what lies beyond the frontier lies beyond the last that was given
+  beyond_last : (e : Entry) → is_past before.frontier e ≡ true → IsPast (last_or None given) e
+  beyond_last e past = subst (λ (xs : List Entry). IsPast (last_or None xs) e) was_given
+      (far.onward e (λ behind. true_false (sym past ∙ subst (λ (a : ScanAt). IsBehind before.frontier a e) from.1 behind)))
+
+  fresh_ascend : AscendsPast (last_or None given) (waiting after)
+  fresh_ascend = AscendsPast-from (Some before.frontier) (last_or None given) (waiting after) read.ascends
+      (all_by (IsPast (Some before.frontier)) (IsPast (last_or None given)) (waiting after) beyond_last (all_past (Some before.frontier) (waiting after) read.ascends))
+
+  given_before : (e : Entry) → is_among given e ≡ true → is_among (given ++ waiting before) e ≡ true
+  given_before e h = subst (λ (xs : List Entry). is_among xs e ≡ true) (sym was_given) h
+
+  all_behind : (e : Entry) → IsBehind after.frontier after.at e
+  all_behind e = subst (λ (a : ScanAt). IsBehind after.frontier a e) (sym last) tt
+
+  old_or_fresh : (e : Entry) → is_among (given ++ waiting after) e ≡ true → (is_among given e ≡ true) ⊎ (is_among (waiting after) e ≡ true)
+  old_or_fresh e h = or_cases (is_among given e) (is_among (waiting after) e) (sym (is_among-append given (waiting after) e) ∙ h)
+
+  pub so_far_read : IsScanSoFar start history began given after
+  so_far_read = record {
+    ascending = AscendsPast-append None given (waiting after) (subst IsAscending was_given far.ascending) fresh_ascend;
+    matched = λ e h. rw range (elim (old_or_fresh e h) [ inl a ↦ far.matched e (given_before e a) | inr b ↦ read.matched e b ]);
+    was_there = λ e h. elim (old_or_fresh e h) [ inl a ↦ far.was_there e (given_before e a) | inr b ↦ there_at_present st start history began e m le (read.there e b) ];
+    complete = λ e within match through.
+        let match_before : matches before.range e ≡ true = subst (λ (r : Range). matches r e ≡ true) range match in
+        let now : entry_on_live_leaf st.pages e ≡ true = m.contents e ∙ sym (there_now start history e) ∙ through (length history) le (omega arith) in
+        is_among-append given (waiting after) e ∙ elim (read.complete e within match_before now) [
+          | inl behind ↦ or_left (is_among given e) (is_among (waiting after) e) (subst (λ (xs : List Entry). is_among xs e ≡ true) was_given (far.complete e behind match_before through))
+          | inr fresh ↦ or_right (is_among given e) (is_among (waiting after) e) fresh
+        ];
+    reached = λ e h. all_behind e;
+    onward = λ e not. absurd (not (all_behind e));
+  }
+
+-- what isn't beyond an entry that isn't beyond a bound isn't beyond the bound
+at_or_before : (b : Bound) (x e : Entry) → is_past (bound_of e) x ≡ false → is_past b e ≡ false → is_past b x ≡ false
+at_or_before b x e up h =
+    elim (three_ways x e) [
+      | inl same ↦ subst (λ (y : Entry). is_past b y ≡ false) (sym (same_entry-is x e same)) h
+      | inr (inl before) ↦ is_past-falls b x e h before
+      | inr (inr beyond) ↦ absurd (true_false (sym beyond ∙ up))
+    ]
+
+-- what isn't beyond an entry that the scan has read beyond, it has read beyond too
+behind_falls : (frontier : Bound) (at : ScanAt) (x e : Entry) → is_past (bound_of e) x ≡ false → IsBehind frontier at e → IsBehind frontier at x
+behind_falls frontier Start x e up h = at_or_before frontier x e up h
+behind_falls frontier (At block) x e up h = at_or_before frontier x e up h
+behind_falls frontier Last x e up h = tt
+
+-- one entry more is given
+module _ (start : Entry → Bool) (history : List Action) (began : ℕ) (given rest : List Entry) (e : Entry) (op : ScanOp) (far : IsScanSoFar start history began given op) (is : waiting op ≡ e ∷ rest) where
+  pub joined : (given ++ e ∷ []) ++ rest ≡ given ++ waiting op
+  joined = append_assoc given (e ∷ []) rest ∙ ap (λ (xs : List Entry). given ++ xs) (sym is)
+
+  ascends : AscendsPast None ((given ++ e ∷ []) ++ rest)
+  ascends = subst IsAscending (sym joined) far.ascending
+
+  last_is : last_or None (given ++ e ∷ []) ≡ Some (bound_of e)
+  last_is = last_or-append None given (e ∷ [])
+
+  given_among : (x : Entry) → is_among (given ++ e ∷ []) x ≡ true → is_among (given ++ waiting op) x ≡ true
+  given_among x h = subst (λ (xs : List Entry). is_among xs x ≡ true) joined (is_among-append (given ++ e ∷ []) rest x ∙ or_left (is_among (given ++ e ∷ []) x) (is_among rest x) h)
+
+  e_among : is_among (given ++ e ∷ []) e ≡ true
+  e_among = is_among-append given (e ∷ []) e ∙ or_right (is_among given e) (is_among (e ∷ []) e) (or_left (same_entry e e) false (same_entry-self e))
+
+  rest_beyond : (x : Entry) → is_among rest x ≡ true → is_past (bound_of e) x ≡ true
+  rest_beyond x h = is_among-past (Some (bound_of e)) rest x (subst (λ (low : Option Bound). AscendsPast low rest) last_is (AscendsPast-back None (given ++ e ∷ []) rest ascends)) h
+
+  up_to_last : (x : Entry) → IsUpToLast (given ++ e ∷ []) x → is_past (bound_of e) x ≡ false
+  up_to_last x h = subst (λ (last : Option Bound). IsReached last x) last_is h
+
+  pub next_meets : IsScanAnswerSoFar start history op.range began (length history) (given ++ e ∷ [])
+  next_meets = record {
+    only = record {
+      ascending = AscendsPast-front None (given ++ e ∷ []) rest ascends;
+      matched = λ x h. far.matched x (given_among x h);
+      was_there = λ x h. far.was_there x (given_among x h);
+    };
+    all = λ x within match through.
+        let up : is_past (bound_of e) x ≡ false = up_to_last x within in
+        let behind : IsBehind op.frontier op.at x = behind_falls op.frontier op.at x e up (far.reached e (given_among e e_among)) in
+        let among : is_among ((given ++ e ∷ []) ++ rest) x ≡ true = subst (λ (xs : List Entry). is_among xs x ≡ true) (sym joined) (far.complete x behind match through) in
+        elim (or_cases (is_among (given ++ e ∷ []) x) (is_among rest x) (sym (is_among-append (given ++ e ∷ []) rest x) ∙ among)) [
+          | inl a ↦ a
+          | inr b ↦ absurd (true_false (sym (rest_beyond x b) ∙ up))
+        ];
+  }
+
+-- an entry is given
+pub gave_goes : {sets : DeadSets} (at : Circumstances) (st : State) (start : Entry → Bool) (history : List Action) (number : ℕ) (call : Call) (before after : ScanOp) (e : Entry)
+    → CallFits st sets start history number call (Scan before) → IsNext before (Some e) after → SessionGoes at st st sets start history number call (Some (Scan after)) (Gave (Some e))
+gave_goes {sets} at st start history number call before after e fits next =
+    let far = fits.runs.knows in
+    let same : (call.given ++ e ∷ []) ++ waiting after ≡ call.given ++ waiting before = joined start history call.began call.given (waiting after) e before far next.0 in
+    let session : after.session ≡ before.session = ap (λ (x : ScanOp). x.session) next.1 in
+    let range : after.range ≡ before.range = ap (λ (x : ScanOp). x.range) next.1 in
+    let frontier : after.frontier ≡ before.frontier = ap (λ (x : ScanOp). x.frontier) next.1 in
+    let where_at : after.at ≡ before.at = ap (λ (x : ScanOp). x.at) next.1 in
+    let answer = next_meets start history call.began call.given (waiting after) e before far next.0 in
+    event_of_nothing at st st start history number call (given_one call e) (Scan after) (Gave (Some e)) fits.world refl (record { none = refl; after_is = refl }) tt
+    (record {
+      began = fits.meets.began;
+      until = fits.meets.until;
+      right = subst (λ (x : Ending). AnswersRight start history number call.began (end_of history x call.until) call.ask (call.given ++ e ∷ []) call.added x) (sym fits.running)
+          (subst (λ (a : Ask). AnswersRight start history number call.began (length history) a (call.given ++ e ∷ []) call.added Running) (sym fits.runs.ask) answer);
+    }) fits.running (record {
+      ask = fits.runs.ask ∙ ap AskScan (sym range);
+      session = session ∙ fits.runs.session;
+      added = fits.runs.added;
+      started = fits.runs.started;
+      fits = record { session = rw session fits.runs.fits.session; stands = rw (session, where_at) fits.runs.fits.stands; started = rw (frontier, range) fits.runs.fits.started };
+      knows = record {
+        ascending = rw same far.ascending;
+        matched = rw (same, range) far.matched;
+        was_there = rw same far.was_there;
+        complete = rw (same, range, frontier, where_at) far.complete;
+        reached = rw (same, frontier, where_at) far.reached;
+        onward = rw (same, frontier, where_at) far.onward;
+      };
+    })
+
+-- what `next` answers
+pub next_goes : {sets : DeadSets} (at : Circumstances) (st : State) (start : Entry → Bool) (history : List Action) (number : ℕ) (call : Call) (before after : ScanOp) (answer : Option Entry)
+    → CallFits st sets start history number call (Scan before) → IsNext before answer after → SessionGoes at st st sets start history number call (Some (Scan after)) (Gave answer)
+next_goes {sets} at st start history number call before after None fits next =
+    event_of_nothing at st st start history number call call (Scan after) (Gave None) fits.world refl (record { none = refl; after_is = refl }) tt fits.meets fits.running
+    (subst (λ (op : ScanOp). OpRuns st sets start history call (Scan op)) (sym next.1) fits.runs)
+next_goes {sets} at st start history number call before after (Some e) fits next = gave_goes at st start history number call before after e fits next
+
+-- a scan that has read the metapage has read nothing of the leaves
+starts_on : (start : Entry → Bool) (history : List Action) (began : ℕ) (given : List Entry) (op : ScanOp) → op.at ≡ Start
+    → IsScanSoFar start history began given op → IsScanSoFar start history began given (record op { at = At 1 })
+starts_on start history began given op is far = record {
+  ascending = far.ascending;
+  matched = far.matched;
+  was_there = far.was_there;
+  complete = λ e behind. far.complete e (subst (λ (a : ScanAt). IsBehind op.frontier a e) (sym is) behind);
+  reached = λ e h. subst (λ (a : ScanAt). IsBehind op.frontier a e) is (far.reached e h);
+  onward = λ e not. far.onward e (λ behind. not (subst (λ (a : ScanAt). IsBehind op.frontier a e) is behind));
+}
+
+-- the steps of a scan
+module _ {sets : DeadSets} (at : Circumstances) (old new : State) (start : Entry → Bool) (history : List Action) (number : ℕ) (call : Call) (before after : ScanOp)
+    (fits : CallFits old sets start history number call (Scan before)) (session : after.session ≡ before.session) (range : after.range ≡ before.range) where
+  pub reading_goes : (count : ℕ) → IsReading old new before after count → OpGoes at old new sets start history number call (Scan after) (Ready count)
+  reading_goes count step = step_is_ready at old new start history number call (Scan before) (Scan after) fits session (ap AskScan range) count step.does refl step.fits
+      (so_far_read old start history call.began call.given before after fits.world (began_before start history number call fits.meets fits.running) range step.none step.from step.last step.read fits.runs.knows)
+
+  pub ready_goes : (count : ℕ) → IsWaiting old new before after count ⊎ IsReading old new before after count → OpGoes at old new sets start history number call (Scan after) (Ready count)
+  ready_goes count (inr step) = reading_goes count step
+  ready_goes count (inl step) = step_is_ready at old new start history number call (Scan before) (Scan after) fits session (ap AskScan range) count
+      (does_nothing before.session old new step.state fits.world.order) refl
+      (subst (λ (st : State). ScanFits st after) (sym step.state) (subst (λ (op : ScanOp). ScanFits old op) (sym step.op) fits.runs.fits))
+      (subst (λ (op : ScanOp). IsScanSoFar start history call.began call.given op) (sym step.op) fits.runs.knows)
+
+  -- the step that finds all given
+  pub done_goes : IsDone old new before after → OpGoes at old new sets start history number call (Scan after) Done
+  done_goes step =
+      let far = fits.runs.knows in
+      let all : call.given ++ waiting before ≡ call.given = ap (λ (xs : List Entry). call.given ++ xs) step.none ∙ append-nil call.given in
+      let answer : IsScanAnswer start history before.range call.began (length history) call.given = record {
+        only = record {
+          ascending = subst IsAscending all far.ascending;
+          matched = λ e h. far.matched e (subst (λ (xs : List Entry). is_among xs e ≡ true) (sym all) h);
+          was_there = λ e h. far.was_there e (subst (λ (xs : List Entry). is_among xs e ≡ true) (sym all) h);
+        };
+        all = λ e within match through. subst (λ (xs : List Entry). is_among xs e ≡ true) all (far.complete e (subst (λ (a : ScanAt). IsBehind before.frontier a e) (sym step.last) tt) match through);
+      } in
+      record {
+        effect = None;
+        then_call = ended call EndsFinished (length history);
+        does = does_nothing call.session old new step.state fits.world.order;
+        asked = tt;
+        told = record { none = refl; after_is = refl };
+        caused = tt;
+        meets = subst (λ (l : List Action). Meets start l number (ended call EndsFinished (length history))) (sym (append-nil history)) (record {
+          began = began_before start history number call fits.meets fits.running;
+          until = omega arith;
+          right = subst (λ (a : Ask). AnswersRight start history number call.began (length history) a call.given call.added EndsFinished) (sym fits.runs.ask) answer;
+        });
+        holds = λ h. cc;
+      }
+
+  -- the step that reads the metapage
+  pub moving_goes : IsMoving old new before after → OpGoes at old new sets start history number call (Scan after) Going
+  moving_goes step = step_goes_on at old new start history number call (Scan before) (Scan after) fits session (ap AskScan range) None step.does tt refl step.fits
+      (subst (λ (l : List Action). IsScanSoFar start l call.began call.given after) (sym (append-nil history))
+      (subst (λ (op : ScanOp). IsScanSoFar start history call.began call.given op) (sym step.op) (starts_on start history call.began call.given before step.from fits.runs.knows)))

@@ -1,0 +1,12 @@
+use Rattle.std.proofs.Common.{Option, ap, subst, ◌∙◌, ℕ}
+use Rattle.page_action.specs.States.{after_end}
+use Rattle.tree_calls.specs.Sessions.{SlotFits}
+use Rattle.tree_calls.specs.declared.op.Op.{Op}
+use Rattle.tree_calls.proofs.Going.{event_of_end}
+use Rattle.tree_calls.proofs.moves.end.Goals as goal
+
+pub returns-clause-goes : goal.returns-clause-goes
+returns-clause-goes g c sets start history number call fits =
+    event_of_end (g.S.PageStore.state c.args.store.now) (g.S.PageStore.state c.end.new.self) start history number call c.in-Some.op
+    (subst (λ (slot : Option Op). SlotFits (g.S.PageStore.state c.args.store.now) sets start history number call slot) c.in-Some.is fits)
+    (c.end.ensures.state ∙ ap (λ (t : ℕ). after_end t (g.S.PageStore.state c.args.store.now)) c.session.ensures)

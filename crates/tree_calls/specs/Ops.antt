@@ -1,0 +1,159 @@
+-- The words of a running call that each operation fills in: what it was asked, what it knows between its steps, what it may
+-- answer, and what is left to do for it.
+use Rattle.std.specs.Prelude.{◌≡◌, ℕ, ◌||◌, Bool, true, false, Option, Some, None, List, [], ◌++◌, length}
+use Rattle.index_model.specs.Actions.{Action, ThereAtSomeMoment}
+use Rattle.index_model.specs.Calls.{Ask, AskInsert, AskScan, AskBulkDelete, AskCleanup, GivesAll}
+use Rattle.index_model.specs.Faults.{Circumstances, HasCause}
+use Rattle.index_model.specs.Order.{is_among, IsAscending, IsPast, last_or}
+use Rattle.index_model.specs.Range.{matches}
+use Rattle.index_model.specs.Row.{Row}
+use Rattle.index_model.specs.declared.entry.Entry.{Entry}
+use Rattle.index_model.specs.declared.fault.Fault.{Fault}
+use Rattle.index_model.specs.declared.fault.Fault.TheVariants.{Stopped, Blocked, NoSession}
+use Rattle.page_action.specs.Causes.{nothing_wrong, is_at_end}
+use Rattle.page_action.specs.States.{State, Backing}
+use Rattle.page_codec.specs.declared.page.Page.{Page}
+use Rattle.split_finish.specs.declared.finish.Target.{Target}
+use Rattle.tree_insert.specs.Inserts.{InsertFits, targets_at, insert_left, where_inserting}
+use Rattle.tree_insert.specs.declared.insert.InsertAt.TheVariants.{Start}
+use Rattle.tree_scan.specs.Scans.{ScanFits, IsBehind, waiting, fresh_scan, where_scanning}
+use Rattle.tree_scan.specs.Work.{scan_left}
+use Rattle.tree_scan.specs.declared.steps.ScanOp.{ScanOp}
+use Rattle.tree_calls.specs.declared.answer.Answer.{Answer}
+use Rattle.tree_calls.specs.declared.answer.Answer.TheVariants.{Begun, Going, Added, Ready, Done, Finished, Gave, Ended, Forced, Flushed, Checkpointed, Refused}
+use Rattle.tree_calls.specs.declared.op.Op.{Op}
+use Rattle.tree_calls.specs.declared.op.Op.TheVariants.{Insert, Scan}
+use Rattle.tree_calls.specs.declared.request.Request.{Request}
+use Rattle.tree_calls.specs.declared.request.Request.TheVariants.{Insert as ToInsert, Scan as ToScan}
+
+-- the sets of dead rows that calls may name, by their places
+abbrev pub DeadSets : Type 0
+DeadSets = List (Row → Bool)
+
+-- what a request asks, with these sets
+abbrev pub asked_by : DeadSets → Request → Ask
+asked_by sets (ToInsert e) = AskInsert e
+asked_by sets (ToScan range) = AskScan range
+
+-- the operation of a session's request, before its first step
+abbrev pub op_before : ℕ → Request → Op
+op_before session (ToInsert e) = Insert (record { session = session; entry = e; at = Start; added = None })
+op_before session (ToScan range) = Scan (fresh_scan session range)
+
+-- the session whose call it is
+abbrev pub session_of : Op → ℕ
+session_of (Insert op) = op.session
+session_of (Scan op) = op.session
+
+-- what it was asked, with these sets
+abbrev pub asked_of : DeadSets → Op → Ask
+asked_of sets (Insert op) = AskInsert op.entry
+asked_of sets (Scan op) = AskScan op.range
+
+-- the number of its Add, if it has one
+abbrev pub add_of : Op → Option ℕ
+add_of (Insert op) = op.added
+add_of (Scan op) = None
+
+-- the entries that it has ready to be given
+abbrev pub ready_of : Op → List Entry
+ready_of (Insert op) = []
+ready_of (Scan op) = waiting op
+
+-- what it knows of the pages between its steps
+abbrev pub OpFits : State → Op → Type 0
+OpFits st (Insert op) = InsertFits st op
+OpFits st (Scan op) = ScanFits st op
+
+-- what a scan has given and holds ready, against the moments of its interval so far
+pub record IsScanSoFar (start : Entry → Bool) (history : List Action) (began : ℕ) (given : List Entry) (op : ScanOp) : Type 0 where
+  pub ascending : IsAscending (given ++ waiting op)
+  pub matched : (e : Entry) → is_among (given ++ waiting op) e ≡ true → matches op.range e ≡ true
+  pub was_there : (e : Entry) → is_among (given ++ waiting op) e ≡ true → ThereAtSomeMoment start history began (length history) e
+  pub complete : GivesAll start history op.range began (length history) (given ++ waiting op) (IsBehind op.frontier op.at)
+  pub reached : (e : Entry) → is_among (given ++ waiting op) e ≡ true → IsBehind op.frontier op.at e
+  pub onward : (e : Entry) → (IsBehind op.frontier op.at e → ⊥) → IsPast (last_or None (given ++ waiting op)) e
+
+-- what it knows of the moments since it began
+abbrev pub OpKnows : (Entry → Bool) → List Action → ℕ → List Entry → Op → Type 0
+OpKnows start history began given (Insert op) = Unit {0}
+OpKnows start history began given (Scan op) = IsScanSoFar start history began given op
+
+-- the circumstances of a step, by where the operation stands
+abbrev pub where_stepped : Op → State → Backing → Backing → Circumstances
+where_stepped (Insert op) st old new = where_inserting st old new op.session op.entry op.at
+where_stepped (Scan op) st old new = where_scanning st old new op.session
+
+-- ... of what a session runs, if anything
+abbrev pub where_slot_stepped : Option Op → State → Backing → Backing → Circumstances
+where_slot_stepped None st old new = nothing_wrong
+where_slot_stepped (Some op) st old new = where_stepped op st old new
+
+-- the circumstances of a `next`: only a scan has entries to give
+abbrev pub where_asked_next : Ask → Circumstances
+where_asked_next (AskScan range) = nothing_wrong
+where_asked_next (AskInsert e) = record nothing_wrong { no_such_session = true }
+where_asked_next (AskBulkDelete dead) = record nothing_wrong { no_such_session = true }
+where_asked_next AskCleanup = record nothing_wrong { no_such_session = true }
+
+-- the circumstances of a beginning
+abbrev pub where_beginning : State → Backing → Bool → Circumstances
+where_beginning st old busy = record nothing_wrong { is_stopped = old.stopped || is_at_end st.begun; session_has_a_call = busy }
+
+-- a fault that is left behind has its cause
+abbrev pub IsFaultCaused : Circumstances → Option Fault → Type 0
+IsFaultCaused at None = Unit {0}
+IsFaultCaused at (Some fault) = HasCause at fault
+
+-- a refusal has its cause, and so has the fault of a split that an insert leaves unfinished
+abbrev pub IsCaused : Circumstances → Answer → Type 0
+IsCaused at (Refused fault) = HasCause at fault
+IsCaused at (Added action unfinished) = IsFaultCaused at unfinished
+IsCaused at answer = Unit {0}
+
+-- whether a fault ends the call: one that is blocked goes on, and so does one that the event doesn't fit
+abbrev pub ends_call : Fault → Bool
+ends_call (Blocked b) = false
+ends_call NoSession = false
+ends_call fault = true
+
+-- whether the answer to a step ends the call
+abbrev pub is_last : Answer → Bool
+is_last Begun = false
+is_last Going = false
+is_last (Added action unfinished) = true
+is_last (Ready count) = false
+is_last Done = true
+is_last (Finished stats) = true
+is_last (Gave entry) = false
+is_last Ended = true
+is_last (Forced count) = false
+is_last (Flushed block) = false
+is_last (Checkpointed count) = false
+is_last (Refused fault) = ends_call fault
+
+-- What a step may answer: of an insert, that it goes on or that its entry is added; of a scan, that it goes on, how many
+-- entries are ready, or that it has given all; and a refusal.
+abbrev pub OpAnswers : Op → Op → Answer → Type 0
+OpAnswers (Insert op) after Going = Unit {0}
+OpAnswers (Insert op) after (Added action unfinished) = Unit {0}
+OpAnswers (Scan op) after Going = Unit {0}
+OpAnswers (Scan op) after (Ready count) = count ≡ length (ready_of after)
+OpAnswers (Scan op) after Done = Unit {0}
+OpAnswers before after (Refused fault) = Unit {0}
+OpAnswers before after answer = ⊥
+
+-- on a stopped log a step is refused with `Stopped`; an insert whose entry is logged ends as added, with that fault
+abbrev pub AnswersStopped : Option ℕ → Answer → Type 0
+AnswersStopped None answer = answer ≡ Refused Stopped
+AnswersStopped (Some action) answer = answer ≡ Added action (Some Stopped)
+
+-- what is left to do for a call on these pages, of which there are at most so many: steps, and entries to give
+abbrev pub op_work : ℕ → List Page → Op → ℕ
+op_work most pages (Insert op) = insert_left most pages op.at
+op_work most pages (Scan op) = scan_left most pages op
+
+-- the pages whose splits it is to finish
+abbrev pub op_targets : Op → List Target
+op_targets (Insert op) = targets_at op.at
+op_targets (Scan op) = []

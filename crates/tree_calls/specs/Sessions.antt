@@ -1,0 +1,325 @@
+-- One session's call over the history of all actions: what stands between its events, and what an event does.
+use Rattle.std.specs.Prelude.{◌≡◌, ◌≢◌, ◌⊎◌, ℕ, suc, ◌+◌, ◌<◌, ◌≤◌, Bool, true, false, if◌then◌else◌, Option, Some, None, List, [], ◌∷◌, ◌++◌, length, slice_get, unwrap_or}
+use Rattle.index_model.specs.Actions.{Effect, Add, Remove, Shape, Action, contents_after}
+use Rattle.index_model.specs.Calls.{Ask, AskInsert, AskBulkDelete, AskCleanup, Ending, Running, Added as EndsAdded, Finished as EndsFinished, Vacuumed, GivenUp, Failed, Call, Meets}
+use Rattle.index_model.specs.Faults.{Circumstances, HasCause}
+use Rattle.index_model.specs.Order.{is_among}
+use Rattle.index_model.specs.declared.entry.Entry.{Entry}
+use Rattle.index_model.specs.declared.fault.Fault.{Fault}
+use Rattle.index_model.specs.declared.fault.Fault.TheVariants.{Stopped, NoSession}
+use Rattle.latch_table.specs.Holdings.{holding_of, nothing_held}
+use Rattle.page_action.specs.Contents.{entry_on_live_leaf}
+use Rattle.page_action.specs.States.{State, Backing, Continues, after_begin, after_end}
+use Rattle.page_action.specs.declared.page_store.PageStore.{Ghosts}
+use Rattle.page_codec.specs.declared.page.Page.{Page}
+use Rattle.split_finish.specs.Targets.{OnlyTargetsAreFlagged}
+use Rattle.descent.specs.Steps.{IsApt}
+use Rattle.descent.specs.Shared.{IsInOrder, Does, OthersRely, MovesFlags, IsOneStep}
+use Rattle.tree_calls.specs.Ops.{DeadSets, asked_by, op_before, session_of, asked_of, add_of, ready_of, OpFits, OpKnows, where_beginning, IsCaused, ends_call, is_last, OpAnswers, AnswersStopped, op_work, op_targets}
+use Rattle.tree_calls.specs.declared.answer.Answer.{Answer}
+use Rattle.tree_calls.specs.declared.answer.Answer.TheVariants.{Begun, Going, Added, Ready, Done, Finished, Gave, Ended, Forced, Flushed, Checkpointed, Refused}
+use Rattle.tree_calls.specs.declared.op.Op.{Op}
+use Rattle.tree_calls.specs.declared.op.Op.TheVariants.{Insert, Scan}
+use Rattle.tree_calls.specs.declared.request.Request.{Request}
+
+-- the contents of the pages are those after the history, the acts are as many as its actions, and all is in order
+pub record Matches (st : State) (start : Entry → Bool) (history : List Action) : Type 0 where
+  pub contents : (e : Entry) → entry_on_live_leaf st.pages e ≡ contents_after start history e
+  pub count : st.acts ≡ length history
+  pub order : IsInOrder st
+
+-- the start number of a session's call, if it has one
+abbrev pub start_number : State → ℕ → Option ℕ
+start_number st session = unwrap_or (slice_get st.running session) None
+
+-- a session with no call holds nothing, and has no start number, so none of its calls keeps a page from being used again
+pub record IsIdle (st : State) (session : ℕ) : Type 0 where
+  pub holds : holding_of st.table session ≡ nothing_held
+  pub number : start_number st session ≡ None
+
+-- a running call has a start number
+pub record HasStarted (st : State) (session : ℕ) : Type 0 where
+  pub number : ℕ
+  pub is : start_number st session ≡ Some number
+
+-- what holds of a running call between its events
+pub record OpRuns (st : State) (sets : DeadSets) (start : Entry → Bool) (history : List Action) (call : Call) (op : Op) : Type 0 where
+  pub ask : call.ask ≡ asked_of sets op
+  pub session : session_of op ≡ call.session
+  pub added : call.added ≡ add_of op
+  pub started : HasStarted st call.session
+  pub fits : OpFits st op
+  pub knows : OpKnows start history call.began call.given op
+
+-- the running call of this number, which this operation runs
+pub record CallFits (st : State) (sets : DeadSets) (start : Entry → Bool) (history : List Action) (number : ℕ) (call : Call) (op : Op) : Type 0 where
+  pub world : Matches st start history
+  pub running : call.ending ≡ Running
+  pub meets : Meets start history number call
+  pub runs : OpRuns st sets start history call op
+
+-- the session's slot runs this call
+abbrev pub SlotFits : State → DeadSets → (Entry → Bool) → List Action → ℕ → Call → Option Op → Type 0
+SlotFits st sets start history number call None = ⊥
+SlotFits st sets start history number call (Some op) = CallFits st sets start history number call op
+
+-- the slot of a session after an event, and its call
+abbrev pub SlotIs : State → DeadSets → (Entry → Bool) → List Action → Call → Option Op → Type 0
+SlotIs st sets start history call None = (call.ending ≢ Running) × IsIdle st call.session
+SlotIs st sets start history call (Some op) = (call.ending ≡ Running) × OpRuns st sets start history call op
+
+-- the actions that an event of the call of this number appends: one of this effect, or none
+abbrev pub acts_of : ℕ → Option Effect → List Action
+acts_of number None = []
+acts_of number (Some effect) = record { by = number; effect = effect } ∷ []
+
+-- how many they are
+abbrev pub act_count : Option Effect → ℕ
+act_count None = 0
+act_count (Some effect) = 1
+
+-- what a call may do by what it was asked: an insert that has no Add may add its entry; a bulk delete may remove entries of
+-- its set; an insert and a cleanup may change the shape of the pages
+abbrev pub MayDo : Ask → Option ℕ → Effect → Type 0
+MayDo (AskInsert asked) added (Add e) = (asked ≡ e) × (added ≡ None)
+MayDo (AskInsert asked) added Shape = Unit {0}
+MayDo (AskBulkDelete dead) added (Remove es) = (e : Entry) → is_among es e ≡ true → dead e.row ≡ true
+MayDo AskCleanup added Shape = Unit {0}
+MayDo ask added effect = ⊥
+
+-- ... and by the contents before
+abbrev pub IsAsked : (Entry → Bool) → Ask → Option ℕ → Option Effect → Type 0
+IsAsked was_there ask added None = Unit {0}
+IsAsked was_there ask added (Some effect) = MayDo ask added effect × IsApt was_there effect
+
+-- the number of the call's Add after an action of this number and this effect
+abbrev pub add_after : Option ℕ → ℕ → Option Effect → Option ℕ
+add_after added action None = added
+add_after added action (Some (Add e)) = Some action
+add_after added action (Some (Remove es)) = added
+add_after added action (Some Shape) = added
+
+-- the call after an event of this effect, with so many actions before it: its Add is noted
+abbrev pub noted : Call → ℕ → Option Effect → Call
+noted call count effect = record call { added = add_after call.added (suc count) effect }
+
+-- the call, ended so with so many actions
+abbrev pub ended : Call → Ending → ℕ → Call
+ended call ending count = record call { ending = ending; until = count }
+
+-- the call, whose scan has given one entry more
+abbrev pub given_one : Call → Entry → Call
+given_one call e = record call { given = call.given ++ e ∷ [] }
+
+-- what a refusal does to the call: it ends it, or leaves it as it was
+abbrev pub Refuses : Fault → ℕ → Call → Call → Type 0
+Refuses fault count call after = after ≡ (if ends_call fault then ended call (Failed fault) count else call)
+
+-- an insert whose Add is noted ends with it, as of now
+pub record EndsWithAdd (action : ℕ) (unfinished : Option Fault) (count : ℕ) (effect : Option Effect) (call after : Call) : Type 0 where
+  pub noted_is : (noted call count effect).added ≡ Some action
+  pub after_is : after ≡ ended (noted call count effect) (EndsAdded action unfinished) (act_count effect + count)
+
+-- no action is appended, and the call is this one then
+pub record OnlyBecomes (effect : Option Effect) (becomes after : Call) : Type 0 where
+  pub none : effect ≡ None
+  pub after_is : after ≡ becomes
+
+-- What an answer says of the effect of an event, and of the call before and after it, with so many actions before.
+abbrev pub Told : Answer → ℕ → Option Effect → Call → Call → Type 0
+Told Begun count effect call after = ⊥
+Told Going count effect call after = after ≡ noted call count effect
+Told (Added action unfinished) count effect call after = EndsWithAdd action unfinished count effect call after
+Told (Ready ready) count effect call after = OnlyBecomes effect call after
+Told Done count effect call after = OnlyBecomes effect (ended call EndsFinished count) after
+Told (Finished stats) count effect call after = OnlyBecomes effect (ended call (Vacuumed stats) count) after
+Told (Gave None) count effect call after = OnlyBecomes effect call after
+Told (Gave (Some e)) count effect call after = OnlyBecomes effect (given_one call e) after
+Told Ended count effect call after = OnlyBecomes effect (ended call GivenUp count) after
+Told (Forced count') count effect call after = ⊥
+Told (Flushed block) count effect call after = ⊥
+Told (Checkpointed count') count effect call after = ⊥
+Told (Refused fault) count effect call after = (effect ≡ None) × Refuses fault count call after
+
+-- what is left to do for a call on these pages, of which there are at most so many: steps, and entries to give
+abbrev pub work_left : ℕ → List Page → Option Op → ℕ
+work_left most pages None = 0
+work_left most pages (Some op) = op_work most pages op
+
+-- ... on the pages of this state, within its limits
+abbrev pub work_in : State → Option Op → ℕ
+work_in st slot = work_left st.limits.pages st.pages slot
+
+-- no entry is ready
+abbrev pub IsDrained : Option Op → Type 0
+IsDrained None = Unit {0}
+IsDrained (Some op) = ready_of op ≡ []
+
+-- while no act is done, a step that ends no call leaves less to do: each `Going`, and each `Ready` where all that was ready
+-- had been given
+abbrev pub LeavesLess : State → State → Option Op → Option Op → Answer → Type 0
+LeavesLess old new before after Going = new.acts ≡ old.acts → work_in new after < work_in old before
+LeavesLess old new before after (Ready count) = IsDrained before → work_in new after < work_in old before
+LeavesLess old new before after answer = Unit {0}
+
+-- while no act is done, no step leaves more to do
+abbrev pub LeavesNoMore : State → State → Option Op → Option Op → Type 0
+LeavesNoMore old new before after = new.acts ≡ old.acts → work_in new after ≤ work_in old before
+
+-- an entry that was given leaves less to do; where none is given, none is ready, and nothing is changed
+abbrev pub GivesLess : Option Op → Option Op → Answer → Type 0
+GivesLess before after (Gave (Some e)) = (most : ℕ) (pages : List Page) → work_left most pages after < work_left most pages before
+GivesLess before after answer = (after ≡ before) × IsDrained before
+
+-- what is ready, where the slot runs a call
+abbrev pub ready_count : Option Op → ℕ
+ready_count None = 0
+ready_count (Some op) = length (ready_of op)
+
+-- what a step may answer, by what the session runs before and after
+abbrev pub AnswersStep : Option Op → Option Op → Answer → Type 0
+AnswersStep (Some (Insert op)) after Going = Unit {0}
+AnswersStep (Some (Insert op)) after (Added action unfinished) = Unit {0}
+AnswersStep (Some (Scan op)) after Going = Unit {0}
+AnswersStep (Some (Scan op)) after (Ready count) = count ≡ ready_count after
+AnswersStep (Some (Scan op)) after Done = Unit {0}
+AnswersStep before after (Refused fault) = Unit {0}
+AnswersStep before after answer = ⊥
+
+-- only a scan gives: an entry, or none where none is ready; all else is refused
+abbrev pub AnswersNext : Option Op → Answer → Type 0
+AnswersNext (Some (Scan op)) (Gave entry) = Unit {0}
+AnswersNext (Some (Scan op)) answer = ⊥
+AnswersNext slot (Refused fault) = Unit {0}
+AnswersNext slot answer = ⊥
+
+-- a call is given up; without one that is refused
+abbrev pub AnswersEnd : Option Op → Answer → Type 0
+AnswersEnd (Some op) answer = answer ≡ Ended
+AnswersEnd None answer = answer ≡ Refused NoSession
+
+-- what is answered where the session has no call to step
+abbrev pub no_call : Bool → Answer
+no_call is_stopped = if is_stopped then Refused Stopped else Refused NoSession
+
+-- the number of the Add of the session's call, if it has one
+abbrev pub slot_add : Option Op → Option ℕ
+slot_add None = None
+slot_add (Some op) = add_of op
+
+-- a refusal ends the call, or leaves it as it was; nothing else is changed
+pub record StepIsRefused (old new : State) (op : Op) (after : Option Op) (fault : Fault) : Type 0 where
+  pub state : new ≡ (if ends_call fault then after_end (session_of op) old else old)
+  pub slot_is : after ≡ (if ends_call fault then None else Some op)
+
+-- a refused step changes nothing, but that the call is over where it was not blocked
+abbrev pub RefusalChangesNothing : State → State → Option Op → Option Op → Answer → Type 0
+RefusalChangesNothing old new (Some op) after (Refused fault) = StepIsRefused old new op after fault
+RefusalChangesNothing old new None after answer = (new ≡ old) × (after ≡ None)
+RefusalChangesNothing old new (Some op) after answer = Unit {0}
+
+-- On any pages an event does one act at most, and with none the pages are as they were; so are limits, frames and the
+-- count of calls.
+pub record KeepsPages (old new : State) : Type 0 where
+  pub acts : (new.acts ≡ old.acts) ⊎ (new.acts ≡ suc old.acts)
+  pub quiet : new.acts ≡ old.acts → new.pages ≡ old.pages
+  pub limits : new.limits ≡ old.limits
+  pub frames : new.frames ≡ old.frames
+  pub begun : new.begun ≡ old.begun
+
+-- only those pages are flagged whose splits the session's insert is to finish
+abbrev pub OnlyOwnAreFlagged : State → Option Op → Type 0
+OnlyOwnAreFlagged st None = OnlyTargetsAreFlagged st []
+OnlyOwnAreFlagged st (Some op) = OnlyTargetsAreFlagged st (op_targets op)
+
+-- Which pages are flagged behind a step, by what it answers: those alone whose splits the insert is to finish yet; none
+-- where its entry is added and nothing is left unfinished; where a fault ends it, those whose splits it was to finish.
+abbrev pub LeavesOwnFlagged : State → Option Op → Option Op → Answer → Type 0
+LeavesOwnFlagged new before after (Added action (Some fault)) = OnlyOwnAreFlagged new before
+LeavesOwnFlagged new before after (Added action None) = OnlyOwnAreFlagged new None
+LeavesOwnFlagged new before after (Refused fault) = OnlyOwnAreFlagged new before
+LeavesOwnFlagged new before after answer = OnlyOwnAreFlagged new after
+
+-- One event of a running call: it appends at most one action, which the call was asked for; what is told of it; its cause;
+-- the pages match the longer history; which flags move; the limits stay, and where no action is logged, the pages; others may
+-- rely; the call goes on meeting its definition; and what the slot holds then.
+pub record SessionGoes (at : Circumstances) (old new : State) (sets : DeadSets) (start : Entry → Bool) (history : List Action) (number : ℕ) (call : Call) (slot : Option Op) (answer : Answer) : Type 0 where
+  pub effect : Option Effect
+  pub after : Call
+  pub asked : IsAsked (contents_after start history) call.ask call.added effect
+  pub told : Told answer (length history) effect call after
+  pub caused : IsCaused at answer
+  pub world : Matches new start (history ++ acts_of number effect)
+  pub flags : MovesFlags effect old new
+  pub limits : new.limits ≡ old.limits
+  pub frames : new.frames ≡ old.frames
+  pub pages : effect ≡ None → new.pages ≡ old.pages
+  pub others : OthersRely call.session old new
+  pub meets : Meets start (history ++ acts_of number effect) number after
+  pub holds : SlotIs new sets start (history ++ acts_of number effect) after slot
+
+-- a call that begins with so many actions before it
+abbrev pub begun_call : ℕ → Ask → ℕ → Call
+begun_call session ask count = record { session = session; ask = ask; began = count; given = []; added = None; ending = Running; until = 0 }
+
+abbrev pub is_busy : Option Op → Bool
+is_busy None = false
+is_busy (Some op) = true
+
+-- a call has begun: it gets a start number, and the session's slot runs it from its first step on
+pub record IsBegun (old new : State) (session : ℕ) (request : Request) (before after : Option Op) : Type 0 where
+  pub state : new ≡ after_begin session old
+  pub was_free : before ≡ None
+  pub runs : after ≡ Some (op_before session request)
+
+-- a call isn't begun: nothing is changed, and there is a cause
+pub record IsNotBegun (old : State) (old_backing : Backing) (new : State) (before after : Option Op) (fault : Fault) : Type 0 where
+  pub state : new ≡ old
+  pub slot_is : after ≡ before
+  pub cause : HasCause (where_beginning old old_backing (is_busy before)) fault
+
+-- what a beginning does, by what it answers
+abbrev pub BeginsBy : State → Backing → State → ℕ → Request → Option Op → Option Op → Answer → Type 0
+BeginsBy old old_backing new session request before after Begun = IsBegun old new session request before after
+BeginsBy old old_backing new session request before after (Refused fault) = IsNotBegun old old_backing new before after fault
+BeginsBy old old_backing new session request before after answer = ⊥
+
+-- a call that has begun over a history of so many actions: the pages match it still, others may rely, the call meets its
+-- definition, and the slot runs it
+pub record SessionBegins (old new : State) (sets : DeadSets) (start : Entry → Bool) (history : List Action) (number session : ℕ) (request : Request) (slot : Option Op) : Type 0 where
+  pub world : Matches new start history
+  pub others : OthersRely session old new
+  pub meets : Meets start history number (begun_call session (asked_by sets request) (length history))
+  pub holds : SlotIs new sets start history (begun_call session (asked_by sets request) (length history)) slot
+
+-- what an operation runs after a step: nothing, where its answer is the last
+abbrev pub slot_after : Answer → Op → Option Op
+slot_after answer op = if is_last answer then None else Some op
+
+-- A step of an operation, before what it holds is let go at its end. On any pages: what it may answer; it does one act at
+-- most; a refusal changes nothing; a stopped log refuses it; and over a device that keeps its model, what is left to do.
+pub record OpSteps {S : Type 0} (g : Ghosts S) (before after : Op) (old new : S) (answer : Answer) : Type 0 where
+  pub steps : Continues g.follows old new
+  pub session : session_of after ≡ session_of before
+  pub kind : OpAnswers before after answer
+  pub refused : (fault : Fault) → answer ≡ Refused fault → (g.state new ≡ g.state old) × (after ≡ before)
+  pub stopped : (g.backing old).stopped ≡ true → AnswersStopped (add_of before) answer
+  pub kept : IsOneStep (g.state old) (g.state new)
+  pub less : (g.backing new).honest ≡ true → LeavesLess (g.state old) (g.state new) (Some before) (Some after) answer
+  pub no_more : (g.backing new).honest ≡ true → LeavesNoMore (g.state old) (g.state new) (Some before) (slot_after answer after)
+
+-- what the operation and its call are behind a step: the call is over, or the operation runs it on
+abbrev pub HoldsOn : Bool → State → DeadSets → (Entry → Bool) → List Action → Call → Op → Type 0
+HoldsOn true st sets start history call op = call.ending ≢ Running
+HoldsOn false st sets start history call op = (call.ending ≡ Running) × OpRuns st sets start history call op
+
+-- a step of an operation over a history, before what it holds is let go at its end
+pub record OpGoes (at : Circumstances) (old new : State) (sets : DeadSets) (start : Entry → Bool) (history : List Action) (number : ℕ) (call : Call) (op : Op) (answer : Answer) : Type 0 where
+  pub effect : Option Effect
+  pub then_call : Call
+  pub does : Does call.session effect old new
+  pub asked : IsAsked (contents_after start history) call.ask call.added effect
+  pub told : Told answer (length history) effect call then_call
+  pub caused : IsCaused at answer
+  pub meets : Meets start (history ++ acts_of number effect) number then_call
+  pub holds : HoldsOn (is_last answer) new sets start (history ++ acts_of number effect) then_call op

@@ -1,0 +1,72 @@
+//! Beginnings.
+
+ghost use Rattle.std.specs.Prelude.{◌≡◌, ◌<◌, ◌≤◌, true, false, Bool, List, ℕ, OnOk, OnErr, IfErr, Err, length};
+ghost use Rattle.index_model.specs.Actions.{Action};
+ghost use Rattle.index_model.specs.Faults.{HasCause};
+ghost use Rattle.index_model.specs.declared.entry.Entry.{Entry};
+ghost use Rattle.page_action.specs.States.{Continues, after_begin};
+ghost use Rattle.tree_calls.specs.Ops.{DeadSets, where_beginning};
+ghost use Rattle.tree_calls.specs.Sessions.{Matches, IsIdle, BeginsBy, SessionBegins, work_in};
+
+use crate::answer::Answer;
+use crate::op::Op;
+use crate::request::Request;
+use index_model::{Fault, Session};
+use page_action::PageStore;
+
+/// Begins a call of a session. Refused with `Stopped` (3); with `SessionBusy` (13) where the session has a call: nothing is
+/// changed then.
+///
+/// On its own, into a leaf with room, an insert takes three steps more than the root's level; the first entries of a scan
+/// are ready after two more.
+pub fn begin<S: PageStore>(
+    store: &mut S,
+    session: Session,
+    request: Request,
+    slot: &mut Option<Op>,
+) -> Answer
+    ensures steps { Continues S.follows store.old store.new }
+    ensures backing { S.backing store.new ≡ S.backing store.old }
+    ensures by { BeginsBy (S.state store.old) (S.backing store.old)
+        (S.state store.new) session request slot.old slot.new result }
+    ensures stopped { (S.backing store.old).stopped ≡ true → result ≡ Answer.Refused Fault.Stopped }
+    ensures begins { result ≡ Answer.Begun → (sets : DeadSets) (start : Entry → Bool)
+        (history : List Action) (number : ℕ)
+        → Matches (S.state store.old) start history → IsIdle (S.state store.old) session
+        → SessionBegins (S.state store.old) (S.state store.new) sets start history number session
+        request slot.new }
+    ensures bounded { result ≡ Answer.Begun
+        → work_in (S.state store.new) slot.new < 281474976710656 }
+{
+    if let Err(fault) = start(store, session, slot.is_some()) {
+        return Answer::Refused(fault);
+    }
+    *slot = Some(Op::new(session, request));
+    Answer::Begun
+}
+
+// The start number of a call that begins.
+fn start<S: PageStore>(store: &mut S, session: Session, busy: bool) -> Result<(), Fault>
+    ensures steps { Continues S.follows store.old store.new }
+    ensures backing { S.backing store.new ≡ S.backing store.old }
+    ensures free { OnOk result (busy ≡ false) }
+    ensures done { OnOk result (S.state store.new ≡ after_begin session (S.state store.old)) }
+    ensures low { session < 64 }
+    ensures limits { (S.state store.old).limits.pages ≤ 65536 }
+    ensures few { length (S.state store.old).pages ≤ 65536 }
+    ensures stopped { (S.backing store.old).stopped ≡ true → result ≡ Err Fault.Stopped }
+    ensures refused { OnErr result (S.state store.new ≡ S.state store.old) }
+    ensures cause { IfErr result
+        (HasCause (where_beginning (S.state store.old) (S.backing store.old) busy)) }
+{
+    let _number = session.number();
+    let _limits = store.limits();
+    if store.is_stopped() {
+        return Err(Fault::Stopped);
+    }
+    if busy {
+        return Err(Fault::SessionBusy);
+    }
+    store.begin(session)?;
+    Ok(())
+}

@@ -1,0 +1,124 @@
+//! Events of a running call.
+
+ghost use Rattle.std.specs.Prelude.{◌≡◌, true, false, Bool, List, ℕ, suc, None, Some, map};
+ghost use Rattle.index_model.specs.Actions.{Action};
+ghost use Rattle.index_model.specs.Calls.{Call};
+ghost use Rattle.index_model.specs.declared.entry.Entry.{Entry};
+ghost use Rattle.page_action.specs.Causes.{nothing_wrong};
+ghost use Rattle.page_action.specs.States.{State, Continues, after_end};
+ghost use Rattle.tree_calls.specs.Ops.{DeadSets, session_of, where_slot_stepped, where_asked_next, is_last, AnswersStopped};
+ghost use Rattle.tree_calls.specs.Sessions.{SlotFits, SessionGoes, KeepsPages, OnlyOwnAreFlagged, LeavesOwnFlagged, LeavesLess, LeavesNoMore, GivesLess, AnswersStep, AnswersNext, AnswersEnd, RefusalChangesNothing, no_call, slot_add};
+ghost use Rattle.tree_calls.specs.declared.op.Op.{Op};
+
+use crate::answer::Answer;
+use crate::op::Op;
+use index_model::{DeadRows, Fault};
+use page_action::PageStore;
+
+/// Makes one step of a session's call. Where the answer ends the call, the slot is empty afterwards, and what the session
+/// held is let go. A slot with no call is refused with `NoSession` (12), or `Stopped` (3). A refused step changes nothing,
+/// but that the call is over where it wasn't blocked.
+///
+/// A call that was asked for the rows of a set knows it by its place among the sets. These are the same at each of its steps.
+pub fn step<S: PageStore, T: DeadRows>(store: &mut S, slot: &mut Option<Op>, sets: &[T]) -> Answer
+    ensures steps { Continues S.follows store.old store.new }
+    ensures idle { slot.old ≡ None → (result ≡ no_call (S.backing store.old).stopped)
+        × (store.new ≡ store.old) }
+    ensures refused { RefusalChangesNothing (S.state store.old)
+        (S.state store.new) slot.old slot.new result }
+    ensures stopped { (S.backing store.old).stopped ≡ true
+        → AnswersStopped (slot_add slot.old) result }
+    ensures kind { AnswersStep slot.old slot.new result }
+    ensures kept { KeepsPages (S.state store.old) (S.state store.new) }
+    ensures less { (S.backing store.new).honest ≡ true
+        → LeavesLess (S.state store.old) (S.state store.new) slot.old slot.new result }
+    ensures no_more { (S.backing store.new).honest ≡ true
+        → LeavesNoMore (S.state store.old) (S.state store.new) slot.old slot.new }
+    ensures goes { (S.backing store.new).honest ≡ true
+        → (start : Entry → Bool) (history : List Action) (number : ℕ) (call : Call)
+        → SlotFits (S.state store.old) (map T.is_in sets.now) start history number call slot.old
+        → SessionGoes (where_slot_stepped slot.old (S.state store.old) (S.backing store.old)
+        (S.backing store.new))
+        (S.state store.old) (S.state store.new) (map T.is_in sets.now) start history number call
+        slot.new result }
+    ensures flagged { (S.backing store.new).honest ≡ true
+        → (start : Entry → Bool) (history : List Action) (number : ℕ) (call : Call)
+        → SlotFits (S.state store.old) (map T.is_in sets.now) start history number call slot.old
+        → OnlyOwnAreFlagged (S.state store.old) slot.old
+        → LeavesOwnFlagged (S.state store.new) slot.old slot.new result }
+{
+    let Some(op) = slot else {
+        return idle(store.is_stopped());
+    };
+    let session = op.session();
+    let answer = op.step(store, sets);
+    if is_last(&answer) {
+        store.end(session);
+        *slot = None;
+    }
+    answer
+}
+
+// A session with no call has no step.
+fn idle(is_stopped: bool) -> Answer
+    ensures { result ≡ no_call is_stopped }
+{
+    if is_stopped {
+        Answer::Refused(Fault::Stopped)
+    } else {
+        Answer::Refused(Fault::NoSession)
+    }
+}
+
+// Whether the answer to a step ends the call.
+fn is_last(answer: &Answer) -> bool
+    ensures { result ≡ is_last answer.now }
+{
+    match answer {
+        Answer::Added { .. } | Answer::Done | Answer::Finished(_) | Answer::Ended => true,
+        Answer::Refused(fault) => !matches!(fault, Fault::Blocked(_) | Fault::NoSession),
+        _ => false,
+    }
+}
+
+/// The next entry that a session's scan has ready, or none. A call that is no scan, and a slot with no call, are refused
+/// with `NoSession` (12). Nothing else is changed.
+pub fn next(slot: &mut Option<Op>) -> Answer
+    ensures idle { slot.old ≡ None → (slot.new ≡ None) × (result ≡ no_call false) }
+    ensures kind { AnswersNext slot.old result }
+    ensures less { GivesLess slot.old slot.new result }
+    ensures goes { (st : State) (sets : DeadSets) (start : Entry → Bool) (history : List Action)
+        (number : ℕ) (call : Call)
+        → SlotFits st sets start history number call slot.old
+        → SessionGoes (where_asked_next call.ask) st st sets start history number call slot.new
+        result }
+{
+    match slot {
+        Some(Op::Scan(op)) => Answer::Gave(op.next()),
+        _ => Answer::Refused(Fault::NoSession),
+    }
+}
+
+/// Gives a session's call up: nothing is logged, and what the session held is let go. A slot with no call is refused with
+/// `NoSession` (12).
+pub fn end<S: PageStore>(store: &mut S, slot: &mut Option<Op>) -> Answer
+    ensures steps { Continues S.follows store.old store.new }
+    ensures idle { slot.old ≡ None → store.new ≡ store.old }
+    ensures kind { AnswersEnd slot.old result }
+    ensures over { slot.new ≡ None }
+    ensures backing { S.backing store.new ≡ S.backing store.old }
+    ensures given_up { (op : Op) → slot.old ≡ Some op
+        → S.state store.new ≡ after_end (session_of op) (S.state store.old) }
+    ensures goes { (sets : DeadSets) (start : Entry → Bool) (history : List Action) (number : ℕ)
+        (call : Call)
+        → SlotFits (S.state store.old) sets start history number call slot.old
+        → SessionGoes nothing_wrong (S.state store.old)
+        (S.state store.new) sets start history number call slot.new result }
+{
+    let Some(op) = slot else {
+        return Answer::Refused(Fault::NoSession);
+    };
+    store.end(op.session());
+    *slot = None;
+    Answer::Ended
+}

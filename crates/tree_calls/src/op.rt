@@ -1,0 +1,80 @@
+//! Running calls.
+
+ghost use Rattle.std.specs.Prelude.{◌≡◌, true, false, Bool, List, ℕ, Some, map};
+ghost use Rattle.index_model.specs.Actions.{Action};
+ghost use Rattle.index_model.specs.Calls.{Call};
+ghost use Rattle.index_model.specs.declared.entry.Entry.{Entry};
+ghost use Rattle.descent.specs.Shared.{IsInOrder};
+
+use crate::answer::Answer;
+use crate::request::Request;
+use index_model::{DeadRows, Fault, Session};
+use page_action::PageStore;
+use tree_insert::{InsertOp, InsertStep};
+use tree_scan::{ScanOp, ScanStep};
+
+/// A running call of a session.
+#[derive(Drop)]
+pub enum Op {
+    Insert(InsertOp),
+    Scan(ScanOp),
+}
+
+impl Op {
+    ghost use Rattle.tree_calls.specs.Ops.{op_before, session_of, OpFits, where_stepped};
+    ghost use Rattle.tree_calls.specs.Sessions.{CallFits, OpSteps, OpGoes, OnlyOwnAreFlagged, LeavesOwnFlagged, slot_after};
+
+    /// The call that a session asks for, before its first step.
+    pub fn new(session: Session, request: Request) -> Op
+        ensures { result ≡ op_before session request }
+    {
+        match request {
+            Request::Insert(entry) => Op::Insert(InsertOp::new(session, entry)),
+            Request::Scan(range) => Op::Scan(ScanOp::new(session, range)),
+        }
+    }
+
+    /// The session whose call it is.
+    pub fn session(&self) -> Session
+        ensures { result ≡ session_of self.now }
+    {
+        match self {
+            Op::Insert(op) => op.session,
+            Op::Scan(op) => op.session,
+        }
+    }
+
+    // One step. After an answer that is its last, what the session holds is still held.
+    pub(crate) fn step<S: PageStore, T: DeadRows>(&mut self, store: &mut S, sets: &[T]) -> Answer
+        ensures all { OpSteps S.PageStore self.old self.new store.old store.new result }
+        ensures goes { (S.backing store.new).honest ≡ true
+            → (start : Entry → Bool) (history : List Action) (number : ℕ) (call : Call)
+            → CallFits (S.state store.old) (map T.is_in sets.now) start history number call self.old
+            → OpGoes (where_stepped self.old (S.state store.old) (S.backing store.old)
+            (S.backing store.new))
+            (S.state store.old) (S.state store.new) (map T.is_in sets.now) start history number
+            call self.new result }
+        ensures flagged { (S.backing store.new).honest ≡ true → IsInOrder (S.state store.old)
+            → OpFits (S.state store.old) self.old
+            → OnlyOwnAreFlagged (S.state store.old) (Some self.old)
+            → LeavesOwnFlagged (S.state store.new) (Some self.old) (slot_after result self.new)
+            result }
+    {
+        match self {
+            Op::Insert(op) => match op.step(store) {
+                Ok(InsertStep::Going) => Answer::Going,
+                Ok(InsertStep::Added { action, unfinished }) => Answer::Added {
+                    action,
+                    unfinished,
+                },
+                Err(fault) => Answer::Refused(fault),
+            },
+            Op::Scan(op) => match op.step(store) {
+                Ok(ScanStep::Going) => Answer::Going,
+                Ok(ScanStep::Ready(count)) => Answer::Ready(count),
+                Ok(ScanStep::Done) => Answer::Done,
+                Err(fault) => Answer::Refused(fault),
+            },
+        }
+    }
+}

@@ -1,0 +1,12 @@
+//! What a call is asked.
+
+use index_model::{Entry, Range};
+
+/// What a session asks of a call that it begins.
+#[derive(Clone, Copy)]
+pub enum Request {
+    /// To insert the entry.
+    Insert(Entry),
+    /// To give the entries of the range, in ascending order.
+    Scan(Range),
+}

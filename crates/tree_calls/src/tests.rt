@@ -1,0 +1,131 @@
+use super::*;
+use arrayvec::ArrayVec;
+use index_model::{DeadRows, Entry, Fault, Key, Limits, Range, RowAddr, Session};
+use page_action::MapStore;
+use page_codec::{Items, Page, PageState};
+use std::alloc::Global;
+use std::test::*;
+
+const LIMITS: Limits = Limits {
+    items: 4,
+    pages: 8,
+    log_bytes: 65_536,
+};
+
+fn page(block: u32, right: Option<u32>, items: Items) -> Page {
+    Page {
+        block,
+        level: 0,
+        state: PageState::Live,
+        split: false,
+        left: None,
+        right,
+        high: None,
+        cycle: 0,
+        deletion: 0,
+        items,
+    }
+}
+
+// A set of dead rows without rows.
+struct NoRows {}
+
+impl DeadRows for NoRows {
+    ghost use Rattle.std.specs.Prelude.{false};
+
+    ghost is_in = { λ rows row. false };
+
+    fn is_dead(&self, _row: RowAddr) -> bool {
+        false
+    }
+}
+
+const NO_SETS: [NoRows; 0] = [];
+
+// The metapage, and a leaf with these entries as the root.
+fn tree(alloc: Global, entries: &[Entry]) -> Result<MapStore, Fault> {
+    let mut leaf = ArrayVec::new();
+    for entry in entries {
+        let _ = leaf.try_push(*entry);
+    }
+    let mut store = MapStore::new(alloc, LIMITS)?;
+    store.add(page(0, Some(1), Items::Meta))?;
+    store.add(page(1, None, Items::Entries(leaf)))?;
+    Ok(store)
+}
+
+fn entry(key: u8, block: u32) -> Entry {
+    Entry {
+        key: Key::new(&[key]).unwrap_or(Key::EMPTY),
+        row: RowAddr::new(block, 1).unwrap_or_default(),
+    }
+}
+
+const ALL: Range = Range {
+    from: None,
+    below: None,
+};
+
+#[test]
+fn an_insert_and_a_scan(rt: HostRuntime) {
+    let (Ok(mut store), Ok(session)) = (tree(rt.alloc(), &[]), Session::new(5)) else {
+        assert!(rt; false);
+        return;
+    };
+    let mut slot = None;
+    assert!(rt;
+        matches!(
+            step(&mut store, &mut slot, &NO_SETS),
+            Answer::Refused(Fault::NoSession)
+        )
+    );
+    let begun = begin(&mut store, session, Request::Insert(entry(1, 7)), &mut slot);
+    assert!(rt; matches!(begun, Answer::Begun));
+    let busy = begin(&mut store, session, Request::Scan(ALL), &mut slot);
+    assert!(rt; matches!(busy, Answer::Refused(Fault::SessionBusy)));
+    assert!(rt; matches!(next(&mut slot), Answer::Refused(Fault::NoSession)));
+    assert!(rt; matches!(step(&mut store, &mut slot, &NO_SETS), Answer::Going));
+    assert!(rt; matches!(step(&mut store, &mut slot, &NO_SETS), Answer::Going));
+    let added = step(&mut store, &mut slot, &NO_SETS);
+    assert!(rt;
+        matches!(
+            added,
+            Answer::Added {
+                action: 1,
+                unfinished: None
+            }
+        )
+    );
+    assert!(rt; slot.is_none());
+
+    let begun = begin(&mut store, session, Request::Scan(ALL), &mut slot);
+    assert!(rt; matches!(begun, Answer::Begun));
+    assert!(rt; matches!(step(&mut store, &mut slot, &NO_SETS), Answer::Going));
+    assert!(rt; matches!(step(&mut store, &mut slot, &NO_SETS), Answer::Ready(1)));
+    let Answer::Gave(Some(given)) = next(&mut slot) else {
+        assert!(rt; false);
+        return;
+    };
+    assert!(rt; given == entry(1, 7));
+    assert!(rt; matches!(next(&mut slot), Answer::Gave(None)));
+    assert!(rt; matches!(step(&mut store, &mut slot, &NO_SETS), Answer::Done));
+    assert!(rt; slot.is_none());
+}
+
+#[test]
+fn a_call_is_given_up(rt: HostRuntime) {
+    let (Ok(mut store), Ok(session)) = (tree(rt.alloc(), &[]), Session::new(5)) else {
+        assert!(rt; false);
+        return;
+    };
+    let mut slot = None;
+    let _begun = begin(&mut store, session, Request::Scan(ALL), &mut slot);
+    assert_eq!(rt; slot.as_ref().map(Op::session), Some(session));
+    assert!(rt; matches!(end(&mut store, &mut slot), Answer::Ended));
+    assert!(rt;
+        matches!(
+            end(&mut store, &mut slot),
+            Answer::Refused(Fault::NoSession)
+        )
+    );
+}
