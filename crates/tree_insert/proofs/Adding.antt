@@ -37,6 +37,7 @@ use Rattle.descent.proofs.Working.{working_later, read_pinned_cause}
 use Rattle.std.specs.Prelude.{IfOk, IfErr, OnErr}
 use Rattle.split_finish.specs.Targets.{OnlyTargetsAreFlagged, is_among_targets}
 use Rattle.tree_insert.specs.Inserts.{leaf_held, IsLeafFor, InsertFits, InsertStands, InsertSteps, IsToCome, is_full_page, images_at, frames_at, insert_left, targets_at, IsLeft, where_inserting}
+use Rattle.tree_insert.specs.Straight.{straight_steps}
 use Rattle.tree_insert.specs.Turns.{EntryPut, PutsEntry, PlaceRefused}
 use Rattle.tree_insert.specs.declared.insert.InsertAt.{InsertAt}
 use Rattle.tree_insert.specs.declared.insert.InsertAt.TheVariants.{Start, At, Holding as Holds, Finishing}
@@ -188,6 +189,7 @@ puts g op old mid new block page (Ok (Added action unfinished)) steps same alive
         left = subst (λ (u : Option Fault). IsLeft st (g.backing old) (g.state new) (g.backing new) op (Some (Add op.entry)) u) (sym told.0)
             (λ only b. whole only moves b);
       };
+  straight = λ honest order fits whole_pages on room. (subst (λ (a : InsertAt). straight_steps st.pages a ≡ 1) (sym at_is) refl, told.0);
 }
   where
     st : State
