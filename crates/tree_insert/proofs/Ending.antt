@@ -16,6 +16,7 @@ use Rattle.split_finish.specs.declared.finish.FinishOp.{FinishOp}
 use Rattle.split_finish.specs.declared.finish.FinishStep.{FinishStep}
 use Rattle.split_finish.specs.declared.finish.FinishStep.TheVariants.{Going as FinishGoing, Done}
 use Rattle.tree_insert.specs.Inserts.{InsertFits, InsertStands, InsertSteps, IsNoted, insert_left, targets_at, where_inserting}
+use Rattle.tree_insert.specs.Straight.{IsStraight}
 use Rattle.tree_insert.specs.Turns.{GoesOn, GoesOnFrom, Leaves, LeavesBy, is_blocked}
 use Rattle.tree_insert.specs.declared.insert.InsertAt.{InsertAt}
 use Rattle.tree_insert.specs.declared.insert.InsertAt.TheVariants.{Start, At, Holding as Holds, Finishing}
@@ -69,6 +70,7 @@ finish_goes g before splits then_splits old new at_is alive h = record {
         };
         flags = λ only. on.flags (subst (λ (a : InsertAt). OnlyTargetsAreFlagged (g.state old) (targets_at a)) at_is only);
       };
+  straight = λ honest order fits whole on room. absurd (subst (IsStraight (g.state old) before.entry) at_is on);
 }
 
 -- ... that is the last
@@ -109,6 +111,7 @@ finish_done g before after splits then_splits step old new at_is alive h on = by
             };
             flags = λ only b flagged. absurd (true_false (sym flagged ∙ none_flagged order fits honest only b));
           };
+      straight = λ honest order fits whole on room. absurd (subst (IsStraight (g.state old) before.entry) at_is on);
     }))
     by (Some action) is on = subst (λ (s : InsertStep). InsertSteps g before after old new (Ok s)) (sym on.0) (subst (λ (o : InsertOp). InsertSteps g before o old new (Ok (Added action None))) (sym on.1) (record {
       steps = h.steps;
@@ -127,6 +130,7 @@ finish_done g before after splits then_splits step old new at_is alive h on = by
             noted = subst (λ (a : Option ℕ). IsNoted last.effect (g.state old).acts before.entry before.added a) is (notes_nothing last.effect (g.state old).acts before.entry before.added last.shapes);
             left = none_flagged order fits honest;
           };
+      straight = λ honest order fits whole on room. absurd (subst (IsStraight (g.state old) before.entry) at_is on);
     }))
 
 -- ... that is refused
@@ -159,6 +163,7 @@ finish_refused g before splits then_splits fault result old new at_is alive h le
         noted = sym is;
         left = (refl, cause honest order fits);
       };
+      straight = λ honest order fits whole on room. absurd (subst (IsStraight (g.state old) before.entry) at_is on);
     })
     by : (blocked : Bool) (added : Option ℕ) → before.added ≡ added → LeavesBy blocked added fault result → InsertSteps g before (record before { at = Finishing then_splits }) old new result
     by blocked None is leaves = subst (λ (r : Result InsertStep Fault). InsertSteps g before (record before { at = Finishing then_splits }) old new r) (sym leaves) refusal

@@ -92,6 +92,7 @@ meets g before after old new page way (Ok Going) steps same alive at_is h live f
     goes_on g before after old new steps same (ap (λ (o : InsertOp). o.session) h.finishes.after_is) (ap (λ (o : InsertOp). o.entry) h.finishes.after_is) alive
     (λ honest. less (found honest))
     (λ honest order fits. now (found honest) order fits)
+    (λ honest order whole on. absurd (true_false (sym flagged ∙ whole way.block page (found honest))))
   where
     st : State
     st = g.state old

@@ -199,6 +199,10 @@ splits g before after old mid new block page (Ok Going) steps same alive at_is b
         flags = λ only b flagged. subst (λ (a : InsertAt). is_among_targets (targets_at a) b ≡ true) (sym (ap (λ (o : InsertOp). o.at) h.finishes.after_is))
             (only_target b (only_leaf only moves b (subst (λ (s : State). is_flagged s b ≡ true) now flagged)));
       };
+  straight = λ honest order fits whole_pages on room.
+      let leaf = (leaf_there st before block at_is fits).1 in
+      let lt = room page (subst (λ (b : ℕ). slice_get st.pages b ≡ Some page) (sym block_is) (found honest)) (covers_there st fits.start before.entry block page order.tree block_is (found honest) leaf) in
+      absurd (omega (arith, lt, full));
 }
   where
     st : State

@@ -26,6 +26,7 @@ use Rattle.descent.proofs.Working.{held_cause}
 use Rattle.split_finish.specs.Targets.{OnlyTargetsAreFlagged, is_among_targets, walk_length, way_left}
 use Rattle.descent.specs.Shared.{is_flagged}
 use Rattle.tree_insert.specs.Inserts.{leaf_held, IsLeafFor, InsertFits, InsertStands, InsertSteps, insert_left, targets_at, where_inserting}
+use Rattle.tree_insert.specs.Straight.{IsStraight, straight_steps}
 use Rattle.tree_insert.specs.Turns.{TakesLeaf, IsNotTaken, Takes}
 use Rattle.tree_insert.specs.declared.insert.InsertAt.{InsertAt}
 use Rattle.tree_insert.specs.declared.insert.InsertAt.TheVariants.{Start, At, Holding as Holds, Finishing}
@@ -116,6 +117,11 @@ takes g before after old mid new page way (Ok Going) steps same backing alive at
             let was : is_among_targets (targets_at before.at) b ≡ true = only b (subst (λ (s : State). is_flagged s b ≡ true) now flagged) in
             let k : false ≡ true = subst (λ (a : InsertAt). is_among_targets (targets_at a) b ≡ true) at_is was in true_false (sym k));
       };
+  straight = λ honest order fits whole_pages on room. (
+      subst (λ (o : InsertOp). IsStraight (g.state new) o.entry o.at) (sym is) tt,
+      subst (λ (o : InsertOp). suc (straight_steps (g.state new).pages o.at) ≡ straight_steps st.pages before.at) (sym is)
+      (subst (λ (a : InsertAt). 2 ≡ straight_steps st.pages a) (sym at_is) (let z = ground honest order fits in omega (arith, z))),
+    );
 }
   where
     st : State
