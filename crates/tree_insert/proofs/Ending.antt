@@ -17,7 +17,7 @@ use Rattle.split_finish.specs.declared.finish.FinishStep.{FinishStep}
 use Rattle.split_finish.specs.declared.finish.FinishStep.TheVariants.{Going as FinishGoing, Done}
 use Rattle.tree_insert.specs.Inserts.{InsertFits, InsertStands, InsertSteps, IsNoted, insert_left, targets_at, where_inserting}
 use Rattle.tree_insert.specs.Straight.{IsStraight}
-use Rattle.tree_insert.specs.Turns.{GoesOn, GoesOnFrom, Leaves, LeavesBy, is_blocked}
+use Rattle.tree_insert.specs.Turns.{GoesOn, GoesOnFrom, Leaves, LeavesBy, IsRefusedRightly, is_blocked}
 use Rattle.tree_insert.specs.declared.insert.InsertAt.{InsertAt}
 use Rattle.tree_insert.specs.declared.insert.InsertAt.TheVariants.{Start, At, Holding as Holds, Finishing}
 use Rattle.tree_insert.specs.declared.insert.InsertOp.{InsertOp}
@@ -169,3 +169,12 @@ finish_refused g before splits then_splits fault result old new at_is alive h le
     by blocked None is leaves = subst (λ (r : Result InsertStep Fault). InsertSteps g before (record before { at = Finishing then_splits }) old new r) (sym leaves) refusal
     by true (Some action) is leaves = subst (λ (r : Result InsertStep Fault). InsertSteps g before (record before { at = Finishing then_splits }) old new r) (sym leaves) refusal
     by false (Some action) is leaves = subst (λ (r : Result InsertStep Fault). InsertSteps g before (record before { at = Finishing then_splits }) old new r) (sym leaves) (over action is)
+
+-- an insert whose entry is logged is refused for a blocked page alone
+pub refused_rightly : (added : Option ℕ) (fault : Fault) (result : Result InsertStep Fault) → Leaves added fault result → IsRefusedRightly added result
+refused_rightly None fault result leaves = tt
+refused_rightly (Some action) fault result leaves = by (is_blocked fault) refl leaves
+  where
+    by : (blocked : Bool) → is_blocked fault ≡ blocked → LeavesBy blocked (Some action) fault result → IsRefusedRightly (Some action) result
+    by true is h = subst (λ (r : Result InsertStep Fault). IsRefusedRightly (Some action) r) (sym h) is
+    by false is h = subst (λ (r : Result InsertStep Fault). IsRefusedRightly (Some action) r) (sym h) tt

@@ -3,8 +3,8 @@
 ghost use Rattle.std.specs.Prelude.{◌≡◌, Err, Ok, Some, None, IfSome, IfNone, IfOk, OnOk, OnErr, true, false};
 ghost use Rattle.latch_table.specs.Holdings.{HasRoom, latched, pinned};
 ghost use Rattle.page_action.specs.States.{Continues, with_table};
-ghost use Rattle.tree_insert.specs.Inserts.{InsertSteps, AnswersStopped};
-ghost use Rattle.tree_insert.specs.Turns.{Meets, Takes, IsFinishing, GoesOn, Leaves};
+ghost use Rattle.tree_insert.specs.Inserts.{IsToCome, InsertSteps, AnswersStopped};
+ghost use Rattle.tree_insert.specs.Turns.{Meets, Takes, IsFinishing, GoesOn, Leaves, IsRefusedRightly};
 
 use crate::room::place_in;
 use descent::{Onward, Way, lead, look, way_down};
@@ -76,7 +76,9 @@ impl InsertOp {
     /// (17) on pages that are no tree. A refused step changes nothing. Once the entry is logged, each of these but `Blocked`
     /// stands in `unfinished` of `Added`.
     pub fn step<S: PageStore>(&mut self, store: &mut S) -> Result<InsertStep, Fault>
-        ensures { InsertSteps S.PageStore self.old self.new store.old store.new result }
+        ensures all { InsertSteps S.PageStore self.old self.new store.old store.new result }
+        ensures logged { IsToCome self.old.at self.old.added
+            → IsRefusedRightly self.old.added result }
     {
         if store.is_stopped() {
             return self.stop();
@@ -208,7 +210,8 @@ impl InsertOp {
     fn finish<S: PageStore>(&mut self, store: &mut S) -> Result<InsertStep, Fault>
         requires at { IsFinishing self.old.at }
         requires alive { (S.backing store.old).stopped ≡ false }
-        ensures { InsertSteps S.PageStore self.old self.new store.old store.new result }
+        ensures all { InsertSteps S.PageStore self.old self.new store.old store.new result }
+        ensures logged { IsRefusedRightly self.old.added result }
     {
         let InsertAt::Finishing(op) = &mut self.at else {
             return Err(Fault::PageDamaged(0));
