@@ -194,10 +194,13 @@ puts g op old mid new block page (Ok (Added action unfinished)) steps same alive
   where
     st : State
     st = g.state old
+
     put : EntryPut page op.entry (g.state mid) (g.state new) action
     put = told.1
+
     now : g.state new ≡ after_act (put.after ∷ []) st
     now = put.state ∙ ap (after_act (put.after ∷ [])) same
+
     whole : OnlyTargetsAreFlagged st (targets_at op.at) → FlagsMove None None st (after_act (put.after ∷ []) st) → (b : ℕ) → is_flagged (g.state new) b ≡ false
     whole only moves b =
         elim (cases_Bool (is_flagged st b)) [
@@ -209,7 +212,7 @@ puts g op old mid new block page (Err fault) steps same alive at_is block_is fou
     (λ honest order fits.
     let there = leaf_there st op block at_is fits in
     let pin : has_pin (pinned_blocks (g.state mid).table) page.block ≡ true =
-        subst (λ (s : State). has_pin (pinned_blocks s.table) page.block ≡ true) (sym same) (subst (λ (b : ℕ). has_pin (pinned_blocks st.table) b ≡ true) (sym block_is) (pinned_leaf st.table op.session block there.0)) in
+    subst (λ (s : State). has_pin (pinned_blocks s.table) page.block ≡ true) (sym same) (subst (λ (b : ℕ). has_pin (pinned_blocks st.table) b ≡ true) (sym block_is) (pinned_leaf st.table op.session block there.0)) in
     holding_cause st (g.backing old) (g.backing new) op block 1 0 fault at_is (roomy_is st block page (found honest) room)
     (working_later st (g.backing old) (g.backing mid) (g.backing new) op.session 1 0 fault le later promised
     (subst (λ (s : State). HasCause (where_working s (g.backing mid) (g.backing new) op.session 1 0) fault) same (cause pin))))

@@ -40,25 +40,30 @@ pub halves_may : (st : State) (session : ℕ) (e : Entry) (page left half : Page
     → left.block ≡ page.block → IsFresh st half.block → IsBlock half.block → RightIsStored st session page.right right
     → AreActable st.limits (length st.pages) (left ∷ half ∷ mended_to half.block right)
 halves_may st session e page left half right fits may some left_page half_page left_leaf half_leaf kept moved left_block fresh block stored = (
-    record { admitted = left_page; few = few_left },
-    (omega (arith, used, left_block), subst (λ (b : ℕ). b < st.limits.pages) (sym left_block) (omega (arith, used, fits.few))),
-    (λ same. apart_new (sym left_block ∙ sym same), subst (λ (b : ℕ). IsApartFrom b (mended_to half.block right)) (sym left_block) beside.apart),
-    (record { admitted = half_page; few = few_half }, (fresh.within, fresh.inside), beside.apart_new, beside.may),
-  )
+  record { admitted = left_page; few = few_left },
+  (omega (arith, used, left_block), subst (λ (b : ℕ). b < st.limits.pages) (sym left_block) (omega (arith, used, fits.few))),
+  (λ same. apart_new (sym left_block ∙ sym same), subst (λ (b : ℕ). IsApartFrom b (mended_to half.block right)) (sym left_block) beside.apart),
+  (record { admitted = half_page; few = few_half }, (fresh.within, fresh.inside), beside.apart_new, beside.may),
+)
   where
     used : page.block < length st.pages
     used = inside st.pages page.block page fits.found
+
     apart_new : page.block ≢ half.block
     apart_new = fresh_apart st half.block page.block page fresh fits.found (λ gone. live_not_deleted (sym may.alive ∙ gone))
       where
         live_not_deleted : Live ≡ Deleted → ⊥
         live_not_deleted h = cc
+
     all : length (entries_of page.items) ≤ st.limits.items
     all = subst (λ (n : ℕ). n ≤ st.limits.items) (leaf_count page.items may.leaf) fits.stored.storable.few
+
     few_left : count_of left.items ≤ st.limits.items
     few_left = subst (λ (n : ℕ). n ≤ st.limits.items) (sym (leaf_count left.items left_leaf)) (omega (arith, kept, all, some))
+
     few_half : count_of half.items ≤ st.limits.items
     few_half = subst (λ (n : ℕ). n ≤ st.limits.items) (sym (leaf_count half.items half_leaf)) (omega (arith, kept, moved, all, some))
+
     beside : RightMay st page.block half.block right
     beside = right_may st session page.block half.block page.right right fits.few fresh block fits.mendable fits.apart stored
 
@@ -76,8 +81,8 @@ frames_for table left half new (Some page) pin = apart_pinned left.block (half.b
 pub put_may : (limits : Limits) (used : ℕ) (page after : Page) → IsStored limits page.block page → page.block < used → used ≤ limits.pages → IsPage after → HasEntries after.items
     → length (entries_of after.items) ≤ limits.items → after.block ≡ page.block → AreActable limits used (after ∷ [])
 put_may limits used page after stored in_use inside admitted leaf few block_is = (
-    record { admitted = admitted; few = subst (λ (n : ℕ). n ≤ limits.items) (sym (leaf_count after.items leaf)) few },
-    (omega (arith, block_is, in_use), omega (arith, block_is, in_use, inside)),
-    tt,
-    tt,
-  )
+  record { admitted = admitted; few = subst (λ (n : ℕ). n ≤ limits.items) (sym (leaf_count after.items leaf)) few },
+  (omega (arith, block_is, in_use), omega (arith, block_is, in_use, inside)),
+  tt,
+  tt,
+)

@@ -59,16 +59,16 @@ stands_still : (old new : State) (session start : ℕ) (e : Entry) (at : InsertA
 stands_still old new session start e Start rely stay h = rely.held ∙ h
 stands_still old new session start e (At way) rely stay h = (rely.held ∙ h.0, way_still old new start 0 (bound_of e) way stay h.1)
 stands_still old new session start e (Holds block) rely stay h = (
-    rely.held ∙ h.0,
-    record {
-      page = h.1.page;
-      found = rely.pages block (holds_leaf old session block h.0) ∙ h.1.found;
-      alive = h.1.alive;
-      leaf = h.1.leaf;
-      whole = h.1.whole;
-      place = stay.places 0 (entry_aim e) true block (bound_falls (bound_of e)) h.1.place;
-      within = h.1.within;
-    },
+  rely.held ∙ h.0,
+  record {
+    page = h.1.page;
+    found = rely.pages block (holds_leaf old session block h.0) ∙ h.1.found;
+    alive = h.1.alive;
+    leaf = h.1.leaf;
+    whole = h.1.whole;
+    place = stay.places 0 (entry_aim e) true block (bound_falls (bound_of e)) h.1.place;
+    within = h.1.within;
+  },
 )
 stands_still old new session start e (Finishing op) rely stay h = (h.0, finish_still old new op (subst (λ (s : ℕ). MayRely s old new) (sym h.0) rely) h.1)
 

@@ -48,7 +48,7 @@ pub goes_on : {S : Type 0} (g : Ghosts S) (before after : InsertOp) (old new : S
     → ((g.backing new).honest ≡ true → insert_left (g.state old).limits.pages (g.state old).pages after.at < insert_left (g.state old).limits.pages (g.state old).pages before.at)
     → ((g.backing new).honest ≡ true → IsInOrder (g.state old) → InsertFits (g.state old) before → StandsNow (g.state old) before after)
     → ((g.backing new).honest ≡ true → IsInOrder (g.state old) → AreWhole (g.state old).pages → IsStraight (g.state old) before.entry before.at
-        → CountsDown (g.state old) (g.state old) before after (Ok Going))
+    → CountsDown (g.state old) (g.state old) before after (Ok Going))
     → InsertSteps g before after old new (Ok Going)
 goes_on g before after old new steps same session entry alive less stands straight = record {
   steps = steps;

@@ -26,8 +26,11 @@ returns g c =
         session = fits.session;
         start = fits.start;
         running = fits.running;
-        stands = (free, on_way_from_root old fits.start (entry_aim c.args.self.now.entry) true 0 c.in-Ok.meta c.in-Some.way order.tree (c.in-Ok.ensures.page honest) (omega arith)
-            (λ root names. sym c.in-Some.is ∙ c.way_down.ensures.named root names));
+        stands = (
+          free,
+          on_way_from_root old fits.start (entry_aim c.args.self.now.entry) true 0 c.in-Ok.meta c.in-Some.way order.tree (c.in-Ok.ensures.page honest) (omega arith)
+              (λ root names. sym c.in-Some.is ∙ c.way_down.ensures.named root names),
+        );
         to_come = subst (λ (a : InsertAt). IsToCome a c.args.self.now.added) c.requires.at fits.to_come;
       };
       added = refl;
