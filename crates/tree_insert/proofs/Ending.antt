@@ -1,25 +1,24 @@
 -- An insert that finishes splits.
-use Rattle.std.proofs.Common.{◌≡◌, ◌≢◌, ◌⊎◌, ℕ, zero, suc, ◌+◌, ◌*◌, ◌<◌, ◌≤◌, Bool, true, false, Option, Some, None, Result, Ok, Err, List, [], ◌∷◌, length, slice_get, refl, sym, ap, subst, inl, inr, ◌∙◌, arith}
-use Rattle.index_model.specs.Actions.{Effect, Add, Remove, Shape}
+use Rattle.std.proofs.Common.{◌≡◌, ℕ, ◌<◌, Bool, true, false, Option, Some, None, Result, Ok, Err, List, slice_get, refl, sym, ap, subst, inl, inr, ◌∙◌, arith}
+use Rattle.index_model.specs.Actions.{Effect}
 use Rattle.index_model.specs.Faults.{HasCause}
 use Rattle.index_model.specs.declared.entry.Entry.{Entry}
 use Rattle.index_model.specs.declared.fault.Fault.{Fault}
 use Rattle.latch_table.specs.Holdings.{Table, holding_of, nothing_held}
 use Rattle.index_model.specs.declared.limits.Limits.{Limits}
-use Rattle.page_action.specs.States.{State, Backing, Continues}
+use Rattle.page_action.specs.States.{State, Backing}
 use Rattle.page_action.specs.declared.page_store.PageStore.{Ghosts}
 use Rattle.descent.specs.Shared.{IsInOrder, Does, is_flagged, where_working}
 use Rattle.descent.proofs.Acting.{nothing_else}
-use Rattle.split_finish.specs.Finishes.{FinishSteps, FinishGoesOn, FinishIsDone, OnlyShapes, images_of, frames_of}
-use Rattle.split_finish.specs.Targets.{targets_of, OnlyTargetsAreFlagged, is_among_targets, FinishFits, finish_left, walk_length}
+use Rattle.split_finish.specs.Finishes.{FinishSteps, OnlyShapes, images_of, frames_of}
+use Rattle.split_finish.specs.Targets.{OnlyTargetsAreFlagged, FinishFits, finish_left}
 use Rattle.split_finish.specs.declared.finish.FinishOp.{FinishOp}
-use Rattle.split_finish.specs.declared.finish.FinishStep.{FinishStep}
 use Rattle.split_finish.specs.declared.finish.FinishStep.TheVariants.{Going as FinishGoing, Done}
 use Rattle.tree_insert.specs.Inserts.{InsertFits, InsertStands, InsertSteps, IsNoted, insert_left, targets_at, where_inserting}
 use Rattle.tree_insert.specs.Straight.{IsStraight}
 use Rattle.tree_insert.specs.Turns.{GoesOn, GoesOnFrom, Leaves, LeavesBy, is_blocked}
 use Rattle.tree_insert.specs.declared.insert.InsertAt.{InsertAt}
-use Rattle.tree_insert.specs.declared.insert.InsertAt.TheVariants.{Start, At, Holding as Holds, Finishing}
+use Rattle.tree_insert.specs.declared.insert.InsertAt.TheVariants.{Start, Finishing}
 use Rattle.tree_insert.specs.declared.insert.InsertOp.{InsertOp}
 use Rattle.tree_insert.specs.declared.insert.InsertStep.{InsertStep}
 use Rattle.tree_insert.specs.declared.insert.InsertStep.TheVariants.{Going, Added}

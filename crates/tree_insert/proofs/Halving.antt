@@ -1,28 +1,25 @@
 -- The pages of an act that splits a leaf may be written.
-use Rattle.std.proofs.Common.{◌≡◌, ◌≢◌, ◌⊎◌, ℕ, zero, suc, ◌+◌, ◌-◌, ◌/◌, ◌<◌, ◌≤◌, Bool, true, false, Option, Some, None, List, [], ◌∷◌, ◌++◌, map, length, slice_get, refl, sym, ap, subst, inl, inr, ◌∙◌, arith}
-use Rattle.std.proofs.lemmas.Bool.{cases_lt, and_parts}
+use Rattle.std.proofs.Common.{◌≡◌, ◌≢◌, ℕ, ◌+◌, ◌<◌, ◌≤◌, true, Option, Some, None, [], ◌∷◌, ◌++◌, map, length, refl, sym, subst, ◌∙◌, arith}
 use Rattle.index_model.specs.declared.entry.Entry.{Entry}
 use Rattle.index_model.specs.declared.limits.Limits.{Limits}
 use Rattle.page_codec.specs.Edits.{entries_of, HasEntries}
-use Rattle.page_codec.specs.Grammar.{IsBlock, IsPage, IsOfKind, IsLeafIn}
+use Rattle.page_codec.specs.Grammar.{IsBlock, IsPage}
 use Rattle.page_codec.specs.Spelling.{count_of}
 use Rattle.page_codec.specs.declared.page.Items.{Items}
 use Rattle.page_codec.specs.declared.page.Items.TheVariants.{Meta, Entries, Downlinks}
 use Rattle.page_codec.specs.declared.page.Page.{Page}
-use Rattle.page_codec.specs.declared.page.PageState.{PageState}
-use Rattle.page_codec.specs.declared.page.PageState.TheVariants.{Live, HalfDead, Deleted}
-use Rattle.page_action.specs.Reuse.{IsFresh, is_deleted, is_deleted_page, is_deleted_state}
+use Rattle.page_codec.specs.declared.page.PageState.TheVariants.{Live, Deleted}
+use Rattle.page_action.specs.Reuse.{IsFresh}
 use Rattle.page_action.specs.States.{State}
-use Rattle.page_action.specs.Stored.{IsStorable, IsStored, IsApartFrom, IsPlaceable, AreActable}
+use Rattle.page_action.specs.Stored.{IsStored, IsApartFrom, AreActable}
 use Rattle.tree_shape.specs.Halves.{left_count}
 use Rattle.tree_shape.specs.Leaf.{MayHold}
-use Rattle.tree_shape.specs.Mending.{MayBeMended}
 use Rattle.latch_table.specs.Holdings.{Table, has_pin}
 use Rattle.page_action.specs.Causes.{pinned_blocks, count_apart}
 use Rattle.descent.proofs.Mended.{fresh_apart, RightMay, right_may}
 use Rattle.descent.proofs.Working.{apart_pinned}
 use Rattle.tree_acts.proofs.Overlays.{inside}
-use Rattle.descent.specs.Splitting.{RightIsMendable, RightIsStored, mended_to}
+use Rattle.descent.specs.Splitting.{RightIsStored, mended_to}
 use Rattle.tree_insert.specs.Turns.{IsSplittable}
 
 -- a leaf has as many items as entries

@@ -1,27 +1,23 @@
 -- What an insert knows lasts while others act, and what it has to do has a bound.
-use Rattle.std.proofs.Common.{◌≡◌, ℕ, suc, length, ◌+◌, ◌*◌, ◌<◌, ◌≤◌, true, Option, Some, List, slice_get, refl, sym, subst, ◌∙◌, arith}
+use Rattle.std.proofs.Common.{ℕ, suc, length, true, sym, subst, ◌∙◌, arith}
 use Rattle.index_model.specs.declared.entry.Entry.{Entry}
 use Rattle.index_model.specs.Order.{bound_of}
 use Rattle.index_model.specs.declared.bound.Bound.{Bound}
-use Rattle.latch_table.specs.Holdings.{Holding, holding_of, latches_exclude}
-use Rattle.latch_table.specs.declared.mode.Mode.TheVariants.{Shared}
 use Rattle.page_action.specs.States.{State}
 use Rattle.tree_shape.specs.Walks.{entry_aim, bound_aim}
 use Rattle.tree_shape.proofs.Fits.{bound_falls}
 use Rattle.descent.specs.Onward.{IsOnWay}
 use Rattle.descent.specs.Shared.{MayRely, NumbersStay}
-use Rattle.descent.specs.Steps.{HoldsAlone}
 use Rattle.descent.specs.declared.way.Way.{Way}
 use Rattle.split_finish.specs.Targets.{IsTarget, FinishStands, FinishFits}
 use Rattle.split_finish.specs.declared.finish.FinishAt.{FinishAt}
 use Rattle.split_finish.specs.declared.finish.FinishAt.TheVariants.{Start as FinishStart, Down, Link, Root}
 use Rattle.split_finish.specs.declared.finish.FinishOp.{FinishOp}
 use Rattle.split_finish.specs.declared.finish.Target.{Target}
-use Rattle.tree_insert.specs.Inserts.{leaf_held, IsLeafFor, InsertStands, InsertFits}
+use Rattle.tree_insert.specs.Inserts.{InsertStands}
 use Rattle.tree_insert.specs.Laws.{InsertsAreUndisturbed, FreshInsertsAreBounded}
 use Rattle.tree_insert.specs.declared.insert.InsertAt.{InsertAt}
 use Rattle.tree_insert.specs.declared.insert.InsertAt.TheVariants.{Start, At, Holding as Holds, Finishing}
-use Rattle.tree_insert.specs.declared.insert.InsertOp.{InsertOp}
 use Rattle.tree_insert.proofs.Adding.{holds_leaf}
 
 way_still : (old new : State) (start to : ℕ) (e : Bound) (way : Way) → NumbersStay start old new → IsOnWay old start (bound_aim e) true to way → IsOnWay new start (bound_aim e) true to way

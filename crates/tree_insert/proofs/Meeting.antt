@@ -1,40 +1,36 @@
 -- An insert that meets a page whose split is to be finished.
-use Rattle.std.proofs.Common.{◌≡◌, ◌≢◌, ◌⊎◌, ℕ, zero, suc, ◌+◌, ◌-◌, ◌*◌, ◌<◌, ◌≤◌, ◌&&◌, Bool, true, false, if◌then◌else◌, Option, Some, None, Result, Ok, Err, List, [], ◌∷◌, ◌++◌, length, slice_get, refl, sym, ap, subst, inl, inr, ◌∙◌, arith}
+use Rattle.std.proofs.Common.{◌≡◌, ℕ, zero, suc, ◌+◌, ◌*◌, ◌<◌, Bool, true, false, Some, Result, Ok, Err, List, [], length, slice_get, refl, sym, ap, subst, ◌∙◌, arith}
 use Rattle.std.specs.Ordering.{is_eq}
 use Rattle.std.specs.Cmp.{tied_itself}
 use Rattle.index_model.specs.Order.{bound_cmp}
 use Rattle.index_model.proofs.Order.{bounds_total}
-use Rattle.index_model.specs.Faults.{HasCause}
 use Rattle.index_model.specs.declared.bound.Bound.{Bound}
-use Rattle.index_model.specs.declared.entry.Entry.{Entry}
 use Rattle.index_model.specs.declared.fault.Fault.{Fault}
 use Rattle.page_codec.specs.Grammar.{IsPage}
 use Rattle.page_codec.specs.declared.page.Page.{Page}
 use Rattle.page_codec.specs.declared.page.PageState.TheVariants.{Live}
-use Rattle.page_action.specs.States.{State, Backing, Continues}
+use Rattle.page_action.specs.States.{State, Continues}
 use Rattle.page_action.specs.declared.page_store.PageStore.{Ghosts}
-use Rattle.tree_shape.specs.Nodes.{Node, node_of, node_from, nodes_of}
+use Rattle.tree_shape.specs.Nodes.{node_of, node_from, nodes_of}
 use Rattle.tree_shape.specs.Walks.{entry_aim, bound_aim}
 use Rattle.tree_acts.specs.Trees.{HasTree, HasPlace}
 use Rattle.tree_acts.proofs.Telling.{live_tells, high_tells}
-use Rattle.descent.specs.Onward.{IsOnWay}
-use Rattle.descent.specs.Shared.{IsInOrder, is_flagged}
+use Rattle.descent.specs.Shared.{IsInOrder}
 use Rattle.descent.specs.declared.way.Way.{Way}
 use Rattle.latch_table.specs.Holdings.{holding_of, nothing_held}
-use Rattle.split_finish.specs.Targets.{is_as_read, ends_at, stale_count, targets_of, walks_left, finish_left, walk_length, way_left, OnlyTargetsAreFlagged, is_among_targets, IsTarget, FinishStands, FinishFits}
+use Rattle.split_finish.specs.Targets.{is_as_read, finish_left, walk_length, is_among_targets, IsTarget, FinishStands, FinishFits}
 use Rattle.split_finish.specs.declared.finish.FinishOp.{FinishOp}
-use Rattle.split_finish.specs.declared.finish.FinishAt.{FinishAt}
 use Rattle.split_finish.specs.declared.finish.FinishAt.TheVariants.{Start as FinishStart}
 use Rattle.split_finish.specs.declared.finish.Target.{Target}
-use Rattle.tree_insert.specs.Inserts.{InsertFits, InsertSteps, insert_left, targets_at, where_inserting}
-use Rattle.tree_insert.specs.Turns.{FinishesOne, MeetsSplit, MeetsNone, Meets}
+use Rattle.tree_insert.specs.Inserts.{InsertFits, InsertSteps, insert_left, targets_at}
+use Rattle.tree_insert.specs.Turns.{Meets}
 use Rattle.tree_insert.specs.declared.insert.InsertAt.{InsertAt}
-use Rattle.tree_insert.specs.declared.insert.InsertAt.TheVariants.{Start, At, Holding as Holds, Finishing}
+use Rattle.tree_insert.specs.declared.insert.InsertAt.TheVariants.{At, Finishing}
 use Rattle.tree_insert.specs.declared.insert.InsertOp.{InsertOp}
 use Rattle.tree_insert.specs.declared.insert.InsertStep.{InsertStep}
 use Rattle.tree_insert.specs.declared.insert.InsertStep.TheVariants.{Going, Added}
 use Rattle.tree_insert.proofs.Steps.{refuses, goes_on, StandsNow}
-use Rattle.tree_insert.proofs.Walking.{on_way, to_come_there, flagged_ends}
+use Rattle.tree_insert.proofs.Walking.{on_way, flagged_ends}
 
 -- a page as it was read
 pub read_at : (pages : List Page) (block : ℕ) (page : Page) → slice_get pages block ≡ Some page → nodes_of pages block ≡ node_of page

@@ -1,53 +1,46 @@
 -- An insert that splits its leaf.
-use Rattle.std.proofs.Common.{◌≡◌, ◌≢◌, ◌⊎◌, ℕ, zero, suc, ◌+◌, ◌<◌, ◌≤◌, Bool, true, false, ◌||◌, ◌==◌, if◌then◌else◌, Option, Some, None, Result, Ok, Err, List, [], ◌∷◌, ◌++◌, length, slice_get, refl, sym, ap, subst, inl, inr, ◌∙◌, arith}
-use Rattle.std.proofs.lemmas.Bool.{cases_eq, cases_Bool, eq-eqb, ne_eqb}
+use Rattle.std.proofs.Common.{◌≡◌, ◌≢◌, ℕ, suc, ◌<◌, ◌≤◌, Bool, true, false, ◌||◌, Option, Some, None, Result, Ok, Err, List, [], ◌∷◌, length, slice_get, refl, sym, ap, subst, inl, inr, ◌∙◌, arith}
+use Rattle.std.proofs.lemmas.Bool.{cases_eq, eq-eqb, ne_eqb}
 use Rattle.std.specs.Prelude.{IfOk, IfErr, OnOk, OnErr}
 use Rattle.index_model.specs.Actions.{Add}
 use Rattle.index_model.specs.Faults.{HasCause}
 use Rattle.index_model.specs.Order.{is_among}
 use Rattle.index_model.specs.declared.bound.Bound.{Bound}
-use Rattle.index_model.specs.declared.entry.Entry.{Entry}
 use Rattle.index_model.specs.declared.fault.Fault.{Fault}
 use Rattle.latch_table.specs.Holdings.{Holding, Table, latches_exclude, HasRoom, has_pin, holding_of, nothing_held, released, unpinned, without_latch, without_pin, is_held_by_another}
 use Rattle.latch_table.specs.declared.mode.Mode.TheVariants.{Shared, Exclusive}
 use Rattle.latch_table.proofs.Tables.{length-released, length-unpinned, holding_of-released, holding_of-unpinned, holding_of-released_other, holding_of-unpinned_other}
 use Rattle.page_codec.specs.Edits.{entries_of}
 use Rattle.page_codec.specs.declared.page.Page.{Page}
-use Rattle.page_codec.specs.declared.page.PageState.{PageState}
 use Rattle.page_codec.specs.declared.page.PageState.TheVariants.{Live}
 use Rattle.page_action.specs.Causes.{pinned_blocks}
 use Rattle.page_action.specs.Contents.{entry_on_live_leaf}
-use Rattle.page_action.specs.States.{State, Backing, Continues, with_table, with_pages, after_act}
+use Rattle.page_action.specs.States.{State, Continues, with_table, after_act}
 use Rattle.page_action.specs.Stored.{IsStored, IsApartFrom, AreActable}
 use Rattle.page_action.specs.declared.page_store.PageStore.{Ghosts}
-use Rattle.page_action.proofs.StoredPages.{stored_page}
-use Rattle.tree_shape.specs.Edits.{LeafHalves}
-use Rattle.tree_shape.specs.Leaf.{MayHold}
-use Rattle.tree_shape.specs.Nodes.{Node, node_of, nodes_of}
+use Rattle.tree_shape.specs.Nodes.{Node}
 use Rattle.tree_shape.specs.Walks.{entry_aim, is_within}
 use Rattle.tree_acts.specs.Acts.{LeafIsSplit, IsMended}
 use Rattle.tree_acts.specs.Acts.IsMended.{rightmost, neighbour}
 use Rattle.tree_acts.specs.Flags.{FlagsMove, flag_after}
 use Rattle.tree_acts.specs.Trees.{HasTree, HasPlace}
-use Rattle.tree_acts.specs.Ways.{IsNeighbour}
 use Rattle.tree_acts.proofs.Entering.{leaf_split_lasts}
 use Rattle.tree_acts.proofs.Flagging.{leaf_split_flags}
 use Rattle.tree_acts.proofs.Weighed.{leaf_split_weighs}
 use Rattle.tree_acts.proofs.Overlays.{pages_first}
 use Rattle.tree_acts.proofs.Telling.{leaf_tells, neighbour_tells}
-use Rattle.descent.specs.Shared.{IsInOrder, Does, is_flagged, level_in, where_working}
+use Rattle.descent.specs.Shared.{Does, is_flagged, level_in, where_working}
 use Rattle.descent.specs.Splitting.{RightIsMendable, RightIsStored, RightIsFound, mended_to}
 use Rattle.descent.specs.Steps.{HoldsAlone, AreApart}
-use Rattle.descent.proofs.Acting.{does_add, one_act_else, apart_from_held, AreFree}
-use Rattle.descent.proofs.Tables.{apart_nothing, apart_with}
+use Rattle.descent.proofs.Acting.{does_add, one_act_else, apart_from_held}
 use Rattle.descent.proofs.Working.{working_later}
 use Rattle.split_finish.specs.Targets.{OnlyTargetsAreFlagged, is_among_targets, targets_of}
 use Rattle.split_finish.specs.declared.finish.FinishOp.{FinishOp}
 use Rattle.split_finish.specs.declared.finish.Target.{Target}
-use Rattle.tree_insert.specs.Inserts.{leaf_held, IsLeafFor, InsertFits, InsertSteps, images_at, frames_at, insert_left, targets_at, where_inserting}
-use Rattle.tree_insert.specs.Turns.{FinishesOne, IsSplittable, SplitsLeaf}
+use Rattle.tree_insert.specs.Inserts.{leaf_held, InsertFits, InsertSteps, targets_at}
+use Rattle.tree_insert.specs.Turns.{IsSplittable, SplitsLeaf}
 use Rattle.tree_insert.specs.declared.insert.InsertAt.{InsertAt}
-use Rattle.tree_insert.specs.declared.insert.InsertAt.TheVariants.{Start, At, Holding as Holds, Finishing}
+use Rattle.tree_insert.specs.declared.insert.InsertAt.TheVariants.{Holding as Holds}
 use Rattle.tree_insert.specs.declared.insert.InsertOp.{InsertOp}
 use Rattle.tree_insert.specs.declared.insert.InsertStep.{InsertStep}
 use Rattle.tree_insert.specs.declared.insert.InsertStep.TheVariants.{Going, Added}

@@ -1,35 +1,32 @@
 -- An insert that comes to its leaf, and takes it.
-use Rattle.std.proofs.Common.{◌≡◌, ◌≢◌, ◌⊎◌, ℕ, zero, suc, ◌+◌, ◌*◌, ◌<◌, ◌≤◌, Bool, true, false, Option, Some, None, Result, Ok, Err, List, [], ◌∷◌, length, slice_get, refl, sym, ap, subst, inl, inr, ◌∙◌, arith}
+use Rattle.std.proofs.Common.{◌≡◌, ℕ, suc, ◌<◌, true, false, Option, Some, None, Result, Ok, Err, ◌∷◌, length, slice_get, refl, sym, ap, subst, inl, inr, ◌∙◌, arith}
 use Rattle.index_model.specs.Faults.{HasCause}
-use Rattle.index_model.specs.declared.bound.Bound.{Bound}
 use Rattle.index_model.specs.declared.fault.Fault.{Fault}
-use Rattle.index_model.specs.declared.fault.Fault.TheVariants.{Blocked, PageDamaged}
+use Rattle.index_model.specs.declared.fault.Fault.TheVariants.{Blocked}
 use Rattle.latch_table.specs.Holdings.{Holding, Table, holding_of, nothing_held, latched, pinned, is_held_by_another}
-use Rattle.latch_table.specs.declared.mode.Mode.TheVariants.{Shared, Exclusive}
+use Rattle.latch_table.specs.declared.mode.Mode.TheVariants.{Exclusive}
 use Rattle.latch_table.proofs.Tables.{length-latched, length-pinned, holding_of-latched, holding_of-pinned, holding_of-latched_other, holding_of-pinned_other}
 use Rattle.page_codec.specs.Grammar.{IsPage}
 use Rattle.page_codec.specs.declared.page.Page.{Page}
 use Rattle.page_codec.specs.declared.page.PageState.TheVariants.{Live}
-use Rattle.page_action.specs.States.{State, Backing, Continues, with_table}
+use Rattle.page_action.specs.States.{State, Continues, with_table}
 use Rattle.page_action.specs.declared.page_store.PageStore.{Ghosts}
-use Rattle.tree_shape.specs.Leaf.{MayHold}
 use Rattle.tree_shape.specs.Walks.{entry_aim, is_within}
-use Rattle.tree_acts.specs.Trees.{HasTree, HasPlace}
+use Rattle.tree_acts.specs.Trees.{HasPlace}
 use Rattle.tree_acts.proofs.Telling.{live_tells}
-use Rattle.descent.specs.Onward.{IsOnWay}
-use Rattle.descent.specs.Shared.{IsInOrder, Does, where_working}
+use Rattle.descent.specs.Shared.{IsInOrder, Does}
 use Rattle.descent.specs.Steps.{AreApart}
 use Rattle.descent.specs.declared.way.Way.{Way}
 use Rattle.descent.proofs.Acting.{holds_else, one_table, place_held_else}
 use Rattle.descent.proofs.Tables.{apart_latched, apart_pins}
 use Rattle.descent.proofs.Working.{held_cause}
-use Rattle.split_finish.specs.Targets.{OnlyTargetsAreFlagged, is_among_targets, walk_length, way_left}
+use Rattle.split_finish.specs.Targets.{is_among_targets}
 use Rattle.descent.specs.Shared.{is_flagged}
-use Rattle.tree_insert.specs.Inserts.{leaf_held, IsLeafFor, InsertFits, InsertStands, InsertSteps, insert_left, targets_at, where_inserting}
+use Rattle.tree_insert.specs.Inserts.{leaf_held, IsLeafFor, InsertFits, InsertSteps, insert_left, targets_at, where_inserting}
 use Rattle.tree_insert.specs.Straight.{IsStraight, straight_steps}
-use Rattle.tree_insert.specs.Turns.{TakesLeaf, IsNotTaken, Takes}
+use Rattle.tree_insert.specs.Turns.{IsNotTaken, Takes}
 use Rattle.tree_insert.specs.declared.insert.InsertAt.{InsertAt}
-use Rattle.tree_insert.specs.declared.insert.InsertAt.TheVariants.{Start, At, Holding as Holds, Finishing}
+use Rattle.tree_insert.specs.declared.insert.InsertAt.TheVariants.{At, Holding as Holds}
 use Rattle.tree_insert.specs.declared.insert.InsertOp.{InsertOp}
 use Rattle.tree_insert.specs.declared.insert.InsertStep.{InsertStep}
 use Rattle.tree_insert.specs.declared.insert.InsertStep.TheVariants.{Going, Added}

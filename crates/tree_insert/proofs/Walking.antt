@@ -1,11 +1,11 @@
 -- An insert on its way to its leaf.
-use Rattle.std.proofs.Common.{◌≡◌, ◌≢◌, ◌⊎◌, ℕ, zero, suc, ◌+◌, ◌*◌, ◌<◌, ◌≤◌, Bool, true, false, not, Option, Some, None, Result, Ok, Err, List, [], ◌∷◌, length, slice_get, refl, sym, ap, subst, inl, inr, ◌∙◌, arith}
+use Rattle.std.proofs.Common.{◌≡◌, ℕ, ◌<◌, ◌≤◌, Bool, true, false, not, Option, Some, None, List, length, slice_get, refl, sym, subst, inl, inr, ◌∙◌, arith}
 use Rattle.index_model.specs.Faults.{HasCause}
 use Rattle.index_model.specs.Order.{IsUpTo, bound_of}
 use Rattle.index_model.specs.declared.bound.Bound.{Bound}
 use Rattle.index_model.specs.declared.entry.Entry.{Entry}
 use Rattle.index_model.specs.declared.fault.Fault.{Fault}
-use Rattle.index_model.specs.declared.fault.Fault.TheVariants.{Blocked, PageDamaged, Exists, Io, Stopped, NoMemory, KeyTooLong, BadRow, IndexFull, LogFull, NoFrame, VacuumRunning, NoSession, SessionBusy, BadSuper, BadVersion, LogDamaged, BadLimits, TooTall, DeviceTooSmall}
+use Rattle.index_model.specs.declared.fault.Fault.TheVariants.{Blocked, PageDamaged, Exists, Io, Stopped, IndexFull, LogFull, NoFrame, TooTall}
 use Rattle.latch_table.specs.Holdings.{Holding, HasRoom, holding_of, nothing_held}
 use Rattle.page_codec.specs.Edits.{HasEntries}
 use Rattle.std.specs.Prelude.{IsSome}
@@ -16,8 +16,7 @@ use Rattle.page_codec.specs.declared.page.Page.{Page}
 use Rattle.page_codec.specs.declared.page.PageState.{PageState}
 use Rattle.page_codec.specs.declared.page.PageState.TheVariants.{Live, HalfDead, Deleted}
 use Rattle.page_action.specs.States.{State, Backing}
-use Rattle.page_action.proofs.StoredPages.{stored_page}
-use Rattle.tree_shape.specs.Nodes.{node_of, nodes_of}
+use Rattle.tree_shape.specs.Nodes.{nodes_of}
 use Rattle.tree_shape.specs.Walks.{entry_aim, bound_aim, is_within, is_fit}
 use Rattle.tree_shape.proofs.Told.{places_keep_their_level}
 use Rattle.tree_acts.specs.Trees.{HasTree, HasPlace}
@@ -29,7 +28,7 @@ use Rattle.descent.specs.Shared.{IsInOrder, where_working}
 use Rattle.descent.specs.declared.way.Way.{Way}
 use Rattle.tree_insert.specs.Inserts.{InsertFits, InsertStands, IsToCome, where_inserting}
 use Rattle.tree_insert.specs.declared.insert.InsertAt.{InsertAt}
-use Rattle.tree_insert.specs.declared.insert.InsertAt.TheVariants.{Start, At, Holding as Holds, Finishing}
+use Rattle.tree_insert.specs.declared.insert.InsertAt.TheVariants.{At}
 use Rattle.tree_insert.specs.declared.insert.InsertOp.{InsertOp}
 
 -- a place is a block in use

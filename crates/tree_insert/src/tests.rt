@@ -37,7 +37,7 @@ fn tree(alloc: Global) -> Result<MapStore, Fault> {
 
 fn entry(number: u8) -> Entry {
     Entry {
-        key: Key::new(&[0x60 + number]).unwrap_or(Key::EMPTY),
+        key: Key::new(&[number]).unwrap_or(Key::EMPTY),
         row: RowAddr::new(0, u16::from(number)).unwrap_or_default(),
     }
 }
@@ -62,12 +62,10 @@ fn insert(store: &mut MapStore, session: Session, entry: Entry) -> Result<u64, F
     }
 }
 
-// The inserts of entries 1, 2 and so on, and what each of them answers.
-fn insert_all(store: &mut MapStore, session: Session, actions: &[u64]) -> bool {
-    let mut number = 0;
-    for action in actions {
-        number += 1;
-        if insert(store, session, entry(number)) != Ok(*action) {
+// Whether the inserts of the entries from 1 to this one are the actions from 1 on.
+fn insert_up_to(store: &mut MapStore, session: Session, last: u8) -> bool {
+    for number in 1..=last {
+        if insert(store, session, entry(number)) != Ok(u64::from(number)) {
             return false;
         }
     }
@@ -80,7 +78,7 @@ fn leaves_and_roots_split(rt: HostRuntime) {
         assert!(rt; false);
         return;
     };
-    assert!(rt; insert_all(&mut store, session, &[1, 2, 3, 4, 5]));
+    assert!(rt; insert_up_to(&mut store, session, 5));
     assert_eq!(rt; store.acts(), 6);
     assert_eq!(rt; insert(&mut store, session, entry(6)), Ok(7));
     assert_eq!(rt; insert(&mut store, session, entry(7)), Ok(8));
@@ -100,7 +98,7 @@ fn another_insert_finishes_a_split(rt: HostRuntime) {
         assert!(rt; false);
         return;
     };
-    assert!(rt; insert_all(&mut store, session, &[1, 2, 3, 4]));
+    assert!(rt; insert_up_to(&mut store, session, 4));
     assert!(rt; store.begin(other).is_ok());
     let mut op = InsertOp::new(other, entry(5));
     for _ in 0..3 {

@@ -1,8 +1,8 @@
-use Rattle.std.proofs.Common.{rules, arith, ◌≡◌, ℕ, suc, ◌≤◌, ◌<◌, ◌+◌, Some, true, refl, sym, ap, subst, ◌∙◌, slice_get}
+use Rattle.std.proofs.Common.{arith, ◌≡◌, ℕ, suc, ◌≤◌, ◌+◌, true, refl, sym, subst, ◌∙◌}
 use Rattle.page_action.specs.States.{State}
 use Rattle.tree_shape.specs.Walks.{entry_aim}
-use Rattle.split_finish.specs.Targets.{OnlyTargetsAreFlagged, way_left, walk_length}
-use Rattle.tree_insert.specs.Inserts.{InsertStands, IsToCome, insert_left, targets_at}
+use Rattle.split_finish.specs.Targets.{OnlyTargetsAreFlagged}
+use Rattle.tree_insert.specs.Inserts.{InsertStands, IsToCome, targets_at}
 use Rattle.tree_insert.specs.Straight.{straight_steps}
 use Rattle.tree_insert.specs.declared.insert.InsertAt.{InsertAt}
 use Rattle.tree_insert.proofs.Left.{way_short}

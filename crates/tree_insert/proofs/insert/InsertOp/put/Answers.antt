@@ -1,8 +1,7 @@
-use Rattle.std.proofs.Common.{rules, arith, ◌≡◌, List, [], ◌∷◌, length, refl, ap, sym, subst, ◌∙◌}
+use Rattle.std.proofs.Common.{arith, List, length, refl, ap, sym, subst, ◌∙◌}
 use Rattle.page_codec.specs.Edits.{HasEntries}
 use Rattle.page_codec.specs.declared.page.Page.{Page}
 use Rattle.page_action.specs.States.{after_act}
-use Rattle.page_action.specs.Stored.{AreActable}
 use Rattle.tree_insert.proofs.Halving.{put_may}
 use Rattle.tree_insert.proofs.insert.InsertOp.put.Goals as goal
 

@@ -1,8 +1,8 @@
-use Rattle.std.proofs.Common.{rules, arith, ◌≡◌, ◌≤◌, ◌<◌, true, false, Option, ℕ, Some, List, [], ◌∷◌, ◌++◌, length, map, suc, refl, ap, sym, subst, ◌∙◌}
+use Rattle.std.proofs.Common.{arith, ◌≡◌, ◌<◌, true, false, Option, ℕ, Some, List, ◌∷◌, length, suc, ap, sym, subst, ◌∙◌}
 use Rattle.index_model.specs.Faults.{HasCause}
-use Rattle.latch_table.specs.Holdings.{Table, HasRoom, released, unpinned, is_held_by_another}
+use Rattle.latch_table.specs.Holdings.{HasRoom, released, unpinned, is_held_by_another}
 use Rattle.page_codec.specs.declared.page.Page.{Page}
-use Rattle.page_action.specs.Causes.{where_acted, pinned_blocks, count_apart}
+use Rattle.page_action.specs.Causes.{where_acted, pinned_blocks}
 use Rattle.page_action.specs.States.{State, Backing, IsLater, with_table, after_act}
 use Rattle.page_action.specs.Stored.{AreActable}
 use Rattle.page_action.specs.Reuse.{IsFresh}
@@ -14,7 +14,7 @@ use Rattle.tree_shape.specs.Nodes.{node_of}
 use Rattle.tree_insert.specs.declared.insert.InsertAt.TheVariants.{Finishing}
 use Rattle.tree_insert.specs.declared.insert.InsertOp.{InsertOp}
 use Rattle.descent.specs.Shared.{where_working}
-use Rattle.descent.specs.Splitting.{mended_to, RightIsStored}
+use Rattle.descent.specs.Splitting.{mended_to}
 use Rattle.descent.proofs.Working.{working_later, act_cause}
 use Rattle.tree_insert.proofs.Halving.{halves_may, few_changed, frames_for}
 use Rattle.tree_insert.proofs.insert.InsertOp.split.Goals as goal

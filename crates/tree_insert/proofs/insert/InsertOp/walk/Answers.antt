@@ -1,5 +1,5 @@
-use Rattle.std.proofs.Common.{rules, arith, ◌≡◌, ℕ, suc, ◌+◌, ◌≤◌, ◌<◌, Some, None, Ok, Err, true, false, refl, sym, ap, subst, ◌∙◌, slice_get, length}
-use Rattle.page_action.specs.States.{State, Backing, IsLater}
+use Rattle.std.proofs.Common.{arith, ◌≡◌, ℕ, suc, ◌+◌, ◌≤◌, ◌<◌, Some, Ok, true, refl, sym, ap, subst, ◌∙◌, length}
+use Rattle.page_action.specs.States.{State, IsLater}
 use Rattle.descent.specs.Onward.{LeadsOnward, LeavesLess}
 use Rattle.tree_shape.specs.Walks.{entry_aim, bound_aim, is_within}
 use Rattle.index_model.specs.declared.bound.Bound.{Bound}
