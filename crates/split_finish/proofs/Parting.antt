@@ -1,5 +1,5 @@
 -- A full parent is split: what the act is, and what it leaves.
-use Rattle.std.proofs.Common.{◌≡◌, ◌≢◌, ◌⊎◌, ◌==◌, ℕ, zero, suc, ◌+◌, ◌/◌, ◌<◌, ◌≤◌, if◌then◌else◌, Bool, true, false, Option, Some, None, Ok, List, [], ◌∷◌, ◌++◌, length, slice_get, refl, sym, ap, subst, inl, inr, ◌∙◌, arith}
+use Rattle.std.proofs.Common.{◌≡◌, ◌≢◌, ◌⊎◌, ◌==◌, ◌||◌, ℕ, zero, suc, ◌+◌, ◌/◌, ◌<◌, ◌≤◌, if◌then◌else◌, Bool, true, false, Option, Some, None, Ok, List, [], ◌∷◌, ◌++◌, length, slice_get, refl, sym, ap, subst, inl, inr, ◌∙◌, arith}
 use Rattle.std.proofs.lemmas.Bool.{eqb-true, eq-eqb}
 use Rattle.std.specs.Prelude.{unwrap_or, IfSome}
 use Rattle.index_model.specs.Actions.{Shape}
@@ -22,6 +22,7 @@ use Rattle.tree_shape.specs.LinkPlaces.{HasLinks, LinkSplit, child_at}
 use Rattle.tree_shape.specs.Mending.{MayBeMended}
 use Rattle.tree_shape.specs.Nodes.{Node, node_of, nodes_of, links_of}
 use Rattle.tree_shape.specs.Walks.{bound_aim}
+use Rattle.tree_shape.proofs.Fits.{bound_falls}
 use Rattle.tree_acts.specs.Acts.{MayAct, ParentIsSplit, IsMended, rightmost, neighbour, TreeLasts, ContentsStay}
 use Rattle.tree_acts.specs.Flags.{FlagsMove}
 use Rattle.tree_acts.specs.Trees.{HasTree, HasPlace}
@@ -59,6 +60,11 @@ count_links (Downlinks v) h = refl
 half_count : (n : ℕ) → 2 ≤ n → (left_count n ≤ n) × (n + 1 ≤ n + left_count n)
 half_count n le = (omega arith, omega arith)
 
+-- the act has four pages at most
+pub few_halves : (left half page : Page) (fresh : ℕ) (right : Option Page) → length (halves_of left half (mended_to fresh right) page) ≤ 4
+few_halves left half page fresh None = omega arith
+few_halves left half page fresh (Some old) = omega arith
+
 -- a fresh block isn't that of a page that is in use
 fresh_apart : (st : State) (fresh block : ℕ) (page : Page) → HasTree st → IsFresh st fresh → slice_get st.pages block ≡ Some page → (page.state ≡ Deleted → ⊥) → block ≡ fresh → ⊥
 fresh_apart st fresh block page h new there in_use same =
@@ -68,6 +74,23 @@ fresh_apart st fresh block page h new there in_use same =
 
 live_deleted : Live ≡ Deleted → ⊥
 live_deleted e = cc
+
+true_false : true ≡ false → ⊥
+true_false e = cc
+
+-- where one is raised and one cleared, a flagged one was raised, or is neither
+raised_or : (raised cleared was : Bool) → (if raised then true else if cleared then false else was) ≡ true → (raised ≡ true) ⊎ ((cleared ≡ false) × (was ≡ true))
+raised_or true cleared was h = inl refl
+raised_or false true was h = absurd cc
+raised_or false false was h = inr (refl, h)
+
+among_last : (xs : List Target) (y : Target) (block : ℕ) → y.block ≡ block → is_among_targets (xs ++ y ∷ []) block ≡ true
+among_last [] y block is = rw (eq-eqb y.block block is) refl
+among_last (x ∷ xs) y block is = or_there (x.block == block) _ (among_last xs y block is)
+  where
+    or_there : (a b : Bool) → b ≡ true → (a || b) ≡ true
+    or_there true b h = refl
+    or_there false b h = h
 
 -- the parent in two halves, with the downlink to the right half of the page
 pub record AreHalves (parent : Page) (at new : ℕ) (separator : Bound) (fresh : ℕ) (left half : Page) : Type 0 where
@@ -238,3 +261,60 @@ module _ (st : State) (op : FinishOp) (honest : Bool) (way : Way) (page parent :
 
   pub does_part : Does op.session (Some Shape) st (after_act (halves_of left half mended after) st)
   does_part = does_finish st op.session (halves_of left half mended after) order may_part lasts.0 lasts.1 finishes free_pages
+
+  abbrev newer : Target
+  newer = record { block = left.block; level = left.level; separator = unwrap_or left.high op.target.separator }
+
+  cut : Bound
+  cut = halves.split.halves.cut
+
+  high_is : left.high ≡ Some cut
+  unfolding cut
+  high_is = ap (λ (n : Node). n.high) halves.split.halves.left_is
+
+  level_is : left.level ≡ suc op.target.level
+  level_is = ap (λ (n : Node). n.level) halves.split.halves.left_is ∙ parent_is.level_is
+
+  new_place : HasPlace (after_act (halves_of left half mended after) st) fits.start (suc op.target.level) (bound_aim cut) true left.block
+  new_place =
+      let q_place = parent_place st op honest way page parent new order fits sound at read read_parent ready right_is in
+      let stays = lasts.0.places fits.start (suc op.target.level) (bound_aim op.target.separator) true parent.block (record { session = op.session; is = fits.running }) (bound_falls op.target.separator) q_place in
+      high_tells (after_act (halves_of left half mended after) st) fits.start (suc op.target.level) (bound_aim op.target.separator) true left cut lasts.0.has
+          (pages_first st.limits (length st.pages) st.pages left (half ∷ mended ++ after ∷ []) may_part (omega arith))
+          (subst (HasPlace (after_act (halves_of left half mended after) st) fits.start (suc op.target.level) (bound_aim op.target.separator) true) (sym halves.left_block) stays)
+          (ap (λ (n : Node). n.state) halves.split.halves.left_is) high_is
+
+  is_target : IsTarget (after_act (halves_of left half mended after) st) fits.start (length op.below.items) newer
+  is_target = record {
+    high_enough = (let a = fits.newest.high_enough in let b = level_is in omega arith);
+    place = subst (λ (n : ℕ). HasPlace (after_act (halves_of left half mended after) st) fits.start n (bound_aim (unwrap_or left.high op.target.separator)) true left.block) (sym level_is)
+        (subst (λ (h : Option Bound). HasPlace (after_act (halves_of left half mended after) st) fits.start (suc op.target.level) (bound_aim (unwrap_or h op.target.separator)) true left.block) (sym high_is) new_place);
+  }
+
+  pub flags_part : OnlyTargetsAreFlagged st (targets_of op) → OnlyTargetsAreFlagged (after_act (halves_of left half mended after) st) (op.below.items ++ newer ∷ [])
+  flags_part h b k = by (raised_or (b == parent.block) (b == page.block) (is_flagged st b) (sym (moves b) ∙ k))
+    where
+      by : ((b == parent.block) ≡ true) ⊎ (((b == page.block) ≡ false) × (is_flagged st b ≡ true)) → is_among_targets (op.below.items ++ newer ∷ []) b ≡ true
+      by (inl is_q) = among_last op.below.items newer b (halves.left_block ∙ sym (eqb-true b parent.block is_q))
+      by (inr was) = among_more op.below.items (newer ∷ []) b
+          (among_fewer op.below.items op.target b (h b was.1) (λ same. true_false (sym (eq-eqb b page.block (sym (read.stored.block_is ∙ same))) ∙ was.0)))
+
+  pub parts : (old_backing new_backing : Backing)
+      → FinishStepped st old_backing (after_act (halves_of left half mended after) st) new_backing op
+          (record op { target = record { block = left.block; level = left.level; separator = unwrap_or left.high op.target.separator }; at = Start }) (Ok Going)
+  parts old_backing new_backing = record {
+    effect = Some Shape;
+    shapes = inr refl;
+    does = does_part;
+    table = refl;
+    fits = record {
+      session = fits.session;
+      free = fits.free;
+      start = fits.start;
+      running = fits.running;
+      newest = is_target;
+      below = λ i t is. target_lasts st (after_act (halves_of left half mended after) st) op.session fits.start i t fits.running lasts.0 (fits.below i t is);
+      stands = tt;
+    };
+    flags = flags_part;
+  }

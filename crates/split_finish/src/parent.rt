@@ -40,7 +40,8 @@ fn mended(right: Option<Page>, fresh: u32) -> Option<Page>
 
 // The page, its split finished.
 fn cleared(page: Page) -> Page
-    ensures { result ≡ record page { split = false } }
+    ensures same { result ≡ record page { split = false } }
+    ensures page { IsPage page → IsPage result }
 {
     let mut page = page;
     clear_split(&mut page);
