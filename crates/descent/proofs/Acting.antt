@@ -16,7 +16,7 @@ use Rattle.tree_acts.specs.Acts.{MayAct, TreeLasts, ContentsStay, ContentsGain}
 use Rattle.tree_acts.specs.Trees.{HasTree, HasPlace, HasTrail, IsStart, PlacesLast, TrailsLast}
 use Rattle.tree_acts.proofs.Overlays.{pages_other}
 use Rattle.descent.specs.Steps.{HoldsAlone, AreApart, Changes}
-use Rattle.descent.specs.Shared.{IsInOrder, NumbersStay, MayRely, OthersRely, SplitsALeaf, FinishesASplit, MovesFlags, Does, IsOneStep}
+use Rattle.descent.specs.Shared.{IsRaised, IsInOrder, NumbersStay, MayRely, OthersRely, SplitsALeaf, FinishesASplit, MovesFlags, Does, IsOneStep}
 use Rattle.descent.proofs.Tables.{any_excluded, free_of}
 
 -- nothing of another session's is in the way of changing these pages
@@ -29,7 +29,7 @@ true_false : true ≡ false → ⊥
 true_false h = cc
 
 -- what another session holds alone is none of these pages
-apart_from_held : (st : State) (session other block : ℕ) (changed : List Page) → other ≢ session → HoldsAlone st.table other block → AreFree st session changed → IsApartFrom block changed
+pub apart_from_held : (st : State) (session other block : ℕ) (changed : List Page) → other ≢ session → HoldsAlone st.table other block → AreFree st session changed → IsApartFrom block changed
 apart_from_held st session other block [] differ alone free = tt
 apart_from_held st session other block (page ∷ changed) differ alone free = (
     (λ same. true_false (sym (any_excluded (holding_of st.table other).latches page.block Exclusive (subst (λ (b : ℕ). HoldsAlone st.table other b) (sym same) alone))
@@ -77,22 +77,57 @@ said e x was = by (same_entry e x)
     by true = refl
     by false = refl
 
--- an act that puts an entry which wasn't there
-pub does_add : (st : State) (session : ℕ) (e : Entry) (changed : List Page) → IsInOrder st → MayAct st changed → TreeLasts st (after_act changed st) → ContentsGain e st (after_act changed st)
-    → entry_on_live_leaf st.pages e ≡ false → SplitsALeaf st (after_act changed st) → AreFree st session changed → Does session (Some (Add e)) st (after_act changed st)
-does_add st session e changed order may lasts gain absent splits free = record {
+-- a place is one whoever holds what
+pub place_held_else : (st : State) (table : Table) (start level : ℕ) (aim : Bound → Bool) (clear : Bool) (block : ℕ) → HasPlace st start level aim clear block → HasPlace (with_table st table) start level aim clear block
+place_held_else st table start level aim clear block place = record { tree = place.tree; in_tree = place.in_tree; place = place.place }
+
+pub trail_held_else : (st : State) (table : Table) (start level block moves : ℕ) → HasTrail st start level block moves → HasTrail (with_table st table) start level block moves
+trail_held_else st table start level block moves trail =
+    record { tree = trail.tree; in_tree = trail.in_tree; passed = trail.passed; count = trail.count; distinct = trail.distinct; steps = trail.steps; trail = trail.trail }
+
+-- ... by a session that lets go what it held
+pub others_rely_else : (st : State) (session : ℕ) (changed : List Page) (table : Table) → MayAct st changed → TreeLasts st (after_act changed st)
+    → ((other block : ℕ) → other ≢ session → HoldsAlone st.table other block → IsApartFrom block changed)
+    → ((other : ℕ) → other ≢ session → holding_of table other ≡ holding_of st.table other)
+    → OthersRely session st (with_table (after_act changed st) table)
+others_rely_else st session changed table may lasts apart kept other differ = record {
+  held = kept other differ;
+  number = refl;
+  pages = λ block alone. pages_other st.limits (length st.pages) st.pages changed block may (omega arith) (apart other block differ alone);
+  numbers = λ start runs.
+      let stay = numbers_stay st (after_act changed st) other start runs lasts.places lasts.trails in
+      record {
+        places = λ level aim clear block aims place. place_held_else (after_act changed st) table start level aim clear block (stay.places level aim clear block aims place);
+        trails = λ level block moves trail. trail_held_else (after_act changed st) table start level block moves (stay.trails level block moves trail);
+      };
+}
+
+raised_else : (old new : State) (table : Table) (level : ℕ) (raised : Option ℕ) → IsRaised old new level raised → IsRaised old (with_table new table) level raised
+raised_else old new table level None h = tt
+raised_else old new table level (Some b) h = h
+
+tree_held_else : (st : State) (table : Table) → HasTree st → HasTree (with_table st table)
+tree_held_else st table tree = record { tree = tree.tree; stored = tree.stored; counted = tree.counted }
+
+-- an act that puts an entry which wasn't there, by a session that may let go what it held
+pub does_add : (st : State) (session : ℕ) (e : Entry) (changed : List Page) (table : Table) → IsInOrder st → MayAct st changed → TreeLasts st (after_act changed st)
+    → ContentsGain e st (after_act changed st) → entry_on_live_leaf st.pages e ≡ false → SplitsALeaf st (after_act changed st)
+    → ((other block : ℕ) → other ≢ session → HoldsAlone st.table other block → IsApartFrom block changed)
+    → AreApart table → length table ≡ 64 → ((other : ℕ) → other ≢ session → holding_of table other ≡ holding_of st.table other)
+    → Does session (Some (Add e)) st (with_table (after_act changed st) table)
+does_add st session e changed table order may lasts gain absent splits apart_pages apart many kept = record {
   changes = record {
     acts = refl;
     apt = absent;
     contents = λ x. gain x ∙ sym (said e x (entry_on_live_leaf st.pages x));
   };
-  flags = splits;
+  flags = record { raised = splits.raised; leaf = raised_else st (after_act changed st) table 0 splits.raised splits.leaf; moves = splits.moves; most = splits.most };
   limits = refl;
   frames = refl;
   begun = refl;
   running = refl;
-  order = in_order_after st changed order lasts;
-  others = others_rely st session changed may lasts free;
+  order = record { tree = tree_held_else (after_act changed st) table lasts.has; apart = apart; holdings = many; calls = order.calls };
+  others = others_rely_else st session changed table may lasts apart_pages kept;
 }
 
 -- what this session holds changed, and nothing else
@@ -121,17 +156,19 @@ holds_else session old new table is order apart many kept = subst (λ (st : Stat
 pub nothing_else : (session : ℕ) (old new : State) → new ≡ old → IsInOrder old → Does session None old new
 nothing_else session old new same order = holds_else session old new old.table same order order.apart order.holdings (λ other differ. refl)
 
--- a place is one whoever holds what
-pub place_held_else : (st : State) (table : Table) (start level : ℕ) (aim : Bound → Bool) (clear : Bool) (block : ℕ) → HasPlace st start level aim clear block → HasPlace (with_table st table) start level aim clear block
-place_held_else st table start level aim clear block place = record { tree = place.tree; in_tree = place.in_tree; place = place.place }
-
-pub trail_held_else : (st : State) (table : Table) (start level block moves : ℕ) → HasTrail st start level block moves → HasTrail (with_table st table) start level block moves
-trail_held_else st table start level block moves trail =
-    record { tree = trail.tree; in_tree = trail.in_tree; passed = trail.passed; count = trail.count; distinct = trail.distinct; steps = trail.steps; trail = trail.trail }
-
 -- one step: one act, or nothing but who holds what
 pub one_act : (old new : State) (changed : List Page) → new ≡ after_act changed old → IsOneStep old new
 one_act old new changed is = subst (λ (s : State). IsOneStep old s) (sym is) (record {
+  acts = inr refl;
+  quiet = λ h. absurd (let k : suc old.acts ≡ old.acts = h in omega arith);
+  limits = refl;
+  frames = refl;
+  begun = refl;
+  running = refl;
+})
+
+pub one_act_else : (old new : State) (changed : List Page) (table : Table) → new ≡ with_table (after_act changed old) table → IsOneStep old new
+one_act_else old new changed table is = subst (λ (s : State). IsOneStep old s) (sym is) (record {
   acts = inr refl;
   quiet = λ h. absurd (let k : suc old.acts ≡ old.acts = h in omega arith);
   limits = refl;

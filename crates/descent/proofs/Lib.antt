@@ -6,3 +6,4 @@ pub mod Leading
 pub mod Working
 pub mod Acting
 pub mod Blocks
+pub mod Mended

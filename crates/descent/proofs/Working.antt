@@ -130,3 +130,42 @@ keeps_room_on st first second third up few one two = record {
   promised = two.promised ∙ one.promised;
   idle = λ h. two.idle (omega (arith, h)) ∙ one.idle h;
 }
+
+-- what is a cause where some calls were made before is one from before these
+pub working_later : (st : State) (first second third : Backing) (session images frames : ℕ) (fault : Fault)
+    → first.failures ≤ second.failures → (second.stopped ≡ true → first.stopped ≡ true) → second.promised ≡ first.promised
+    → HasCause (where_working st second third session images frames) fault → HasCause (where_working st first third session images frames) fault
+working_later st first second third session images frames Io le alive promised h = later_failed first second third le h
+working_later st first second third session images frames Stopped le alive promised h = or_left second.stopped (is_at_end st.acts) first.stopped alive h
+working_later st first second third session images frames LogFull le alive promised h = subst (λ (n : ℕ). nat_le n images ≡ true) promised h
+working_later st first second third session images frames (Blocked b) le alive promised h = h
+working_later st first second third session images frames (PageDamaged b) le alive promised h = h
+working_later st first second third session images frames fault le alive promised h = h
+
+-- one of these blocks is pinned, so it needs no frame more
+pub apart_pinned : (block : ℕ) (blocks pins : List ℕ) → has_pin pins block ≡ true → count_apart (block ∷ blocks ++ pins) ≤ length blocks + count_apart pins
+apart_pinned block blocks pins pin = subst (λ (c : Bool). (if c then count_apart (blocks ++ pins) else suc (count_apart (blocks ++ pins))) ≤ length blocks + count_apart pins)
+    (sym (pin_among blocks)) (apart_few blocks pins)
+  where
+    pin_among : (bs : List ℕ) → has_pin (bs ++ pins) block ≡ true
+    pin_among [] = pin
+    pin_among (b ∷ bs) = or_there (b == block) (has_pin (bs ++ pins) block) (pin_among bs)
+
+-- ... and a page that is pinned already is read without another frame
+pub read_pinned_cause : (st : State) (first third : Backing) (session images frames block : ℕ) (fault : Fault)
+    → third.honest ≡ true → block < length st.pages → has_pin (pinned_blocks st.table) block ≡ true
+    → HasCause (where_read st first third block) fault → HasCause (where_working st first third session images frames) fault
+read_pinned_cause st first third session images frames block Io honest used pin h = h
+read_pinned_cause st first third session images frames block Stopped honest used pin h = or_here first.stopped (is_at_end st.acts) h
+read_pinned_cause st first third session images frames block NoFrame honest used pin h =
+    let few = apart_pinned block [] (pinned_blocks st.table) pin in
+    let k : st.frames < count_apart (block ∷ pinned_blocks st.table) = ltb-true st.frames _ h in
+    lt-ltb st.frames (frames + count_apart (pinned_blocks st.table)) (omega (arith, few, k))
+read_pinned_cause st first third session images frames block (PageDamaged b) honest used pin h =
+    absurd (in_use_read block (length st.pages) third.honest honest used
+    (let p = and_parts (b == block) (not third.honest || nat_le (length st.pages) block) h in p.1))
+read_pinned_cause st first third session images frames block (Blocked b) honest used pin h = absurd cc
+read_pinned_cause st first third session images frames block IndexFull honest used pin h = absurd cc
+read_pinned_cause st first third session images frames block LogFull honest used pin h = absurd cc
+read_pinned_cause st first third session images frames block TooTall honest used pin h = absurd cc
+read_pinned_cause st first third session images frames block fault honest used pin h = h

@@ -1,12 +1,13 @@
--- A full parent is split: what the act is, and what it leaves.
-use Rattle.std.proofs.Common.{◌≡◌, ◌≢◌, ◌⊎◌, ◌==◌, ◌||◌, ℕ, zero, suc, ◌+◌, ◌/◌, ◌<◌, ◌≤◌, if◌then◌else◌, Bool, true, false, Option, Some, None, Ok, List, [], ◌∷◌, ◌++◌, length, slice_get, refl, sym, ap, subst, inl, inr, ◌∙◌, arith}
-use Rattle.std.proofs.lemmas.Bool.{eqb-true, eq-eqb}
-use Rattle.std.specs.Prelude.{unwrap_or, IfSome}
+-- A full parent is split.
+use Rattle.std.proofs.Common.{◌≡◌, ◌≢◌, ◌⊎◌, ℕ, zero, suc, ◌+◌, ◌<◌, ◌≤◌, ◌&&◌, ◌||◌, ◌==◌, not, Bool, true, false, Option, Some, None, Result, Ok, Err, List, [], ◌∷◌, ◌++◌, length, map, slice_get, refl, sym, ap, subst, inl, inr, ◌∙◌, arith, eq-eqb}
+use Rattle.std.proofs.lemmas.Bool.{cases_eq, and_parts, eqb-true, ne_eqb}
 use Rattle.index_model.specs.Actions.{Shape}
+use Rattle.index_model.specs.Faults.{HasCause}
 use Rattle.index_model.specs.declared.bound.Bound.{Bound}
-use Rattle.latch_table.specs.Holdings.{is_held_by_another}
+use Rattle.index_model.specs.declared.fault.Fault.{Fault}
+use Rattle.latch_table.specs.Holdings.{Table, holding_of, nothing_held, is_held_by_another}
 use Rattle.latch_table.specs.declared.mode.Mode.TheVariants.{Exclusive}
-use Rattle.page_codec.specs.Grammar.{IsBlock, IsPage}
+use Rattle.page_codec.specs.Grammar.{IsBlock, IsPage, IsWhole}
 use Rattle.page_codec.specs.Spelling.{count_of}
 use Rattle.page_codec.specs.declared.page.Items.{Items}
 use Rattle.page_codec.specs.declared.page.Items.TheVariants.{Meta, Entries, Downlinks}
@@ -14,307 +15,356 @@ use Rattle.page_codec.specs.declared.page.Page.{Page}
 use Rattle.page_codec.specs.declared.page.PageState.{PageState}
 use Rattle.page_codec.specs.declared.page.PageState.TheVariants.{Live, HalfDead, Deleted}
 use Rattle.page_action.specs.Reuse.{IsFresh}
-use Rattle.page_action.specs.States.{State, Backing, after_act, with_pages}
-use Rattle.page_action.specs.Stored.{IsStored, IsStorable, IsPlaceable, IsApartFrom, AreActable}
-use Rattle.tree_shape.specs.Edits.{IsLinkAdded, LinkHalves, IsParentSplit}
-use Rattle.tree_shape.specs.Halves.{left_count}
-use Rattle.tree_shape.specs.LinkPlaces.{HasLinks, LinkSplit, child_at}
-use Rattle.tree_shape.specs.Mending.{MayBeMended}
+use Rattle.page_action.specs.States.{State, Backing, Continues, after_act}
+use Rattle.page_action.specs.Stored.{IsStorable, IsStored, IsApartFrom, AreActable}
+use Rattle.page_action.specs.declared.page_store.PageStore.{Ghosts}
+use Rattle.tree_shape.specs.LinkPlaces.{LinkSplit, HasLinks}
 use Rattle.tree_shape.specs.Nodes.{Node, node_of, nodes_of, links_of}
-use Rattle.tree_shape.specs.Walks.{bound_aim}
+use Rattle.tree_shape.specs.Walks.{bound_aim, is_within}
 use Rattle.tree_shape.proofs.Fits.{bound_falls}
-use Rattle.tree_acts.specs.Acts.{MayAct, ParentIsSplit, IsMended, rightmost, neighbour, TreeLasts, ContentsStay}
-use Rattle.tree_acts.specs.Flags.{FlagsMove}
-use Rattle.tree_acts.specs.Trees.{HasTree, HasPlace}
-use Rattle.tree_acts.specs.Ways.{IsNeighbour}
+use Rattle.tree_acts.specs.Acts.{ParentIsSplit, IsUnfinished, IsMended, IsClear, TreeLasts}
+use Rattle.tree_acts.specs.Acts.IsMended.{rightmost, neighbour}
+use Rattle.tree_acts.specs.Flags.{FlagsMove, flag_after}
+use Rattle.tree_acts.specs.Trees.{HasTree, HasPlace, IsStart}
 use Rattle.tree_acts.proofs.Finishing.{parent_split_lasts, parent_edit}
 use Rattle.tree_acts.proofs.Flagging.{parent_split_flags}
 use Rattle.tree_acts.proofs.Weighed.{parent_split_weighs}
-use Rattle.tree_acts.proofs.Lasting.{fresh_free}
-use Rattle.tree_acts.proofs.Overlays.{inside, node_there, pages_first}
+use Rattle.tree_acts.proofs.Overlays.{pages_first, node_there, inside}
+use Rattle.tree_shape.specs.Halves.{left_count}
+use Rattle.descent.specs.Onward.{IsOnWay}
+use Rattle.split_finish.proofs.Standing.{flagged_has}
 use Rattle.tree_acts.proofs.Telling.{high_tells, neighbour_tells}
-use Rattle.descent.specs.Shared.{IsInOrder, Does, FinishesASplit, is_flagged}
-use Rattle.descent.specs.Splitting.{RightIsFound, RightIsStored, mended_to}
+use Rattle.descent.specs.Shared.{IsInOrder, IsOneStep, Does, is_flagged, level_in, where_working}
+use Rattle.descent.specs.Splitting.{RightIsMendable, RightIsStored, RightIsFound, mended_to}
 use Rattle.descent.specs.declared.way.Way.{Way}
-use Rattle.descent.proofs.Acting.{AreFree, does_finish}
-use Rattle.split_finish.specs.Targets.{FinishFits, FinishStands, IsTarget, OnlyTargetsAreFlagged, is_among_targets, targets_of}
+use Rattle.descent.proofs.Acting.{AreFree, does_finish, one_act}
+use Rattle.descent.proofs.Mended.{mended_page, fresh_apart, RightMay, right_may}
+use Rattle.split_finish.specs.Acting.{IsRead, FinishActs}
+use Rattle.split_finish.specs.Finishes.{images_of, frames_of}
+use Rattle.split_finish.specs.Parting.{halves_and}
+use Rattle.split_finish.specs.Targets.{targets_of, is_among_targets, OnlyTargetsAreFlagged, IsTarget, FinishStands, FinishFits, is_ready, is_live_state}
 use Rattle.split_finish.specs.Turns.{IsReadyToLink}
-use Rattle.split_finish.specs.Finishes.{FinishStepped}
-use Rattle.split_finish.specs.Acting.{IsLinkPlace, IsRead, IsRightRead, halves_of}
+use Rattle.split_finish.specs.declared.finish.FinishAt.{FinishAt}
 use Rattle.split_finish.specs.declared.finish.FinishAt.TheVariants.{Start, Down, Link, Root}
 use Rattle.split_finish.specs.declared.finish.FinishOp.{FinishOp}
 use Rattle.split_finish.specs.declared.finish.FinishStep.{FinishStep}
 use Rattle.split_finish.specs.declared.finish.FinishStep.TheVariants.{Going, Done}
 use Rattle.split_finish.specs.declared.finish.Target.{Target}
-use Rattle.split_finish.proofs.Linking.{IsParent, found, parent_found, is_parent, parent_place, unfinished, two_pages}
-use Rattle.split_finish.proofs.Standing.{flagged_has, fresh_not_live}
-use Rattle.split_finish.proofs.Turning.{among_fewer, among_more}
-use Rattle.split_finish.proofs.Doing.{target_lasts}
+use Rattle.split_finish.proofs.Turning.{among_more, among_fewer}
+use Rattle.split_finish.proofs.Stepping.{acts_not}
 
--- how many items an internal page has
-count_links : (items : Items) → HasLinks items → count_of items ≡ length (links_of items)
-count_links Meta h = absurd h
-count_links (Entries v) h = absurd h
-count_links (Downlinks v) h = refl
+live_is : (state : PageState) → is_live_state state ≡ true → state ≡ Live
+live_is Live h = refl
+live_is HalfDead h = absurd cc
+live_is Deleted h = absurd cc
 
-half_count : (n : ℕ) → 2 ≤ n → (left_count n ≤ n) × (n + 1 ≤ n + left_count n)
-half_count n le = (omega arith, omega arith)
+not_is : (b : Bool) → not b ≡ true → b ≡ false
+not_is true h = absurd cc
+not_is false h = refl
 
--- the act has four pages at most
-pub few_halves : (left half page : Page) (fresh : ℕ) (right : Option Page) → length (halves_of left half (mended_to fresh right) page) ≤ 4
-few_halves left half page fresh None = omega arith
-few_halves left half page fresh (Some old) = omega arith
+-- what a parent is that is ready
+pub record ReadyParent (page : Page) (level : ℕ) (separator : Bound) : Type 0 where
+  pub alive : page.state ≡ Live
+  pub whole : page.split ≡ false
+  pub level_is : page.level ≡ level
+  pub within : is_within (bound_aim separator) page.high ≡ true
 
--- a fresh block isn't that of a page that is in use
-fresh_apart : (st : State) (fresh block : ℕ) (page : Page) → HasTree st → IsFresh st fresh → slice_get st.pages block ≡ Some page → (page.state ≡ Deleted → ⊥) → block ≡ fresh → ⊥
-fresh_apart st fresh block page h new there in_use same =
-    let free = fresh_free st fresh h new in
-    let gone = free.not_in_use (subst (λ (b : ℕ). b < length st.pages) same (inside st.pages block page there)) in
-    in_use (sym (ap (λ (n : Node). n.state) (node_there st.pages fresh page (subst (λ (b : ℕ). slice_get st.pages b ≡ Some page) same there))) ∙ gone)
+pub ready_parent : (page : Page) (level : ℕ) (separator : Bound) → is_ready (node_of page) level separator ≡ true → ReadyParent page level separator
+ready_parent page level separator h =
+    let c = and_parts (is_live_state page.state && not page.split && (page.level == level)) (is_within (bound_aim separator) page.high) h in
+    let b = and_parts (is_live_state page.state && not page.split) (page.level == level) c.0 in
+    let a = and_parts (is_live_state page.state) (not page.split) b.0 in
+    record {
+      alive = live_is page.state a.0;
+      whole = not_is page.split a.1;
+      level_is = eqb-true page.level level b.1;
+      within = c.1;
+    }
 
-live_deleted : Live ≡ Deleted → ⊥
-live_deleted e = cc
+-- the page to the right, with its left link mended
+mends_right : (st : State) (session new : ℕ) (link : Option ℕ) (right : Option Page) → RightIsStored st session link right → RightIsFound st link right → IsMended st new link (mended_to new right)
+mends_right st session new None None stored found = rightmost
+mends_right st session new None (Some page) stored found = absurd stored
+mends_right st session new (Some r) None stored found = absurd stored
+mends_right st session new (Some r) (Some page) stored found = neighbour page (record page { left = Some new }) found stored.0.block_is refl
+
+free_beside : (st : State) (session new : ℕ) (link : Option ℕ) (right : Option Page) (rest : List Page) → RightIsStored st session link right → AreFree st session rest → AreFree st session (mended_to new right ++ rest)
+free_beside st session new None None rest stored free = free
+free_beside st session new None (Some page) rest stored free = absurd stored
+free_beside st session new (Some r) None rest stored free = absurd stored
+free_beside st session new (Some r) (Some page) rest stored free =
+    (subst (λ (b : ℕ). is_held_by_another st.table session b Exclusive ≡ false) (sym stored.0.block_is) stored.2, free)
 
 true_false : true ≡ false → ⊥
-true_false e = cc
+true_false h = cc
 
--- where one is raised and one cleared, a flagged one was raised, or is neither
-raised_or : (raised cleared was : Bool) → (if raised then true else if cleared then false else was) ≡ true → (raised ≡ true) ⊎ ((cleared ≡ false) × (was ≡ true))
-raised_or true cleared was h = inl refl
-raised_or false true was h = absurd cc
-raised_or false false was h = inr (refl, h)
-
-among_last : (xs : List Target) (y : Target) (block : ℕ) → y.block ≡ block → is_among_targets (xs ++ y ∷ []) block ≡ true
-among_last [] y block is = rw (eq-eqb y.block block is) refl
-among_last (x ∷ xs) y block is = or_there (x.block == block) _ (among_last xs y block is)
+among_end : (ts : List Target) (t : Target) (b : ℕ) → t.block ≡ b → is_among_targets (ts ++ t ∷ []) b ≡ true
+among_end [] t b is = rw (eq-eqb t.block b is) refl
+among_end (x ∷ ts) t b is = or_there (x.block == b) (is_among_targets (ts ++ t ∷ []) b) (among_end ts t b is)
   where
-    or_there : (a b : Bool) → b ≡ true → (a || b) ≡ true
-    or_there true b h = refl
-    or_there false b h = h
+    or_there : (a c : Bool) → c ≡ true → (a || c) ≡ true
+    or_there true c h = refl
+    or_there false c h = h
 
--- the parent in two halves, with the downlink to the right half of the page
-pub record AreHalves (parent : Page) (at new : ℕ) (separator : Bound) (fresh : ℕ) (left half : Page) : Type 0 where
-  pub split : LinkSplit (node_of parent) parent.block fresh (child_at (links_of parent.items) at) new separator (node_of left) (node_of half)
-  pub kept : length (links_of left.items) ≡ left_count (length (links_of parent.items))
-  pub moved : length (links_of left.items) + length (links_of half.items) ≡ length (links_of parent.items) + 1
+raised_block : (q p b : ℕ) (was : Bool) → b ≢ q → flag_after (Some q) (Some p) b was ≡ true → (b ≢ p) × (was ≡ true)
+raised_block q p b was not_q h = elim (cases_eq b p) [
+  | inl is_p ↦ absurd (true_false (sym h ∙ rw (ne_eqb b q not_q, eq-eqb b p is_p) refl))
+  | inr not_p ↦ (not_p, sym (rw (ne_eqb b q not_q, ne_eqb b p not_p) refl) ∙ h)
+]
+
+-- the parts of an act that splits a parent
+pub record PartsParent (st : State) (honest : Bool) (session : ℕ) (op : FinishOp) (way : Way) (page parent left half clear : Page) (right : Option Page) (new : ℕ) : Type 0 where
+  pub read : IsRead st honest session op.target.block page
+  pub read_parent : IsRead st honest session way.block parent
+  pub ready : IsReadyToLink page parent op op
+  pub right_is : page.right ≡ Some new
+  pub split : LinkSplit (node_of parent) parent.block half.block page.block new op.target.separator (node_of left) (node_of half)
   pub left_block : left.block ≡ parent.block
-  pub right_block : half.block ≡ fresh
-  pub left_internal : HasLinks left.items
-  pub right_internal : HasLinks half.items
-  pub left_page : IsPage left
-  pub right_page : IsPage half
+  pub fresh : IsFresh st half.block
+  pub free : is_held_by_another st.table session half.block Exclusive ≡ false
+  pub right_stored : RightIsStored st session parent.right right
+  pub right_found : honest ≡ true → RightIsFound st parent.right right
+  pub clears : IsClear page clear
 
--- the page to the right, with its left link mended, beside the others of the act
-pub record IsBeside (st : State) (session : ℕ) (q_block p_block p_level fresh : ℕ) (right : Option ℕ) (mended : List Page) : Type 0 where
-  pub mends : IsMended st fresh right mended
-  pub free : (rest : List Page) → AreFree st session rest → AreFree st session (mended ++ rest)
-  pub apart : (block : ℕ) (rest : List Page) → (block ≡ q_block) ⊎ (block ≡ fresh) → IsApartFrom block rest → IsApartFrom block (mended ++ rest)
-  pub may : (p : Page) → p.block ≡ p_block → AreActable st.limits (length st.pages) (p ∷ []) → AreActable st.limits (length st.pages) (mended ++ p ∷ [])
+-- the act that splits the parent, in a tree
+pub parent_split : (st : State) (session : ℕ) (op : FinishOp) (way : Way) (page parent left half clear : Page) (right : Option Page) (new : ℕ) (order : IsInOrder st) (fits : FinishFits st op) → op.at ≡ Link way
+    → PartsParent st true session op way page parent left half clear right new → AreActable st.limits (length st.pages) (halves_and left half right clear)
+    → ParentIsSplit st fits.start op.target.level op.target.separator page parent clear left half (mended_to half.block right) new
+parent_split st session op way page parent left half clear right new order fits at_is h may =
+    let ready = ready_parent parent (suc op.target.level) op.target.separator h.ready.ready in
+    let stands = subst (FinishStands st fits.start op.target) at_is fits.stands in
+    let at_page : page.block ≡ op.target.block = h.read.stored.block_is in
+    let at_parent : parent.block ≡ way.block = h.read_parent.stored.block_is in
+    record {
+      unfinished = record {
+        found = subst (λ (b : ℕ). slice_get st.pages b ≡ Some page) (sym at_page) (h.read.found refl);
+        place = subst (HasPlace st fits.start op.target.level (bound_aim op.target.separator) true) (sym at_page) fits.newest.place;
+        flagged = h.ready.flagged;
+        high_is = h.ready.high_is;
+        right_is = h.right_is;
+      };
+      found = subst (λ (b : ℕ). slice_get st.pages b ≡ Some parent) (sym at_parent) (h.read_parent.found refl);
+      place = subst (HasPlace st fits.start (suc op.target.level) (bound_aim op.target.separator) true) (sym at_parent)
+          (subst (λ (l : ℕ). HasPlace st fits.start l (bound_aim op.target.separator) true way.block) stands.0 stands.1.place);
+      alive = ready.alive;
+      whole = ready.whole;
+      links = h.split.added;
+      added = h.split.put;
+      halves = h.split.halves;
+      left_block = h.left_block;
+      fresh = h.fresh;
+      mends = mends_right st session half.block parent.right right h.right_stored (h.right_found refl);
+      clear = h.clears;
+      may = may;
+    }
 
-module _ (st : State) (op : FinishOp) (honest : Bool) (way : Way) (page parent : Page) (new : ℕ) (order : IsInOrder st) (fits : FinishFits st op) (sound : honest ≡ true)
-    (at : op.at ≡ Link way) (read : IsRead st honest op.session op.target.block page) (read_parent : IsRead st honest op.session way.block parent) (ready : IsReadyToLink page parent op op)
-    (right_is : page.right ≡ Some new) (fresh : ℕ) (free_block : IsFresh st fresh) (block : IsBlock fresh) (few : length st.pages ≤ st.limits.pages) where
-  q_found : slice_get st.pages parent.block ≡ Some parent
-  q_found = parent_found st op honest way page parent new order fits sound at read read_parent ready right_is
+-- the act is done
+pub parts : {S : Type 0} (g : Ghosts S) (before after : FinishOp) (old new : S) (way : Way) (page parent left half clear : Page) (right : Option Page) (new_block : ℕ) (target : Target)
+    → Continues g.follows old new → before.at ≡ Link way → ((g.backing new).honest ≡ true → (g.backing old).honest ≡ true)
+    → PartsParent (g.state old) (g.backing old).honest before.session before way page parent left half clear right new_block
+    → AreActable (g.state old).limits (length (g.state old).pages) (halves_and left half right clear)
+    → g.state new ≡ after_act (halves_and left half right clear) (g.state old)
+    → after ≡ record before { target = target; at = Start } → target.block ≡ left.block → target.level ≡ left.level → left.high ≡ Some target.separator
+    → FinishActs g before after old new (Ok Going)
+parts g before after old new way page parent left half clear right new_block target steps at_is honest_before h may now after_is t_block t_level t_high = record {
+  steps = steps;
+  session = ap (λ (o : FinishOp). o.session) after_is;
+  kept = one_act st (g.state new) changed now;
+  table = ap (λ (s : State). s.table) now;
+  refused = tt;
+  less = λ honest is acts. absurd (let k : suc st.acts ≡ st.acts = sym (ap (λ (s : State). s.acts) now) ∙ acts in omega arith);
+  over = λ honest is. absurd cc;
+  stepped = λ honest order fits.
+      let here : PartsParent st true before.session before way page parent left half clear right new_block =
+          subst (λ (b : Bool). PartsParent st b before.session before way page parent left half clear right new_block) (honest_before honest) h in
+      let split = parent_split st before.session before way page parent left half clear right new_block order fits at_is here may in
+      let level = before.target.level in
+      let s = before.target.separator in
+      let mended = mended_to half.block right in
+      let lasts = parent_split_lasts st fits.start level s page parent clear left half mended new_block order.tree split in
+      let moves = parent_split_flags st fits.start level s page parent clear left half mended new_block order.tree split in
+      let weighs = parent_split_weighs st fits.start level s page parent clear left half mended new_block order.tree split in
+      let edit = parent_edit st fits.start level s page parent clear left half mended new_block order.tree split in
+      let added_to : State = after_act changed st in
+      let left_there : slice_get added_to.pages parent.block ≡ Some left = subst (λ (b : ℕ). slice_get added_to.pages b ≡ Some left) h.left_block
+          (pages_first st.limits (length st.pages) st.pages left (half ∷ mended ++ clear ∷ []) may (omega arith)) in
+      let left_live : left.state ≡ Live = ap (λ (n : Node). n.state) h.split.halves.left_is in
+      let left_level : left.level ≡ suc level = ap (λ (n : Node). n.level) h.split.halves.left_is ∙ (ready_parent parent (suc level) s h.ready.ready).level_is in
+      let start : IsStart st.running fits.start = record { session = before.session; is = fits.running } in
+      let place : HasPlace added_to fits.start (suc level) (bound_aim s) true parent.block = lasts.0.places fits.start (suc level) (bound_aim s) true parent.block start (bound_falls s) split.place in
+      let left_found : slice_get added_to.pages left.block ≡ Some left = subst (λ (b : ℕ). slice_get added_to.pages b ≡ Some left) (sym h.left_block) left_there in
+      let high : HasPlace added_to fits.start (suc level) (bound_aim target.separator) true left.block =
+          high_tells added_to fits.start (suc level) (bound_aim s) true left target.separator lasts.0.has left_found
+          (subst (HasPlace added_to fits.start (suc level) (bound_aim s) true) (sym h.left_block) place) left_live t_high in
+      let newest : IsTarget added_to fits.start (length before.below.items) target = record {
+        high_enough = (let a = fits.newest.high_enough in let b = t_level ∙ left_level in omega arith);
+        place = subst (λ (b : ℕ). HasPlace added_to fits.start target.level (bound_aim target.separator) true b) (sym t_block)
+            (subst (λ (l : ℕ). HasPlace added_to fits.start l (bound_aim target.separator) true left.block) (sym (t_level ∙ left_level)) high);
+      } in
+      record {
+        effect = Some Shape;
+        shapes = inr refl;
+        does = subst (λ (x : State). Does before.session (Some Shape) st x) (sym now)
+            (does_finish st before.session changed order may lasts.0 lasts.1
+            (record {
+              cleared = page.block;
+              was = ap (λ (n : Node). n.split) (node_there st.pages page.block page split.unfinished.found) ∙ split.unfinished.flagged;
+              raised = Some parent.block;
+              higher = (ap (λ (n : Node). n.split) (node_there st.pages parent.block parent split.found) ∙ split.whole,
+              ap (λ (n : Node). n.level) edit.halves.left_is ∙ edit.parent_level ∙ ap suc (sym (ap (λ (n : Node). n.level) edit.cleared_is)));
+              moves = moves;
+              less = weighs;
+            })
+            (subst (λ (b : ℕ). is_held_by_another st.table before.session b Exclusive ≡ false) (sym (h.left_block ∙ h.read_parent.stored.block_is)) h.read_parent.free,
+            (h.free,
+            free_beside st before.session half.block parent.right right (clear ∷ []) h.right_stored
+            (subst (λ (b : ℕ). is_held_by_another st.table before.session b Exclusive ≡ false) (sym (h.clears.block_is ∙ h.read.stored.block_is)) h.read.free, tt))));
+        table = ap (λ (x : State). x.table) now;
+        fits = subst (λ (x : State). FinishFits x after) (sym now) (subst (FinishFits added_to) (sym after_is) (record {
+          session = fits.session;
+          free = fits.free;
+          start = fits.start;
+          running = fits.running;
+          newest = newest;
+          below = λ i t is. record {
+            high_enough = (fits.below i t is).high_enough;
+            place = lasts.0.places fits.start t.level (bound_aim t.separator) true t.block start (bound_falls t.separator) (fits.below i t is).place;
+          };
+          stands = tt;
+        }));
+        flags = λ only. subst (λ (x : State). OnlyTargetsAreFlagged x (targets_of after)) (sym now) (subst (λ (o : FinishOp). OnlyTargetsAreFlagged added_to (targets_of o)) (sym after_is)
+            (λ b flagged. only_targets only moves b flagged));
+      };
+}
+  where
+    st : State
+    st = g.state old
+    changed : List Page
+    changed = halves_and left half right clear
+    only_targets : OnlyTargetsAreFlagged st (targets_of before) → FlagsMove (Some parent.block) (Some page.block) st (after_act changed st) → (b : ℕ) → is_flagged (after_act changed st) b ≡ true
+        → is_among_targets (before.below.items ++ target ∷ []) b ≡ true
+    only_targets only moves b flagged = elim (cases_eq b parent.block) [
+      | inl is_q ↦ among_end before.below.items target b (t_block ∙ h.left_block ∙ sym is_q)
+      | inr not_q ↦ (
+          let was = raised_block parent.block page.block b (is_flagged st b) not_q (sym (moves b) ∙ flagged) in
+          among_more before.below.items (target ∷ []) b
+          (among_fewer before.below.items before.target b (only b was.1) (λ same. was.0 (sym same ∙ sym h.read.stored.block_is))))
+    ]
 
-  p_found : slice_get st.pages page.block ≡ Some page
-  p_found = found st op honest way page parent new order fits sound at read read_parent ready right_is
+-- a page with downlinks has as many items
+links_count : (items : Items) → HasLinks items → count_of items ≡ length (links_of items)
+links_count Meta h = absurd h
+links_count (Entries v) h = absurd h
+links_count (Downlinks v) h = refl
 
-  pub beside : (right : Option ℕ) (there : Option Page) → parent.right ≡ right → IsRightRead st honest op.session right there
-      → IfSome there (λ old. IsPage old → MayBeMended old → IsBlock fresh → IsPage (record old { left = Some fresh }))
-      → IsBeside st op.session parent.block page.block page.level fresh right (mended_to fresh there)
-  beside None None is h admits = record { mends = rightmost; free = λ rest f. f; apart = λ block rest which a. a; may = λ p at_p m. m }
-  beside None (Some old) is h admits = absurd h.stored
-  beside (Some r) None is h admits = absurd h.stored
-  beside (Some r) (Some old) is h admits = by (neighbour_tells st fits.start (suc op.target.level) (bound_aim op.target.separator) true parent r order.tree q_found
-          (parent_place st op honest way page parent new order fits sound at read read_parent ready right_is)
-          (is_parent st op honest way page parent new order fits sound at read read_parent ready right_is).alive is)
-    where
-      by : IsNeighbour st (suc op.target.level) parent.block r → IsBeside st op.session parent.block page.block page.level fresh (Some r) (mended_to fresh (Some old))
-      by n =
-          let old_found : slice_get st.pages r ≡ Some old = h.found sound in
-          let same : n.page ≡ old = (let k : Some n.page ≡ Some old = sym n.found ∙ old_found in cc) in
-          let old_level : old.level ≡ suc op.target.level = ap (λ (p : Page). p.level) (sym same) ∙ n.level_is in
-          let old_at : old.block ≡ r = h.stored.0.block_is in
-          let old_in = inside st.pages r old old_found in
-          record {
-            mends = neighbour old (record old { left = Some fresh }) old_found old_at refl;
-            free = λ rest f. (subst (λ (b : ℕ). is_held_by_another st.table op.session b Exclusive ≡ false) (sym old_at) h.stored.2, f);
-            apart = λ b rest which a. ((λ same_b. elim which [
-              | inl is_q ↦ n.apart (sym old_at ∙ same_b ∙ is_q)
-              | inr is_fresh ↦ fresh_apart st fresh r old order.tree free_block old_found h.stored.1.in_use (sym old_at ∙ same_b ∙ is_fresh)
-            ]), a);
-            may = λ p at_p m. (
-              record { admitted = admits h.stored.0.storable.admitted h.stored.1 block; few = h.stored.0.storable.few },
-              (omega arith, omega arith),
-              ((λ same_p. levels_differ (let k : Some page ≡ Some old = sym p_found ∙ subst (λ (b : ℕ). slice_get st.pages b ≡ Some old) (sym (sym at_p ∙ same_p ∙ old_at)) old_found in cc) old_level), tt),
-              m);
-          }
-        where
-          levels_differ : page ≡ old → old.level ≡ suc op.target.level → ⊥
-          levels_differ one up = (let a = ready.level_is in let b = ap (λ (p : Page). p.level) one in omega arith)
+apart_append : (b : ℕ) (xs : List Page) (page : Page) → IsApartFrom b xs → page.block ≢ b → IsApartFrom b (xs ++ page ∷ [])
+apart_append b [] page h ne = (ne, tt)
+apart_append b (x ∷ xs) page h ne = (h.0, apart_append b xs page h.1 ne)
 
+-- the page to the right, and the page whose split is finished
+beside_may : (st : State) (session new : ℕ) (link : Option ℕ) (right : Option Page) (clear : Page) → RightIsStored st session link right
+    → AreActable st.limits (length st.pages) (mended_to new right) → IsStorable st.limits clear → clear.block ≤ length st.pages → clear.block < st.limits.pages → link ≢ Some clear.block
+    → AreActable st.limits (length st.pages) (mended_to new right ++ clear ∷ [])
+beside_may st session new None None clear stored may storable low inside differ = (storable, (low, inside), tt, tt)
+beside_may st session new None (Some page) clear stored may storable low inside differ = absurd stored
+beside_may st session new (Some r) None clear stored may storable low inside differ = absurd stored
+beside_may st session new (Some r) (Some page) clear stored may storable low inside differ =
+    (may.0, may.1, ((λ same. differ (ap Some (sym stored.0.block_is ∙ sym same))), tt), (storable, (low, inside), tt, tt))
 
-module _ (st : State) (op : FinishOp) (honest : Bool) (way : Way) (page parent : Page) (new : ℕ) (order : IsInOrder st) (fits : FinishFits st op) (sound : honest ≡ true)
-    (at : op.at ≡ Link way) (read : IsRead st honest op.session op.target.block page) (read_parent : IsRead st honest op.session way.block parent) (ready : IsReadyToLink page parent op op)
-    (right_is : page.right ≡ Some new) (fresh : ℕ) (free_block : IsFresh st fresh) (block : IsBlock fresh) (few : length st.pages ≤ st.limits.pages)
-    (free : is_held_by_another st.table op.session fresh Exclusive ≡ false) (place : ℕ) (put : IsLinkPlace parent page.block op.target.separator place) (full : 4 ≤ length (links_of parent.items))
-    (left half after : Page) (halves : AreHalves parent place new op.target.separator fresh left half) (clear : after ≡ record page { split = false }) (admits : IsPage page → IsPage after)
-    (mended : List Page) (next : IsBeside st op.session parent.block page.block page.level fresh parent.right mended) where
-  after_at : after.block ≡ page.block
-  after_at = ap (λ (p : Page). p.block) clear
+-- the pages of the act may be written
+pub parts_may : (st : State) (session : ℕ) (op : FinishOp) (way : Way) (page parent left half clear : Page) (right : Option Page) (new : ℕ) (order : IsInOrder st) (fits : FinishFits st op) → op.at ≡ Link way
+    → PartsParent st true session op way page parent left half clear right new → length st.pages ≤ st.limits.pages
+    → IsPage left → IsPage half → HasLinks left.items → HasLinks half.items → HasLinks parent.items → 4 ≤ length (links_of parent.items)
+    → length (links_of left.items) ≡ left_count (length (links_of parent.items)) → length (links_of left.items) + length (links_of half.items) ≡ length (links_of parent.items) + 1
+    → IsBlock half.block → IsPage clear → count_of clear.items ≤ st.limits.items → RightIsMendable st parent.right → parent.right ≢ Some parent.block → parent.right ≢ Some page.block
+    → AreActable st.limits (length st.pages) (halves_and left half right clear)
+parts_may st session op way page parent left half clear right new order fits at_is h few left_page half_page left_links half_links parent_links some kept moved block clear_page clear_few mendable apart_q apart_p =
+    let ready = ready_parent parent (suc op.target.level) op.target.separator h.ready.ready in
+    let at_page : page.block ≡ op.target.block = h.read.stored.block_is in
+    let at_parent : parent.block ≡ way.block = h.read_parent.stored.block_is in
+    let found : slice_get st.pages page.block ≡ Some page = subst (λ (b : ℕ). slice_get st.pages b ≡ Some page) (sym at_page) (h.read.found refl) in
+    let found_parent : slice_get st.pages parent.block ≡ Some parent = subst (λ (b : ℕ). slice_get st.pages b ≡ Some parent) (sym at_parent) (h.read_parent.found refl) in
+    let used : page.block < length st.pages = inside st.pages page.block page found in
+    let used_parent : parent.block < length st.pages = inside st.pages parent.block parent found_parent in
+    let alive = (flagged_has page h.read.stored.storable.admitted h.ready.flagged).1 in
+    let beside : RightMay st parent.block half.block right = right_may st session parent.block half.block parent.right right few h.fresh block mendable apart_q h.right_stored in
+    let clear_is : clear.block ≡ page.block = h.clears.block_is in
+    let levels : page.block ≢ parent.block = λ same. two_levels (subst (λ (b : ℕ). slice_get st.pages b ≡ Some parent) (sym same) found_parent) found ready.level_is h.ready.level_is in
+    let all : length (links_of parent.items) ≤ st.limits.items = subst (λ (n : ℕ). n ≤ st.limits.items) (links_count parent.items parent_links) h.read_parent.stored.storable.few in
+    let not_new : page.block ≢ half.block = fresh_apart st half.block page.block page h.fresh found (λ gone. live_not_deleted (sym alive ∙ gone)) in
+    let not_new_parent : parent.block ≢ half.block = fresh_apart st half.block parent.block parent h.fresh found_parent (λ gone. live_not_deleted (sym ready.alive ∙ gone)) in
+    (
+      record { admitted = left_page; few = subst (λ (n : ℕ). n ≤ st.limits.items) (sym (links_count left.items left_links)) (omega (arith, kept, all, some)) },
+      (subst (λ (b : ℕ). b ≤ length st.pages) (sym h.left_block) (omega (arith, used_parent)), subst (λ (b : ℕ). b < st.limits.pages) (sym h.left_block) (omega (arith, used_parent, few))),
+      ((λ same. not_new_parent (sym h.left_block ∙ sym same)),
+      subst (λ (b : ℕ). IsApartFrom b (mended_to half.block right ++ clear ∷ [])) (sym h.left_block)
+      (apart_append parent.block (mended_to half.block right) clear beside.apart (λ same. levels (sym clear_is ∙ same)))),
+      (record { admitted = half_page; few = subst (λ (n : ℕ). n ≤ st.limits.items) (sym (links_count half.items half_links)) (omega (arith, kept, moved, all, some)) },
+      (h.fresh.within, h.fresh.inside),
+      apart_append half.block (mended_to half.block right) clear beside.apart_new (λ same. not_new (sym clear_is ∙ same)),
+      beside_may st session half.block parent.right right clear h.right_stored beside.may (record { admitted = clear_page; few = clear_few })
+      (subst (λ (b : ℕ). b ≤ length st.pages) (sym clear_is) (omega (arith, used))) (subst (λ (b : ℕ). b < st.limits.pages) (sym clear_is) (omega (arith, used, few)))
+      (λ same. apart_p (same ∙ ap Some clear_is))),
+    )
+  where
+    live_not_deleted : Live ≡ Deleted → ⊥
+    live_not_deleted e = cc
+    two_levels : slice_get st.pages page.block ≡ Some parent → slice_get st.pages page.block ≡ Some page → parent.level ≡ suc op.target.level → page.level ≡ op.target.level → ⊥
+    two_levels one two up down =
+        let same : parent ≡ page = (let k : Some parent ≡ Some page = sym one ∙ two in cc) in
+        let levels : suc op.target.level ≡ op.target.level = sym up ∙ ap (λ (x : Page). x.level) same ∙ down in omega arith
 
-  parent_is : IsParent (node_of parent) (suc op.target.level) op.target.separator
-  parent_is = is_parent st op honest way page parent new order fits sound at read read_parent ready right_is
+-- what the parent's right link leads to
+pub record BesideParent (st : State) (page parent : Page) : Type 0 where
+  pub mendable : RightIsMendable st parent.right
+  pub apart_parent : parent.right ≢ Some parent.block
+  pub apart_page : parent.right ≢ Some page.block
 
-  there : slice_get st.pages parent.block ≡ Some parent
-  there = parent_found st op honest way page parent new order fits sound at read read_parent ready right_is
+pub beside_parent : (st : State) (session : ℕ) (honest : Bool) (op : FinishOp) (way : Way) (page parent : Page) (order : IsInOrder st) (fits : FinishFits st op) → op.at ≡ Link way → honest ≡ true
+    → IsRead st honest session op.target.block page → IsRead st honest session way.block parent → IsReadyToLink page parent op op → BesideParent st page parent
+beside_parent st session honest op way page parent order fits at_is kept_model read read_parent ready_to =
+    by parent.right refl
+  where
+    ready : ReadyParent parent (suc op.target.level) op.target.separator
+    ready = ready_parent parent (suc op.target.level) op.target.separator ready_to.ready
+    found : slice_get st.pages page.block ≡ Some page
+    found = subst (λ (b : ℕ). slice_get st.pages b ≡ Some page) (sym read.stored.block_is) (read.found kept_model)
+    found_parent : slice_get st.pages parent.block ≡ Some parent
+    found_parent = subst (λ (b : ℕ). slice_get st.pages b ≡ Some parent) (sym read_parent.stored.block_is) (read_parent.found kept_model)
+    stands : (way.level ≡ suc op.target.level) × IsOnWay st fits.start (bound_aim op.target.separator) true (suc op.target.level) way
+    stands = subst (FinishStands st fits.start op.target) at_is fits.stands
+    place : HasPlace st fits.start (suc op.target.level) (bound_aim op.target.separator) true parent.block
+    place = subst (HasPlace st fits.start (suc op.target.level) (bound_aim op.target.separator) true) (sym read_parent.stored.block_is)
+        (subst (λ (l : ℕ). HasPlace st fits.start l (bound_aim op.target.separator) true way.block) stands.0 stands.1.place)
+    none_some : (b : ℕ) → None ≡ Some b → ⊥
+    none_some b k = cc
+    by : (link : Option ℕ) → parent.right ≡ link → BesideParent st page parent
+    by None is = record {
+      mendable = subst (RightIsMendable st) (sym is) tt;
+      apart_parent = λ k. none_some parent.block (sym is ∙ k);
+      apart_page = λ k. none_some page.block (sym is ∙ k);
+    }
+    by (Some r) is =
+        let n = neighbour_tells st fits.start (suc op.target.level) (bound_aim op.target.separator) true parent r order.tree found_parent place ready.alive is in
+        record {
+          mendable = subst (RightIsMendable st) (sym is) (record { page = n.page; found = n.found; mends = n.mends });
+          apart_parent = λ k. n.apart (some_same r parent.block (sym is ∙ k));
+          apart_page = λ k.
+              let same : n.page ≡ page = (let e : Some n.page ≡ Some page = sym n.found ∙ ap (slice_get st.pages) (some_same r page.block (sym is ∙ k)) ∙ found in cc) in
+              let levels : suc op.target.level ≡ op.target.level = sym n.level_is ∙ ap (λ (x : Page). x.level) same ∙ ready_to.level_is in omega arith;
+        }
+      where
+        some_same : (a b : ℕ) → Some a ≡ Some b → a ≡ b
+        some_same a b k = cc
 
-  here : slice_get st.pages page.block ≡ Some page
-  here = found st op honest way page parent new order fits sound at read read_parent ready right_is
+pub few_parts : (left half clear : Page) (right : Option Page) → length (halves_and left half right clear) ≤ 4
+few_parts left half clear None = omega arith
+few_parts left half clear (Some page) = omega arith
 
-  apart_pages : page.block ≡ parent.block → ⊥
-  apart_pages = two_pages st op honest way page parent new order fits sound at read read_parent ready right_is
-
-  alive : page.state ≡ Live
-  alive = (flagged_has page read.stored.storable.admitted ready.flagged).1
-
-  storable : (p : Page) → IsPage p → HasLinks p.items → length (links_of p.items) ≤ length (links_of parent.items) → IsStorable st.limits p
-  storable p admitted internal fewer = record {
-    admitted = admitted;
-    few = (let a = count_links p.items internal in let b = count_links parent.items put.internal in let c = read_parent.stored.storable.few in omega arith);
-  }
-
-  after_may : AreActable st.limits (length st.pages) (after ∷ [])
-  after_may = (
-    record { admitted = admits read.stored.storable.admitted; few = subst (λ (p : Page). count_of p.items ≤ st.limits.items) (sym clear) read.stored.storable.few },
-    (let a = inside st.pages page.block page here in let b = after_at in (omega arith, omega arith)),
-    tt,
-    tt,
-  )
-
-  pub may_part : MayAct st (halves_of left half mended after)
-  may_part =
-      let q_in = inside st.pages parent.block parent there in
-      let left_at = halves.left_block in
-      let half_at = halves.right_block in
-      let kept = halves.kept in
-      let moved = halves.moved in
-      let count = half_count (length (links_of parent.items)) (omega arith) in
-      let fewer = count.0 in
-      let more = count.1 in
-      (storable left halves.left_page halves.left_internal (omega arith),
-      (omega arith, omega arith),
-      ((λ same. fresh_not_live st fresh parent.block parent order.tree free_block there parent_is.alive (sym left_at ∙ sym same ∙ half_at)),
-        next.apart left.block (after ∷ []) (inl left_at) ((λ same. apart_pages (sym after_at ∙ same ∙ left_at)), tt)),
-      (storable half halves.right_page halves.right_internal (omega arith),
-      (subst (λ (b : ℕ). b ≤ length st.pages) (sym half_at) free_block.within, subst (λ (b : ℕ). b < st.limits.pages) (sym half_at) free_block.inside),
-      next.apart half.block (after ∷ []) (inr half_at) ((λ same. fresh_not_live st fresh page.block page order.tree free_block here alive (sym after_at ∙ same ∙ half_at)), tt),
-      next.may after after_at after_may))
-
-  pub parent_splits : ParentIsSplit st fits.start op.target.level op.target.separator page parent after left half mended new
-  parent_splits = record {
-    unfinished = unfinished st op honest way page parent new order fits sound at read read_parent ready right_is;
-    found = there;
-    place = parent_place st op honest way page parent new order fits sound at read read_parent ready right_is;
-    alive = parent_is.alive;
-    whole = parent_is.whole;
-    links = halves.split.added;
-    added = subst (λ (c : ℕ). IsLinkAdded c new op.target.separator (links_of parent.items) halves.split.added) put.leads halves.split.put;
-    halves = subst (λ (b : ℕ). LinkHalves (node_of parent) parent.block b halves.split.added (node_of left) (node_of half)) (sym halves.right_block) halves.split.halves;
-    left_block = halves.left_block;
-    fresh = subst (IsFresh st) (sym halves.right_block) free_block;
-    mends = subst (λ (b : ℕ). IsMended st b parent.right mended) (sym halves.right_block) next.mends;
-    clear = record { after_is = ap node_of clear; block_is = after_at };
-    may = may_part;
-  }
-
-  changed : List Page
-  changed = halves_of left half mended after
-
-  lasts : TreeLasts st (after_act (halves_of left half mended after) st) × ContentsStay st (after_act (halves_of left half mended after) st)
-  lasts = parent_split_lasts st fits.start op.target.level op.target.separator page parent after left half mended new order.tree parent_splits
-
-  moves : FlagsMove (Some parent.block) (Some page.block) st (after_act (halves_of left half mended after) st)
-  moves = parent_split_flags st fits.start op.target.level op.target.separator page parent after left half mended new order.tree parent_splits
-
-  edit : IsParentSplit (nodes_of st.pages) (nodes_of (with_pages st.pages (halves_of left half mended after))) page.block parent.block half.block
-  edit = parent_edit st fits.start op.target.level op.target.separator page parent after left half mended new order.tree parent_splits
-
-  finishes : FinishesASplit st (after_act (halves_of left half mended after) st)
-  finishes = record {
-    cleared = page.block;
-    was = ap (λ (n : Node). n.split) (node_there st.pages page.block page here) ∙ ready.flagged;
-    raised = Some parent.block;
-    higher = (
-      ap (λ (n : Node). n.split) (node_there st.pages parent.block parent there) ∙ parent_is.whole,
-      ap (λ (n : Node). n.level) edit.halves.left_is ∙ edit.parent_level ∙ ap suc (sym (ap (λ (n : Node). n.level) edit.cleared_is)));
-    moves = moves;
-    less = parent_split_weighs st fits.start op.target.level op.target.separator page parent after left half mended new order.tree parent_splits;
-  }
-
-  free_pages : AreFree st op.session (halves_of left half mended after)
-  free_pages = (
-    subst (λ (b : ℕ). is_held_by_another st.table op.session b Exclusive ≡ false) (sym (halves.left_block ∙ read_parent.stored.block_is)) read_parent.free,
-    (subst (λ (b : ℕ). is_held_by_another st.table op.session b Exclusive ≡ false) (sym halves.right_block) free,
-    next.free (after ∷ []) (subst (λ (b : ℕ). is_held_by_another st.table op.session b Exclusive ≡ false) (sym (after_at ∙ read.stored.block_is)) read.free, tt)))
-
-  pub does_part : Does op.session (Some Shape) st (after_act (halves_of left half mended after) st)
-  does_part = does_finish st op.session (halves_of left half mended after) order may_part lasts.0 lasts.1 finishes free_pages
-
-  abbrev newer : Target
-  newer = record { block = left.block; level = left.level; separator = unwrap_or left.high op.target.separator }
-
-  cut : Bound
-  cut = halves.split.halves.cut
-
-  high_is : left.high ≡ Some cut
-  unfolding cut
-  high_is = ap (λ (n : Node). n.high) halves.split.halves.left_is
-
-  level_is : left.level ≡ suc op.target.level
-  level_is = ap (λ (n : Node). n.level) halves.split.halves.left_is ∙ parent_is.level_is
-
-  new_place : HasPlace (after_act (halves_of left half mended after) st) fits.start (suc op.target.level) (bound_aim cut) true left.block
-  new_place =
-      let q_place = parent_place st op honest way page parent new order fits sound at read read_parent ready right_is in
-      let stays = lasts.0.places fits.start (suc op.target.level) (bound_aim op.target.separator) true parent.block (record { session = op.session; is = fits.running }) (bound_falls op.target.separator) q_place in
-      high_tells (after_act (halves_of left half mended after) st) fits.start (suc op.target.level) (bound_aim op.target.separator) true left cut lasts.0.has
-          (pages_first st.limits (length st.pages) st.pages left (half ∷ mended ++ after ∷ []) may_part (omega arith))
-          (subst (HasPlace (after_act (halves_of left half mended after) st) fits.start (suc op.target.level) (bound_aim op.target.separator) true) (sym halves.left_block) stays)
-          (ap (λ (n : Node). n.state) halves.split.halves.left_is) high_is
-
-  is_target : IsTarget (after_act (halves_of left half mended after) st) fits.start (length op.below.items) newer
-  is_target = record {
-    high_enough = (let a = fits.newest.high_enough in let b = level_is in omega arith);
-    place = subst (λ (n : ℕ). HasPlace (after_act (halves_of left half mended after) st) fits.start n (bound_aim (unwrap_or left.high op.target.separator)) true left.block) (sym level_is)
-        (subst (λ (h : Option Bound). HasPlace (after_act (halves_of left half mended after) st) fits.start (suc op.target.level) (bound_aim (unwrap_or h op.target.separator)) true left.block) (sym high_is) new_place);
-  }
-
-  pub flags_part : OnlyTargetsAreFlagged st (targets_of op) → OnlyTargetsAreFlagged (after_act (halves_of left half mended after) st) (op.below.items ++ newer ∷ [])
-  flags_part h b k = by (raised_or (b == parent.block) (b == page.block) (is_flagged st b) (sym (moves b) ∙ k))
-    where
-      by : ((b == parent.block) ≡ true) ⊎ (((b == page.block) ≡ false) × (is_flagged st b ≡ true)) → is_among_targets (op.below.items ++ newer ∷ []) b ≡ true
-      by (inl is_q) = among_last op.below.items newer b (halves.left_block ∙ sym (eqb-true b parent.block is_q))
-      by (inr was) = among_more op.below.items (newer ∷ []) b
-          (among_fewer op.below.items op.target b (h b was.1) (λ same. true_false (sym (eq-eqb b page.block (sym (read.stored.block_is ∙ same))) ∙ was.0)))
-
-  pub parts : (old_backing new_backing : Backing)
-      → FinishStepped st old_backing (after_act (halves_of left half mended after) st) new_backing op
-          (record op { target = record { block = left.block; level = left.level; separator = unwrap_or left.high op.target.separator }; at = Start }) (Ok Going)
-  parts old_backing new_backing = record {
-    effect = Some Shape;
-    shapes = inr refl;
-    does = does_part;
-    table = refl;
-    fits = record {
-      session = fits.session;
-      free = fits.free;
-      start = fits.start;
-      running = fits.running;
-      newest = is_target;
-      below = λ i t is. target_lasts st (after_act (halves_of left half mended after) st) op.session fits.start i t fits.running lasts.0 (fits.below i t is);
-      stands = tt;
-    };
-    flags = flags_part;
-  }
+-- the split as it is made: of the parent that has a downlink to the page
+pub split_as_read : (parent : Page) (fresh child page new : ℕ) (separator : Bound) (left half : Page) → child ≡ page → half.block ≡ fresh
+    → LinkSplit (node_of parent) parent.block fresh child new separator (node_of left) (node_of half)
+    → LinkSplit (node_of parent) parent.block half.block page new separator (node_of left) (node_of half)
+split_as_read parent fresh child page new separator left half leads is_new h =
+    subst (λ (b : ℕ). LinkSplit (node_of parent) parent.block b page new separator (node_of left) (node_of half)) (sym is_new)
+    (subst (λ (c : ℕ). LinkSplit (node_of parent) parent.block fresh c new separator (node_of left) (node_of half)) leads h)

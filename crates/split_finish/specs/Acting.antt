@@ -18,7 +18,6 @@ use Rattle.tree_shape.specs.LinkPlaces.{HasLinks, FitsBehind, child_at}
 use Rattle.tree_shape.specs.Nodes.{node_of, links_of}
 use Rattle.tree_acts.specs.Acts.{IsClear}
 use Rattle.descent.specs.Shared.{IsInOrder, IsOneStep}
-use Rattle.descent.specs.Splitting.{RightIsFound, RightIsStored}
 use Rattle.split_finish.specs.Targets.{FinishFits, finish_left, walk_length}
 use Rattle.split_finish.specs.Finishes.{FinishStays, FinishStepped}
 use Rattle.split_finish.specs.declared.finish.FinishOp.{FinishOp}
@@ -79,21 +78,6 @@ pub record IsRead (st : State) (honest : Bool) (session block : ℕ) (page : Pag
   pub found : honest ≡ true → slice_get st.pages block ≡ Some page
   pub stored : IsStored st.limits block page
   pub free : is_held_by_another st.table session block Exclusive ≡ false
-
--- the page to the right, if there is one, as it was read to have its left link mended
-pub record IsRightRead (st : State) (honest : Bool) (session : ℕ) (right : Option ℕ)
-    (page : Option Page) : Type 0 where
-  pub found : honest ≡ true → RightIsFound st right page
-  pub stored : RightIsStored st session right page
-
--- the page, if there is one, as a list
-abbrev pub list_of : Option Page → List Page
-list_of None = []
-list_of (Some page) = page ∷ []
-
--- the pages of an act that splits a parent
-abbrev pub halves_of : Page → Page → List Page → Page → List Page
-halves_of left half mended page = left ∷ half ∷ mended ++ page ∷ []
 
 -- What the part of a step does that stands behind its readings: what a step does, but that the log may have stopped before.
 pub record FinishActs {S : Type 0} (g : Ghosts S) (before after : FinishOp) (old new : S)

@@ -8,6 +8,7 @@ mod root;
 mod turns;
 
 pub use finish::{FinishAt, FinishOp, FinishStep, Target};
+pub use parent::half_to_finish;
 
 #[cfg(test)]
 mod tests;

@@ -4,3 +4,7 @@ pub mod Ways
 pub mod Walking
 pub mod Meeting
 pub mod Taking
+pub mod Halving
+pub mod Adding
+pub mod Splitting
+pub mod Ending

@@ -4,15 +4,17 @@ ghost use Rattle.std.specs.Prelude.{◌≡◌, Err, Ok, Some, None, IfSome, IfNo
 ghost use Rattle.latch_table.specs.Holdings.{HasRoom, latched, pinned};
 ghost use Rattle.page_action.specs.States.{Continues, with_table};
 ghost use Rattle.tree_insert.specs.Inserts.{InsertSteps, AnswersStopped};
-ghost use Rattle.tree_insert.specs.Turns.{Meets, Takes};
+ghost use Rattle.split_finish.specs.Finishes.{FinishSteps};
+ghost use Rattle.tree_insert.specs.Turns.{Meets, Takes, IsFinishing, GoesOn, Leaves};
 
+use crate::room::place_in;
 use descent::{Onward, Way, lead, look, way_down};
 use index_model::{Entry, Fault, Session};
 use latch_table::Mode;
 use page_action::PageStore;
 use page_codec::{Page, PageState};
 use split_finish::{FinishOp, FinishStep, Target};
-use tree_shape::{Aim, may_hold};
+use tree_shape::{Aim, entries_on, may_hold};
 
 /// Where an insert is between its steps.
 #[derive(Drop)]
@@ -188,16 +190,71 @@ impl InsertOp {
         requires alive { (S.backing store.old).stopped ≡ false }
         ensures { InsertSteps S.PageStore self.old self.new store.old store.new result }
     {
-        Err(Fault::PageDamaged(block))
+        let page = match store.page(block) {
+            Ok(page) => page,
+            Err(fault) => return Err(fault),
+        };
+        let at = match place_in(&page, &self.entry) {
+            Ok(at) => at,
+            Err(fault) => return Err(fault),
+        };
+        if entries_on(&page).len() < store.limits().items as usize {
+            self.put(store, page, at)
+        } else {
+            self.split(store, page, at)
+        }
     }
 
     // Makes a step by which splits are finished.
     fn finish<S: PageStore>(&mut self, store: &mut S) -> Result<InsertStep, Fault>
+        requires at { IsFinishing self.old.at }
         requires alive { (S.backing store.old).stopped ≡ false }
         ensures { InsertSteps S.PageStore self.old self.new store.old store.new result }
     {
-        Err(Fault::Stopped)
+        let InsertAt::Finishing(op) = &mut self.at else {
+            return Err(Fault::PageDamaged(0));
+        };
+        match finish_step(op, store) {
+            Ok(FinishStep::Going) => Ok(InsertStep::Going),
+            Ok(FinishStep::Done) => Ok(self.go_on()),
+            Err(fault) => self.leave(fault),
+        }
     }
+
+    // Nothing is left to finish: the insert is over, or starts again.
+    fn go_on(&mut self) -> InsertStep
+        ensures { GoesOn self.old self.new result }
+    {
+        match self.added {
+            Some(action) => InsertStep::Added {
+                action,
+                unfinished: None,
+            },
+            None => {
+                self.at = InsertAt::Start;
+                InsertStep::Going
+            }
+        }
+    }
+
+    // A split can't be finished: where the entry is logged, the insert is over all the same, but for a page that is blocked.
+    fn leave(&self, fault: Fault) -> Result<InsertStep, Fault>
+        ensures { Leaves self.now.added fault result }
+    {
+        match self.added {
+            Some(action) if !matches!(fault, Fault::Blocked(_)) => Ok(InsertStep::Added {
+                action,
+                unfinished: Some(fault),
+            }),
+            _ => Err(fault),
+        }
+    }
+}
+
+fn finish_step<S: PageStore>(op: &mut FinishOp, store: &mut S) -> Result<FinishStep, Fault>
+    ensures { FinishSteps S.PageStore op.old op.new store.old store.new result }
+{
+    Err(Fault::Stopped)
 }
 
 // Whether it is a live page whose split is to be finished.

@@ -1,0 +1,73 @@
+-- The page to the right of one that is split, with its left link mended; and a block that is free.
+use Rattle.std.proofs.Common.{◌≡◌, ◌≢◌, ◌⊎◌, ℕ, zero, suc, ◌+◌, ◌<◌, ◌≤◌, Bool, true, false, Option, Some, None, List, [], ◌∷◌, ◌++◌, length, slice_get, refl, sym, ap, subst, inl, inr, ◌∙◌, arith}
+use Rattle.std.proofs.lemmas.Bool.{and_parts}
+use Rattle.index_model.specs.declared.entry.Entry.{Entry}
+use Rattle.page_codec.specs.Grammar.{IsBlock, IsPage, IsOfKind, IsLeafIn}
+use Rattle.page_codec.specs.declared.page.Items.{Items}
+use Rattle.page_codec.specs.declared.page.Items.TheVariants.{Meta, Entries, Downlinks}
+use Rattle.page_codec.specs.declared.page.Page.{Page}
+use Rattle.page_codec.specs.declared.page.PageState.{PageState}
+use Rattle.page_codec.specs.declared.page.PageState.TheVariants.{Live, HalfDead, Deleted}
+use Rattle.page_action.specs.Reuse.{IsFresh, is_deleted, is_deleted_page, is_deleted_state}
+use Rattle.page_action.specs.States.{State}
+use Rattle.page_action.specs.Stored.{IsApartFrom, AreActable}
+use Rattle.tree_shape.specs.Mending.{MayBeMended}
+use Rattle.tree_acts.proofs.Overlays.{inside}
+use Rattle.descent.specs.Splitting.{RightIsMendable, RightIsStored, mended_to}
+
+-- a page of the format stays one with another left link
+pub mended_page : (page : Page) (left : ℕ) → IsPage page → MayBeMended page → IsBlock left → IsPage (record page { left = Some left })
+mended_page page left admitted mends block = record {
+  cycle = admitted.cycle;
+  deletion = admitted.deletion;
+  left = block;
+  right = admitted.right;
+  high = admitted.high;
+  kind = by page.items refl admitted.kind;
+}
+  where
+    leaf : (s : PageState) → page.state ≡ s → (es : List Entry) → IsLeafIn s page es → IsLeafIn s (record page { left = Some left }) es
+    leaf Live is es h = record { deletion = h.deletion; high = h.high; split = h.split; entries = h.entries }
+    leaf HalfDead is es h = record { deletion = h.deletion; high = h.high; right = h.right; split = h.split; entries = h.entries }
+    leaf Deleted is es h = absurd (mends.in_use is)
+    by : (items : Items) → page.items ≡ items → IsOfKind page items → IsOfKind (record page { left = Some left }) items
+    by Meta is h = absurd (mends.no_meta is)
+    by (Entries v) is h = record { block = h.block; level = h.level; count = h.count; rest = leaf page.state refl v.items h.rest }
+    by (Downlinks v) is h = record { block = h.block; level = h.level; state = h.state; high = h.high; split = h.split; cycle = h.cycle; deletion = h.deletion; count = h.count; first = h.first; links = h.links }
+
+true_false : true ≡ false → ⊥
+true_false h = cc
+
+not_deleted : (state : PageState) → state ≢ Deleted → is_deleted_state state ≡ true → ⊥
+not_deleted Live ne h = true_false (sym h)
+not_deleted HalfDead ne h = true_false (sym h)
+not_deleted Deleted ne h = ne refl
+
+-- a block for a new page is none of a page that is in use and not deleted
+pub fresh_apart : (st : State) (new block : ℕ) (page : Page) → IsFresh st new → slice_get st.pages block ≡ Some page → page.state ≢ Deleted → block ≢ new
+fresh_apart st new block page fresh found in_use same =
+    let used : new < length st.pages = subst (λ (b : ℕ). b < length st.pages) same (inside st.pages block page found) in
+    let gone : is_deleted st.pages new ≡ true = (and_parts (is_deleted st.pages new) _ (fresh.reusable used)).0 in
+    not_deleted page.state in_use (sym (ap is_deleted_page (sym (ap (slice_get st.pages) same) ∙ found)) ∙ gone)
+
+-- what is needed of the page to the right, whose left link is mended
+pub record RightMay (st : State) (block new : ℕ) (right : Option Page) : Type 0 where
+  pub apart : IsApartFrom block (mended_to new right)
+  pub apart_new : IsApartFrom new (mended_to new right)
+  pub may : AreActable st.limits (length st.pages) (mended_to new right)
+
+pub right_may : (st : State) (session block new : ℕ) (link : Option ℕ) (right : Option Page) → length st.pages ≤ st.limits.pages → IsFresh st new → IsBlock new
+    → RightIsMendable st link → link ≢ Some block → RightIsStored st session link right → RightMay st block new right
+right_may st session block new None None few fresh is_block mendable apart stored = record { apart = tt; apart_new = tt; may = tt }
+right_may st session block new None (Some page) few fresh is_block mendable apart stored = absurd stored
+right_may st session block new (Some r) None few fresh is_block mendable apart stored = absurd stored
+right_may st session block new (Some r) (Some page) few fresh is_block mendable apart stored =
+    let used : r < length st.pages = inside st.pages r mendable.page mendable.found in
+    let at_r : page.block ≡ r = stored.0.block_is in
+    record {
+      apart = (λ same. apart (ap Some (sym at_r ∙ same)), tt);
+      apart_new = (λ same. fresh_apart st new r mendable.page fresh mendable.found mendable.mends.in_use (sym at_r ∙ same), tt);
+      may = (record { admitted = mended_page page new stored.0.storable.admitted stored.1 is_block; few = stored.0.storable.few },
+      (omega (arith, at_r, used), omega (arith, at_r, used, few)), tt, tt);
+    }
+

@@ -1,0 +1,11 @@
+use Rattle.std.proofs.Common.{rules, ◌≡◌, Option, length, sym, subst}
+use Rattle.std.specs.Prelude.{OnOk}
+use Rattle.page_codec.specs.declared.page.Page.{Page}
+use Rattle.page_action.specs.Stored.{AreActable}
+use Rattle.split_finish.specs.Parting.{halves_and}
+use Rattle.split_finish.proofs.parent.act_on_halves.Goals as goal
+
+pub returns-in-None-clause-may : goal.returns-in-None-clause-may
+returns-in-None-clause-may g c =
+    let st = g.S.PageStore.state c.args.store.now in
+    subst (λ (right : Option Page). OnOk c.act_on.result (AreActable st.limits (length st.pages) (halves_and c.args.left c.args.half right c.args.page))) (sym c.in-None.is) c.act_on.ensures.may
