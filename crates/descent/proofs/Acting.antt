@@ -32,9 +32,9 @@ true_false h = cc
 pub apart_from_held : (st : State) (session other block : ℕ) (changed : List Page) → other ≢ session → HoldsAlone st.table other block → AreFree st session changed → IsApartFrom block changed
 apart_from_held st session other block [] differ alone free = tt
 apart_from_held st session other block (page ∷ changed) differ alone free = (
-    (λ same. true_false (sym (any_excluded (holding_of st.table other).latches page.block Exclusive (subst (λ (b : ℕ). HoldsAlone st.table other b) (sym same) alone))
-        ∙ free_of st.table session page.block Exclusive other differ free.0)),
-    apart_from_held st session other block changed differ alone free.1,
+  (λ same. true_false (sym (any_excluded (holding_of st.table other).latches page.block Exclusive (subst (λ (b : ℕ). HoldsAlone st.table other b) (sym same) alone))
+      ∙ free_of st.table session page.block Exclusive other differ free.0)),
+  apart_from_held st session other block changed differ alone free.1,
 )
 
 -- the numbers that a call keeps stay good over an act that lasts

@@ -1,5 +1,5 @@
 -- Where a page leads a call, in a tree.
-use Rattle.std.proofs.Common.{◌≡◌, ◌≢◌, ◌⊎◌, ℕ, zero, suc, ◌<◌, ◌≤◌, Bool, true, false, slice_get, length, Option, Some, None, refl, sym, subst, ◌∙◌, arith}
+use Rattle.std.proofs.Common.{◌≡◌, ◌≢◌, ◌⊎◌, inl, inr, ℕ, zero, suc, ◌<◌, ◌≤◌, Bool, true, false, slice_get, length, Option, Some, None, refl, sym, ap, subst, ◌∙◌, arith}
 use Rattle.std.proofs.lemmas.Bool.{lt-ltb}
 use Rattle.page_codec.specs.Grammar.{Ascends, LinkBefore, StartsLow, IsPage, IsOfKind}
 use Rattle.page_codec.specs.declared.page.Items.{Items}
@@ -9,14 +9,18 @@ use Rattle.page_codec.specs.declared.page.PageState.TheVariants.{Live}
 use Rattle.page_action.specs.States.{State}
 use Rattle.page_action.proofs.StoredPages.{stored_page}
 use Rattle.tree_shape.specs.Aims.{aim_of, IsToward}
-use Rattle.tree_shape.specs.Nodes.{links_of}
+use Rattle.tree_shape.specs.Nodes.{Node, node_of, node_from, nodes_of, links_of}
+use Rattle.tree_shape.specs.Chains.{first_spot}
+use Rattle.tree_shape.proofs.Places.{IsCoverAt, cover_at}
 use Rattle.tree_shape.specs.Walks.{is_within}
 use Rattle.tree_shape.specs.declared.aim.Aim.{Aim}
 use Rattle.tree_acts.specs.Trees.{HasTree, HasPlace, HasCover, HasTrail}
-use Rattle.tree_acts.specs.Ways.{RightIsThere, IsArrival}
-use Rattle.tree_acts.proofs.Telling.{passed_tells, live_tells, internal_tells, trail_begins_here, trail_goes_right, trail_is_short_here}
+use Rattle.tree_acts.specs.Ways.{RightIsThere, IsArrival, AreWhole}
+use Rattle.tree_acts.proofs.Telling.{passed_tells, live_tells, internal_tells, straight_tells, trail_begins_here, trail_goes_right, trail_is_short_here}
 use Rattle.tree_acts.proofs.Finishing.{covered}
-use Rattle.descent.specs.Onward.{IsOnWay, LeadsOnward, right_from, right_of, going, DownTo}
+use Rattle.tree_acts.proofs.Lasting.{on_level}
+use Rattle.tree_acts.proofs.Words.{cover_in}
+use Rattle.descent.specs.Onward.{IsOnWay, LeadsOnward, LeadsStraight, right_from, right_of, going, DownTo}
 use Rattle.descent.specs.declared.way.Way.{Way}
 
 -- an internal page of the format has downlinks that ascend from minus infinity
@@ -90,3 +94,58 @@ module _ (st : State) (start : ℕ) (clear : Bool) (aim : Aim) (to most : ℕ) (
             place = place;
             trail = subst (HasTrail st start child.level child.block) (sym down.1) (trail_begins_here st start child.level (aim_of aim) clear child.block h place);
           }
+
+-- where no page is flagged, from a page that covers what is looked for
+module _ (st : State) (aim : Aim) (to : ℕ) (page : Page) (way : Way) (h : HasTree st) (whole : AreWhole st.pages) (found : slice_get st.pages way.block ≡ Some page)
+    (cover : HasCover st way.level (aim_of aim) way.block) where
+  cover_block : page.block ≡ way.block
+  cover_block = (stored_page st.limits way.block st.pages page h.stored found).block_is
+
+  cover_found : slice_get st.pages page.block ≡ Some page
+  cover_found = subst (λ (b : ℕ). slice_get st.pages b ≡ Some page) (sym cover_block) found
+
+  here : nodes_of st.pages way.block ≡ node_of page
+  here = ap node_from found
+
+  at_cover : IsCoverAt (nodes_of st.pages) first_spot (h.tree.chain way.level) (aim_of aim) way.block
+  at_cover = cover_at (nodes_of st.pages) first_spot (h.tree.chain way.level) (aim_of aim) way.block (cover_in st h.tree way.level (aim_of aim) way.block cover).covers
+
+  tall : way.level ≤ h.tree.meta.level
+  tall = (cover_in st h.tree way.level (aim_of aim) way.block cover).in_tree
+
+  -- it is on its level, and isn't passed
+  pub covers_on_level : page.level ≢ way.level → ⊥
+  covers_on_level ne =
+      let w = covered st h.tree way.level (aim_of aim) way.block cover in
+      ne (sym (ap (λ (n : Node). n.level) here) ∙ on_level st h.tree way.level way.block w.0 w.1)
+
+  pub covers_not_passed : (page.state ≢ Live) ⊎ (is_within (aim_of aim) page.high ≡ false) → ⊥
+  covers_not_passed (inl dead) = dead (sym (ap (λ (n : Node). n.state) here) ∙ at_cover.alive)
+  covers_not_passed (inr out) = no (sym (sym (ap (λ (n : Node). is_within (aim_of aim) n.high) here) ∙ at_cover.within) ∙ out)
+    where
+      no : true ≡ false → ⊥
+      no e = cc
+
+  links_there : (level : ℕ) → way.level ≡ suc level → Ascends LinkBefore (links_of page.items) × StartsLow (links_of page.items)
+  links_there level is =
+      let w = covered st h.tree way.level (aim_of aim) way.block cover in
+      let above : 0 < page.block = subst (λ (b : ℕ). 0 < b) (sym cover_block) (h.tree.is.in_use way.level way.block w.0 w.1).0 in
+      internal_links page level (stored_page st.limits way.block st.pages page h.stored found).storable.admitted
+      (sym (ap (λ (n : Node). n.level) here) ∙ on_level st h.tree way.level way.block w.0 w.1 ∙ is) above
+
+  pub leads_straight_down : to < way.level → (r : Option Way) → DownTo page way aim r → LeadsStraight st (aim_of aim) to way (going r)
+  leads_straight_down lower r down = by way.level refl r down
+    where
+      by : (level : ℕ) → way.level ≡ level → (r : Option Way) → DownTo page way aim r → LeadsStraight st (aim_of aim) to way (going r)
+      by zero is r down = absurd (omega arith)
+      by (suc level) is None down = (let l = links_there level is in absurd (down l.0 l.1))
+      by (suc level) is (Some child) down =
+          let l = links_there level is in
+          let t : IsToward (links_of page.items) (aim_of aim) child.block = down.2 l.0 l.1 in
+          let same : child.level ≡ level = (let a = down.0 in omega arith) in (
+            down.0,
+            subst (λ (k : ℕ). HasCover st k (aim_of aim) child.block) (sym same)
+                (straight_tells st level (aim_of aim) page h whole cover_found
+                (subst (λ (b : ℕ). HasCover st (suc level) (aim_of aim) b) (sym cover_block) (subst (λ (k : ℕ). HasCover st k (aim_of aim) way.block) is cover))
+                t.before t.bound child.block t.after t.links_are t.beyond t.up_to_next),
+          )

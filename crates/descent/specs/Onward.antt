@@ -71,3 +71,11 @@ LeavesLess to most way None = Unit {0}
 pub record IsArrived (page : Page) (aim : Bound → Bool) : Type 0 where
   pub alive : page.state ≡ Live
   pub within : is_within aim page.high ≡ true
+
+-- where no page is flagged, a page that covers what is looked for leads down at once to one that
+-- does too
+abbrev pub LeadsStraight : State → (Bound → Bool) → ℕ → Way → Option Onward → Type 0
+LeadsStraight st aim to way (Some (Going on)) =
+    (suc on.level ≡ way.level) × HasCover st on.level aim on.block
+LeadsStraight st aim to way (Some Here) = way.level ≡ to
+LeadsStraight st aim to way None = ⊥

@@ -5,8 +5,9 @@ ghost use Rattle.page_action.specs.States.{State};
 ghost use Rattle.tree_shape.specs.Aims.{aim_of};
 ghost use Rattle.tree_shape.specs.Tree.{IsMetaOf};
 ghost use Rattle.tree_shape.specs.Walks.{is_within};
-ghost use Rattle.tree_acts.specs.Trees.{HasTree};
-ghost use Rattle.descent.specs.Onward.{IsOnWay, LeadsOnward, LeavesLess, IsArrived, way_from, right_of, going, DownTo};
+ghost use Rattle.tree_acts.specs.Trees.{HasTree, HasCover};
+ghost use Rattle.tree_acts.specs.Ways.{AreWhole};
+ghost use Rattle.descent.specs.Onward.{IsOnWay, LeadsOnward, LeavesLess, LeadsStraight, IsArrived, way_from, right_of, going, DownTo};
 
 use page_codec::{Items, Page, PageState};
 use tree_shape::{Aim, child_toward};
@@ -119,6 +120,10 @@ pub fn lead(page: &Page, way: &Way, aim: &Aim, to: u8, most: u32) -> Option<Onwa
         → (clear ≡ true → page.now.split ≡ false) → length st.pages ≤ most
         → LeadsOnward st start (aim_of aim.now) clear to way.now result }
     ensures less { LeavesLess to most way.now result }
+    ensures straight { (st : State) → HasTree st → AreWhole st.pages
+        → slice_get st.pages way.now.block ≡ Some page.now
+        → HasCover st way.now.level (aim_of aim.now) way.now.block
+        → LeadsStraight st (aim_of aim.now) to way.now result }
     ensures here { result ≡ Some Onward.Here → IsArrived page.now (aim_of aim.now) }
     ensures level { result ≡ Some Onward.Here → page.now.level ≡ to }
 {

@@ -2,7 +2,7 @@
 use Rattle.std.proofs.Common.{◌≡◌, ◌≢◌, ℕ, zero, suc, ◌+◌, ◌*◌, ◌<◌, ◌≤◌, true, false, Some, None, Option, List, length, set, replicate, refl, sym, ap, subst, inl, inr, ◌∙◌, arith}
 use Rattle.std.proofs.lemmas.Bool.{cases_lt, leb-true, leb-false, le-leb, lt-leb}
 use Rattle.std.proofs.lemmas.List.{get_or-set_other, get_or-set_same}
-use Rattle.free_blocks.specs.Numbers.{number_at, least, is_at_most}
+use Rattle.free_blocks.specs.Numbers.{number_at, lesser, is_at_most}
 use Rattle.free_blocks.specs.Tree.{leftmost, IsWinner, AreWinners}
 
 pub leftmost-double : (node levels : ℕ) → 2 * leftmost node levels ≡ leftmost (2 * node) levels
@@ -18,22 +18,25 @@ leftmost-least zero node = omega arith
 leftmost-least (suc levels) node = omega (arith, leftmost-least levels (2 * node))
 
 -- a number that is at most this, is so at the winner, and only then
-first_beyond : (most : ℕ) (a b : Option ℕ) → is_at_most most (least a b) ≡ false → is_at_most most a ≡ false
+first_beyond : (most a b : Option ℕ) → is_at_most most (lesser a b) ≡ false → is_at_most most a ≡ false
 first_beyond most None b h = refl
 first_beyond most (Some a) None h = h
-first_beyond most (Some a) (Some b) h = lt-leb a most (omega (arith, leb-false _ _ h))
+first_beyond None (Some a) (Some b) h = absurd cc
+first_beyond (Some most) (Some a) (Some b) h = lt-leb a most (omega (arith, leb-false _ _ h))
 
-second_beyond : (most : ℕ) (a b : Option ℕ) → is_at_most most (least a b) ≡ false → is_at_most most b ≡ false
+second_beyond : (most a b : Option ℕ) → is_at_most most (lesser a b) ≡ false → is_at_most most b ≡ false
 second_beyond most None b h = h
 second_beyond most (Some a) None h = refl
-second_beyond most (Some a) (Some b) h = lt-leb b most (omega (arith, leb-false _ _ h))
+second_beyond None (Some a) (Some b) h = absurd cc
+second_beyond (Some most) (Some a) (Some b) h = lt-leb b most (omega (arith, leb-false _ _ h))
 
-pub second_at_most : (most : ℕ) (a b : Option ℕ) → is_at_most most (least a b) ≡ true → is_at_most most a ≡ false → is_at_most most b ≡ true
+pub second_at_most : (most a b : Option ℕ) → is_at_most most (lesser a b) ≡ true → is_at_most most a ≡ false → is_at_most most b ≡ true
 second_at_most most None b h not = h
 second_at_most most (Some a) None h not = absurd cc
-second_at_most most (Some a) (Some b) h not = le-leb b most (omega (arith, leb-true _ _ h, leb-false a most not))
+second_at_most None (Some a) (Some b) h not = absurd cc
+second_at_most (Some most) (Some a) (Some b) h not = le-leb b most (omega (arith, leb-true _ _ h, leb-false a most not))
 
-module _ (tree : List (Option ℕ)) (size most : ℕ) (winners : AreWinners size tree) where
+module _ (tree : List (Option ℕ)) (size : ℕ) (most : Option ℕ) (winners : AreWinners size tree) where
   -- no block below a node whose number is beyond is at most this
   pub beyond_under : (levels node block : ℕ) → 1 ≤ node → is_at_most most (number_at tree node) ≡ false
       → leftmost node levels ≤ block → block < leftmost (node + 1) levels → block < 2 * size
@@ -52,26 +55,26 @@ module _ (tree : List (Option ℕ)) (size most : ℕ) (winners : AreWinners size
       ]
 
 -- the lowest block whose number is at most this stands so many levels under the node
-pub record LeadsToLowest (tree : List (Option ℕ)) (size most node levels : ℕ) : Type 0 where
+pub record LeadsToLowest (tree : List (Option ℕ)) (size : ℕ) (most : Option ℕ) (node levels : ℕ) : Type 0 where
   pub from : size ≤ leftmost node levels
   pub to : leftmost (node + 1) levels ≤ 2 * size
   pub lower : (block : ℕ) → size ≤ block → block < leftmost node levels → is_at_most most (number_at tree block) ≡ false
 
-pub root_leads : (tree : List (Option ℕ)) (size most depth : ℕ) → size ≡ leftmost 1 depth → LeadsToLowest tree size most 1 depth
+pub root_leads : (tree : List (Option ℕ)) (size : ℕ) (most : Option ℕ) (depth : ℕ) → size ≡ leftmost 1 depth → LeadsToLowest tree size most 1 depth
 root_leads tree size most depth full = record {
   from = omega (arith, full);
   to = omega (arith, full, leftmost-double 1 depth);
   lower = λ block from to. absurd (omega (arith, full));
 }
 
-pub left_leads : (tree : List (Option ℕ)) (size most node levels : ℕ) → LeadsToLowest tree size most node (suc levels) → LeadsToLowest tree size most (2 * node) levels
+pub left_leads : (tree : List (Option ℕ)) (size : ℕ) (most : Option ℕ) (node levels : ℕ) → LeadsToLowest tree size most node (suc levels) → LeadsToLowest tree size most (2 * node) levels
 left_leads tree size most node levels h = record {
   from = h.from;
   to = omega (arith, h.to, leftmost-more levels (2 * node + 1) (2 * (node + 1)) (omega arith));
   lower = h.lower;
 }
 
-pub right_leads : (tree : List (Option ℕ)) (size most node levels : ℕ) → AreWinners size tree → 1 ≤ node
+pub right_leads : (tree : List (Option ℕ)) (size : ℕ) (most : Option ℕ) (node levels : ℕ) → AreWinners size tree → 1 ≤ node
     → is_at_most most (number_at tree (2 * node)) ≡ false
     → LeadsToLowest tree size most node (suc levels) → LeadsToLowest tree size most (2 * node + 1) levels
 right_leads tree size most node levels winners one beyond h =
@@ -91,16 +94,16 @@ right_leads tree size most node levels winners one beyond h =
 pub winner_stays : (tree : List (Option ℕ)) (at : ℕ) (number : Option ℕ) (node : ℕ) → node ≢ at → 2 * node ≢ at → 2 * node + 1 ≢ at → IsWinner tree node → IsWinner (set tree at number) node
 winner_stays tree at number node not_it not_left not_right h =
     get_or-set_other tree at node number None not_it ∙ h
-    ∙ ap (λ (a : Option ℕ). least a (number_at tree (2 * node + 1))) (sym (get_or-set_other tree at (2 * node) number None not_left))
-    ∙ ap (λ (b : Option ℕ). least (number_at (set tree at number) (2 * node)) b) (sym (get_or-set_other tree at (2 * node + 1) number None not_right))
+    ∙ ap (λ (a : Option ℕ). lesser a (number_at tree (2 * node + 1))) (sym (get_or-set_other tree at (2 * node) number None not_left))
+    ∙ ap (λ (b : Option ℕ). lesser (number_at (set tree at number) (2 * node)) b) (sym (get_or-set_other tree at (2 * node + 1) number None not_right))
 
 -- what is put at a node is there; what stands under it is as it was
 pub winner_put : (tree : List (Option ℕ)) (node : ℕ) (number : Option ℕ) → 1 ≤ node → node < length tree
-    → number ≡ least (number_at tree (2 * node)) (number_at tree (2 * node + 1)) → IsWinner (set tree node number) node
+    → number ≡ lesser (number_at tree (2 * node)) (number_at tree (2 * node + 1)) → IsWinner (set tree node number) node
 winner_put tree node number one inside is =
     get_or-set_same tree node number None inside ∙ is
-    ∙ ap (λ (a : Option ℕ). least a (number_at tree (2 * node + 1))) (sym (get_or-set_other tree node (2 * node) number None (λ e. omega (arith, e))))
-    ∙ ap (λ (b : Option ℕ). least (number_at (set tree node number) (2 * node)) b) (sym (get_or-set_other tree node (2 * node + 1) number None (λ e. omega (arith, e))))
+    ∙ ap (λ (a : Option ℕ). lesser a (number_at tree (2 * node + 1))) (sym (get_or-set_other tree node (2 * node) number None (λ e. omega (arith, e))))
+    ∙ ap (λ (b : Option ℕ). lesser (number_at (set tree node number) (2 * node)) b) (sym (get_or-set_other tree node (2 * node + 1) number None (λ e. omega (arith, e))))
 
 none_in : (n node : ℕ) → number_at (replicate n None) node ≡ None
 none_in zero node = refl
@@ -109,4 +112,4 @@ none_in (suc n) (suc node) = none_in n node
 
 -- where no node has a number, each is a winner
 pub none_winners : (size n : ℕ) → AreWinners size (replicate n None)
-none_winners size n = λ node one small. none_in n node ∙ sym (ap (λ (a : Option ℕ). least a (number_at (replicate n None) (2 * node + 1))) (none_in n (2 * node)) ∙ none_in n (2 * node + 1))
+none_winners size n = λ node one small. none_in n node ∙ sym (ap (λ (a : Option ℕ). lesser a (number_at (replicate n None) (2 * node + 1))) (none_in n (2 * node)) ∙ none_in n (2 * node + 1))

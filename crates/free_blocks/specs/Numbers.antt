@@ -6,21 +6,22 @@ abbrev pub number_at : List (Option ℕ) → ℕ → Option ℕ
 number_at numbers block = slice_index_or numbers block None
 
 -- the lesser of two numbers; none is the greatest
-abbrev pub least : Option ℕ → Option ℕ → Option ℕ
-least None other = other
-least (Some first) None = Some first
-least (Some first) (Some second) = Some (min first second)
+abbrev pub lesser : Option ℕ → Option ℕ → Option ℕ
+lesser None other = other
+lesser (Some first) None = Some first
+lesser (Some first) (Some second) = Some (min first second)
 
--- there is a number, and it is at most this
-abbrev pub is_at_most : ℕ → Option ℕ → Bool
+-- there is a number, and it is at most this, if there is one
+abbrev pub is_at_most : Option ℕ → Option ℕ → Bool
 is_at_most most None = false
-is_at_most most (Some number) = nat_le number most
+is_at_most None (Some number) = true
+is_at_most (Some most) (Some number) = nat_le number most
 
 -- no block's number is at most this
-abbrev pub AreBeyond : ℕ → List (Option ℕ) → Type 0
+abbrev pub AreBeyond : Option ℕ → List (Option ℕ) → Type 0
 AreBeyond most numbers = (block : ℕ) → is_at_most most (number_at numbers block) ≡ false
 
 -- the lowest block whose number is at most this
-pub record IsLowest (most : ℕ) (numbers : List (Option ℕ)) (block : ℕ) : Type 0 where
+pub record IsLowest (most : Option ℕ) (numbers : List (Option ℕ)) (block : ℕ) : Type 0 where
   pub at_most : is_at_most most (number_at numbers block) ≡ true
   pub lowest : (b : ℕ) → b < block → is_at_most most (number_at numbers b) ≡ false

@@ -1,6 +1,6 @@
 -- A winner tree in one array: nodes 2n and 2n + 1 stand under node n, and each inner node has the least number below it.
 use Rattle.std.specs.Prelude.{◌≡◌, ℕ, zero, suc, ◌+◌, ◌*◌, ◌≤◌, ◌<◌, Option, List, length}
-use Rattle.free_blocks.specs.Numbers.{number_at, least}
+use Rattle.free_blocks.specs.Numbers.{number_at, lesser}
 
 -- the leftmost of the nodes that stand so many levels under a node
 abbrev pub leftmost : ℕ → ℕ → ℕ
@@ -10,7 +10,7 @@ leftmost node (suc levels) = leftmost (2 * node) levels
 -- the node has the lesser number of the two under it
 abbrev pub IsWinner : List (Option ℕ) → ℕ → Type 0
 IsWinner tree node =
-    number_at tree node ≡ least (number_at tree (2 * node)) (number_at tree (2 * node + 1))
+    number_at tree node ≡ lesser (number_at tree (2 * node)) (number_at tree (2 * node + 1))
 
 -- each inner node has; the nodes from `size` on are the blocks
 abbrev pub AreWinners : ℕ → List (Option ℕ) → Type 0

@@ -29,7 +29,7 @@ impl Model for FreeBlocks {
 impl FreeBlocks {
     ghost use Rattle.free_blocks.specs.Numbers.{IsLowest, AreBeyond};
 
-    /// So many blocks, at most 65,536, none of them free.
+    /// So many blocks, at most 65,536, none of them free. Refused where the memory for them is.
     pub fn new(alloc: Global, places: u32) -> Result<FreeBlocks, AllocError>
         requires few { places ≤ 65536 }
         ensures made { IfOk result (λ free. free ≡ replicate places None) }
@@ -40,7 +40,7 @@ impl FreeBlocks {
         Ok(FreeBlocks { tree, shape })
     }
 
-    /// Says since when a block is free, or that it isn't, in at most 17 writes.
+    /// Says since when a block is free, or, with none, that it isn't, in at most 17 writes.
     pub fn set(&mut self, block: u32, number: Option<u64>)
         requires place { block < length self.old }
         ensures { self.new ≡ slice_set self.old block number }
@@ -48,8 +48,8 @@ impl FreeBlocks {
         tree::put(&mut self.tree, self.shape, block, number);
     }
 
-    /// The lowest block whose number is at most this, in at most 17 looks.
-    pub fn lowest(&self, most: u64) -> Option<u32>
+    /// The lowest block whose number is at most this, in at most 17 looks. Where `most` is none, each number is.
+    pub fn lowest(&self, most: Option<u64>) -> Option<u32>
         ensures found { IfSome result (IsLowest most self.now) }
         ensures none { IfNone result (AreBeyond most self.now) }
     {

@@ -5,6 +5,7 @@ mod blocks;
 mod tree;
 
 pub use blocks::FreeBlocks;
+pub use tree::lesser;
 
 #[cfg(test)]
 mod tests;

@@ -4,13 +4,13 @@ use std::test::*;
 #[test]
 fn lowest_of_three_blocks(rt: HostRuntime) -> Result<(), Fail> {
     let mut free = FreeBlocks::new(rt.alloc(), 3)?;
-    assert_eq!(rt; free.lowest(u64::MAX), None);
+    assert_eq!(rt; free.lowest(None), None);
     free.set(2, Some(7));
     free.set(1, Some(9));
-    assert_eq!(rt; free.lowest(6), None);
-    assert_eq!(rt; free.lowest(7), Some(2));
-    assert_eq!(rt; free.lowest(9), Some(1));
+    assert_eq!(rt; free.lowest(Some(6)), None);
+    assert_eq!(rt; free.lowest(Some(7)), Some(2));
+    assert_eq!(rt; free.lowest(Some(9)), Some(1));
     free.set(1, None);
-    assert_eq!(rt; free.lowest(u64::MAX), Some(2));
+    assert_eq!(rt; free.lowest(None), Some(2));
     Ok(())
 }

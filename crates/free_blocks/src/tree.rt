@@ -2,7 +2,7 @@
 //! blocks. Each inner node holds the least number below it.
 
 ghost use Rattle.std.specs.Prelude.{◌≡◌, ℕ, ◌+◌, ◌*◌, ◌<◌, ◌≤◌, length, drop, slice_set, IfSome, IfNone};
-ghost use Rattle.free_blocks.specs.Numbers.{number_at, least, is_at_most, AreBeyond, IsLowest};
+ghost use Rattle.free_blocks.specs.Numbers.{number_at, lesser, is_at_most, AreBeyond, IsLowest};
 ghost use Rattle.free_blocks.specs.Tree.{leftmost, AreWinners};
 
 /// How many blocks a tree of these places has room for, a power of two, and the depth of its blocks.
@@ -30,9 +30,9 @@ impl Shape {
     }
 }
 
-// The lesser of two numbers; none is the greatest.
-fn least(a: Option<u64>, b: Option<u64>) -> Option<u64>
-    ensures { result ≡ least a b }
+/// The lesser of two numbers; none is the greatest.
+pub fn lesser(a: Option<u64>, b: Option<u64>) -> Option<u64>
+    ensures { result ≡ lesser a b }
 {
     match (a, b) {
         (None, other) => other,
@@ -41,13 +41,14 @@ fn least(a: Option<u64>, b: Option<u64>) -> Option<u64>
     }
 }
 
-// Whether there is a number, and it is at most this.
-fn is_at_most(most: u64, number: Option<u64>) -> bool
+// Whether there is a number, and it is at most this, if there is one.
+fn is_at_most(most: Option<u64>, number: Option<u64>) -> bool
     ensures { result ≡ is_at_most most number }
 {
-    match number {
-        None => false,
-        Some(number) => number <= most,
+    match (most, number) {
+        (_, None) => false,
+        (None, Some(_)) => true,
+        (Some(most), Some(number)) => number <= most,
     }
 }
 
@@ -58,7 +59,7 @@ fn number_at(tree: &[Option<u64>], node: usize) -> Option<u64>
     if node < tree.len() { tree[node] } else { None }
 }
 
-/// Puts the number at its block, and at each node above the least of the two under it.
+/// Puts the number at its block, and at each node above the lesser of the two under it.
 pub(crate) fn put(tree: &mut [Option<u64>], shape: Shape, block: u32, number: Option<u64>)
     requires place { shape.size + block < length tree.old }
     requires places { length tree.old ≤ 2 * shape.size }
@@ -70,12 +71,12 @@ pub(crate) fn put(tree: &mut [Option<u64>], shape: Shape, block: u32, number: Op
     tree[node] = number;
     while node > 1 {
         node /= 2;
-        tree[node] = least(number_at(tree, 2 * node), number_at(tree, 2 * node + 1));
+        tree[node] = lesser(number_at(tree, 2 * node), number_at(tree, 2 * node + 1));
     }
 }
 
 /// The lowest block whose number is at most this.
-pub(crate) fn lowest(tree: &[Option<u64>], shape: Shape, most: u64) -> Option<u32>
+pub(crate) fn lowest(tree: &[Option<u64>], shape: Shape, most: Option<u64>) -> Option<u32>
     requires places { length tree.now ≤ 2 * shape.size }
     requires winners { AreWinners shape.size tree.now }
     ensures found { IfSome result (IsLowest most (drop shape.size tree.now)) }

@@ -1,5 +1,6 @@
 pub mod States
 pub mod Reuse
+pub mod Waiting
 pub mod Contents
 pub mod Crashes
 pub mod Causes

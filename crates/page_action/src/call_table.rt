@@ -1,10 +1,12 @@
 //! The calls of a store.
 
-ghost use Rattle.std.specs.Prelude.{◌≡◌, ◌≤◌, ◌<◌, length, vec_len, vec_capacity};
+ghost use Rattle.std.specs.Prelude.{◌≡◌, ◌≤◌, ◌<◌, length};
 ghost use Rattle.page_action.specs.Stored.{AreActable};
-ghost use Rattle.page_action.specs.States.{with_count, with_counts, number_to_count, next_cycle};
+ghost use Rattle.page_action.specs.States.{with_counts, next_cycle};
+ghost use Rattle.page_action.specs.Waiting.{waiting_number, with_all_waiting, AreWaiting};
 
-use crate::reuse::{is_deleted, others_began_after};
+use crate::deletion_numbers::DeletionNumbers;
+use crate::reuse::{is_deleted, least_start, others_began_after};
 use index_model::{Fault, Limits, Session};
 use latch_table::{LatchTable, Mode};
 use page_codec::{Page, PageState};
@@ -14,8 +16,7 @@ use std::marker::Model;
 /// cycle numbers of bulk deletes, and who holds what. It never allocates.
 #[derive(Drop)]
 pub struct CallTable {
-    /// Of each page the deletion number that counts.
-    counted: Vec<u64>,
+    numbers: DeletionNumbers,
     begun: u64,
     /// Of each session the start number of its running call.
     running: [Option<u64>; 64],
@@ -26,14 +27,13 @@ pub struct CallTable {
 }
 
 impl Model for CallTable {
-    ghost use Rattle.std.specs.Prelude.{vec_capacity};
     ghost use Rattle.page_action.specs.CallTables.{TableOfCalls};
 
     ghost Value = { TableOfCalls };
 
     ghost view = { λ t. record {
-      room = vec_capacity t.counted;
-      counted = t.counted.items;
+      counted = t.numbers.counted;
+      waiting = t.numbers.waiting;
       begun = t.begun;
       running = t.running;
       counter = t.counter;
@@ -43,18 +43,21 @@ impl Model for CallTable {
 }
 
 impl CallTable {
-    ghost use Rattle.std.specs.Prelude.{ℕ, suc, ◌∷◌, ◌++◌, [], ◌^◌, ◌-◌, ◌&&◌, not, true, false, Some, None, IfOk, IfErr, IfSome, OnOk, OnErr, is_none, slice_set, slice_index};
+    ghost use Rattle.std.specs.Prelude.{ℕ, suc, List, ◌∷◌, ◌++◌, [], ◌^◌, ◌-◌, not, true, false, Some, None, IfOk, IfErr, IfSome, OnOk, OnErr, is_none, slice_set, slice_index};
     ghost use Rattle.latch_table.specs.Holdings.{HasRoom, is_held_by_another, latched, released, pinned, unpinned, with_holding, nothing_held};
     ghost use Rattle.page_action.specs.Reuse.{IsFresh, IsFull, is_deleted, others_began_after};
     ghost use Rattle.page_action.specs.CallTables.{opened_calls, state_with};
+    ghost use Rattle.page_codec.specs.declared.page.Page.{Page};
 
-    /// No call, over pages of which these deletion numbers count, with the room for those of all pages. `counter` is
-    /// the last cycle number that was given.
-    pub fn new(counted: Vec<u64>, counter: u32) -> CallTable
-        ensures { result ≡ opened_calls (vec_capacity counted) counted.items counter }
+    /// No call, over pages that have these deletion numbers. `counter` is the last cycle number that was given.
+    pub fn new(numbers: DeletionNumbers, counter: u32) -> CallTable
+        ensures { result
+            ≡ record (opened_calls (length numbers.waiting) numbers.counted counter) {
+              waiting = numbers.waiting;
+            } }
     {
         CallTable {
-            counted,
+            numbers,
             begun: 0,
             running: [None; 64],
             counter,
@@ -63,22 +66,27 @@ impl CallTable {
         }
     }
 
-    /// One page more is in use. No deletion number of it counts.
-    pub fn add(&mut self)
-        requires room { length self.old.counted < self.old.room }
-        ensures { self.new ≡ record self.old { counted = self.old.counted ++ 0 ∷ [] } }
+    /// One page more is in use, in this state. No deletion number of it counts.
+    pub fn add(&mut self, state: PageState)
+        requires room { length self.old.counted < length self.old.waiting }
+        ensures { self.new ≡ record self.old {
+          counted = self.old.counted ++ 0 ∷ [];
+          waiting = slice_set self.old.waiting (length self.old.counted) (waiting_number state 0);
+        } }
     {
-        self.counted.push_reserved(0);
+        self.numbers.add(state);
     }
 
     /// These pages are written: the deletion number of a deleted page counts, that of another is 0.
     pub fn note(&mut self, limits: Limits, changed: &[Page])
         requires actable { AreActable limits (length self.old.counted) changed.now }
-        requires room { limits.pages ≤ self.old.room }
-        ensures { self.new
-            ≡ record self.old { counted = with_counts self.old.counted changed.now } }
+        requires room { limits.pages ≤ length self.old.waiting }
+        ensures { self.new ≡ record self.old {
+          counted = with_counts self.old.counted changed.now;
+          waiting = with_all_waiting self.old.waiting changed.now;
+        } }
     {
-        place_counts(limits, &mut self.counted, changed);
+        self.numbers.note(limits, changed);
     }
 
     /// How many calls have begun since opening.
@@ -154,34 +162,23 @@ impl CallTable {
         self.table.unpin(session, block);
     }
 
-    fn is_reusable(&self, pages: &[Page], block: usize) -> bool
-        requires block { block < length pages.now }
-        requires counts { length self.now.counted ≡ length pages.now }
-        ensures { result ≡ (is_deleted pages.now block
-            && others_began_after (slice_index self.now.counted block) 0 None self.now.running) }
-    {
-        is_deleted(pages[block].state)
-            && others_began_after(&self.running, self.counted[block], None)
-    }
-
-    /// The block that a new page takes beside these: the lowest reusable one, else the next unused one. Refused with
+    /// The block that a new page takes beside so many: the lowest reusable one, else the next unused one. Refused with
     /// `IndexFull` where there is neither.
-    pub fn fresh(&self, pages: &[Page], limits: Limits) -> Result<u32, Fault>
-        requires counts { length self.now.counted ≡ length pages.now }
-        requires few { length pages.now ≤ limits.pages }
-        ensures fresh { (frames acts : ℕ)
-            → IfOk result (IsFresh (state_with limits frames pages.now acts self.now)) }
-        ensures full { (frames acts : ℕ)
-            → OnErr result (IsFull (state_with limits frames pages.now acts self.now)) }
+    pub fn fresh(&self, used: u32, limits: Limits) -> Result<u32, Fault>
+        requires few { used ≤ limits.pages }
+        ensures fresh { (frames acts : ℕ) (pages : List Page) → length pages ≡ used
+            → AreWaiting self.now.waiting pages self.now.counted
+            → IfOk result (IsFresh (state_with limits frames pages acts self.now)) }
+        ensures full { (frames acts : ℕ) (pages : List Page) → length pages ≡ used
+            → AreWaiting self.now.waiting pages self.now.counted
+            → OnErr result (IsFull (state_with limits frames pages acts self.now)) }
         ensures fault { IfErr result (λ f. f ≡ Fault.IndexFull) }
     {
-        for block in 0..pages.len() {
-            if self.is_reusable(pages, block) {
-                return Ok(block as u32);
-            }
+        if let Some(block) = self.numbers.lowest(least_start(&self.running)) {
+            return Ok(block);
         }
-        if pages.len() < limits.pages as usize {
-            Ok(pages.len() as u32)
+        if used < limits.pages {
+            Ok(used)
         } else {
             Err(Fault::IndexFull)
         }
@@ -199,7 +196,11 @@ impl CallTable {
         if at >= pages.len() || !is_deleted(pages[at].state) {
             return None;
         }
-        Some(others_began_after(&self.running, self.counted[at], Some(session.number())))
+        Some(others_began_after(
+            &self.running,
+            self.numbers.counted(at),
+            Some(session.number()),
+        ))
     }
 
     /// The cycle number of the running bulk delete, 0 where none runs.
@@ -232,41 +233,4 @@ fn next_cycle(counter: u32) -> u32
     ensures { result ≡ next_cycle counter }
 {
     if counter == u32::MAX { 1 } else { counter + 1 }
-}
-
-fn number_to_count(page: &Page) -> u64
-    ensures { result ≡ number_to_count page.now.state page.now.deletion }
-{
-    match page.state {
-        PageState::Live | PageState::HalfDead => 0,
-        PageState::Deleted => page.deletion,
-    }
-}
-
-// Puts the deletion number that counts for the page at its block.
-fn place_count(counted: &mut Vec<u64>, page: &Page)
-    requires place { page.now.block ≤ vec_len counted.old }
-    requires room { page.now.block < vec_capacity counted.old }
-    ensures items { counted.new.items ≡ with_count counted.old.items page.now }
-    ensures capacity { vec_capacity counted.new ≡ vec_capacity counted.old }
-{
-    let block = page.block as usize;
-    let number = number_to_count(page);
-    if block < counted.len() {
-        counted[block] = number;
-    } else {
-        counted.push_reserved(number);
-    }
-}
-
-// Puts the deletion numbers that count for these pages at their blocks.
-fn place_counts(limits: Limits, counted: &mut Vec<u64>, changed: &[Page])
-    requires actable { AreActable limits (vec_len counted.old) changed.now }
-    requires room { limits.pages ≤ vec_capacity counted.old }
-    ensures counted { counted.new.items ≡ with_counts counted.old.items changed.now }
-    ensures capacity { vec_capacity counted.new ≡ vec_capacity counted.old }
-{
-    for page in changed {
-        place_count(counted, page);
-    }
 }

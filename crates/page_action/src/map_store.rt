@@ -3,9 +3,11 @@
 ghost use Rattle.std.specs.Prelude.{◌≡◌, ◌≤◌, length, vec_capacity};
 ghost use Rattle.index_model.specs.Limits.{AreLimits};
 ghost use Rattle.page_action.specs.Stored.{AreStored};
+ghost use Rattle.page_action.specs.Waiting.{AreWaiting};
 ghost use Rattle.page_action.specs.Props.{AreStored-prop};
 
 use crate::call_table::CallTable;
+use crate::deletion_numbers::DeletionNumbers;
 use crate::page_store::PageStore;
 use crate::placing::{is_storable, place_pages};
 use index_model::{Fault, Limits, Session};
@@ -26,9 +28,10 @@ pub struct MapStore {
     ghost allowed: { AreLimits limits },
     ghost stored: { AreStored limits 0 pages.items } by { AreStored-prop limits 0 pages.items },
     ghost counts: { length calls.counted ≡ length pages.items },
+    ghost waiting: { AreWaiting calls.waiting pages.items calls.counted },
     ghost few: { length pages.items ≤ limits.pages },
     ghost page_room: { limits.pages ≤ vec_capacity pages },
-    ghost count_room: { limits.pages ≤ calls.room },
+    ghost count_room: { limits.pages ≤ length calls.waiting },
     ghost not_ahead: { durable ≤ acts },
 }
 
@@ -50,13 +53,11 @@ impl MapStore {
         let Ok(pages) = Vec::with_capacity(alloc, limits.pages as usize) else {
             return Err(Fault::NoMemory);
         };
-        let Ok(counted) = Vec::with_capacity(alloc, limits.pages as usize) else {
-            return Err(Fault::NoMemory);
-        };
+        let numbers = DeletionNumbers::new(alloc, limits.pages)?;
         Ok(MapStore {
             limits,
             pages,
-            calls: CallTable::new(counted, 0),
+            calls: CallTable::new(numbers, 0),
             acts: 0,
             durable: 0,
         })
@@ -77,8 +78,8 @@ impl MapStore {
         if page.block as usize != block || !is_storable(&page, self.limits) {
             return Err(Fault::PageDamaged(page.block));
         }
+        self.calls.add(page.state);
         self.pages.push_reserved(page);
-        self.calls.add();
         Ok(())
     }
 }
@@ -122,7 +123,7 @@ impl PageStore for MapStore {
     }
 
     fn fresh(&self) -> Result<u32, Fault> {
-        self.calls.fresh(&self.pages, self.limits)
+        self.calls.fresh(self.pages.len() as u32, self.limits)
     }
 
     fn latch(&mut self, session: Session, block: u32, mode: Mode) -> Result<(), Fault> {

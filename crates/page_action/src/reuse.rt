@@ -2,7 +2,9 @@
 
 ghost use Rattle.std.specs.Prelude.{◌≡◌, ◌||◌, ◌≤◌, ◌<◌, length, Option, None, Some};
 ghost use Rattle.page_action.specs.Reuse.{others_began_after, is_the, began_after, is_deleted_state};
+ghost use Rattle.page_action.specs.Waiting.{least_start};
 
+use free_blocks::lesser;
 use page_codec::PageState;
 
 /// Whether each running call, but for that of one session, began after so many others.
@@ -15,6 +17,17 @@ pub(crate) fn others_began_after(running: &[Option<u64>], number: u64, but: Opti
         }
     }
     true
+}
+
+/// The least start number of the running calls; none where no call runs.
+pub(crate) fn least_start(running: &[Option<u64>]) -> Option<u64>
+    ensures { result ≡ least_start running.now }
+{
+    let mut first = None;
+    for call in running {
+        first = lesser(first, *call);
+    }
+    first
 }
 
 fn may_pass(session: usize, call: Option<u64>, number: u64, but: Option<u32>) -> bool

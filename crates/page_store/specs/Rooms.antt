@@ -14,4 +14,4 @@ pages_of_room room = room.pages.items
 
 -- for each of them the deletion number that counts
 abbrev pub counts_of_room : StoreRoom → List ℕ
-counts_of_room room = room.counted.items
+counts_of_room room = room.numbers.counted

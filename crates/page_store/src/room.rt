@@ -3,11 +3,12 @@
 ghost use Rattle.std.specs.Prelude.{◌≡◌, ◌≤◌, ◌<◌, false, length, vec_capacity};
 ghost use Rattle.index_model.specs.Limits.{AreLimits};
 ghost use Rattle.page_action.specs.Stored.{AreStored};
+ghost use Rattle.page_action.specs.Waiting.{AreWaiting};
 ghost use Rattle.page_action.specs.Props.{AreStored-prop};
 ghost use Rattle.page_store.specs.Marks.{has_mark};
 
 use index_model::{Fault, Limits};
-use page_action::is_storable;
+use page_action::{DeletionNumbers, is_storable};
 use page_codec::Page;
 use std::alloc::Global;
 
@@ -17,16 +18,17 @@ pub struct StoreRoom {
     pub(crate) limits: Limits,
     pub(crate) pages: Vec<Page>,
     pub(crate) marks: Vec<bool>,
-    pub(crate) counted: Vec<u64>,
+    pub(crate) numbers: DeletionNumbers,
     ghost allowed: { AreLimits limits },
     ghost stored: { AreStored limits 0 pages.items } by { AreStored-prop limits 0 pages.items },
     ghost many_marks: { length marks.items ≡ length pages.items },
-    ghost many_counts: { length counted.items ≡ length pages.items },
+    ghost many_counts: { length numbers.counted ≡ length pages.items },
+    ghost waiting: { AreWaiting numbers.waiting pages.items numbers.counted },
     ghost unmarked: { has_mark marks.items ≡ false },
     ghost few: { length pages.items ≤ limits.pages },
     ghost page_room: { limits.pages ≤ vec_capacity pages },
     ghost mark_room: { limits.pages ≤ vec_capacity marks },
-    ghost count_room: { limits.pages ≤ vec_capacity counted },
+    ghost count_room: { limits.pages ≤ length numbers.waiting },
 }
 
 impl StoreRoom {
@@ -53,14 +55,12 @@ impl StoreRoom {
         let Ok(marks) = Vec::with_capacity(alloc, limits.pages as usize) else {
             return Err(Fault::NoMemory);
         };
-        let Ok(counted) = Vec::with_capacity(alloc, limits.pages as usize) else {
-            return Err(Fault::NoMemory);
-        };
+        let numbers = DeletionNumbers::new(alloc, limits.pages)?;
         Ok(StoreRoom {
             limits,
             pages,
             marks,
-            counted,
+            numbers,
         })
     }
 
@@ -88,9 +88,9 @@ impl StoreRoom {
         if page.block as usize != block || !is_storable(&page, self.limits) {
             return Err(Fault::PageDamaged(block as u32));
         }
+        self.numbers.add(page.state);
         self.pages.push_reserved(page);
         self.marks.push_reserved(false);
-        self.counted.push_reserved(0);
         Ok(())
     }
 }

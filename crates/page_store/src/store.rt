@@ -1,6 +1,7 @@
 //! The store.
 
 ghost use Rattle.std.specs.Prelude.{◌≡◌, ◌≤◌, length};
+ghost use Rattle.page_action.specs.Waiting.{AreWaiting};
 
 use crate::logged_pages::LoggedPages;
 use crate::room::StoreRoom;
@@ -20,7 +21,8 @@ pub struct Store<D: Device> {
     /// How many pages may be held in memory at once; all that are in use are, as yet.
     frames: u32,
     ghost counts: { length calls.counted ≡ length held.pages.items },
-    ghost count_room: { held.limits.pages ≤ calls.room },
+    ghost waiting: { AreWaiting calls.waiting held.pages.items calls.counted },
+    ghost count_room: { held.limits.pages ≤ length calls.waiting },
 }
 
 impl<D: Device> Store<D> {
@@ -58,7 +60,7 @@ impl<D: Device> Store<D> {
     {
         Store {
             held: LoggedPages::new(room.limits, device, log, room.pages, room.marks),
-            calls: CallTable::new(room.counted, counter),
+            calls: CallTable::new(room.numbers, counter),
             frames,
         }
     }
@@ -123,7 +125,8 @@ impl<D: Device> PageStore for Store<D> {
     }
 
     fn fresh(&self) -> Result<u32, Fault> {
-        self.calls.fresh(&self.held.pages, self.held.limits)
+        self.calls
+            .fresh(self.held.pages.len() as u32, self.held.limits)
     }
 
     fn latch(&mut self, session: Session, block: u32, mode: Mode) -> Result<(), Fault> {

@@ -1,5 +1,5 @@
 -- What a page that a call reads in a tree tells it, by where the call came from.
-use Rattle.std.specs.Prelude.{◌≡◌, ◌≢◌, ℕ, suc, ◌<◌, ◌≤◌, Bool, true, Option, Some, List, ◌∷◌, ◌++◌, length, slice_get}
+use Rattle.std.specs.Prelude.{◌≡◌, ◌≢◌, ℕ, suc, ◌<◌, ◌≤◌, Bool, true, false, Option, Some, List, ◌∷◌, ◌++◌, length, slice_get}
 use Rattle.index_model.specs.Order.{is_among, is_past}
 use Rattle.index_model.specs.declared.bound.Bound.{Bound}
 use Rattle.index_model.specs.declared.entry.Entry.{Entry}
@@ -9,6 +9,7 @@ use Rattle.page_codec.specs.declared.page.Page.{Page}
 use Rattle.page_codec.specs.declared.page.PageState.TheVariants.{Live}
 use Rattle.page_action.specs.Contents.{entry_on_live_leaf}
 use Rattle.page_action.specs.States.{State}
+use Rattle.tree_shape.specs.Aims.{IsUpToFirst}
 use Rattle.tree_shape.specs.Tree.{IsMetaOf}
 use Rattle.tree_shape.specs.Nodes.{node_of, links_of}
 use Rattle.tree_shape.specs.Edits.{IsLinkAdded, IsBetween}
@@ -166,3 +167,27 @@ NeighbourTells =
     → HasPlace st start level aim clear page.block
     → page.state ≡ Live → page.right ≡ Some right
     → IsNeighbour st level page.block right
+
+-- no page is flagged: each split is finished
+abbrev pub AreWhole : List Page → Type 0
+AreWhole pages =
+    (block : ℕ) (page : Page) → slice_get pages block ≡ Some page → page.split ≡ false
+
+-- where no page is flagged, the child of the last downlink with a bound below what is looked for
+-- covers that
+abbrev pub StraightTells : Type 0
+StraightTells =
+    (st : State) (level : ℕ) (aim : Bound → Bool) (page : Page)
+    → HasTree st → AreWhole st.pages → slice_get st.pages page.block ≡ Some page
+    → HasCover st (suc level) aim page.block
+    → (before : List Downlink) (bound : Option Bound) (child : ℕ) (after : List Downlink)
+    → links_of page.items ≡ before ++ record { bound = bound; child = child } ∷ after
+    → is_beyond aim bound ≡ true → IsUpToFirst aim after
+    → HasCover st level aim child
+
+-- ... and the root covers whatever is looked for
+abbrev pub RootCoversAll : Type 0
+RootCoversAll =
+    (st : State) (aim : Bound → Bool) (meta : Page) (root : ℕ)
+    → HasTree st → AreWhole st.pages → slice_get st.pages 0 ≡ Some meta
+    → IsMetaOf meta root meta.level → HasCover st meta.level aim root

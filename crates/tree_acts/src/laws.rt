@@ -3,7 +3,7 @@
 ghost use Rattle.tree_acts.specs.Acts.{PuttingLasts, LeafSplitLasts, FinishLasts, ParentSplitLasts, RootSplitLasts};
 ghost use Rattle.tree_acts.specs.Flags.{PuttingFlags, LeafSplitFlags, FinishFlags, ParentSplitFlags, RootSplitFlags};
 ghost use Rattle.tree_acts.specs.Weights.{PuttingWeighs, LeafSplitWeighs, FinishWeighs, ParentSplitWeighs, RootSplitWeighs};
-ghost use Rattle.tree_acts.specs.Ways.{MetapageTells, PassedTells, LiveTells, InternalTells, LeafTells, FrontierTells, ParentTells, SeparatorTells, RootTells, UnfinishedIsBelow, TrailBegins, TrailGoesRight, TrailIsShort, PlacesWiden, HighTells, NeighbourTells};
+ghost use Rattle.tree_acts.specs.Ways.{MetapageTells, PassedTells, LiveTells, InternalTells, LeafTells, FrontierTells, ParentTells, SeparatorTells, RootTells, UnfinishedIsBelow, TrailBegins, TrailGoesRight, TrailIsShort, PlacesWiden, HighTells, NeighbourTells, StraightTells, RootCoversAll};
 
 /// Does nothing: its clauses say that each act which edits a tree leaves a tree, the places that running calls keep, and
 /// the contents as they were, but for the entry that is put.
@@ -46,6 +46,8 @@ pub fn pages_tell_the_way()
     ensures farther { PlacesWiden }
     ensures high { HighTells }
     ensures neighbour { NeighbourTells }
+    ensures straight { StraightTells }
+    ensures root_covers { RootCoversAll }
     ensures begins { TrailBegins }
     ensures goes_on { TrailGoesRight }
     ensures short { TrailIsShort }

@@ -1,4 +1,5 @@
 pub mod Ready
-pub mod Scans
 pub mod Work
+pub mod Straight
+pub mod Scans
 pub mod Laws

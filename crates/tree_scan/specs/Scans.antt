@@ -1,5 +1,5 @@
 -- What a scan knows between its steps, and what a step of it does.
-use Rattle.std.specs.Prelude.{◌≡◌, ◌⊎◌, ℕ, suc, ◌+◌, ◌<◌, ◌≤◌, if◌then◌else◌, nat_lt, Bool, true, false, Option, Some, None, Result, Ok, Err, OnErr, List, [], ◌∷◌, length, slice_get}
+use Rattle.std.specs.Prelude.{◌≡◌, ◌⊎◌, ℕ, suc, ◌+◌, ◌<◌, ◌≤◌, if◌then◌else◌, nat_lt, true, false, Option, Some, None, Result, Ok, Err, OnErr, List, [], ◌∷◌, length, slice_get}
 use Rattle.std.specs.Ordering.{is_lt}
 use Rattle.index_model.specs.Faults.{Circumstances, HasCause}
 use Rattle.index_model.specs.Order.{bound_cmp, is_among, is_past, AscendsPast}
@@ -11,16 +11,17 @@ use Rattle.index_model.specs.declared.fault.Fault.TheVariants.{Stopped}
 use Rattle.index_model.specs.declared.range.Range.{Range}
 use Rattle.latch_table.specs.Holdings.{Holding, Table, holding_of, unpinned, is_held_by_another}
 use Rattle.latch_table.specs.declared.mode.Mode.TheVariants.{Shared}
-use Rattle.page_codec.specs.declared.page.Page.{Page}
 use Rattle.page_action.specs.Causes.{nothing_wrong, has_failed, pinned_blocks, count_apart}
 use Rattle.page_action.specs.Contents.{entry_on_live_leaf}
 use Rattle.page_action.specs.States.{State, Backing, Continues, with_table}
 use Rattle.page_action.specs.declared.page_store.PageStore.{Ghosts}
 use Rattle.tree_shape.specs.Walks.{frontier_aim}
+use Rattle.tree_acts.specs.Ways.{AreWhole}
 use Rattle.descent.specs.Onward.{IsOnWay}
 use Rattle.descent.specs.Shared.{IsInOrder, Does, IsOneStep}
 use Rattle.descent.specs.declared.way.Way.{Way}
 pub use Rattle.tree_scan.specs.Ready.{waiting}
+use Rattle.tree_scan.specs.Straight.{IsStraight, CountsDown}
 use Rattle.tree_scan.specs.Work.{scan_left}
 use Rattle.tree_scan.specs.declared.steps.ScanAt.{ScanAt}
 use Rattle.tree_scan.specs.declared.steps.ScanAt.TheVariants.{Start, At, Last}
@@ -208,7 +209,7 @@ ReadyIsCounted after (Err fault) = Unit {0}
 -- A step of a scan. On any pages: nothing but latches and pins is changed, a refused one changes
 -- nothing, a stopped log refuses it, and as many entries are ready as it says; over a device that
 -- keeps its model, one that reads a page leaves less to do. On pages in order: what it does, and why
--- it is refused.
+-- it is refused; where no page is flagged, it goes straight down.
 pub record ScanSteps {S : Type 0} (g : Ghosts S) (before after : ScanOp) (old new : S)
     (result : Result ScanStep Fault) : Type 0 where
   pub steps : Continues g.follows old new
@@ -226,3 +227,7 @@ pub record ScanSteps {S : Type 0} (g : Ghosts S) (before after : ScanOp) (old ne
   pub stepped : (g.backing new).honest ≡ true → IsInOrder (g.state old)
       → ScanFits (g.state old) before
       → ScanStepped (g.state old) (g.backing old) (g.state new) (g.backing new) before after result
+  pub straight : (g.backing new).honest ≡ true → IsInOrder (g.state old)
+      → AreWhole (g.state old).pages → waiting before ≡ []
+      → IsStraight (g.state old) before.frontier before.at
+      → CountsDown (g.state old) before after result

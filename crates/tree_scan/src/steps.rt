@@ -196,6 +196,7 @@ impl ScanOp {
         requires few { length entries.now ≤ 50 }
         ensures copied { IsAscending entries.now → IsCopiedFrom entries.now self.old.frontier
             self.old.range.below self.new.copied.items }
+        ensures many { length self.new.copied.items ≤ 50 }
         ensures op { self.new ≡ behind self.old page.now.high page.now.right self.new.copied.items }
     {
         self.copied = matches_beyond(entries, &self.frontier, &self.range.below);

@@ -9,9 +9,10 @@ use Rattle.descent.proofs.reading.look_at_both.Goals as goal
 pub returns-in-Ok-clause-pages : goal.returns-in-Ok-clause-pages
 returns-in-Ok-clause-pages g c honest =
     let later : IsLater (g.S.PageStore.backing c.page.new.self) (g.S.PageStore.backing c.page-2.new.self) = g.met.S.PageStore.laws.follows_later _ _ (c.page-2.ensures.steps _ (g.met.S.PageStore.laws.follows_same _)) in
-    let before = c.ask_for-2.ensures.state ∙ c.ask_for.ensures.state in
-    (ap (λ (s : State). slice_get s.pages c.args.first) (sym before) ∙ c.in_ok-page.ensures.page (later.honest honest),
-    ap (λ (s : State). slice_get s.pages c.args.second) (sym before ∙ sym c.page.ensures.state) ∙ c.in-Ok.ensures.page honest)
+    let before = c.ask_for-2.ensures.state ∙ c.ask_for.ensures.state in (
+      ap (λ (s : State). slice_get s.pages c.args.first) (sym before) ∙ c.in_ok-page.ensures.page (later.honest honest),
+      ap (λ (s : State). slice_get s.pages c.args.second) (sym before ∙ sym c.page.ensures.state) ∙ c.in-Ok.ensures.page honest,
+    )
 
 pub returns-in-Ok-clause-room : goal.returns-in-Ok-clause-room
 returns-in-Ok-clause-room g c =

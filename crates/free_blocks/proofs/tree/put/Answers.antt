@@ -1,7 +1,7 @@
 use Rattle.std.proofs.Common.{◌+◌, ◌*◌, ◌/◌, ◌<◌, ◌≤◌, ℕ, Option, ap, length, length-set, sym, subst, ◌∙◌, inl, inr, arith}
 use Rattle.std.proofs.lemmas.Bool.{cases_eq}
 use Rattle.std.proofs.lemmas.List.{drop-set-lt, drop-set-add}
-use Rattle.free_blocks.specs.Numbers.{number_at, least}
+use Rattle.free_blocks.specs.Numbers.{number_at, lesser}
 use Rattle.free_blocks.specs.Tree.{IsWinner}
 use Rattle.free_blocks.proofs.Winners.{leftmost-least, winner_stays, winner_put}
 use Rattle.free_blocks.proofs.tree.put.Goals as goal
@@ -32,8 +32,8 @@ loop-node-preserved c =
       least = one;
       inside = omega arith;
       others = λ node from to not_above. elim (cases_eq node above) [
-        | inl same ↦ subst (IsWinner _) (sym same) (winner_put tree above c.least.result one inside (c.least.ensures ∙ ap (λ (a : Option ℕ). least a c.number_at-in-loop-node.result) c.number_at.ensures ∙ ap (λ (b : Option ℕ). least (number_at tree (2 * above)) b) c.number_at-in-loop-node.ensures))
-        | inr other ↦ winner_stays tree above c.least.result node other (λ e. not_above (omega (arith, e))) (λ e. not_above (omega (arith, e))) (before.others node from to other)
+        | inl same ↦ subst (IsWinner _) (sym same) (winner_put tree above c.lesser.result one inside (c.lesser.ensures ∙ ap (λ (a : Option ℕ). lesser a c.number_at-in-loop-node.result) c.number_at.ensures ∙ ap (λ (b : Option ℕ). lesser (number_at tree (2 * above)) b) c.number_at-in-loop-node.ensures))
+        | inr other ↦ winner_stays tree above c.lesser.result node other (λ e. not_above (omega (arith, e))) (λ e. not_above (omega (arith, e))) (before.others node from to other)
       ];
-      blocks = drop-set-lt size tree above c.least.result small ∙ before.blocks;
+      blocks = drop-set-lt size tree above c.lesser.result small ∙ before.blocks;
     }

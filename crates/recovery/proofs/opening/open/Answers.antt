@@ -1,7 +1,13 @@
-use Rattle.std.proofs.Common.{◌∙◌, IsTrue, List, sym, ap, subst}
+use Rattle.std.proofs.Common.{◌≡◌, ◌∙◌, ℕ, Bool, IsTrue, List, sym, ap, subst}
+use Rattle.index_model.specs.declared.limits.Limits.{Limits}
 use Rattle.page_action.specs.States.{State}
 use Rattle.page_codec.specs.declared.page.Page.{Page}
 use Rattle.page_store.specs.Logged.{StandsOpened}
+use Rattle.page_store.specs.Rooms.{limits_of_room, pages_of_room}
+use Rattle.page_store.specs.Stores.{state_of}
+use Rattle.recovery.specs.Opening.{IsFound, IsFront, HasGroups, StandsOnDevice}
+use Rattle.recovery.specs.Reading.{AreInUse}
+use Rattle.recovery.specs.declared.opening.Parts.{Parts}
 use Rattle.recovery.proofs.opening.open.Goals as goal
 
 pub returns-in-Ok-clause-same : goal.returns-in-Ok-clause-same
@@ -13,3 +19,23 @@ returns-in-Ok-clause-same g c = λ honest frames limits pages index.
       pages_are = ap (λ (st : State). st.pages) c.new.ensures.state ∙ same.1.pages_are;
       own = c.new.ensures.own (subst (λ (ps : List Page). StandsOpened c.in-Ok.field-0.log here ps) (sym same.1.pages_are) same.1.stands);
     }
+
+-- what was found and is shown, stands on the device
+stands_on : (honest : Bool) (st : State) (old new : List ℕ) (parts : Parts) → IsTrue honest → IsFound honest old new parts
+    → st.limits ≡ limits_of_room parts.found.room → st.pages ≡ pages_of_room parts.found.room → StandsOnDevice st old new
+stands_on honest st old new parts is found limits_are pages_are =
+    let all = found.restored.read in
+    let same : st.limits ≡ found.limits = limits_are ∙ all.read.limits_are in
+    record {
+      front = subst (λ (limits : Limits). IsFront limits old) (sym same) (found.front is);
+      undamaged = subst (λ (limits : Limits). HasGroups limits old) (sym same) (found.undamaged is);
+      in_use = subst (λ (limits : Limits). AreInUse limits st.pages new) (sym same)
+          (subst (λ (pages : List Page). AreInUse found.limits pages new) (sym pages_are)
+          (record { stored = all.read.stored; few = all.few; stand = all.read.stand is; end = all.end is }));
+    }
+
+pub returns-in-Ok-clause-read : goal.returns-in-Ok-clause-read
+returns-in-Ok-clause-read g c = λ honest.
+    subst (λ d. StandsOnDevice (state_of g.D.Device c.new.result) (g.D.Device.trace c.args.device).now.seen (g.D.Device.trace d).now.seen) (sym c.new.ensures.device)
+    (stands_on _ (state_of g.D.Device c.new.result) _ _ c.in-Ok.field-0 (subst (λ d. IsTrue (g.D.Device.is_honest d)) c.new.ensures.device honest) c.in-Ok.ensures.found
+    (ap (λ (st : State). st.limits) c.new.ensures.state) (ap (λ (st : State). st.pages) c.new.ensures.state))

@@ -1,4 +1,4 @@
-use Rattle.tree_acts.proofs.Telling.{metapage_tells, passed_tells, live_tells, internal_tells, leaf_tells, frontier_tells, trail_begins_here, trail_goes_right, trail_is_short_here, places_widen, high_tells, neighbour_tells}
+use Rattle.tree_acts.proofs.Telling.{metapage_tells, passed_tells, live_tells, internal_tells, leaf_tells, frontier_tells, trail_begins_here, trail_goes_right, trail_is_short_here, places_widen, high_tells, neighbour_tells, straight_tells, root_covers_all}
 use Rattle.tree_acts.proofs.laws.pages_tell_the_way.Goals as goal
 
 pub returns-clause-metapage : goal.returns-clause-metapage
@@ -36,3 +36,9 @@ returns-clause-high c = high_tells
 
 pub returns-clause-neighbour : goal.returns-clause-neighbour
 returns-clause-neighbour c = neighbour_tells
+
+pub returns-clause-straight : goal.returns-clause-straight
+returns-clause-straight c = straight_tells
+
+pub returns-clause-root_covers : goal.returns-clause-root_covers
+returns-clause-root_covers c = root_covers_all

@@ -1,0 +1,69 @@
+-- Steps with no action, on a tree that many sessions share.
+use Rattle.std.proofs.Common.{◌≡◌, ◌≢◌, ℕ, Bool, None, length, inl, refl, sym, subst}
+use Rattle.index_model.specs.declared.bound.Bound.{Bound}
+use Rattle.latch_table.specs.Holdings.{Table, holding_of}
+use Rattle.page_action.specs.States.{State, with_table}
+use Rattle.tree_acts.specs.Trees.{HasPlace, HasTrail}
+use Rattle.descent.specs.Onward.{IsOnWay}
+use Rattle.descent.specs.Shared.{IsInOrder, Does, IsOneStep, NumbersStay}
+use Rattle.descent.specs.Steps.{AreApart}
+use Rattle.descent.specs.declared.way.Way.{Way}
+
+-- other latches and pins leave every page number what it was
+place_with : (st : State) (table : Table) (start level : ℕ) (aim : Bound → Bool) (clear : Bool) (block : ℕ) → HasPlace st start level aim clear block
+    → HasPlace (with_table st table) start level aim clear block
+place_with st table start level aim clear block p = record { tree = p.tree; in_tree = p.in_tree; place = p.place }
+
+trail_with : (st : State) (table : Table) (start level block moves : ℕ) → HasTrail st start level block moves → HasTrail (with_table st table) start level block moves
+trail_with st table start level block moves t =
+    record { tree = t.tree; in_tree = t.in_tree; passed = t.passed; count = t.count; distinct = t.distinct; steps = t.steps; trail = t.trail }
+
+pub way_with : (st : State) (table : Table) (start : ℕ) (aim : Bound → Bool) (clear : Bool) (to : ℕ) (way : Way) → IsOnWay st start aim clear to way → IsOnWay (with_table st table) start aim clear to way
+way_with st table start aim clear to way on = record {
+  not_below = on.not_below;
+  place = place_with st table start way.level aim clear way.block on.place;
+  trail = trail_with st table start way.level way.block way.moves on.trail;
+}
+
+numbers_with : (st : State) (table : Table) (start : ℕ) → NumbersStay start st (with_table st table)
+numbers_with st table start = record {
+  places = λ level aim clear block is p. place_with st table start level aim clear block p;
+  trails = λ level block moves t. trail_with st table start level block moves t;
+}
+
+-- what this session holds changed
+pub does_hold : (session : ℕ) (old new : State) (table : Table) → new ≡ with_table old table → IsInOrder old → AreApart table → length table ≡ 64
+    → ((other : ℕ) → other ≢ session → holding_of table other ≡ holding_of old.table other) → Does session None old new
+does_hold session old new table is order apart many kept = subst (λ (st : State). Does session None old st) (sym is) (record {
+  changes = refl;
+  flags = tt;
+  limits = refl;
+  frames = refl;
+  begun = refl;
+  running = refl;
+  order = record {
+    tree = record { tree = order.tree.tree; stored = order.tree.stored; counted = order.tree.counted };
+    apart = apart;
+    holdings = many;
+    calls = order.calls;
+  };
+  others = λ other differ. record {
+    held = kept other differ;
+    number = refl;
+    pages = λ block alone. refl;
+    numbers = λ start runs. numbers_with old table start;
+  };
+})
+
+pub rests : (old new : State) (table : Table) → new ≡ with_table old table → IsOneStep old new
+rests old new table is = subst (λ (st : State). IsOneStep old st) (sym is) (record {
+  acts = inl refl;
+  quiet = λ same. refl;
+  limits = refl;
+  frames = refl;
+  begun = refl;
+  running = refl;
+})
+
+pub quiet_by : (old new : State) (table : Table) → new ≡ with_table old table → new ≡ with_table old new.table
+quiet_by old new table is = subst (λ (st : State). st ≡ with_table old st.table) (sym is) refl
