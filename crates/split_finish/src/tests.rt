@@ -120,11 +120,13 @@ fn split_leaf(alloc: Global, full: bool) -> Result<MapStore, Fault> {
 fn finish(store: &mut MapStore, session: Session, target: Target) -> Result<u32, Fault> {
     store.begin(session)?;
     let mut op = FinishOp::new(session, target);
-    let mut steps = 0;
-    for _ in 0..20 {
+    for steps in 0..20 {
         match op.step(store) {
-            Ok(FinishStep::Going) => steps += 1,
-            Ok(FinishStep::Done) => break,
+            Ok(FinishStep::Going) => {}
+            Ok(FinishStep::Done) => {
+                store.end(session);
+                return Ok(steps);
+            }
             Err(fault) => {
                 store.end(session);
                 return Err(fault);
@@ -132,7 +134,7 @@ fn finish(store: &mut MapStore, session: Session, target: Target) -> Result<u32,
         }
     }
     store.end(session);
-    Ok(steps)
+    Ok(20)
 }
 
 fn target(block: u32, key: u8) -> Target {
