@@ -50,7 +50,10 @@ fn leaf(block: u32, left: u32, right: u32, key: u8) -> Page {
     let mut page = page(
         block,
         0,
-        (Some(left).filter(|b| *b > 0), Some(right).filter(|b| *b > 0)),
+        (
+            Some(left).filter(|b| *b > 0),
+            Some(right).filter(|b| *b > 0),
+        ),
         None,
     );
     if right > 0 {
@@ -216,7 +219,10 @@ fn separator_is_read_again_and_latches_block(rt: HostRuntime) {
         return;
     };
     assert_eq!(rt; store.latch(other, 1, Mode::Exclusive), Ok(()));
-    assert_eq!(rt; finish(&mut store, one, target(2, 2)), Err(Fault::Blocked(1)));
+    assert_eq!(rt;
+        finish(&mut store, one, target(2, 2)),
+        Err(Fault::Blocked(1))
+    );
     store.release(other, 1);
     assert_eq!(rt; finish(&mut store, one, target(2, 2)), Ok(5));
     assert_eq!(rt; child_of(&mut store, 1, 1), 3);
