@@ -37,6 +37,7 @@ use Rattle.descent.proofs.Working.{working_later, read_pinned_cause}
 use Rattle.std.specs.Prelude.{IfOk, IfErr, OnErr}
 use Rattle.split_finish.specs.Targets.{OnlyTargetsAreFlagged, is_among_targets}
 use Rattle.tree_insert.specs.Inserts.{leaf_held, IsLeafFor, InsertFits, InsertStands, InsertSteps, IsToCome, is_full_page, images_at, frames_at, insert_left, targets_at, IsLeft, where_inserting}
+use Rattle.tree_insert.specs.Straight.{straight_steps}
 use Rattle.tree_insert.specs.Turns.{EntryPut, PutsEntry, PlaceRefused}
 use Rattle.tree_insert.specs.declared.insert.InsertAt.{InsertAt}
 use Rattle.tree_insert.specs.declared.insert.InsertAt.TheVariants.{Start, At, Holding as Holds, Finishing}
@@ -100,15 +101,19 @@ pinned_leaf [] session block held = absurd (none session held)
 pinned_leaf (h ∷ table) zero block held = pin_left h.pins (pinned_blocks table) block (subst (λ (x : Holding). has_pin x.pins block ≡ true) (sym held) (same_block block))
 pinned_leaf (h ∷ table) (suc session) block held = pin_right h.pins (pinned_blocks table) block (pinned_leaf table session block held)
 
--- no other session holds it
-pub not_the_leaf : (st : State) (session other block : ℕ) → IsInOrder st → holding_of st.table session ≡ leaf_held block → other ≢ session → HoldsAlone st.table other block → ⊥
-not_the_leaf st session other block order held differ alone =
-    let mine : HoldsAlone st.table session block = subst (λ (h : Holding). latches_exclude h.latches block Shared ≡ true) (sym held) (own block) in
-    let free : latches_exclude (holding_of st.table other).latches block Exclusive ≡ false = order.apart session other block (λ same. differ (sym same)) mine in
-    true_false (sym (any_excluded (holding_of st.table other).latches block Exclusive alone) ∙ free)
+-- the session holds it alone
+pub holds_leaf : (st : State) (session block : ℕ) → holding_of st.table session ≡ leaf_held block → HoldsAlone st.table session block
+holds_leaf st session block held = subst (λ (h : Holding). latches_exclude h.latches block Shared ≡ true) (sym held) (own block)
   where
     own : (b : ℕ) → latches_exclude (leaf_held b).latches b Shared ≡ true
     own b = rw (eq-eqb b b refl) refl
+
+-- no other session holds it
+pub not_the_leaf : (st : State) (session other block : ℕ) → IsInOrder st → holding_of st.table session ≡ leaf_held block → other ≢ session → HoldsAlone st.table other block → ⊥
+not_the_leaf st session other block order held differ alone =
+    let mine : HoldsAlone st.table session block = holds_leaf st session block held in
+    let free : latches_exclude (holding_of st.table other).latches block Exclusive ≡ false = order.apart session other block (λ same. differ (sym same)) mine in
+    true_false (sym (any_excluded (holding_of st.table other).latches block Exclusive alone) ∙ free)
 
 -- how many images and frames a leaf takes that is full, or isn't
 pub full_is : (st : State) (block : ℕ) (page : Page) → slice_get st.pages block ≡ Some page → st.limits.items ≤ length (entries_of page.items) → (images_at st (Holds block) ≡ 3) × (frames_at st (Holds block) ≡ 2)
@@ -184,14 +189,18 @@ puts g op old mid new block page (Ok (Added action unfinished)) steps same alive
         left = subst (λ (u : Option Fault). IsLeft st (g.backing old) (g.state new) (g.backing new) op (Some (Add op.entry)) u) (sym told.0)
             (λ only b. whole only moves b);
       };
+  straight = λ honest order fits whole_pages on room. (subst (λ (a : InsertAt). straight_steps st.pages a ≡ 1) (sym at_is) refl, told.0);
 }
   where
     st : State
     st = g.state old
+
     put : EntryPut page op.entry (g.state mid) (g.state new) action
     put = told.1
+
     now : g.state new ≡ after_act (put.after ∷ []) st
     now = put.state ∙ ap (after_act (put.after ∷ [])) same
+
     whole : OnlyTargetsAreFlagged st (targets_at op.at) → FlagsMove None None st (after_act (put.after ∷ []) st) → (b : ℕ) → is_flagged (g.state new) b ≡ false
     whole only moves b =
         elim (cases_Bool (is_flagged st b)) [
@@ -203,7 +212,7 @@ puts g op old mid new block page (Err fault) steps same alive at_is block_is fou
     (λ honest order fits.
     let there = leaf_there st op block at_is fits in
     let pin : has_pin (pinned_blocks (g.state mid).table) page.block ≡ true =
-        subst (λ (s : State). has_pin (pinned_blocks s.table) page.block ≡ true) (sym same) (subst (λ (b : ℕ). has_pin (pinned_blocks st.table) b ≡ true) (sym block_is) (pinned_leaf st.table op.session block there.0)) in
+    subst (λ (s : State). has_pin (pinned_blocks s.table) page.block ≡ true) (sym same) (subst (λ (b : ℕ). has_pin (pinned_blocks st.table) b ≡ true) (sym block_is) (pinned_leaf st.table op.session block there.0)) in
     holding_cause st (g.backing old) (g.backing new) op block 1 0 fault at_is (roomy_is st block page (found honest) room)
     (working_later st (g.backing old) (g.backing mid) (g.backing new) op.session 1 0 fault le later promised
     (subst (λ (s : State). HasCause (where_working s (g.backing mid) (g.backing new) op.session 1 0) fault) same (cause pin))))

@@ -16,6 +16,7 @@ use Rattle.split_finish.specs.declared.finish.FinishOp.{FinishOp}
 use Rattle.split_finish.specs.declared.finish.FinishStep.{FinishStep}
 use Rattle.split_finish.specs.declared.finish.FinishStep.TheVariants.{Going as FinishGoing, Done}
 use Rattle.tree_insert.specs.Inserts.{InsertFits, InsertStands, InsertSteps, IsNoted, insert_left, targets_at, where_inserting}
+use Rattle.tree_insert.specs.Straight.{IsStraight}
 use Rattle.tree_insert.specs.Turns.{GoesOn, GoesOnFrom, Leaves, LeavesBy, is_blocked}
 use Rattle.tree_insert.specs.declared.insert.InsertAt.{InsertAt}
 use Rattle.tree_insert.specs.declared.insert.InsertAt.TheVariants.{Start, At, Holding as Holds, Finishing}
@@ -69,6 +70,7 @@ finish_goes g before splits then_splits old new at_is alive h = record {
         };
         flags = λ only. on.flags (subst (λ (a : InsertAt). OnlyTargetsAreFlagged (g.state old) (targets_at a)) at_is only);
       };
+  straight = λ honest order fits whole on room. absurd (subst (IsStraight (g.state old) before.entry) at_is on);
 }
 
 -- ... that is the last
@@ -81,8 +83,10 @@ finish_done g before after splits then_splits step old new at_is alive h on = by
     none_flagged order fits honest only =
         let there = finishing_there (g.state old) before splits at_is fits in
         (h.stepped honest order there.1).flags (subst (λ (a : InsertAt). OnlyTargetsAreFlagged (g.state old) (targets_at a)) at_is only)
+
     true_false : true ≡ false → ⊥
     true_false k = cc
+
     by : (added : Option ℕ) → before.added ≡ added → GoesOnFrom added (record before { at = Finishing then_splits }) after step → InsertSteps g before after old new (Ok step)
     by None is on = subst (λ (s : InsertStep). InsertSteps g before after old new (Ok s)) (sym on.0) (subst (λ (o : InsertOp). InsertSteps g before o old new (Ok Going)) (sym on.1) (record {
       steps = h.steps;
@@ -109,6 +113,7 @@ finish_done g before after splits then_splits step old new at_is alive h on = by
             };
             flags = λ only b flagged. absurd (true_false (sym flagged ∙ none_flagged order fits honest only b));
           };
+      straight = λ honest order fits whole on room. absurd (subst (IsStraight (g.state old) before.entry) at_is on);
     }))
     by (Some action) is on = subst (λ (s : InsertStep). InsertSteps g before after old new (Ok s)) (sym on.0) (subst (λ (o : InsertOp). InsertSteps g before o old new (Ok (Added action None))) (sym on.1) (record {
       steps = h.steps;
@@ -127,6 +132,7 @@ finish_done g before after splits then_splits step old new at_is alive h on = by
             noted = subst (λ (a : Option ℕ). IsNoted last.effect (g.state old).acts before.entry before.added a) is (notes_nothing last.effect (g.state old).acts before.entry before.added last.shapes);
             left = none_flagged order fits honest;
           };
+      straight = λ honest order fits whole on room. absurd (subst (IsStraight (g.state old) before.entry) at_is on);
     }))
 
 -- ... that is refused
@@ -137,13 +143,16 @@ finish_refused g before splits then_splits fault result old new at_is alive h le
   where
     same : (let o : InsertOp = record before { at = Finishing then_splits } in o) ≡ before
     same = ap (λ (a : InsertAt). let o : InsertOp = record before { at = a } in o) (ap Finishing h.refused.op ∙ sym at_is)
+
     cause : (g.backing new).honest ≡ true → IsInOrder (g.state old) → InsertFits (g.state old) before
         → HasCause (where_inserting (g.state old) (g.backing old) (g.backing new) before.session before.entry before.at) fault
     cause honest order fits =
         let there = finishing_there (g.state old) before splits at_is fits in
         finishing_cause (g.state old) (g.backing old) (g.backing new) before splits fault at_is there.0 (h.stepped honest order there.1)
+
     refusal : InsertSteps g before (record before { at = Finishing then_splits }) old new (Err fault)
     refusal = subst (λ (o : InsertOp). InsertSteps g before o old new (Err fault)) (sym same) (refuses g before old new fault h.steps h.refused.state alive cause)
+
     over : (action : ℕ) → before.added ≡ Some action → InsertSteps g before (record before { at = Finishing then_splits }) old new (Ok (Added action (Some fault)))
     over action is = subst (λ (o : InsertOp). InsertSteps g before o old new (Ok (Added action (Some fault)))) (sym same) (record {
       steps = h.steps;
@@ -159,7 +168,9 @@ finish_refused g before splits then_splits fault result old new at_is alive h le
         noted = sym is;
         left = (refl, cause honest order fits);
       };
+      straight = λ honest order fits whole on room. absurd (subst (IsStraight (g.state old) before.entry) at_is on);
     })
+
     by : (blocked : Bool) (added : Option ℕ) → before.added ≡ added → LeavesBy blocked added fault result → InsertSteps g before (record before { at = Finishing then_splits }) old new result
     by blocked None is leaves = subst (λ (r : Result InsertStep Fault). InsertSteps g before (record before { at = Finishing then_splits }) old new r) (sym leaves) refusal
     by true (Some action) is leaves = subst (λ (r : Result InsertStep Fault). InsertSteps g before (record before { at = Finishing then_splits }) old new r) (sym leaves) refusal

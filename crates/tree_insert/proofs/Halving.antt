@@ -19,72 +19,17 @@ use Rattle.tree_shape.specs.Leaf.{MayHold}
 use Rattle.tree_shape.specs.Mending.{MayBeMended}
 use Rattle.latch_table.specs.Holdings.{Table, has_pin}
 use Rattle.page_action.specs.Causes.{pinned_blocks, count_apart}
+use Rattle.descent.proofs.Mended.{fresh_apart, RightMay, right_may}
 use Rattle.descent.proofs.Working.{apart_pinned}
 use Rattle.tree_acts.proofs.Overlays.{inside}
 use Rattle.descent.specs.Splitting.{RightIsMendable, RightIsStored, mended_to}
 use Rattle.tree_insert.specs.Turns.{IsSplittable}
-
--- a page of the format stays one with another left link
-pub mended_page : (page : Page) (left : ℕ) → IsPage page → MayBeMended page → IsBlock left → IsPage (record page { left = Some left })
-mended_page page left admitted mends block = record {
-  cycle = admitted.cycle;
-  deletion = admitted.deletion;
-  left = block;
-  right = admitted.right;
-  high = admitted.high;
-  kind = by page.items refl admitted.kind;
-}
-  where
-    leaf : (s : PageState) → page.state ≡ s → (es : List Entry) → IsLeafIn s page es → IsLeafIn s (record page { left = Some left }) es
-    leaf Live is es h = record { deletion = h.deletion; high = h.high; split = h.split; entries = h.entries }
-    leaf HalfDead is es h = record { deletion = h.deletion; high = h.high; right = h.right; split = h.split; entries = h.entries }
-    leaf Deleted is es h = absurd (mends.in_use is)
-    by : (items : Items) → page.items ≡ items → IsOfKind page items → IsOfKind (record page { left = Some left }) items
-    by Meta is h = absurd (mends.no_meta is)
-    by (Entries v) is h = record { block = h.block; level = h.level; count = h.count; rest = leaf page.state refl v.items h.rest }
-    by (Downlinks v) is h = record { block = h.block; level = h.level; state = h.state; high = h.high; split = h.split; cycle = h.cycle; deletion = h.deletion; count = h.count; first = h.first; links = h.links }
 
 -- a leaf has as many items as entries
 pub leaf_count : (items : Items) → HasEntries items → count_of items ≡ length (entries_of items)
 leaf_count Meta h = absurd h
 leaf_count (Entries v) h = refl
 leaf_count (Downlinks v) h = absurd h
-
-true_false : true ≡ false → ⊥
-true_false h = cc
-
-not_deleted : (state : PageState) → state ≢ Deleted → is_deleted_state state ≡ true → ⊥
-not_deleted Live ne h = true_false (sym h)
-not_deleted HalfDead ne h = true_false (sym h)
-not_deleted Deleted ne h = ne refl
-
--- a block for a new page is none of a page that is in use and not deleted
-pub fresh_apart : (st : State) (new block : ℕ) (page : Page) → IsFresh st new → slice_get st.pages block ≡ Some page → page.state ≢ Deleted → block ≢ new
-fresh_apart st new block page fresh found in_use same =
-    let used : new < length st.pages = subst (λ (b : ℕ). b < length st.pages) same (inside st.pages block page found) in
-    let gone : is_deleted st.pages new ≡ true = (and_parts (is_deleted st.pages new) _ (fresh.reusable used)).0 in
-    not_deleted page.state in_use (sym (ap is_deleted_page (sym (ap (slice_get st.pages) same) ∙ found)) ∙ gone)
-
--- what is needed of the page to the right, whose left link is mended
-pub record RightMay (st : State) (block new : ℕ) (right : Option Page) : Type 0 where
-  pub apart : IsApartFrom block (mended_to new right)
-  pub apart_new : IsApartFrom new (mended_to new right)
-  pub may : AreActable st.limits (length st.pages) (mended_to new right)
-
-pub right_may : (st : State) (session block new : ℕ) (link : Option ℕ) (right : Option Page) → length st.pages ≤ st.limits.pages → IsFresh st new → IsBlock new
-    → RightIsMendable st link → link ≢ Some block → RightIsStored st session link right → RightMay st block new right
-right_may st session block new None None few fresh is_block mendable apart stored = record { apart = tt; apart_new = tt; may = tt }
-right_may st session block new None (Some page) few fresh is_block mendable apart stored = absurd stored
-right_may st session block new (Some r) None few fresh is_block mendable apart stored = absurd stored
-right_may st session block new (Some r) (Some page) few fresh is_block mendable apart stored =
-    let used : r < length st.pages = inside st.pages r mendable.page mendable.found in
-    let at_r : page.block ≡ r = stored.0.block_is in
-    record {
-      apart = (λ same. apart (ap Some (sym at_r ∙ same)), tt);
-      apart_new = (λ same. fresh_apart st new r mendable.page fresh mendable.found mendable.mends.in_use (sym at_r ∙ same), tt);
-      may = (record { admitted = mended_page page new stored.0.storable.admitted stored.1 is_block; few = stored.0.storable.few },
-      (omega (arith, at_r, used), omega (arith, at_r, used, few)), tt, tt);
-    }
 
 -- the halves of a leaf, and the page to the right of them
 pub halves_may : (st : State) (session : ℕ) (e : Entry) (page left half : Page) (right : Option Page)
@@ -95,25 +40,30 @@ pub halves_may : (st : State) (session : ℕ) (e : Entry) (page left half : Page
     → left.block ≡ page.block → IsFresh st half.block → IsBlock half.block → RightIsStored st session page.right right
     → AreActable st.limits (length st.pages) (left ∷ half ∷ mended_to half.block right)
 halves_may st session e page left half right fits may some left_page half_page left_leaf half_leaf kept moved left_block fresh block stored = (
-    record { admitted = left_page; few = few_left },
-    (omega (arith, used, left_block), subst (λ (b : ℕ). b < st.limits.pages) (sym left_block) (omega (arith, used, fits.few))),
-    (λ same. apart_new (sym left_block ∙ sym same), subst (λ (b : ℕ). IsApartFrom b (mended_to half.block right)) (sym left_block) beside.apart),
-    (record { admitted = half_page; few = few_half }, (fresh.within, fresh.inside), beside.apart_new, beside.may),
-  )
+  record { admitted = left_page; few = few_left },
+  (omega (arith, used, left_block), subst (λ (b : ℕ). b < st.limits.pages) (sym left_block) (omega (arith, used, fits.few))),
+  (λ same. apart_new (sym left_block ∙ sym same), subst (λ (b : ℕ). IsApartFrom b (mended_to half.block right)) (sym left_block) beside.apart),
+  (record { admitted = half_page; few = few_half }, (fresh.within, fresh.inside), beside.apart_new, beside.may),
+)
   where
     used : page.block < length st.pages
     used = inside st.pages page.block page fits.found
+
     apart_new : page.block ≢ half.block
     apart_new = fresh_apart st half.block page.block page fresh fits.found (λ gone. live_not_deleted (sym may.alive ∙ gone))
       where
         live_not_deleted : Live ≡ Deleted → ⊥
         live_not_deleted h = cc
+
     all : length (entries_of page.items) ≤ st.limits.items
     all = subst (λ (n : ℕ). n ≤ st.limits.items) (leaf_count page.items may.leaf) fits.stored.storable.few
+
     few_left : count_of left.items ≤ st.limits.items
     few_left = subst (λ (n : ℕ). n ≤ st.limits.items) (sym (leaf_count left.items left_leaf)) (omega (arith, kept, all, some))
+
     few_half : count_of half.items ≤ st.limits.items
     few_half = subst (λ (n : ℕ). n ≤ st.limits.items) (sym (leaf_count half.items half_leaf)) (omega (arith, kept, moved, all, some))
+
     beside : RightMay st page.block half.block right
     beside = right_may st session page.block half.block page.right right fits.few fresh block fits.mendable fits.apart stored
 
@@ -131,8 +81,8 @@ frames_for table left half new (Some page) pin = apart_pinned left.block (half.b
 pub put_may : (limits : Limits) (used : ℕ) (page after : Page) → IsStored limits page.block page → page.block < used → used ≤ limits.pages → IsPage after → HasEntries after.items
     → length (entries_of after.items) ≤ limits.items → after.block ≡ page.block → AreActable limits used (after ∷ [])
 put_may limits used page after stored in_use inside admitted leaf few block_is = (
-    record { admitted = admitted; few = subst (λ (n : ℕ). n ≤ limits.items) (sym (leaf_count after.items leaf)) few },
-    (omega (arith, block_is, in_use), omega (arith, block_is, in_use, inside)),
-    tt,
-    tt,
-  )
+  record { admitted = admitted; few = subst (λ (n : ℕ). n ≤ limits.items) (sym (leaf_count after.items leaf)) few },
+  (omega (arith, block_is, in_use), omega (arith, block_is, in_use, inside)),
+  tt,
+  tt,
+)

@@ -8,3 +8,4 @@ pub mod Halving
 pub mod Adding
 pub mod Splitting
 pub mod Ending
+pub mod Lasting

@@ -68,10 +68,10 @@ pub one_target_fits : (st : State) (start session : ℕ) (aim : Bound → Bool) 
     → op.session ≡ session → op.target ≡ target → op.below.items ≡ [] → op.at ≡ FinishStart → FinishFits st op
 one_target_fits st start session aim way page target op tree low free runs found block_is place alive t_block t_level high s_is t_is below at =
     let own : HasPlace st start way.level (bound_aim target.separator) true page.block = high_tells st start way.level aim true page target.separator tree
-        (subst (λ (b : ℕ). slice_get st.pages b ≡ Some page) (sym block_is) found) (subst (HasPlace st start way.level aim true) (sym block_is) place) alive high in
+    (subst (λ (b : ℕ). slice_get st.pages b ≡ Some page) (sym block_is) found) (subst (HasPlace st start way.level aim true) (sym block_is) place) alive high in
     let there : HasPlace st start target.level (bound_aim target.separator) true target.block =
-        subst (λ (l : ℕ). HasPlace st start l (bound_aim target.separator) true target.block) (sym t_level)
-        (subst (HasPlace st start way.level (bound_aim target.separator) true) (block_is ∙ sym t_block) own) in
+    subst (λ (l : ℕ). HasPlace st start l (bound_aim target.separator) true target.block) (sym t_level)
+    (subst (HasPlace st start way.level (bound_aim target.separator) true) (block_is ∙ sym t_block) own) in
     record {
       session = subst (λ (s : ℕ). s < 64) (sym s_is) low;
       free = subst (λ (s : ℕ). holding_of st.table s ≡ nothing_held) (sym s_is) free;
@@ -92,22 +92,29 @@ meets g before after old new page way (Ok Going) steps same alive at_is h live f
     goes_on g before after old new steps same (ap (λ (o : InsertOp). o.session) h.finishes.after_is) (ap (λ (o : InsertOp). o.entry) h.finishes.after_is) alive
     (λ honest. less (found honest))
     (λ honest order fits. now (found honest) order fits)
+    (λ honest order whole on. absurd (true_false (sym flagged ∙ whole way.block page (found honest))))
   where
     st : State
     st = g.state old
+
     op : FinishOp
     op = h.finishes.op
+
     target : Target
     target = h.target
+
     at_target : slice_get st.pages way.block ≡ Some page → slice_get st.pages target.block ≡ Some page
     at_target there = subst (λ (b : ℕ). slice_get st.pages b ≡ Some page) (sym h.block_is) there
+
     after_at : after.at ≡ Finishing op
     after_at = ap (λ (o : InsertOp). o.at) h.finishes.after_is
+
     less : slice_get st.pages way.block ≡ Some page → insert_left st.limits.pages st.pages after.at < insert_left st.limits.pages st.pages before.at
     less there =
         let left = one_target_left st.limits.pages st.pages target op page h.finishes.target_is h.finishes.below h.finishes.at (at_target there) flagged h.high_is in
         subst (λ (a : InsertAt). insert_left st.limits.pages st.pages a < insert_left st.limits.pages st.pages before.at) (sym after_at)
         (subst (λ (a : InsertAt). finish_left st.limits.pages st.pages op < insert_left st.limits.pages st.pages a) (sym at_is) (omega (arith, left)))
+
     now : slice_get st.pages way.block ≡ Some page → IsInOrder st → InsertFits st before → StandsNow st before after
     now there order fits =
         let stands = on_way st before way at_is fits in
@@ -116,8 +123,11 @@ meets g before after old new page way (Ok Going) steps same alive at_is h live f
             session = fits.session;
             start = fits.start;
             running = fits.running;
-            stands = (h.finishes.session, one_target_fits st fits.start before.session (entry_aim before.entry) way page target op order.tree fits.session stands.0 fits.running there block_is stands.1.place live
-                h.block_is h.level_is h.high_is h.finishes.session h.finishes.target_is h.finishes.below h.finishes.at);
+            stands = (
+              h.finishes.session,
+              one_target_fits st fits.start before.session (entry_aim before.entry) way page target op order.tree fits.session stands.0 fits.running there block_is stands.1.place live
+                  h.block_is h.level_is h.high_is h.finishes.session h.finishes.target_is h.finishes.below h.finishes.at,
+            );
             to_come = tt;
           });
           added = ap (λ (o : InsertOp). o.added) h.finishes.after_is;

@@ -8,7 +8,9 @@ use Rattle.page_action.specs.States.{State, Backing, Continues}
 use Rattle.page_action.specs.declared.page_store.PageStore.{Ghosts}
 use Rattle.descent.specs.Shared.{IsInOrder, IsOneStep}
 use Rattle.descent.proofs.Acting.{one_nothing, nothing_else}
+use Rattle.tree_acts.specs.Ways.{AreWhole}
 use Rattle.split_finish.specs.Targets.{OnlyTargetsAreFlagged}
+use Rattle.tree_insert.specs.Straight.{IsStraight, CountsDown}
 use Rattle.tree_insert.specs.Inserts.{InsertFits, InsertSteps, InsertGoesOn, AnswersStopped, insert_left, targets_at, where_inserting}
 use Rattle.tree_insert.specs.declared.insert.InsertOp.{InsertOp}
 use Rattle.tree_insert.specs.declared.insert.InsertStep.{InsertStep}
@@ -31,6 +33,7 @@ refuses g op old new fault steps same alive cause = record {
   stopped = λ h. runs_no_more (g.backing old).stopped alive h;
   less = λ honest is. absurd cc;
   stepped = cause;
+  straight = λ honest order fits whole on room. tt;
 }
 
 -- where it stands after such a step
@@ -44,8 +47,10 @@ pub goes_on : {S : Type 0} (g : Ghosts S) (before after : InsertOp) (old new : S
     → after.session ≡ before.session → after.entry ≡ before.entry → (g.backing old).stopped ≡ false
     → ((g.backing new).honest ≡ true → insert_left (g.state old).limits.pages (g.state old).pages after.at < insert_left (g.state old).limits.pages (g.state old).pages before.at)
     → ((g.backing new).honest ≡ true → IsInOrder (g.state old) → InsertFits (g.state old) before → StandsNow (g.state old) before after)
+    → ((g.backing new).honest ≡ true → IsInOrder (g.state old) → AreWhole (g.state old).pages → IsStraight (g.state old) before.entry before.at
+    → CountsDown (g.state old) (g.state old) before after (Ok Going))
     → InsertSteps g before after old new (Ok Going)
-goes_on g before after old new steps same session entry alive less stands = record {
+goes_on g before after old new steps same session entry alive less stands straight = record {
   steps = steps;
   session = session;
   entry = entry;
@@ -62,6 +67,7 @@ goes_on g before after old new steps same session entry alive less stands = reco
         fits = subst (λ (st : State). InsertFits st after) (sym same) now.fits;
         flags = λ only. subst (λ (st : State). OnlyTargetsAreFlagged st (targets_at after.at)) (sym same) (now.flags only);
       };
+  straight = λ honest order fits whole on room. subst (λ (st : State). CountsDown (g.state old) st before after (Ok Going)) (sym same) (straight honest order whole on);
 }
 
 pub on_ok : {A E : Type 0} (r : Result A E) (x : A) (P : Type 0) → OnOk r P → r ≡ Ok x → P

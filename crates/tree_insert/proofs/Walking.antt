@@ -117,6 +117,7 @@ whole_page page admitted whole = by page.items admitted.kind
     leaf Live is es h = whole is
     leaf HalfDead is es h = h.split
     leaf Deleted is es h = h.split
+
     by : (items : Items) → IsOfKind page items → page.split ≡ false
     by Meta h = h.split
     by (Entries v) h = leaf page.state refl v.items h.rest
@@ -126,7 +127,7 @@ whole_page page admitted whole = by page.items admitted.kind
 pub led : (st : State) (op : InsertOp) (way : Way) (page : Page) (bound : Bound) (most : ℕ) (result : Option Onward) → op.at ≡ At way → IsInOrder st → (fits : InsertFits st op)
     → slice_get st.pages way.block ≡ Some page → IsPage page → (page.state ≡ Live → page.split ≡ false) → bound ≡ bound_of op.entry → length st.pages ≤ most
     → ((s : State) (start : ℕ) (clear : Bool) → HasTree s → slice_get s.pages way.block ≡ Some page → IsOnWay s start (bound_aim bound) clear 0 way → (clear ≡ true → page.split ≡ false)
-        → length s.pages ≤ most → LeadsOnward s start (bound_aim bound) clear 0 way result)
+    → length s.pages ≤ most → LeadsOnward s start (bound_aim bound) clear 0 way result)
     → LeadsOnward st fits.start (entry_aim op.entry) true 0 way result
 led st op way page bound most result at_is order fits found admitted whole is few goes =
     let stands = on_way st op way at_is fits in

@@ -7,8 +7,10 @@ use Rattle.page_codec.specs.declared.page.Items.TheVariants.{Meta, Entries, Down
 use Rattle.page_codec.specs.declared.page.Page.{Page}
 use Rattle.page_action.specs.States.{State}
 use Rattle.tree_shape.specs.Tree.{IsMetaOf}
-use Rattle.tree_acts.specs.Trees.{HasTree, HasPlace}
-use Rattle.tree_acts.proofs.Telling.{metapage_tells, trail_begins_here}
+use Rattle.tree_acts.specs.Trees.{HasTree, HasPlace, HasCover}
+use Rattle.tree_acts.specs.Ways.{AreWhole}
+use Rattle.descent.specs.Ways.{root_level, level_of, level_with}
+use Rattle.tree_acts.proofs.Telling.{metapage_tells, trail_begins_here, root_covers_all}
 use Rattle.descent.specs.Onward.{IsOnWay, way_from}
 use Rattle.descent.specs.declared.way.Way.{Way}
 
@@ -32,3 +34,13 @@ on_way_from_root st start aim clear to meta way tree found le named =
       place = there.place;
       trail = trail_begins_here st start meta.level aim clear there.root tree there.place;
     })
+
+-- where no page is flagged, the root covers whatever is looked for
+pub root_covers_there : (st : State) (aim : Bound → Bool) (meta : Page) (way : Way) → HasTree st → AreWhole st.pages → slice_get st.pages 0 ≡ Some meta
+    → ((root : ℕ) → IsMetaOf meta root meta.level → Some way ≡ Some (way_from root meta.level)) → HasCover st way.level aim way.block × (way.level ≡ root_level st.pages)
+root_covers_there st aim meta way h whole found named =
+    let r = metapage_tells st 0 aim false meta h found in
+    let is : way ≡ way_from r.root meta.level = (let k = named r.root r.names in cc) in (
+      subst (λ (w : Way). HasCover st w.level aim w.block) (sym is) (root_covers_all st aim meta r.root h whole found r.names),
+      ap (λ (w : Way). w.level) is ∙ sym (ap level_of found ∙ ap (λ (items : Items). level_with items meta.level) r.names.kind),
+    )

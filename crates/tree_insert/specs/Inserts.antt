@@ -16,12 +16,14 @@ use Rattle.page_action.specs.States.{State, Backing, Continues}
 use Rattle.page_action.specs.declared.page_store.PageStore.{Ghosts}
 use Rattle.tree_shape.specs.Walks.{entry_aim, is_within}
 use Rattle.tree_acts.specs.Trees.{HasPlace}
+use Rattle.tree_acts.specs.Ways.{AreWhole}
 use Rattle.descent.specs.Onward.{IsOnWay}
 use Rattle.descent.specs.Shared.{IsInOrder, Does, IsOneStep, is_flagged, where_working}
 use Rattle.split_finish.specs.Finishes.{images_of, frames_of}
 use Rattle.split_finish.specs.Targets.{targets_of, OnlyTargetsAreFlagged, FinishFits, finish_left, walk_length, way_left}
 use Rattle.split_finish.specs.declared.finish.FinishOp.{FinishOp}
 use Rattle.split_finish.specs.declared.finish.Target.{Target}
+use Rattle.tree_insert.specs.Straight.{IsStraight, HasRoomFor, CountsDown}
 use Rattle.tree_insert.specs.declared.insert.InsertAt.{InsertAt}
 use Rattle.tree_insert.specs.declared.insert.InsertAt.TheVariants.{Start, At, Holding as Holds, Finishing}
 use Rattle.tree_insert.specs.declared.insert.InsertOp.{InsertOp}
@@ -185,3 +187,8 @@ pub record InsertSteps {S : Type 0} (g : Ghosts S) (before after : InsertOp) (ol
   pub stepped : (g.backing new).honest ≡ true → IsInOrder (g.state old)
       → InsertFits (g.state old) before
       → InsertStepped (g.state old) (g.backing old) (g.state new) (g.backing new) before after result
+  -- where no page is flagged and its leaf has room, each step is one nearer to the last
+  pub straight : (g.backing new).honest ≡ true → IsInOrder (g.state old)
+      → InsertFits (g.state old) before → AreWhole (g.state old).pages
+      → IsStraight (g.state old) before.entry before.at → HasRoomFor (g.state old) before.entry
+      → CountsDown (g.state old) (g.state new) before after result

@@ -4,7 +4,6 @@ ghost use Rattle.std.specs.Prelude.{◌≡◌, Err, Ok, Some, None, IfSome, IfNo
 ghost use Rattle.latch_table.specs.Holdings.{HasRoom, latched, pinned};
 ghost use Rattle.page_action.specs.States.{Continues, with_table};
 ghost use Rattle.tree_insert.specs.Inserts.{InsertSteps, AnswersStopped};
-ghost use Rattle.split_finish.specs.Finishes.{FinishSteps};
 ghost use Rattle.tree_insert.specs.Turns.{Meets, Takes, IsFinishing, GoesOn, Leaves};
 
 use crate::room::place_in;
@@ -214,7 +213,7 @@ impl InsertOp {
         let InsertAt::Finishing(op) = &mut self.at else {
             return Err(Fault::PageDamaged(0));
         };
-        match finish_step(op, store) {
+        match op.step(store) {
             Ok(FinishStep::Going) => Ok(InsertStep::Going),
             Ok(FinishStep::Done) => Ok(self.go_on()),
             Err(fault) => self.leave(fault),
@@ -249,12 +248,6 @@ impl InsertOp {
             _ => Err(fault),
         }
     }
-}
-
-fn finish_step<S: PageStore>(op: &mut FinishOp, store: &mut S) -> Result<FinishStep, Fault>
-    ensures { FinishSteps S.PageStore op.old op.new store.old store.new result }
-{
-    Err(Fault::Stopped)
 }
 
 // Whether it is a live page whose split is to be finished.

@@ -20,7 +20,7 @@ use descent::{act_on, read_right, take_block};
 use index_model::{Entry, Fault};
 use page_action::PageStore;
 use page_codec::Page;
-use split_finish::{FinishOp, Target};
+use split_finish::{FinishOp, half_to_finish};
 use std::slice;
 use tree_shape::{entries_on, find, may_hold, mend_left, put, split_leaf};
 
@@ -70,22 +70,6 @@ fn act_on_halves<S: PageStore>(
             mend_left(&mut page, half.block);
             act_on(store, &[left, half, page])
         }
-    }
-}
-
-// The left half, whose split is to be finished; None where it has no high key.
-fn half_to_finish(left: &Page) -> Option<Target>
-    ensures target { IfSome result (λ t. (t.block ≡ left.now.block) × (t.level ≡ left.now.level)
-        × (left.now.high ≡ Some t.separator)) }
-    ensures none { IfNone result (left.now.high ≡ None) }
-{
-    match left.high {
-        Some(separator) => Some(Target {
-            block: left.block,
-            level: left.level,
-            separator,
-        }),
-        None => None,
     }
 }
 

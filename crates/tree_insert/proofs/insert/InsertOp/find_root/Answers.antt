@@ -1,12 +1,13 @@
-use Rattle.std.proofs.Common.{rules, arith, ◌≡◌, ℕ, ◌≤◌, ◌<◌, ◌+◌, Some, true, refl, sym, ap, subst, ◌∙◌, slice_get}
+use Rattle.std.proofs.Common.{rules, arith, ◌≡◌, ℕ, suc, ◌≤◌, ◌<◌, ◌+◌, Some, true, refl, sym, ap, subst, ◌∙◌, slice_get}
 use Rattle.page_action.specs.States.{State}
 use Rattle.tree_shape.specs.Walks.{entry_aim}
 use Rattle.split_finish.specs.Targets.{OnlyTargetsAreFlagged, way_left, walk_length}
 use Rattle.tree_insert.specs.Inserts.{InsertStands, IsToCome, insert_left, targets_at}
+use Rattle.tree_insert.specs.Straight.{straight_steps}
 use Rattle.tree_insert.specs.declared.insert.InsertAt.{InsertAt}
 use Rattle.tree_insert.proofs.Left.{way_short}
 use Rattle.tree_insert.proofs.Steps.{goes_on}
-use Rattle.tree_insert.proofs.Ways.{on_way_from_root, level_low}
+use Rattle.tree_insert.proofs.Ways.{on_way_from_root, level_low, root_covers_there}
 use Rattle.tree_insert.proofs.insert.InsertOp.find_root.Goals as goal
 
 pub returns : goal.returns
@@ -25,10 +26,18 @@ returns g c =
         session = fits.session;
         start = fits.start;
         running = fits.running;
-        stands = (free, on_way_from_root old fits.start (entry_aim c.args.self.now.entry) true 0 c.in-Ok.meta c.in-Some.way order.tree (c.in-Ok.ensures.page honest) (omega arith)
-            (λ root names. sym c.in-Some.is ∙ c.way_down.ensures.named root names));
+        stands = (
+          free,
+          on_way_from_root old fits.start (entry_aim c.args.self.now.entry) true 0 c.in-Ok.meta c.in-Some.way order.tree (c.in-Ok.ensures.page honest) (omega arith)
+              (λ root names. sym c.in-Some.is ∙ c.way_down.ensures.named root names),
+        );
         to_come = subst (λ (a : InsertAt). IsToCome a c.args.self.now.added) c.requires.at fits.to_come;
       };
       added = refl;
       flags = λ only. subst (λ (a : InsertAt). OnlyTargetsAreFlagged old (targets_at a)) c.requires.at only;
     })
+    (λ honest order whole on.
+    let there = root_covers_there old (entry_aim c.args.self.now.entry) c.in-Ok.meta c.in-Some.way order.tree whole (c.in-Ok.ensures.page honest) (λ root names. sym c.in-Some.is ∙ c.way_down.ensures.named root names) in (
+      there.0,
+      subst (λ (a : InsertAt). suc (c.in-Some.way.level + 2) ≡ straight_steps old.pages a) (sym c.requires.at) (let z = there.1 in omega (arith, z)),
+    ))

@@ -8,12 +8,12 @@ use Rattle.tree_insert.proofs.insert.InsertOp.finish.Goals as goal
 
 pub returns-in-Ok-Done : goal.returns-in-Ok-Done
 returns-in-Ok-Done g c =
-    finish_done g.S.PageStore c.args.self.now c.go_on.new.self c.in-Finishing.op c.finish_step.new.op c.go_on.result c.args.store.now c.finish_step.new.store c.in-Finishing.is c.requires.alive
-    (subst (λ (r : Result FinishStep Fault). FinishSteps g.S.PageStore c.in-Finishing.op c.finish_step.new.op c.args.store.now c.finish_step.new.store r) (c.in-Ok-Done.is ∙ ap (λ (s : FinishStep). let k : Result FinishStep Fault = Ok s in k) c.in-Ok-Done.field-0-is) c.finish_step.ensures)
+    finish_done g.S.PageStore c.args.self.now c.go_on.new.self c.in-Finishing.op c.step.new.self c.go_on.result c.args.store.now c.step.new.store c.in-Finishing.is c.requires.alive
+    (subst (λ (r : Result FinishStep Fault). FinishSteps g.S.PageStore c.in-Finishing.op c.step.new.self c.args.store.now c.step.new.store r) (c.in-Ok-Done.is ∙ ap (λ (s : FinishStep). let k : Result FinishStep Fault = Ok s in k) c.in-Ok-Done.field-0-is) c.step.ensures)
     c.go_on.ensures
 
 pub returns-in-Err : goal.returns-in-Err
 returns-in-Err g c =
-    finish_refused g.S.PageStore c.args.self.now c.in-Finishing.op c.finish_step.new.op c.in-Err.fault c.leave.result c.args.store.now c.finish_step.new.store c.in-Finishing.is c.requires.alive
-    (subst (λ (r : Result FinishStep Fault). FinishSteps g.S.PageStore c.in-Finishing.op c.finish_step.new.op c.args.store.now c.finish_step.new.store r) c.in-Err.is c.finish_step.ensures)
+    finish_refused g.S.PageStore c.args.self.now c.in-Finishing.op c.step.new.self c.in-Err.fault c.leave.result c.args.store.now c.step.new.store c.in-Finishing.is c.requires.alive
+    (subst (λ (r : Result FinishStep Fault). FinishSteps g.S.PageStore c.in-Finishing.op c.step.new.self c.args.store.now c.step.new.store r) c.in-Err.is c.step.ensures)
     c.leave.ensures
