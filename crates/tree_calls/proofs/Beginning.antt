@@ -1,5 +1,5 @@
 -- Beginnings over histories.
-use Rattle.std.proofs.Common.{◌≡◌, ◌≤◌, ℕ, slice_get, ◌<◌, Bool, true, false, not, Option, Some, None, List, [], ◌∷◌, length, refl, sym, ap, subst, ◌∙◌, arith, length-set}
+use Rattle.std.proofs.Common.{◌≡◌, ◌+◌, ◌≤◌, ℕ, slice_get, ◌<◌, Bool, true, false, not, Option, Some, None, List, [], ◌∷◌, length, refl, sym, ap, subst, ◌∙◌, arith, length-set}
 use Rattle.std.specs.Prelude.{unwrap_or}
 use Rattle.index_model.specs.Actions.{Action}
 use Rattle.index_model.specs.Calls.{Running, GivesOnly, Meets}
@@ -13,8 +13,11 @@ use Rattle.page_codec.specs.declared.page.Page.{Page}
 use Rattle.descent.specs.Shared.{NumbersStay, IsInOrder, OthersRely}
 use Rattle.tree_insert.proofs.Lasting.{bounded as insert_bounded}
 use Rattle.tree_scan.proofs.Lasting.{bounded as scan_bounded}
+use Rattle.descent.specs.Ways.{root_level, NoneIsFlagged}
+use Rattle.tree_calls.specs.Due.{IsServable, IsDueIn, steps_for, HasSteps}
+use Rattle.tree_calls.proofs.Counting.{due_still}
 use Rattle.tree_calls.specs.Ops.{DeadSets, asked_by, op_before}
-use Rattle.tree_calls.specs.Sessions.{Matches, IsIdle, HasStarted, OpRuns, begun_call, work_left, work_in, SessionBegins}
+use Rattle.tree_calls.specs.Sessions.{Matches, IsIdle, HasStarted, OpRuns, begun_call, work_left, SessionBegins}
 use Rattle.tree_calls.specs.declared.request.Request.{Request}
 use Rattle.tree_calls.specs.declared.request.Request.TheVariants.{Insert as ToInsert, Scan as ToScan}
 use Rattle.tree_calls.specs.declared.op.Op.{Op}
@@ -120,9 +123,17 @@ few_from : (most : ℕ) (pages : List Page) (session : ℕ) (request : Request) 
 few_from most pages session (ToInsert e) low few = insert_bounded most pages low
 few_from most pages session (ToScan range) low few = scan_bounded most pages session range low few
 
--- what is left to do for a call that has begun has a bound
-pub has_bound : (old new : State) (session : ℕ) (request : Request) (slot : Option Op) → new ≡ after_begin session old → slot ≡ Some (op_before session request)
-    → old.limits.pages ≤ 65536 → length old.pages ≤ 65536 → work_in new slot < 281474976710656
-has_bound old new session request slot is slot_is low few =
-    subst (λ (st : State). work_in st slot < 281474976710656) (sym is) (subst (λ (x : Option Op). work_in (after_begin session old) x < 281474976710656) (sym slot_is)
-    (few_from old.limits.pages old.pages session request low few))
+-- a request that its leaf can serve is due after so many steps
+due_from : (old : State) (session : ℕ) (request : Request) → NoneIsFlagged old.pages → IsServable old request
+    → IsDueIn old (Some (op_before session request)) (root_level old.pages + steps_for request)
+due_from old session (ToInsert e) whole servable = record { steps_are = refl; whole = whole; way = tt; absent = servable.0; room = servable.1 }
+due_from old session (ToScan range) whole servable = record { steps_are = refl; whole = whole; way = tt; none = refl }
+
+pub has_steps : (old new : State) (session : ℕ) (request : Request) (slot : Option Op) → new ≡ after_begin session old → slot ≡ Some (op_before session request)
+    → old.limits.pages ≤ 65536 → length old.pages ≤ 65536 → HasSteps old new request slot
+has_steps old new session request slot is slot_is low few =
+    subst (λ (st : State). HasSteps old st request slot) (sym is) (subst (λ (x : Option Op). HasSteps old (after_begin session old) request x) (sym slot_is)
+    (record {
+      due = λ whole servable. due_still old (after_begin session old) (Some (op_before session request)) (root_level old.pages + steps_for request) refl refl (due_from old session request whole servable);
+      bounded = few_from old.limits.pages old.pages session request low few;
+    }))

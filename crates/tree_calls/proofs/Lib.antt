@@ -7,3 +7,4 @@ pub mod Inserting
 pub mod Scanning
 pub mod Undisturbed
 pub mod Beginning
+pub mod Counting

@@ -1,3 +1,4 @@
 pub mod Ops
 pub mod Sessions
+pub mod Due
 pub mod Undisturbed

@@ -5,8 +5,9 @@ ghost use Rattle.index_model.specs.Actions.{Action};
 ghost use Rattle.index_model.specs.Faults.{HasCause};
 ghost use Rattle.index_model.specs.declared.entry.Entry.{Entry};
 ghost use Rattle.page_action.specs.States.{Continues, after_begin};
+ghost use Rattle.tree_calls.specs.Due.{HasSteps};
 ghost use Rattle.tree_calls.specs.Ops.{DeadSets, where_beginning};
-ghost use Rattle.tree_calls.specs.Sessions.{Matches, IsIdle, BeginsBy, SessionBegins, work_in};
+ghost use Rattle.tree_calls.specs.Sessions.{Matches, IsIdle, BeginsBy, SessionBegins};
 
 use crate::answer::Answer;
 use crate::op::Op;
@@ -35,8 +36,8 @@ pub fn begin<S: PageStore>(
         → Matches (S.state store.old) start history → IsIdle (S.state store.old) session
         → SessionBegins (S.state store.old) (S.state store.new) sets start history number session
         request slot.new }
-    ensures bounded { result ≡ Answer.Begun
-        → work_in (S.state store.new) slot.new < 281474976710656 }
+    ensures counts { result ≡ Answer.Begun → HasSteps (S.state store.old)
+        (S.state store.new) request slot.new }
 {
     if let Err(fault) = start(store, session, slot.is_some()) {
         return Answer::Refused(fault);

@@ -6,6 +6,7 @@ ghost use Rattle.index_model.specs.Calls.{Call};
 ghost use Rattle.index_model.specs.declared.entry.Entry.{Entry};
 ghost use Rattle.page_action.specs.Causes.{nothing_wrong};
 ghost use Rattle.page_action.specs.States.{State, Continues, after_end};
+ghost use Rattle.tree_calls.specs.Due.{IsDueIn, CountsDown};
 ghost use Rattle.tree_calls.specs.Ops.{DeadSets, session_of, where_slot_stepped, where_asked_next, is_last, AnswersStopped};
 ghost use Rattle.tree_calls.specs.Sessions.{SlotFits, SessionGoes, KeepsPages, OnlyOwnAreFlagged, LeavesOwnFlagged, LeavesLess, LeavesNoMore, GivesLess, AnswersStep, AnswersNext, AnswersEnd, RefusalChangesNothing, no_call, slot_add};
 ghost use Rattle.tree_calls.specs.declared.op.Op.{Op};
@@ -46,6 +47,11 @@ pub fn step<S: PageStore, T: DeadRows>(store: &mut S, slot: &mut Option<Op>, set
         → SlotFits (S.state store.old) (map T.is_in sets.now) start history number call slot.old
         → OnlyOwnAreFlagged (S.state store.old) slot.old
         → LeavesOwnFlagged (S.state store.new) slot.old slot.new result }
+    ensures due { (S.backing store.new).honest ≡ true
+        → (start : Entry → Bool) (history : List Action) (number : ℕ) (call : Call)
+        → SlotFits (S.state store.old) (map T.is_in sets.now) start history number call slot.old
+        → (left : ℕ) → IsDueIn (S.state store.old) slot.old (suc left)
+        → CountsDown (S.state store.old) (S.state store.new) slot.old slot.new left result }
 {
     let Some(op) = slot else {
         return idle(store.is_stopped());
@@ -92,6 +98,8 @@ pub fn next(slot: &mut Option<Op>) -> Answer
         → SlotFits st sets start history number call slot.old
         → SessionGoes (where_asked_next call.ask) st st sets start history number call slot.new
         result }
+    ensures due { (st : State) (steps : ℕ) → IsDueIn st slot.old steps
+        → IsDueIn st slot.new steps }
 {
     match slot {
         Some(Op::Scan(op)) => Answer::Gave(op.next()),

@@ -1,6 +1,6 @@
 //! Running calls.
 
-ghost use Rattle.std.specs.Prelude.{◌≡◌, true, false, Bool, List, ℕ, Some, map};
+ghost use Rattle.std.specs.Prelude.{◌≡◌, true, false, Bool, List, ℕ, Some, suc, map};
 ghost use Rattle.index_model.specs.Actions.{Action};
 ghost use Rattle.index_model.specs.Calls.{Call};
 ghost use Rattle.index_model.specs.declared.entry.Entry.{Entry};
@@ -21,6 +21,7 @@ pub enum Op {
 }
 
 impl Op {
+    ghost use Rattle.tree_calls.specs.Due.{IsDueIn, CountsDown};
     ghost use Rattle.tree_calls.specs.Ops.{op_before, session_of, OpFits, where_stepped};
     ghost use Rattle.tree_calls.specs.Sessions.{CallFits, OpSteps, OpGoes, OnlyOwnAreFlagged, LeavesOwnFlagged, slot_after};
 
@@ -59,6 +60,11 @@ impl Op {
             → OnlyOwnAreFlagged (S.state store.old) (Some self.old)
             → LeavesOwnFlagged (S.state store.new) (Some self.old) (slot_after result self.new)
             result }
+        ensures due { (S.backing store.new).honest ≡ true → IsInOrder (S.state store.old)
+            → OpFits (S.state store.old) self.old
+            → (left : ℕ) → IsDueIn (S.state store.old) (Some self.old) (suc left)
+            → CountsDown (S.state store.old) (S.state store.new) (Some self.old)
+            (slot_after result self.new) left result }
     {
         match self {
             Op::Insert(op) => match op.step(store) {

@@ -1,6 +1,6 @@
 use Rattle.std.proofs.Common.{ap, Some}
 use Rattle.tree_calls.specs.declared.op.Op.{Op}
-use Rattle.tree_calls.proofs.Beginning.{begins, has_bound}
+use Rattle.tree_calls.proofs.Beginning.{begins, has_steps}
 use Rattle.tree_calls.proofs.begins.begin.Goals as goal
 
 pub returns-clause-begins : goal.returns-clause-begins
@@ -8,7 +8,7 @@ returns-clause-begins g c begun sets start history number matches idle =
     begins (g.S.PageStore.state c.args.store.now) sets start history number c.args.session c.in_default.ensures.low matches idle (g.S.PageStore.state c.start.new.store) c.args.request (Some c.new.result)
     c.in_default.ensures.done (ap (λ (op : Op). Some op) c.new.ensures)
 
-pub returns-clause-bounded : goal.returns-clause-bounded
-returns-clause-bounded g c begun =
-    has_bound (g.S.PageStore.state c.args.store.now) (g.S.PageStore.state c.start.new.store) c.args.session c.args.request (Some c.new.result) c.in_default.ensures.done (ap (λ (op : Op). Some op) c.new.ensures)
+pub returns-clause-counts : goal.returns-clause-counts
+returns-clause-counts g c begun =
+    has_steps (g.S.PageStore.state c.args.store.now) (g.S.PageStore.state c.start.new.store) c.args.session c.args.request (Some c.new.result) c.in_default.ensures.done (ap (λ (op : Op). Some op) c.new.ensures)
     c.start.ensures.limits c.start.ensures.few

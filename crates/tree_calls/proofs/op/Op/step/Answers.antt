@@ -1,7 +1,10 @@
 use Rattle.std.specs.Prelude.{map}
-use Rattle.std.proofs.Common.{subst}
+use Rattle.std.proofs.Common.{subst, Some, suc}
+use Rattle.tree_calls.specs.Due.{IsDueIn}
+use Rattle.tree_calls.specs.Ops.{OpFits}
 use Rattle.tree_calls.specs.Sessions.{CallFits}
 use Rattle.tree_calls.specs.declared.op.Op.{Op}
+use Rattle.tree_calls.proofs.Counting.{insert_counts, scan_counts}
 use Rattle.tree_calls.proofs.Inserting.{insert_goes_on, insert_ends, insert_is_refused}
 use Rattle.tree_calls.proofs.Scanning.{moving_goes, ready_goes, done_goes}
 use Rattle.tree_calls.proofs.op.Op.step.Goals as goal
@@ -44,3 +47,23 @@ returns-in-Ok-Done-clause-goes g c honest start history number call fits =
     let mine = subst (λ (op : Op). CallFits (g.S.PageStore.state c.args.store.now) (map g.T.DeadRows.is_in c.args.sets.now) start history number call op) c.in-Scan.is fits in
     rw c.in-Scan.is (done_goes _ (g.S.PageStore.state c.args.store.now) (g.S.PageStore.state c.step-in-Scan.new.store) start history number call c.in-Scan.op c.step-in-Scan.new.self mine
     c.step-in-Scan.ensures.session c.step-in-Scan.ensures.range (rw c.in-Ok-Done.field-0-is at (c.in-Ok-Done.ensures.stepped honest mine.world.order mine.runs.fits)))
+
+pub returns-in-Ok-Going-clause-due : goal.returns-in-Ok-Going-clause-due
+returns-in-Ok-Going-clause-due g c honest order fits left due =
+    let old = g.S.PageStore.state c.args.store.now in
+    let mine = subst (λ (op : Op). OpFits old op) c.in-Insert.is fits in
+    let mine_due = subst (λ (op : Op). IsDueIn old (Some op) (suc left)) c.in-Insert.is due in
+    let all = c.in-Ok-Going.ensures.all in
+    let counted = rw c.in-Ok-Going.field-0-is at (all.straight honest order mine mine_due.whole mine_due.way mine_due.room) in
+    insert_counts old (g.S.PageStore.state c.step.new.store) c.in-Insert.op c.step.new.self left mine_due c.step.ensures.all.entry
+    (rw c.in-Ok-Going.field-0-is at (all.stepped honest order mine)) counted.0 counted.1
+
+pub returns-in-Ok-Going-step-clause-due : goal.returns-in-Ok-Going-step-clause-due
+returns-in-Ok-Going-step-clause-due g c honest order fits left due =
+    let old = g.S.PageStore.state c.args.store.now in
+    let mine = subst (λ (op : Op). OpFits old op) c.in-Scan.is fits in
+    let mine_due = subst (λ (op : Op). IsDueIn old (Some op) (suc left)) c.in-Scan.is due in
+    let all = c.in-Ok-Going-step.ensures in
+    let counted = rw c.in-Ok-Going-step.field-0-is at (all.straight honest order mine_due.whole mine_due.none mine_due.way) in
+    scan_counts old (g.S.PageStore.state c.step-in-Scan.new.store) c.in-Scan.op c.step-in-Scan.new.self left mine_due
+    (rw c.in-Ok-Going-step.field-0-is at (all.stepped honest order mine)) counted.0 counted.1

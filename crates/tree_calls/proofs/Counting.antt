@@ -1,0 +1,148 @@
+-- The steps of a call that is due, counted down.
+use Rattle.std.proofs.Common.{◌≡◌, ℕ, suc, ◌<◌, Bool, true, false, Option, Some, None, List, length, slice_get, refl, sym, ap, subst, ◌∙◌, arith}
+use Rattle.index_model.specs.Actions.{Effect, Add, Remove, Shape}
+use Rattle.index_model.specs.declared.bound.Bound.{Bound}
+use Rattle.index_model.specs.declared.entry.Entry.{Entry}
+use Rattle.index_model.specs.declared.limits.Limits.{Limits}
+use Rattle.page_codec.specs.Edits.{entries_of}
+use Rattle.page_codec.specs.declared.page.Page.{Page}
+use Rattle.tree_shape.specs.Walks.{entry_aim, frontier_aim}
+use Rattle.page_action.specs.Contents.{entry_on_live_leaf}
+use Rattle.page_action.specs.States.{State}
+use Rattle.tree_shape.specs.Nodes.{nodes_of, node_from}
+use Rattle.tree_acts.specs.Trees.{HasCover}
+use Rattle.descent.specs.Steps.{Changes}
+use Rattle.descent.specs.Shared.{MovesFlags}
+use Rattle.descent.specs.Ways.{NoneIsFlagged}
+use Rattle.tree_insert.specs.Inserts.{IsNoted, IsToCome, InsertGoesOn}
+use Rattle.tree_insert.specs.Straight.{straight_steps as insert_steps, IsStraight as IsOnEntryWay, HasRoomFor}
+use Rattle.tree_insert.specs.declared.insert.InsertAt.{InsertAt}
+use Rattle.tree_insert.specs.declared.insert.InsertAt.TheVariants.{Start as InsertStart, At as InsertReads, Holding, Finishing}
+use Rattle.tree_insert.specs.declared.insert.InsertOp.{InsertOp}
+use Rattle.tree_scan.specs.Scans.{waiting, IsMoving}
+use Rattle.tree_scan.specs.Straight.{straight_steps as scan_steps, IsStraight as IsOnFrontierWay}
+use Rattle.tree_scan.specs.declared.steps.ScanAt.{ScanAt}
+use Rattle.tree_scan.specs.declared.steps.ScanAt.TheVariants.{Start as ScanStart, At as ScanReads, Last}
+use Rattle.tree_scan.specs.declared.steps.ScanOp.{ScanOp}
+use Rattle.tree_calls.specs.Due.{InsertIsDue, ScanIsDue, IsDueIn, CountsDown}
+use Rattle.tree_calls.specs.declared.answer.Answer.TheVariants.{Going}
+use Rattle.tree_calls.specs.declared.op.Op.{Op}
+use Rattle.tree_calls.specs.declared.op.Op.TheVariants.{Insert, Scan}
+
+abbrev paged : State → List Page → State
+paged st pages = record st { pages = pages }
+
+-- what covers a place, covers it in each state with these pages
+cover_still : (old new : State) (level : ℕ) (aim : Bound → Bool) (block : ℕ) → new.pages ≡ old.pages → HasCover old level aim block → HasCover new level aim block
+cover_still old new level aim block same c =
+    let at_old : HasCover (paged old old.pages) level aim block = record { tree = c.tree; in_tree = c.in_tree; covers = c.covers } in
+    let at_new : HasCover (paged old new.pages) level aim block = subst (λ (ps : List Page). HasCover (paged old ps) level aim block) (sym same) at_old in
+    record { tree = at_new.tree; in_tree = at_new.in_tree; covers = at_new.covers }
+
+room_still : (old new : State) (e : Entry) → new.limits ≡ old.limits → new.pages ≡ old.pages → HasRoomFor old e → HasRoomFor new e
+room_still old new e limits same room page found cover =
+    subst (λ (l : Limits). length (entries_of page.items) < l.items) (sym limits)
+    (room page (sym (ap (λ (ps : List Page). slice_get ps page.block) same) ∙ found) (cover_still new old 0 (entry_aim e) page.block (sym same) cover))
+
+insert_way_still : (old new : State) (e : Entry) (at : InsertAt) → new.pages ≡ old.pages → IsOnEntryWay old e at → IsOnEntryWay new e at
+insert_way_still old new e InsertStart same h = tt
+insert_way_still old new e (InsertReads way) same h = cover_still old new way.level (entry_aim e) way.block same h
+insert_way_still old new e (Holding block) same h = tt
+insert_way_still old new e (Finishing op) same h = absurd h
+
+scan_way_still : (old new : State) (frontier : Bound) (at : ScanAt) → new.pages ≡ old.pages → IsOnFrontierWay old frontier at → IsOnFrontierWay new frontier at
+scan_way_still old new frontier ScanStart same h = tt
+scan_way_still old new frontier (ScanReads way) same h = cover_still old new way.level (frontier_aim frontier) way.block same h
+scan_way_still old new frontier Last same h = absurd h
+
+-- a call that is due stays so while pages and limits are as they were
+pub due_still : (old new : State) (slot : Option Op) (steps : ℕ) → new.limits ≡ old.limits → new.pages ≡ old.pages → IsDueIn old slot steps → IsDueIn new slot steps
+due_still old new None steps limits same due = absurd due
+due_still old new (Some (Insert op)) steps limits same due = record {
+  steps_are = due.steps_are ∙ sym (ap (λ (ps : List Page). insert_steps ps op.at) same);
+  whole = subst NoneIsFlagged (sym same) due.whole;
+  way = insert_way_still old new op.entry op.at same due.way;
+  absent = ap (λ (ps : List Page). entry_on_live_leaf ps op.entry) same ∙ due.absent;
+  room = room_still old new op.entry limits same due.room;
+}
+due_still old new (Some (Scan op)) steps limits same due = record {
+  steps_are = due.steps_are ∙ sym (ap (λ (ps : List Page). scan_steps ps op.at) same);
+  whole = subst NoneIsFlagged (sym same) due.whole;
+  way = scan_way_still old new op.frontier op.at same due.way;
+  none = due.none;
+}
+
+true_false : {b : Bool} → b ≡ false → b ≡ true → ⊥
+true_false falls holds = cc
+
+none_flagged : (pages : List Page) (block : ℕ) → NoneIsFlagged pages → (nodes_of pages block).split ≡ false
+none_flagged pages block whole = by (slice_get pages block) refl
+  where
+    by : (found : Option Page) → slice_get pages block ≡ found → (node_from found).split ≡ false
+    by None is = refl
+    by (Some page) is = whole block page is
+
+-- an insert on its way to its leaf isn't logged yet
+not_logged : (st : State) (e : Entry) (at : InsertAt) (added : Option ℕ) → IsOnEntryWay st e at → IsToCome at added → added ≡ None
+not_logged st e InsertStart added way h = h
+not_logged st e (InsertReads w) added way h = h
+not_logged st e (Holding block) added way h = h
+not_logged st e (Finishing op) added way h = absurd way
+
+-- so a step on that way does no act, where no page is flagged
+quiet_on_way : (old new : State) (e : Entry) (was now : Option ℕ) (effect : Option Effect) → Changes effect old new → MovesFlags effect old new
+    → IsNoted effect old.acts e was now → now ≡ None → NoneIsFlagged old.pages → new.pages ≡ old.pages
+quiet_on_way old new e was now None changes flags noted none whole = ap (λ (st : State). st.pages) changes
+quiet_on_way old new e was now (Some (Add x)) changes flags noted none whole = absurd (let is : Some (suc old.acts) ≡ None = sym noted.2 ∙ none in cc)
+quiet_on_way old new e was now (Some (Remove es)) changes flags noted none whole = absurd noted
+quiet_on_way old new e was now (Some Shape) changes flags noted none whole = absurd (true_false (none_flagged old.pages flags.cleared whole) flags.was)
+
+some_steps : (st : State) (e : Entry) (at : InsertAt) → IsOnEntryWay st e at → 0 < insert_steps st.pages at
+some_steps st e InsertStart way = omega arith
+some_steps st e (InsertReads w) way = omega arith
+some_steps st e (Holding block) way = omega arith
+some_steps st e (Finishing op) way = absurd way
+
+-- an insert that goes on is due one step sooner
+pub insert_counts : (old new : State) (before after : InsertOp) (left : ℕ) → InsertIsDue old before (suc left) → after.entry ≡ before.entry → InsertGoesOn old new before after
+    → IsOnEntryWay new after.entry after.at → suc (insert_steps new.pages after.at) ≡ insert_steps old.pages before.at
+    → CountsDown old new (Some (Insert before)) (Some (Insert after)) left Going
+insert_counts old new before after left due same step way fewer =
+    let none = not_logged new after.entry after.at after.added way step.fits.to_come in
+    let pages = quiet_on_way old new before.entry before.added after.added step.effect step.does.changes step.does.flags step.noted none due.whole in
+    let left_is : left ≡ insert_steps new.pages after.at = (let is : suc left ≡ suc (insert_steps new.pages after.at) = due.steps_are ∙ sym fewer in omega arith) in (
+      subst (λ (n : ℕ). 0 < n) (sym left_is) (some_steps new after.entry after.at way),
+      record {
+        pages = pages;
+        limits = step.does.limits;
+        due = record {
+          steps_are = left_is;
+          whole = subst NoneIsFlagged (sym pages) due.whole;
+          way = way;
+          absent = ap (λ (ps : List Page). entry_on_live_leaf ps after.entry) pages ∙ ap (entry_on_live_leaf old.pages) same ∙ due.absent;
+          room = room_still old new after.entry step.does.limits pages (subst (λ (e : Entry). HasRoomFor old e) (sym same) due.room);
+        };
+      },
+    )
+
+some_reads : (st : State) (frontier : Bound) (at : ScanAt) → IsOnFrontierWay st frontier at → 0 < scan_steps st.pages at
+some_reads st frontier ScanStart way = omega arith
+some_reads st frontier (ScanReads w) way = omega arith
+some_reads st frontier Last way = absurd way
+
+-- a scan that goes on is due one step sooner
+pub scan_counts : (old new : State) (before after : ScanOp) (left : ℕ) → ScanIsDue old before (suc left) → IsMoving old new before after
+    → IsOnFrontierWay old after.frontier after.at → suc (scan_steps old.pages after.at) ≡ scan_steps old.pages before.at
+    → CountsDown old new (Some (Scan before)) (Some (Scan after)) left Going
+scan_counts old new before after left due step way fewer =
+    let pages : new.pages ≡ old.pages = ap (λ (st : State). st.pages) step.does.changes in
+    let left_is : left ≡ scan_steps old.pages after.at = (let is : suc left ≡ suc (scan_steps old.pages after.at) = due.steps_are ∙ sym fewer in omega arith) in
+    let then_due : ScanIsDue old after left = record {
+      steps_are = left_is;
+      whole = due.whole;
+      way = way;
+      none = ap (λ (op : ScanOp). waiting op) step.op ∙ step.none;
+    } in (
+      subst (λ (n : ℕ). 0 < n) (sym left_is) (some_reads old after.frontier after.at way),
+      record { pages = pages; limits = step.does.limits; due = due_still old new (Some (Scan after)) left step.does.limits pages then_due },
+    )

@@ -1,0 +1,89 @@
+-- How many more steps a call makes until it answers, while the pages stay as they are.
+use Rattle.std.specs.Prelude.{◌≡◌, ℕ, suc, ◌+◌, ◌<◌, ◌≤◌, true, false, Option, Some, None, []}
+use Rattle.index_model.specs.declared.fault.Fault.{Fault}
+use Rattle.index_model.specs.declared.fault.Fault.TheVariants.{Io, Stopped, Blocked, IndexFull, LogFull, NoFrame, TooTall}
+use Rattle.page_action.specs.Contents.{entry_on_live_leaf}
+use Rattle.page_action.specs.States.{State}
+use Rattle.descent.specs.Shared.{is_out_of_blocks}
+use Rattle.descent.specs.Ways.{root_level, NoneIsFlagged}
+use Rattle.tree_insert.specs.Straight.{straight_steps as insert_steps, IsStraight as IsOnEntryWay, HasRoomFor}
+use Rattle.tree_insert.specs.declared.insert.InsertOp.{InsertOp}
+use Rattle.tree_scan.specs.Scans.{waiting}
+use Rattle.tree_scan.specs.Straight.{straight_steps as scan_steps, IsStraight as IsOnFrontierWay}
+use Rattle.tree_scan.specs.declared.steps.ScanOp.{ScanOp}
+use Rattle.tree_calls.specs.declared.answer.Answer.{Answer}
+use Rattle.tree_calls.specs.declared.answer.Answer.TheVariants.{Going, Added, Ready, Refused}
+use Rattle.tree_calls.specs.declared.op.Op.{Op}
+use Rattle.tree_calls.specs.declared.op.Op.TheVariants.{Insert, Scan}
+use Rattle.tree_calls.specs.declared.request.Request.{Request}
+use Rattle.tree_calls.specs.declared.request.Request.TheVariants.{Insert as ToInsert, Scan as ToScan}
+use Rattle.tree_calls.specs.Sessions.{work_in}
+
+-- no page is flagged, the entry isn't there, its leaf has room, the insert is on its way: after so many steps it is added
+pub record InsertIsDue (st : State) (op : InsertOp) (steps : ℕ) : Type 0 where
+  pub steps_are : steps ≡ insert_steps st.pages op.at
+  pub whole : NoneIsFlagged st.pages
+  pub way : IsOnEntryWay st op.entry op.at
+  pub absent : entry_on_live_leaf st.pages op.entry ≡ false
+  pub room : HasRoomFor st op.entry
+
+-- no page is flagged, nothing waits, the scan is on its way: after so many steps entries are ready
+pub record ScanIsDue (st : State) (op : ScanOp) (steps : ℕ) : Type 0 where
+  pub steps_are : steps ≡ scan_steps st.pages op.at
+  pub whole : NoneIsFlagged st.pages
+  pub way : IsOnFrontierWay st op.frontier op.at
+  pub none : waiting op ≡ []
+
+-- the call answers after so many steps more, while the pages stay as they are
+abbrev pub IsDueIn : State → Option Op → ℕ → Type 0
+IsDueIn st None steps = ⊥
+IsDueIn st (Some (Insert op)) steps = InsertIsDue st op steps
+IsDueIn st (Some (Scan op)) steps = ScanIsDue st op steps
+
+-- a step has left the pages and the limits as they were, and the call is due after so many more
+pub record StaysDue (old new : State) (slot : Option Op) (steps : ℕ) : Type 0 where
+  pub pages : new.pages ≡ old.pages
+  pub limits : new.limits ≡ old.limits
+  pub due : IsDueIn new slot steps
+
+-- what the call was to come to: an insert, that its entry is added, and nothing left unfinished; a scan, that entries are
+-- ready
+abbrev pub IsAwaited : Option Op → Answer → Type 0
+IsAwaited (Some (Insert op)) (Added action unfinished) = unfinished ≡ None
+IsAwaited (Some (Scan op)) (Ready count) = Unit {0}
+IsAwaited slot answer = ⊥
+
+-- the refusals of calls whose leaves give no cause: a latch that another session holds, which costs no step; and the
+-- device, the log, the frames, the want of any block, and a root that can't be split, which end the call
+abbrev pub IsHindered : State → State → Option Op → ℕ → Fault → Type 0
+IsHindered old new slot steps (Blocked block) = StaysDue old new slot steps
+IsHindered old new slot steps Io = Unit {0}
+IsHindered old new slot steps Stopped = Unit {0}
+IsHindered old new slot steps LogFull = Unit {0}
+IsHindered old new slot steps NoFrame = Unit {0}
+IsHindered old new slot steps IndexFull = is_out_of_blocks old ≡ true
+IsHindered old new slot steps TooTall = 31 ≤ root_level old.pages
+IsHindered old new slot steps fault = ⊥
+
+-- A step of a call that is due, with so many steps left behind it: the last brings what is awaited, and each before it
+-- answers `Going` and leaves one fewer.
+abbrev pub CountsDown : State → State → Option Op → Option Op → ℕ → Answer → Type 0
+CountsDown old new before after left Going = (0 < left) × StaysDue old new after left
+CountsDown old new before after left (Refused fault) = IsHindered old new after (suc left) fault
+CountsDown old new before after left answer = (left ≡ 0) × IsAwaited before answer
+
+-- the steps of a request on its own, more than the root's level
+abbrev pub steps_for : Request → ℕ
+steps_for (ToInsert e) = 3
+steps_for (ToScan range) = 2
+
+-- a request that its leaf can serve at once: of an insert, the entry isn't there, and its leaf has room
+abbrev pub IsServable : State → Request → Type 0
+IsServable st (ToInsert e) = (entry_on_live_leaf st.pages e ≡ false) × HasRoomFor st e
+IsServable st (ToScan range) = Unit {0}
+
+-- A call has begun: where no page is flagged and its leaf can serve it, it is due after so many steps more than the root's
+-- level. What is left to do for it has a bound, whatever the pages are.
+pub record HasSteps (old new : State) (request : Request) (slot : Option Op) : Type 0 where
+  pub due : NoneIsFlagged old.pages → IsServable old request → IsDueIn new slot (root_level old.pages + steps_for request)
+  pub bounded : work_in new slot < 281474976710656
