@@ -14,12 +14,14 @@ use Rattle.page_action.specs.Causes.{where_forced}
 use Rattle.page_action.specs.States.{State, IsLater, after_begin}
 use Rattle.page_action.specs.declared.page_store.PageStore.{Ghosts}
 use Rattle.descent.specs.Shared.{OthersRely}
+use Rattle.tree_calls.specs.Due.{IsDueIn, HasSteps}
 use Rattle.tree_calls.specs.Ops.{asked_by, asked_of, IsCaused}
-use Rattle.tree_calls.specs.Sessions.{Matches, OpRuns, CallFits, SlotFits, IsIdle, acts_of, begun_call, work_in, SessionGoes, SessionBegins}
+use Rattle.tree_calls.specs.Sessions.{Matches, OpRuns, CallFits, SlotFits, IsIdle, acts_of, begun_call, SessionGoes, SessionBegins}
 use Rattle.tree_calls.specs.declared.answer.Answer.{Answer}
 use Rattle.tree_calls.specs.declared.answer.Answer.TheVariants.{Begun, Refused}
 use Rattle.tree_calls.specs.declared.op.Op.{Op}
 use Rattle.tree_calls.specs.declared.request.Request.{Request}
+use Rattle.tree_calls.proofs.Counting.{due_still}
 use Rattle.tree_calls.proofs.Meeting.{grown}
 use Rattle.tree_calls.proofs.Telling.{told_same}
 use Rattle.tree_calls.proofs.Undisturbed.{undisturbed, idle_undisturbed}
@@ -47,7 +49,7 @@ slot_of_call slots session x lt read has = of x read (slice_get_read slots (leng
 pub slot_read : (slots : List (Option Op)) (session : ℕ) (x : Option Op) → session < length slots → x ≡ slice_index_or slots session x → slice_get slots session ≡ Some (slice_index_or slots session x)
 slot_read slots session x lt read = slice_get_read slots (length slots) session x refl lt read ∙ ap (λ (y : Option Op). Some y) read
 
--- what an event leaves as it was
+-- what an event leaves as it was: a call is due after as many steps on the same pages, within the same limits
 leaves_be : {S : Type 0} (g : Ghosts S) (kind : Kind) (old new : Snapshot S) → (g.state new.store).limits ≡ (g.state old.store).limits → (g.state new.store).frames ≡ (g.state old.store).frames
     → (new.history ≡ old.history → (g.state new.store).pages ≡ (g.state old.store).pages)
     → ((session : ℕ) → IsOfSession session kind → OthersStay session old.slots new.slots) → LeavesBe g kind old new
@@ -55,6 +57,9 @@ leaves_be g kind old new limits frames pages others = record {
   limits = limits;
   frames = frames;
   pages = pages;
+  due = λ quiet session other of apart steps due.
+      subst (λ (slot : Option Op). IsDueIn (g.state new.store) slot steps) (sym (ap (λ (o : Option (Option Op)). unwrap_or o None) (others session of other apart)))
+      (due_still (g.state old.store) (g.state new.store) (slot_of old.slots other) steps limits (pages quiet) due);
 }
 
 -- nothing at all is changed but the log and the device
@@ -176,8 +181,8 @@ module _ {S : Type 0} (g : Ghosts S) (start : Entry → Bool) (old : Snapshot S)
   not_counted : (kind : Kind) (before : Option Op) → (move : (session : ℕ) → kind ≡ MovesCall session Steps → before ≡ None) → CountsSteps kind (Refused fault) (g.state old.store) (g.state store) before before
   not_counted (BeginsCall session request) before move = λ begun. absurd cc
   not_counted (MovesCall session Steps) before move = subst (λ (slot : Option Op). CountsSteps (MovesCall session Steps) (Refused fault) (g.state old.store) (g.state store) slot slot) (sym (move session refl))
-      (λ acts. omega arith)
-  not_counted (MovesCall session Takes) before move = tt
+      (record { due = λ left due. absurd due; no_more = λ acts. omega arith })
+  not_counted (MovesCall session Takes) before move = λ steps due. due_still (g.state old.store) (g.state store) before steps (ap (λ (st : State). st.limits) same) (ap (λ (st : State). st.pages) same) due
   not_counted (MovesCall session GivesUp) before move = tt
   not_counted (KeepsStore upkeep) before move = tt
 
@@ -311,7 +316,7 @@ module _ {S : Type 0} (g : Ghosts S) (start : Entry → Bool) (old : Snapshot S)
             record { call = was.call; found = get_append_some old.calls (call ∷ []) a.by was.call was.found; since = was.since; until = was.until; may = was.may });
       }
 
-  pub begins_on : g.state store ≡ after_begin session (g.state old.store) → g.follows old.store store → IsLater (g.backing old.store) (g.backing store) → work_in (g.state store) (Some op) < 281474976710656
+  pub begins_on : g.state store ≡ after_begin session (g.state old.store) → g.follows old.store store → IsLater (g.backing old.store) (g.backing store) → HasSteps (g.state old.store) (g.state store) request (Some op)
       → EventAlways g (BeginsCall session request) Begun (here_at old) (record { store = store; slots = slice_set old.slots session (Some op); sets = old.sets })
       → EventRuns g (here_at old) (record { store = store; slots = slice_set old.slots session (Some op); sets = old.sets }) (BeginsCall session request) Begun start old.history old.calls
   begins_on state follows later counts always = record {
@@ -323,7 +328,7 @@ module _ {S : Type 0} (g : Ghosts S) (start : Entry → Bool) (old : Snapshot S)
           (inl (record { told = refl; history_is = refl; calls_is = refl; others = begins.others }));
       grows = no_growth old.history;
       caused = tt;
-      counts = λ told. subst (λ (x : Option Op). work_in (g.state store) x < 281474976710656) (sym (slot_set old.slots session (Some op) (get_within old.slots session None free))) counts;
+      counts = λ told. subst (λ (x : Option Op). HasSteps (g.state old.store) (g.state store) request x) (sym (slot_set old.slots session (Some op) (get_within old.slots session None free))) counts;
       quiet = leaves_be g (BeginsCall session request) old begun (ap (λ (st : State). st.limits) state) (ap (λ (st : State). st.frames) state) (λ same. ap (λ (st : State). st.pages) state) (others_stay_set old.slots session (Some op));
       durable = tt;
       sets = refl;

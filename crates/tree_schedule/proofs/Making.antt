@@ -1,5 +1,5 @@
 -- What each kind of event makes, by what the call behind it promises.
-use Rattle.std.proofs.Common.{◌≡◌, ℕ, suc, Bool, true, false, Option, Some, None, Err, List, ◌<◌, length, slice_get, slice_set, refl, sym, ap, subst, inl, inr, ◌∙◌}
+use Rattle.std.proofs.Common.{◌≡◌, ℕ, suc, Bool, true, false, Option, Some, None, Err, List, length, slice_get, slice_set, refl, sym, ap, subst, inl, inr, ◌∙◌}
 use Rattle.std.specs.Prelude.{unwrap_or}
 use Rattle.index_model.specs.Actions.{Action}
 use Rattle.index_model.specs.Calls.{Ask, Call}
@@ -10,8 +10,9 @@ use Rattle.index_model.specs.declared.fault.Fault.TheVariants.{Stopped}
 use Rattle.page_action.specs.Causes.{nothing_wrong, where_forced}
 use Rattle.page_action.specs.States.{State, after_begin, after_end}
 use Rattle.page_action.specs.declared.page_store.PageStore.{Ghosts}
+use Rattle.tree_calls.specs.Due.{IsDueIn, CountsDown, HasSteps}
 use Rattle.tree_calls.specs.Ops.{DeadSets, IsCaused, session_of, asked_of, where_slot_stepped, where_asked_next, where_beginning, AnswersStopped}
-use Rattle.tree_calls.specs.Sessions.{Matches, IsIdle, SlotFits, KeepsPages, work_in, SessionGoes, SessionBegins, IsBegun, BeginsBy, is_busy, slot_add, LeavesLess, LeavesNoMore, GivesLess, AnswersStep, AnswersNext, AnswersEnd, RefusalChangesNothing}
+use Rattle.tree_calls.specs.Sessions.{Matches, IsIdle, SlotFits, KeepsPages, SessionGoes, SessionBegins, IsBegun, BeginsBy, is_busy, slot_add, LeavesLess, LeavesNoMore, GivesLess, AnswersStep, AnswersNext, AnswersEnd, RefusalChangesNothing}
 use Rattle.tree_calls.specs.declared.answer.Answer.{Answer}
 use Rattle.tree_calls.specs.declared.answer.Answer.TheVariants.{Begun, Going, Added, Ready, Done, Finished, Gave, Ended, Forced, Flushed, Checkpointed, Refused}
 use Rattle.tree_calls.specs.declared.op.Op.{Op}
@@ -46,15 +47,21 @@ module _ {S : Type 0} (g : Ghosts S) (laws : Laws g) (old new : S) (follows : g.
       → ((g.backing new).honest ≡ true → LeavesNoMore (g.state old) (g.state new) before slot)
       → ((g.backing new).honest ≡ true → (start : Entry → Bool) (history : List Action) (number : ℕ) (call : Call) → SlotFits (g.state old) sets start history number call before
       → SessionGoes (where_slot_stepped before (g.state old) (g.backing old) (g.backing new)) (g.state old) (g.state new) sets start history number call slot answer)
+      → ((g.backing new).honest ≡ true → (start : Entry → Bool) (history : List Action) (number : ℕ) (call : Call) → SlotFits (g.state old) sets start history number call before
+      → (left : ℕ) → IsDueIn (g.state old) before (suc left) → CountsDown (g.state old) (g.state new) before slot left answer)
       → Makes g (MovesCall session Steps) answer (here_with old slots sets) (here_with new (slice_set slots session slot) sets)
-  step_makes kind refused stopped less kept no_more goes = record {
+  step_makes kind refused stopped less kept no_more goes due = record {
     sessions = length_set slots session slot;
     always = always;
     does = λ honest start history calls fits.
         moves_on g start (snapshot_of (here_with old slots sets) history calls) new session op slot Steps (where_slot_stepped (Some op) (g.state old) (g.backing old) (g.backing new)) answer fits found_op follows (laws.follows_later old new follows)
         (λ number call runs. subst (λ (x : Option Op). SessionGoes (where_slot_stepped x (g.state old) (g.backing old) (g.backing new)) (g.state old) (g.state new) sets start history number call slot answer) is
         (goes honest start history number call (subst (λ (x : Option Op). SlotFits (g.state old) sets start history number call x) (sym is) runs))) refl always
-        (λ s l n c runs. subst (λ (x : Option Op). LeavesNoMore (g.state old) (g.state new) x slot) is (no_more honest));
+        (λ s l n c runs. record {
+          due = λ left h. subst (λ (x : Option Op). CountsDown (g.state old) (g.state new) x slot left answer) is
+              (due honest s l n c (subst (λ (x : Option Op). SlotFits (g.state old) sets s l n c x) (sym is) runs) left (subst (λ (x : Option Op). IsDueIn (g.state old) x (suc left)) (sym is) h));
+          no_more = subst (λ (x : Option Op). LeavesNoMore (g.state old) (g.state new) x slot) is (no_more honest);
+        });
   }
     where
       always : EventAlways g (MovesCall session Steps) answer (here_with old slots sets) (here_with new (slice_set slots session slot) sets)
@@ -117,8 +124,9 @@ module _ {S : Type 0} (g : Ghosts S) (laws : Laws g) (store : S) (slots : List (
 
   pub next_makes : AnswersNext before answer → GivesLess before slot answer
       → ((st : State) (start : Entry → Bool) (history : List Action) (number : ℕ) (call : Call) → SlotFits st sets start history number call before → SessionGoes (where_asked_next call.ask) st st sets start history number call slot answer)
+      → ((st : State) (steps : ℕ) → IsDueIn st before steps → IsDueIn st slot steps)
       → Makes g (MovesCall session Takes) answer (here_with store slots sets) (here_with store (slice_set slots session slot) sets)
-  next_makes kind less goes = record {
+  next_makes kind less goes due = record {
     sessions = length_set slots session slot;
     always = always;
     does = λ honest start history calls fits.
@@ -126,7 +134,7 @@ module _ {S : Type 0} (g : Ghosts S) (laws : Laws g) (store : S) (slots : List (
         (laws.follows_later store store (laws.follows_same store))
         (λ number call runs. subst (λ (a : Ask). SessionGoes (where_asked_next a) (g.state store) (g.state store) sets start history number call slot answer) runs.runs.ask
         (goes (g.state store) start history number call (subst (λ (x : Option Op). SlotFits (g.state store) sets start history number call x) (sym is) runs))) refl always
-        (λ s l n c runs. tt);
+        (λ s l n c runs steps h. due (g.state store) steps (subst (λ (x : Option Op). IsDueIn (g.state store) x steps) (sym is) h));
   }
     where
       always : EventAlways g (MovesCall session Takes) answer (here_with store slots sets) (here_with store (slice_set slots session slot) sets)
@@ -247,14 +255,14 @@ module _ {S : Type 0} (g : Ghosts S) (laws : Laws g) (old new : S) (follows : g.
   always_of (Checkpointed n) h = absurd h
 
   module _ (begins : (start : Entry → Bool) (history : List Action) (number : ℕ) → answer ≡ Begun → Matches (g.state old) start history → IsIdle (g.state old) session → SessionBegins (g.state old) (g.state new) sets start history number session request slot)
-      (counts : answer ≡ Begun → work_in (g.state new) slot < 281474976710656) (start : Entry → Bool) (history : List Action) (calls : List Call) (fits : Fits g start (snapshot_of (here_with old slots sets) history calls)) where
+      (counts : answer ≡ Begun → HasSteps (g.state old) (g.state new) request slot) (start : Entry → Bool) (history : List Action) (calls : List Call) (fits : Fits g start (snapshot_of (here_with old slots sets) history calls)) where
     does_of : (a : Answer) → answer ≡ a → BeginsBy (g.state old) (g.backing old) (g.state new) session request before slot a → EventRuns g (here_with old slots sets) (here_with new (slice_set slots session slot) sets) (BeginsCall session request) a start history calls
     does_of Begun is h =
         let idle : IsIdle (g.state old) session = (fits.running session None free).idle in
         begun_with slot h (always_of Begun h) (begins start history (length calls) is fits.matches idle) (counts is)
       where
         begun_with : (o : Option Op) → IsBegun (g.state old) (g.state new) session request before o → EventAlways g (BeginsCall session request) Begun (here_with old slots sets) (here_with new (slice_set slots session o) sets)
-            → SessionBegins (g.state old) (g.state new) sets start history (length calls) session request o → work_in (g.state new) o < 281474976710656
+            → SessionBegins (g.state old) (g.state new) sets start history (length calls) session request o → HasSteps (g.state old) (g.state new) request o
             → EventRuns g (here_with old slots sets) (here_with new (slice_set slots session o) sets) (BeginsCall session request) Begun start history calls
         begun_with None b always began steps = absurd (began.holds.0 refl)
         begun_with (Some op) b always began steps =
@@ -286,7 +294,7 @@ module _ {S : Type 0} (g : Ghosts S) (laws : Laws g) (old new : S) (follows : g.
 
   pub begin_makes : BeginsBy (g.state old) (g.backing old) (g.state new) session request before slot answer
       → ((start : Entry → Bool) (history : List Action) (number : ℕ) → answer ≡ Begun → Matches (g.state old) start history → IsIdle (g.state old) session → SessionBegins (g.state old) (g.state new) sets start history number session request slot)
-      → (answer ≡ Begun → work_in (g.state new) slot < 281474976710656)
+      → (answer ≡ Begun → HasSteps (g.state old) (g.state new) request slot)
       → Makes g (BeginsCall session request) answer (here_with old slots sets) (here_with new (slice_set slots session slot) sets)
   begin_makes by begins counts = record {
     sessions = length_set slots session slot;

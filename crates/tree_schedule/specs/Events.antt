@@ -1,5 +1,5 @@
 -- What an event does, by what it answers.
-use Rattle.std.specs.Prelude.{◌≡◌, ◌≢◌, ◌⊎◌, ℕ, suc, ◌<◌, ◌≤◌, Bool, true, false, Option, Some, None, Result, Ok, Err, List, [], ◌∷◌, ◌++◌, length, slice_get, slice_set}
+use Rattle.std.specs.Prelude.{◌≡◌, ◌≢◌, ◌⊎◌, ℕ, suc, ◌≤◌, Bool, true, false, Option, Some, None, Result, Ok, Err, List, [], ◌∷◌, ◌++◌, length, slice_get, slice_set}
 use Rattle.index_model.specs.Actions.{Effect, Action, contents_after}
 use Rattle.index_model.specs.Calls.{Ask, Call}
 use Rattle.index_model.specs.Faults.{Circumstances, HasCause}
@@ -10,8 +10,9 @@ use Rattle.page_action.specs.Causes.{nothing_wrong, where_forced}
 use Rattle.page_action.specs.States.{State, IsLater}
 use Rattle.page_action.specs.declared.page_store.PageStore.{Ghosts}
 use Rattle.descent.specs.Shared.{OthersRely, MovesFlags}
+use Rattle.tree_calls.specs.Due.{IsDueIn, CountsDown, HasSteps}
 use Rattle.tree_calls.specs.Ops.{DeadSets, asked_by, asked_of, where_stepped, where_asked_next, where_beginning, IsCaused, AnswersStopped}
-use Rattle.tree_calls.specs.Sessions.{Told, IsAsked, acts_of, begun_call, is_busy, slot_add, work_in, LeavesLess, LeavesNoMore, GivesLess, AnswersStep, AnswersNext, AnswersEnd, RefusalChangesNothing}
+use Rattle.tree_calls.specs.Sessions.{Told, IsAsked, acts_of, begun_call, is_busy, slot_add, LeavesLess, LeavesNoMore, GivesLess, AnswersStep, AnswersNext, AnswersEnd, RefusalChangesNothing}
 use Rattle.tree_calls.specs.declared.answer.Answer.{Answer}
 use Rattle.tree_calls.specs.declared.answer.Answer.TheVariants.{Begun, Going, Forced, Checkpointed, Refused}
 use Rattle.tree_calls.specs.declared.op.Op.{Op}
@@ -280,18 +281,33 @@ pub record EventAlways {S : Type 0} (g : Ghosts S) (kind : Kind) (answer : Answe
   pub left : IsLeft g kind old new
   pub causes : BeginningIsCaused g kind answer old
 
--- how much is left to do for a call, by its event: for one that begins it has a bound, whatever the pages are; and while no
--- action is logged, a step leaves no more than before
-abbrev pub CountsSteps : Kind → Answer → State → State → Option Op → Option Op → Type 0
-CountsSteps (BeginsCall session request) answer old new before after = answer ≡ Begun → work_in new after < 281474976710656
-CountsSteps (MovesCall session Steps) answer old new before after = LeavesNoMore old new before after
-CountsSteps kind answer old new before after = Unit {0}
+-- A step: a call that was due comes to what is awaited at its last step, and each step before leaves one fewer. While no
+-- action is logged, no more is left to do than before, whether it was due or not.
+pub record StepIsCounted (old new : State) (before after : Option Op) (answer : Answer) : Type 0 where
+  pub due : (left : ℕ) → IsDueIn old before (suc left) → CountsDown old new before after left answer
+  pub no_more : LeavesNoMore old new before after
 
--- What an event leaves as it was: the limits and the number of frames; and where it appends no action, the pages.
+-- a call that was due is due after as many steps
+abbrev pub StaysAsDue : State → State → Option Op → Option Op → Type 0
+StaysAsDue old new before after = (steps : ℕ) → IsDueIn old before steps → IsDueIn new after steps
+
+-- how many steps a call takes, by its event: a beginning says after how many it is due, each step is counted, and a `next`
+-- costs none
+abbrev pub CountsSteps : Kind → Answer → State → State → Option Op → Option Op → Type 0
+CountsSteps (BeginsCall session request) answer old new before after = answer ≡ Begun → HasSteps old new request after
+CountsSteps (MovesCall session Steps) answer old new before after = StepIsCounted old new before after answer
+CountsSteps (MovesCall session Takes) answer old new before after = StaysAsDue old new before after
+CountsSteps (MovesCall session GivesUp) answer old new before after = Unit {0}
+CountsSteps (KeepsStore upkeep) answer old new before after = Unit {0}
+
+-- What an event leaves as it was: the limits and the number of frames; and where it appends no action, the pages. So an event
+-- of others that appends no action costs a call that is due no step.
 pub record LeavesBe {S : Type 0} (g : Ghosts S) (kind : Kind) (old new : Snapshot S) : Type 0 where
   pub limits : (g.state new.store).limits ≡ (g.state old.store).limits
   pub frames : (g.state new.store).frames ≡ (g.state old.store).frames
   pub pages : new.history ≡ old.history → (g.state new.store).pages ≡ (g.state old.store).pages
+  pub due : new.history ≡ old.history → (session other : ℕ) → IsOfSession session kind → other ≢ session
+      → StaysAsDue (g.state old.store) (g.state new.store) (slot_of old.slots other) (slot_of new.slots other)
 
 -- a number of actions that was answered as durable is not above this
 abbrev pub IsDurable : ℕ → Answer → Type 0
@@ -305,7 +321,7 @@ pub record GrowsByOne (old new : List Action) : Type 0 where
   pub is : new ≡ old ++ acts
   pub few : length acts ≤ 1
 
--- One event of this kind, of what is fitted: what happens, why it is refused, how much is left for its call, what it leaves
+-- One event of this kind, of what is fitted: what happens, why it is refused, how many steps its call takes, what it leaves
 -- as it was, the sets among it, and what fits then. The store follows the one before, so no count goes back, and each crash
 -- in between is told of.
 pub record EventDoes {S : Type 0} (g : Ghosts S) (start : Entry → Bool) (kind : Kind) (answer : Answer) (old new : Snapshot S) : Type 0 where

@@ -15,7 +15,7 @@ returns-in-Ok-clause-makes g c sets =
     (sym c.is_stopped.ensures ∙ is.0) is.1 (same_some _ _ _ read is.1)
     (rw is.2 at c.begin.ensures.by)
     (λ start history number begun matches idle. rw is.2 at (c.begin.ensures.begins begun sets start history number matches (rw is.2 idle)))
-    c.begin.ensures.bounded
+    c.begin.ensures.counts
 
 pub returns-in-Err-clause-makes : goal.returns-in-Err-clause-makes
 returns-in-Err-clause-makes g c sets =
