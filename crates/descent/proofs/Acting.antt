@@ -1,22 +1,21 @@
 -- What an act on a tree leaves to the sessions that share it.
-use Rattle.std.proofs.Common.{◌≡◌, ◌≢◌, ◌⊎◌, inl, inr, ℕ, suc, ◌+◌, ◌<◌, ◌≤◌, Bool, true, false, ◌||◌, Option, Some, None, if◌then◌else◌, List, [], ◌∷◌, length, slice_get, refl, sym, ap, subst, ◌∙◌, arith}
+use Rattle.std.proofs.Common.{◌≡◌, ◌≢◌, inl, inr, ℕ, suc, Bool, true, false, ◌||◌, Option, Some, None, if◌then◌else◌, List, [], ◌∷◌, length, slice_get, refl, sym, subst, ◌∙◌, arith}
 use Rattle.std.specs.Prelude.{unwrap_or}
-use Rattle.index_model.specs.Actions.{Effect, Add, Shape, said_of}
+use Rattle.index_model.specs.Actions.{Add, Shape, said_of}
 use Rattle.index_model.specs.Order.{same_entry}
 use Rattle.index_model.specs.declared.entry.Entry.{Entry}
 use Rattle.index_model.specs.declared.bound.Bound.{Bound}
-use Rattle.latch_table.specs.Holdings.{Holding, Table, holding_of, latches_exclude, is_held_by_another}
-use Rattle.latch_table.specs.declared.mode.Mode.TheVariants.{Shared, Exclusive}
+use Rattle.latch_table.specs.Holdings.{Table, holding_of, is_held_by_another}
+use Rattle.latch_table.specs.declared.mode.Mode.TheVariants.{Exclusive}
 use Rattle.page_codec.specs.declared.page.Page.{Page}
 use Rattle.page_action.specs.Contents.{entry_on_live_leaf}
-use Rattle.page_action.specs.States.{State, with_table, with_pages, after_act}
-use Rattle.page_action.specs.Stored.{AreActable, IsApartFrom}
-use Rattle.tree_shape.specs.Walks.{IsAim}
+use Rattle.page_action.specs.States.{State, with_table, after_act}
+use Rattle.page_action.specs.Stored.{IsApartFrom}
 use Rattle.tree_acts.specs.Acts.{MayAct, TreeLasts, ContentsStay, ContentsGain}
-use Rattle.tree_acts.specs.Trees.{HasTree, HasPlace, HasTrail, IsStart, PlacesLast, TrailsLast}
+use Rattle.tree_acts.specs.Trees.{HasTree, HasPlace, HasTrail, PlacesLast, TrailsLast}
 use Rattle.tree_acts.proofs.Overlays.{pages_other}
-use Rattle.descent.specs.Steps.{HoldsAlone, AreApart, Changes}
-use Rattle.descent.specs.Shared.{IsRaised, IsInOrder, NumbersStay, MayRely, OthersRely, SplitsALeaf, FinishesASplit, MovesFlags, Does, IsOneStep}
+use Rattle.descent.specs.Steps.{HoldsAlone, AreApart}
+use Rattle.descent.specs.Shared.{IsRaised, IsInOrder, NumbersStay, OthersRely, SplitsALeaf, FinishesASplit, Does, IsOneStep}
 use Rattle.descent.proofs.Tables.{any_excluded, free_of}
 
 -- nothing of another session's is in the way of changing these pages

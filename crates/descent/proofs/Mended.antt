@@ -1,5 +1,5 @@
 -- The page to the right of one that is split, with its left link mended; and a block that is free.
-use Rattle.std.proofs.Common.{◌≡◌, ◌≢◌, ◌⊎◌, ℕ, zero, suc, ◌+◌, ◌<◌, ◌≤◌, Bool, true, false, Option, Some, None, List, [], ◌∷◌, ◌++◌, length, slice_get, refl, sym, ap, subst, inl, inr, ◌∙◌, arith}
+use Rattle.std.proofs.Common.{◌≡◌, ◌≢◌, ℕ, ◌<◌, ◌≤◌, true, false, Option, Some, None, List, length, slice_get, refl, sym, ap, subst, ◌∙◌, arith}
 use Rattle.std.proofs.lemmas.Bool.{and_parts}
 use Rattle.index_model.specs.declared.entry.Entry.{Entry}
 use Rattle.page_codec.specs.Grammar.{IsBlock, IsPage, IsOfKind, IsLeafIn}
@@ -30,6 +30,7 @@ mended_page page left admitted mends block = record {
     leaf Live is es h = record { deletion = h.deletion; high = h.high; split = h.split; entries = h.entries }
     leaf HalfDead is es h = record { deletion = h.deletion; high = h.high; right = h.right; split = h.split; entries = h.entries }
     leaf Deleted is es h = absurd (mends.in_use is)
+
     by : (items : Items) → page.items ≡ items → IsOfKind page items → IsOfKind (record page { left = Some left }) items
     by Meta is h = absurd (mends.no_meta is)
     by (Entries v) is h = record { block = h.block; level = h.level; count = h.count; rest = leaf page.state refl v.items h.rest }
@@ -67,7 +68,10 @@ right_may st session block new (Some r) (Some page) few fresh is_block mendable 
     record {
       apart = (λ same. apart (ap Some (sym at_r ∙ same)), tt);
       apart_new = (λ same. fresh_apart st new r mendable.page fresh mendable.found mendable.mends.in_use (sym at_r ∙ same), tt);
-      may = (record { admitted = mended_page page new stored.0.storable.admitted stored.1 is_block; few = stored.0.storable.few },
-      (omega (arith, at_r, used), omega (arith, at_r, used, few)), tt, tt);
+      may = (
+        record { admitted = mended_page page new stored.0.storable.admitted stored.1 is_block; few = stored.0.storable.few },
+        (omega (arith, at_r, used), omega (arith, at_r, used, few)),
+        tt,
+        tt,
+      );
     }
-

@@ -1,18 +1,18 @@
 -- Why steps are refused, by the calls that they make.
-use Rattle.std.proofs.Common.{◌≡◌, ◌⊎◌, ℕ, zero, suc, ◌+◌, ◌<◌, ◌≤◌, Bool, true, false, not, ◌&&◌, ◌||◌, ◌==◌, nat_lt, nat_le, if◌then◌else◌, List, [], ◌∷◌, ◌++◌, length, map, refl, sym, ap, subst, inl, inr, ◌∙◌, arith}
-use Rattle.std.proofs.lemmas.Bool.{cases_Bool, ltb-true, lt-ltb, leb-true, le-leb, and_parts}
+use Rattle.std.proofs.Common.{◌≡◌, ◌⊎◌, ℕ, zero, suc, ◌+◌, ◌<◌, ◌≤◌, Bool, true, false, not, ◌||◌, ◌==◌, nat_lt, nat_le, if◌then◌else◌, List, [], ◌∷◌, ◌++◌, length, map, refl, sym, ap, subst, inl, inr, ◌∙◌, arith}
+use Rattle.std.proofs.lemmas.Bool.{ltb-true, lt-ltb, leb-true, le-leb, and_parts}
 use Rattle.index_model.specs.Faults.{HasCause}
 use Rattle.index_model.specs.declared.fault.Fault.{Fault}
-use Rattle.index_model.specs.declared.fault.Fault.TheVariants.{NoMemory, Io, Stopped, Blocked, Exists, KeyTooLong, BadRow, IndexFull, LogFull, NoFrame, VacuumRunning, NoSession, SessionBusy, BadSuper, BadVersion, LogDamaged, PageDamaged, BadLimits, TooTall, DeviceTooSmall}
+use Rattle.index_model.specs.declared.fault.Fault.TheVariants.{NoMemory, Io, Stopped, Blocked, Exists, IndexFull, LogFull, NoFrame, PageDamaged, TooTall}
 use Rattle.latch_table.specs.Holdings.{has_pin, is_held_by_another}
 use Rattle.latch_table.specs.declared.mode.Mode.{Mode}
-use Rattle.latch_table.specs.declared.mode.Mode.TheVariants.{Shared, Exclusive, Cleanup}
+use Rattle.latch_table.specs.declared.mode.Mode.TheVariants.{Shared, Exclusive}
 use Rattle.page_codec.specs.declared.page.Page.{Page}
 use Rattle.page_action.specs.Causes.{where_read, where_acted, is_at_end, count_apart, pinned_blocks}
 use Rattle.page_action.specs.Room.{KeepsRoom}
 use Rattle.page_action.specs.Reuse.{IsFull, is_reusable}
 use Rattle.page_action.specs.States.{State, Backing}
-use Rattle.descent.specs.Shared.{where_working, any_is_reusable, is_out_of_blocks}
+use Rattle.descent.specs.Shared.{where_working, any_is_reusable}
 
 or_left : (a b c : Bool) → (a ≡ true → c ≡ true) → (a || b) ≡ true → (c || b) ≡ true
 or_left true b c f h = rw (f refl) refl

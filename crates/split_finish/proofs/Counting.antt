@@ -1,18 +1,12 @@
 -- What is left to do, while the pages are as they are.
-use Rattle.std.proofs.Common.{◌≡◌, ◌⊎◌, ℕ, zero, suc, ◌+◌, ◌-◌, ◌*◌, ◌<◌, ◌≤◌, ◌&&◌, ◌||◌, ◌==◌, not, if◌then◌else◌, Bool, true, false, Option, Some, None, List, [], ◌∷◌, ◌++◌, length, slice_get, refl, sym, ap, subst, inl, inr, ◌∙◌, arith, length-append}
-use Rattle.std.proofs.Math.Nat.{mul-le-mul_right, mul-le-mul_left}
-use Rattle.index_model.specs.declared.bound.Bound.{Bound}
-use Rattle.page_codec.specs.declared.page.Page.{Page}
-use Rattle.tree_shape.specs.Nodes.{Node, node_of, nodes_of}
+use Rattle.std.proofs.Common.{◌≡◌, ◌⊎◌, ℕ, suc, ◌+◌, ◌-◌, ◌*◌, ◌<◌, ◌≤◌, ◌==◌, true, false, List, [], ◌∷◌, ◌++◌, length, refl, sym, ap, inl, inr, ◌∙◌, arith, length-append}
+use Rattle.std.proofs.Math.Nat.{mul-le-mul_right}
+use Rattle.tree_shape.specs.Nodes.{Node}
 use Rattle.descent.specs.declared.way.Way.{Way}
 use Rattle.descent.specs.Onward.{IsShorter}
-use Rattle.split_finish.specs.Targets.{targets_of, is_as_read, ends_at, stale_count, is_ready, one_unless, detour, walks_left, way_left, walk_length, walk_left, finish_left}
-use Rattle.split_finish.specs.Turns.{Popped, Pushed, Retaken}
+use Rattle.split_finish.specs.Targets.{is_as_read, stale_count, is_ready, detour, way_left, walk_length, walk_left}
 use Rattle.split_finish.specs.declared.finish.FinishAt.{FinishAt}
 use Rattle.split_finish.specs.declared.finish.FinishAt.TheVariants.{Start, Down, Link, Root}
-use Rattle.split_finish.specs.declared.finish.FinishOp.{FinishOp}
-use Rattle.split_finish.specs.declared.finish.FinishStep.{FinishStep}
-use Rattle.split_finish.specs.declared.finish.FinishStep.TheVariants.{Going, Done}
 use Rattle.split_finish.specs.declared.finish.Target.{Target}
 
 -- the walks that are left outweigh one walk

@@ -1,41 +1,37 @@
 -- What the acts by which splits are finished leave to the call.
-use Rattle.std.proofs.Common.{◌≡◌, ◌≢◌, ◌⊎◌, ℕ, zero, suc, ◌+◌, ◌*◌, ◌<◌, ◌≤◌, ◌==◌, if◌then◌else◌, Bool, true, false, Option, Some, None, Result, Ok, Err, List, [], ◌∷◌, ◌++◌, length, slice_get, slice_index, refl, sym, ap, subst, inl, inr, ◌∙◌, arith}
-use Rattle.std.proofs.lemmas.Bool.{eqb-true, eq-eqb}
+use Rattle.std.proofs.Common.{◌≡◌, ℕ, suc, ◌≤◌, ◌==◌, if◌then◌else◌, Bool, true, false, Some, None, Ok, Err, List, length, slice_get, refl, sym, ap, subst, inr, ◌∙◌, arith}
+use Rattle.std.proofs.lemmas.Bool.{eq-eqb}
 use Rattle.index_model.specs.Actions.{Shape}
 use Rattle.index_model.specs.Faults.{HasCause}
-use Rattle.index_model.specs.declared.bound.Bound.{Bound}
 use Rattle.index_model.specs.declared.fault.Fault.{Fault}
 use Rattle.page_codec.specs.declared.page.Page.{Page}
 use Rattle.page_action.specs.Causes.{where_acted}
-use Rattle.page_action.specs.States.{State, Backing, Continues, IsLater, after_act}
+use Rattle.page_action.specs.States.{State, Backing, Continues, after_act}
 use Rattle.page_action.specs.declared.page_store.PageStore.{Ghosts}
 use Rattle.tree_shape.specs.Walks.{bound_aim}
 use Rattle.tree_shape.proofs.Fits.{bound_falls}
 use Rattle.tree_acts.specs.Acts.{TreeLasts}
-use Rattle.tree_acts.specs.Flags.{FlagsMove, is_block, flag_after}
-use Rattle.tree_acts.specs.Trees.{HasTree, HasPlace}
-use Rattle.descent.specs.Shared.{IsInOrder, IsOneStep, Does, is_flagged, where_working}
-use Rattle.descent.proofs.Acting.{one_act, one_nothing}
+use Rattle.tree_acts.specs.Flags.{FlagsMove}
+use Rattle.descent.specs.Shared.{IsInOrder, Does, is_flagged}
+use Rattle.descent.proofs.Acting.{one_act}
 use Rattle.descent.proofs.Working.{act_cause_of}
-use Rattle.split_finish.specs.Targets.{FinishFits, FinishStands, IsTarget, OnlyTargetsAreFlagged, is_among_targets, targets_of}
+use Rattle.split_finish.specs.Targets.{FinishFits, IsTarget}
 use Rattle.split_finish.specs.Turns.{Popped}
-use Rattle.split_finish.specs.Finishes.{FinishSteps, FinishStays, FinishStepped, FinishGoesOn, FinishIsDone, images_of, frames_of}
+use Rattle.split_finish.specs.Finishes.{FinishStepped, images_of, frames_of}
 use Rattle.split_finish.specs.Acting.{FinishActs}
-use Rattle.split_finish.specs.declared.finish.FinishAt.{FinishAt}
-use Rattle.split_finish.specs.declared.finish.FinishAt.TheVariants.{Start, Down, Link, Root}
 use Rattle.split_finish.specs.declared.finish.FinishOp.{FinishOp}
 use Rattle.split_finish.specs.declared.finish.FinishStep.{FinishStep}
 use Rattle.split_finish.specs.declared.finish.FinishStep.TheVariants.{Going, Done}
 use Rattle.split_finish.specs.declared.finish.Target.{Target}
 use Rattle.split_finish.proofs.Standing.{fits_popped}
 use Rattle.split_finish.proofs.Stepping.{acts_not}
-use Rattle.split_finish.proofs.Turning.{flags_popped, flags_gone, among_fewer, among_more}
+use Rattle.split_finish.proofs.Turning.{flags_popped, flags_gone}
 
 -- an act was done
 pub acts_done : {S : Type 0} (g : Ghosts S) (before after : FinishOp) (old new : S) (step : FinishStep) (changed : List Page) → Continues g.follows old new → g.state new ≡ after_act changed (g.state old)
     → after.session ≡ before.session
     → ((g.backing new).honest ≡ true → IsInOrder (g.state old) → FinishFits (g.state old) before
-        → FinishStepped (g.state old) (g.backing old) (after_act changed (g.state old)) (g.backing new) before after (Ok step))
+    → FinishStepped (g.state old) (g.backing old) (after_act changed (g.state old)) (g.backing new) before after (Ok step))
     → FinishActs g before after old new (Ok step)
 acts_done g before after old new step changed steps is session stepped = record {
   steps = steps;
@@ -99,7 +95,7 @@ pub act_refused : {S : Type 0} (g : Ghosts S) (op : FinishOp) (old new : S) (fau
     → FinishActs g op op old new (Err fault)
 act_refused g op old new fault changed most steps same few images frames cause =
     acts_not g op old new fault steps same (λ honest order fits.
-        rw (images, frames) (act_cause_of (g.state old) (g.backing old) (g.backing old) (g.backing new) op.session most changed fault (omega arith) (λ h. h) refl few (cause honest order fits)))
+    rw (images, frames) (act_cause_of (g.state old) (g.backing old) (g.backing old) (g.backing new) op.session most changed fault (omega arith) (λ h. h) refl few (cause honest order fits)))
 
 pub popped_session : (op after : FinishOp) (step : FinishStep) → Popped op after step → after.session ≡ op.session
 popped_session op after Going popped = popped.session

@@ -1,6 +1,5 @@
 -- A new root: what the act is, and what it leaves.
-use Rattle.std.proofs.Common.{◌≡◌, ◌≢◌, ◌⊎◌, ℕ, zero, suc, ◌+◌, ◌<◌, ◌≤◌, Bool, true, false, Option, Some, None, Ok, List, [], ◌∷◌, ◌++◌, length, slice_get, refl, sym, ap, subst, inl, inr, ◌∙◌, arith}
-use Rattle.index_model.specs.Actions.{Shape}
+use Rattle.std.proofs.Common.{◌≡◌, ℕ, suc, ◌<◌, ◌≤◌, Bool, true, false, Some, None, Ok, List, [], ◌∷◌, length, slice_get, refl, sym, ap, subst, ◌∙◌, arith}
 use Rattle.latch_table.specs.Holdings.{is_held_by_another}
 use Rattle.latch_table.specs.declared.mode.Mode.TheVariants.{Exclusive}
 use Rattle.page_codec.specs.Grammar.{IsBlock}
@@ -10,19 +9,16 @@ use Rattle.page_codec.specs.declared.page.Page.{Page}
 use Rattle.page_codec.specs.declared.page.PageState.TheVariants.{Live}
 use Rattle.page_action.specs.Reuse.{IsFresh}
 use Rattle.page_action.specs.States.{State, Backing, after_act}
-use Rattle.page_action.specs.Stored.{IsStored, IsStorable}
 use Rattle.tree_shape.specs.Tree.{IsMetaOf}
-use Rattle.tree_shape.specs.Nodes.{nodes_of}
 use Rattle.tree_acts.specs.Acts.{IsUnfinished, MayAct, RootIsSplit}
 use Rattle.tree_acts.specs.Flags.{FlagsMove}
 use Rattle.tree_acts.specs.Trees.{HasTree}
 use Rattle.tree_acts.proofs.Finishing.{root_split_lasts}
 use Rattle.tree_acts.proofs.Flagging.{root_split_flags}
 use Rattle.tree_acts.proofs.Weighed.{root_split_weighs}
-use Rattle.tree_acts.proofs.Lasting.{fresh_free}
 use Rattle.tree_acts.proofs.Overlays.{inside, node_there}
-use Rattle.descent.specs.Shared.{IsInOrder, Does, FinishesASplit, is_flagged}
-use Rattle.descent.proofs.Acting.{AreFree, does_finish}
+use Rattle.descent.specs.Shared.{IsInOrder}
+use Rattle.descent.proofs.Acting.{does_finish}
 use Rattle.split_finish.specs.Targets.{FinishFits}
 use Rattle.split_finish.specs.Turns.{IsReadyToGrow, Popped}
 use Rattle.split_finish.specs.Finishes.{FinishStepped}
@@ -59,24 +55,31 @@ module _ (st : State) (op : FinishOp) (honest : Bool) (meta page : Page) (new fr
       let meta_in = inside st.pages 0 meta (read_meta.found sound) in
       let page_in = inside st.pages page.block page found in
       let page_at = grown.clear.block_is in
-      let root_at = grown.root_block in
-      (record {
-        admitted = grown.root_admitted block blocked (high_whole page op.target.separator read.stored.storable.admitted ready.high_is) (right_block page new read.stored.storable.admitted right);
-        few = subst (λ (n : ℕ). n ≤ st.limits.items) (sym grown.root_items) items;
-      },
-      (subst (λ (b : ℕ). b ≤ length st.pages) (sym root_at) free_block.within, subst (λ (b : ℕ). b < st.limits.pages) (sym root_at) free_block.inside),
-      ((λ same. (let above = block.0 in omega arith)), ((λ same. apart_page (sym page_at ∙ same ∙ root_at)), tt)),
-      (record {
-        admitted = grown.meta_admitted read_meta.stored.storable.admitted ready.meta_is block;
-        few = count_same st.limits.items grown.meta_after.items meta.items grown.meta_items read_meta.stored.storable.few;
-      },
-      (omega arith, omega arith),
-      ((λ same. (let above = blocked.0 in omega arith)), tt),
-      (record {
-        admitted = grown.page_admitted read.stored.storable.admitted;
-        few = count_same st.limits.items grown.page_after.items page.items grown.page_items read.stored.storable.few;
-      },
-      (omega arith, omega arith), tt, tt)))
+      let root_at = grown.root_block in (
+        record {
+          admitted = grown.root_admitted block blocked (high_whole page op.target.separator read.stored.storable.admitted ready.high_is) (right_block page new read.stored.storable.admitted right);
+          few = subst (λ (n : ℕ). n ≤ st.limits.items) (sym grown.root_items) items;
+        },
+        (subst (λ (b : ℕ). b ≤ length st.pages) (sym root_at) free_block.within, subst (λ (b : ℕ). b < st.limits.pages) (sym root_at) free_block.inside),
+        ((λ same. (let above = block.0 in omega arith)), ((λ same. apart_page (sym page_at ∙ same ∙ root_at)), tt)),
+        (
+          record {
+            admitted = grown.meta_admitted read_meta.stored.storable.admitted ready.meta_is block;
+            few = count_same st.limits.items grown.meta_after.items meta.items grown.meta_items read_meta.stored.storable.few;
+          },
+          (omega arith, omega arith),
+          ((λ same. (let above = blocked.0 in omega arith)), tt),
+          (
+            record {
+              admitted = grown.page_admitted read.stored.storable.admitted;
+              few = count_same st.limits.items grown.page_after.items page.items grown.page_items read.stored.storable.few;
+            },
+            (omega arith, omega arith),
+            tt,
+            tt,
+          ),
+        ),
+      )
 
   unfinished : IsUnfinished st fits.start meta.level op.target.separator page new
   unfinished = record {
@@ -121,7 +124,12 @@ module _ (st : State) (op : FinishOp) (honest : Bool) (meta page : Page) (new fr
         less = less;
       }) (
         subst (λ (b : ℕ). is_held_by_another st.table op.session b Exclusive ≡ false) (sym grown.root_block) free,
-        (subst (λ (b : ℕ). is_held_by_another st.table op.session b Exclusive ≡ false) (sym (grown.meta_block ∙ read_meta.stored.block_is)) read_meta.free,
-        (subst (λ (b : ℕ). is_held_by_another st.table op.session b Exclusive ≡ false) (sym (grown.clear.block_is ∙ at_page)) read.free,
-        tt))))
+        (
+          subst (λ (b : ℕ). is_held_by_another st.table op.session b Exclusive ≡ false) (sym (grown.meta_block ∙ read_meta.stored.block_is)) read_meta.free,
+          (
+            subst (λ (b : ℕ). is_held_by_another st.table op.session b Exclusive ≡ false) (sym (grown.clear.block_is ∙ at_page)) read.free,
+            tt,
+          ),
+        ),
+      ))
       refl refl lasts.0 (subst (λ (b : ℕ). FlagsMove None (Some b) st (after_act changed st)) at_page moves) popped)

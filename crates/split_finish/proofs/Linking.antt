@@ -1,7 +1,6 @@
 -- A downlink on a parent with room: what the act is, and what it leaves.
-use Rattle.std.proofs.Common.{◌≡◌, ◌≢◌, ◌⊎◌, ◌&&◌, ◌==◌, not, ℕ, zero, suc, ◌+◌, ◌<◌, ◌≤◌, Bool, true, false, Option, Some, None, Ok, List, [], ◌∷◌, ◌++◌, length, slice_get, refl, sym, ap, subst, inl, inr, ◌∙◌, arith}
+use Rattle.std.proofs.Common.{◌≡◌, ◌&&◌, ◌==◌, not, ℕ, suc, ◌<◌, ◌≤◌, Bool, true, false, Some, None, Ok, List, [], ◌∷◌, length, slice_get, refl, sym, ap, subst, ◌∙◌, arith}
 use Rattle.std.proofs.lemmas.Bool.{and_parts, eqb-true}
-use Rattle.index_model.specs.Actions.{Shape}
 use Rattle.index_model.specs.declared.bound.Bound.{Bound}
 use Rattle.latch_table.specs.Holdings.{is_held_by_another}
 use Rattle.latch_table.specs.declared.mode.Mode.TheVariants.{Exclusive}
@@ -11,8 +10,7 @@ use Rattle.page_codec.specs.declared.page.Page.{Page}
 use Rattle.page_codec.specs.declared.page.PageState.{PageState}
 use Rattle.page_codec.specs.declared.page.PageState.TheVariants.{Live, HalfDead, Deleted}
 use Rattle.page_action.specs.States.{State, Backing, after_act}
-use Rattle.page_action.specs.Stored.{IsStored, IsStorable}
-use Rattle.tree_shape.specs.Nodes.{Node, node_of, nodes_of, links_of}
+use Rattle.tree_shape.specs.Nodes.{Node, node_of, links_of}
 use Rattle.tree_shape.specs.Walks.{bound_aim, is_within}
 use Rattle.tree_acts.specs.Acts.{IsUnfinished, MayAct, SplitIsFinished}
 use Rattle.tree_acts.specs.Flags.{FlagsMove}
@@ -22,17 +20,17 @@ use Rattle.tree_acts.proofs.Flagging.{finish_flags}
 use Rattle.tree_acts.proofs.Weighed.{finish_weighs}
 use Rattle.tree_acts.proofs.Overlays.{inside, node_there}
 use Rattle.tree_acts.proofs.Telling.{live_tells}
-use Rattle.descent.specs.Shared.{IsInOrder, Does, FinishesASplit, is_flagged}
+use Rattle.descent.specs.Shared.{IsInOrder}
 use Rattle.descent.specs.declared.way.Way.{Way}
-use Rattle.descent.proofs.Acting.{AreFree, does_finish}
+use Rattle.descent.proofs.Acting.{does_finish}
 use Rattle.split_finish.specs.Targets.{FinishFits, FinishStands, is_ready, is_live_state}
 use Rattle.split_finish.specs.Turns.{IsReadyToLink, Popped}
 use Rattle.split_finish.specs.Finishes.{FinishStepped}
 use Rattle.split_finish.specs.Acting.{AreLinked, IsRead}
-use Rattle.split_finish.specs.declared.finish.FinishAt.TheVariants.{Start, Down, Link, Root}
+use Rattle.split_finish.specs.declared.finish.FinishAt.TheVariants.{Link}
 use Rattle.split_finish.specs.declared.finish.FinishOp.{FinishOp}
 use Rattle.split_finish.specs.declared.finish.FinishStep.{FinishStep}
-use Rattle.split_finish.proofs.Standing.{flagged_has, flagged_block, right_block, high_whole}
+use Rattle.split_finish.proofs.Standing.{right_block, high_whole}
 use Rattle.split_finish.proofs.Doing.{clears}
 
 live_is : (s : PageState) → is_live_state s ≡ true → s ≡ Live
@@ -109,18 +107,23 @@ module _ (st : State) (op : FinishOp) (honest : Bool) (way : Way) (page parent :
       let parent_in = inside st.pages parent.block parent (parent_found st op honest way page parent new order fits sound at read read_parent ready right) in
       let page_at = linked.clear.block_is in
       let parent_at = linked.block_is in
-      let count = linked.count in
-      (record {
-        admitted = linked.admitted read_parent.stored.storable.admitted (right_block page new read.stored.storable.admitted right) (high_whole page op.target.separator read.stored.storable.admitted ready.high_is);
-        few = omega arith;
-      },
-      (omega arith, omega arith),
-      ((λ same. two_pages st op honest way page parent new order fits sound at read read_parent ready right (sym page_at ∙ same ∙ parent_at)), tt),
-      (record {
-        admitted = linked.page_admitted read.stored.storable.admitted;
-        few = subst (λ (i : Items). count_of i ≤ st.limits.items) (sym linked.page_items) read.stored.storable.few;
-      },
-      (omega arith, omega arith), tt, tt))
+      let count = linked.count in (
+        record {
+          admitted = linked.admitted read_parent.stored.storable.admitted (right_block page new read.stored.storable.admitted right) (high_whole page op.target.separator read.stored.storable.admitted ready.high_is);
+          few = omega arith;
+        },
+        (omega arith, omega arith),
+        ((λ same. two_pages st op honest way page parent new order fits sound at read read_parent ready right (sym page_at ∙ same ∙ parent_at)), tt),
+        (
+          record {
+            admitted = linked.page_admitted read.stored.storable.admitted;
+            few = subst (λ (i : Items). count_of i ≤ st.limits.items) (sym linked.page_items) read.stored.storable.few;
+          },
+          (omega arith, omega arith),
+          tt,
+          tt,
+        ),
+      )
 
   pub may_link_all : MayAct st pages
   may_link_all = subst (MayAct st) (sym linked.pages_are) may_link
@@ -156,6 +159,9 @@ module _ (st : State) (op : FinishOp) (honest : Bool) (way : Way) (page parent :
         less = less;
       }) (
         subst (λ (b : ℕ). is_held_by_another st.table op.session b Exclusive ≡ false) (sym (linked.block_is ∙ read_parent.stored.block_is)) read_parent.free,
-        (subst (λ (b : ℕ). is_held_by_another st.table op.session b Exclusive ≡ false) (sym (linked.clear.block_is ∙ at_page)) read.free,
-        tt)))
+        (
+          subst (λ (b : ℕ). is_held_by_another st.table op.session b Exclusive ≡ false) (sym (linked.clear.block_is ∙ at_page)) read.free,
+          tt,
+        ),
+      ))
       refl refl lasts.0 (subst (λ (b : ℕ). FlagsMove None (Some b) st (after_act changed st)) at_page moves) popped)

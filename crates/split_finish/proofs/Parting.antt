@@ -1,13 +1,11 @@
 -- A full parent is split.
-use Rattle.std.proofs.Common.{◌≡◌, ◌≢◌, ◌⊎◌, ℕ, zero, suc, ◌+◌, ◌<◌, ◌≤◌, ◌&&◌, ◌||◌, ◌==◌, not, Bool, true, false, Option, Some, None, Result, Ok, Err, List, [], ◌∷◌, ◌++◌, length, map, slice_get, refl, sym, ap, subst, inl, inr, ◌∙◌, arith, eq-eqb}
+use Rattle.std.proofs.Common.{◌≡◌, ◌≢◌, ℕ, suc, ◌+◌, ◌<◌, ◌≤◌, ◌&&◌, ◌||◌, ◌==◌, not, Bool, true, false, Option, Some, None, Ok, List, [], ◌∷◌, ◌++◌, length, slice_get, refl, sym, ap, subst, inl, inr, ◌∙◌, arith, eq-eqb}
 use Rattle.std.proofs.lemmas.Bool.{cases_eq, and_parts, eqb-true, ne_eqb}
 use Rattle.index_model.specs.Actions.{Shape}
-use Rattle.index_model.specs.Faults.{HasCause}
 use Rattle.index_model.specs.declared.bound.Bound.{Bound}
-use Rattle.index_model.specs.declared.fault.Fault.{Fault}
-use Rattle.latch_table.specs.Holdings.{Table, holding_of, nothing_held, is_held_by_another}
+use Rattle.latch_table.specs.Holdings.{is_held_by_another}
 use Rattle.latch_table.specs.declared.mode.Mode.TheVariants.{Exclusive}
-use Rattle.page_codec.specs.Grammar.{IsBlock, IsPage, IsWhole}
+use Rattle.page_codec.specs.Grammar.{IsBlock, IsPage}
 use Rattle.page_codec.specs.Spelling.{count_of}
 use Rattle.page_codec.specs.declared.page.Items.{Items}
 use Rattle.page_codec.specs.declared.page.Items.TheVariants.{Meta, Entries, Downlinks}
@@ -15,17 +13,17 @@ use Rattle.page_codec.specs.declared.page.Page.{Page}
 use Rattle.page_codec.specs.declared.page.PageState.{PageState}
 use Rattle.page_codec.specs.declared.page.PageState.TheVariants.{Live, HalfDead, Deleted}
 use Rattle.page_action.specs.Reuse.{IsFresh}
-use Rattle.page_action.specs.States.{State, Backing, Continues, after_act}
-use Rattle.page_action.specs.Stored.{IsStorable, IsStored, IsApartFrom, AreActable}
+use Rattle.page_action.specs.States.{State, Continues, after_act}
+use Rattle.page_action.specs.Stored.{IsStorable, IsApartFrom, AreActable}
 use Rattle.page_action.specs.declared.page_store.PageStore.{Ghosts}
 use Rattle.tree_shape.specs.LinkPlaces.{LinkSplit, HasLinks}
-use Rattle.tree_shape.specs.Nodes.{Node, node_of, nodes_of, links_of}
+use Rattle.tree_shape.specs.Nodes.{Node, node_of, links_of}
 use Rattle.tree_shape.specs.Walks.{bound_aim, is_within}
 use Rattle.tree_shape.proofs.Fits.{bound_falls}
-use Rattle.tree_acts.specs.Acts.{ParentIsSplit, IsUnfinished, IsMended, IsClear, TreeLasts}
+use Rattle.tree_acts.specs.Acts.{ParentIsSplit, IsMended, IsClear}
 use Rattle.tree_acts.specs.Acts.IsMended.{rightmost, neighbour}
 use Rattle.tree_acts.specs.Flags.{FlagsMove, flag_after}
-use Rattle.tree_acts.specs.Trees.{HasTree, HasPlace, IsStart}
+use Rattle.tree_acts.specs.Trees.{HasPlace, IsStart}
 use Rattle.tree_acts.proofs.Finishing.{parent_split_lasts, parent_edit}
 use Rattle.tree_acts.proofs.Flagging.{parent_split_flags}
 use Rattle.tree_acts.proofs.Weighed.{parent_split_weighs}
@@ -34,24 +32,20 @@ use Rattle.tree_shape.specs.Halves.{left_count}
 use Rattle.descent.specs.Onward.{IsOnWay}
 use Rattle.split_finish.proofs.Standing.{flagged_has}
 use Rattle.tree_acts.proofs.Telling.{high_tells, neighbour_tells}
-use Rattle.descent.specs.Shared.{IsInOrder, IsOneStep, Does, is_flagged, level_in, where_working}
+use Rattle.descent.specs.Shared.{IsInOrder, Does, is_flagged}
 use Rattle.descent.specs.Splitting.{RightIsMendable, RightIsStored, RightIsFound, mended_to}
 use Rattle.descent.specs.declared.way.Way.{Way}
 use Rattle.descent.proofs.Acting.{AreFree, does_finish, one_act}
-use Rattle.descent.proofs.Mended.{mended_page, fresh_apart, RightMay, right_may}
+use Rattle.descent.proofs.Mended.{fresh_apart, RightMay, right_may}
 use Rattle.split_finish.specs.Acting.{IsRead, FinishActs}
-use Rattle.split_finish.specs.Finishes.{images_of, frames_of}
 use Rattle.split_finish.specs.Parting.{halves_and}
 use Rattle.split_finish.specs.Targets.{targets_of, is_among_targets, OnlyTargetsAreFlagged, IsTarget, FinishStands, FinishFits, is_ready, is_live_state}
 use Rattle.split_finish.specs.Turns.{IsReadyToLink}
-use Rattle.split_finish.specs.declared.finish.FinishAt.{FinishAt}
-use Rattle.split_finish.specs.declared.finish.FinishAt.TheVariants.{Start, Down, Link, Root}
+use Rattle.split_finish.specs.declared.finish.FinishAt.TheVariants.{Start, Link}
 use Rattle.split_finish.specs.declared.finish.FinishOp.{FinishOp}
-use Rattle.split_finish.specs.declared.finish.FinishStep.{FinishStep}
-use Rattle.split_finish.specs.declared.finish.FinishStep.TheVariants.{Going, Done}
+use Rattle.split_finish.specs.declared.finish.FinishStep.TheVariants.{Going}
 use Rattle.split_finish.specs.declared.finish.Target.{Target}
 use Rattle.split_finish.proofs.Turning.{among_more, among_fewer}
-use Rattle.split_finish.proofs.Stepping.{acts_not}
 
 live_is : (state : PageState) → is_live_state state ≡ true → state ≡ Live
 live_is Live h = refl
@@ -176,7 +170,7 @@ parts g before after old new way page parent left half clear right new_block tar
   over = λ honest is. absurd cc;
   stepped = λ honest order fits.
       let here : PartsParent st true before.session before way page parent left half clear right new_block =
-          subst (λ (b : Bool). PartsParent st b before.session before way page parent left half clear right new_block) (honest_before honest) h in
+      subst (λ (b : Bool). PartsParent st b before.session before way page parent left half clear right new_block) (honest_before honest) h in
       let split = parent_split st before.session before way page parent left half clear right new_block order fits at_is here may in
       let level = before.target.level in
       let s = before.target.separator in
@@ -187,15 +181,15 @@ parts g before after old new way page parent left half clear right new_block tar
       let edit = parent_edit st fits.start level s page parent clear left half mended new_block order.tree split in
       let added_to : State = after_act changed st in
       let left_there : slice_get added_to.pages parent.block ≡ Some left = subst (λ (b : ℕ). slice_get added_to.pages b ≡ Some left) h.left_block
-          (pages_first st.limits (length st.pages) st.pages left (half ∷ mended ++ clear ∷ []) may (omega arith)) in
+      (pages_first st.limits (length st.pages) st.pages left (half ∷ mended ++ clear ∷ []) may (omega arith)) in
       let left_live : left.state ≡ Live = ap (λ (n : Node). n.state) h.split.halves.left_is in
       let left_level : left.level ≡ suc level = ap (λ (n : Node). n.level) h.split.halves.left_is ∙ (ready_parent parent (suc level) s h.ready.ready).level_is in
       let start : IsStart st.running fits.start = record { session = before.session; is = fits.running } in
       let place : HasPlace added_to fits.start (suc level) (bound_aim s) true parent.block = lasts.0.places fits.start (suc level) (bound_aim s) true parent.block start (bound_falls s) split.place in
       let left_found : slice_get added_to.pages left.block ≡ Some left = subst (λ (b : ℕ). slice_get added_to.pages b ≡ Some left) (sym h.left_block) left_there in
       let high : HasPlace added_to fits.start (suc level) (bound_aim target.separator) true left.block =
-          high_tells added_to fits.start (suc level) (bound_aim s) true left target.separator lasts.0.has left_found
-          (subst (HasPlace added_to fits.start (suc level) (bound_aim s) true) (sym h.left_block) place) left_live t_high in
+      high_tells added_to fits.start (suc level) (bound_aim s) true left target.separator lasts.0.has left_found
+      (subst (HasPlace added_to fits.start (suc level) (bound_aim s) true) (sym h.left_block) place) left_live t_high in
       let newest : IsTarget added_to fits.start (length before.below.items) target = record {
         high_enough = (let a = fits.newest.high_enough in let b = t_level ∙ left_level in omega arith);
         place = subst (λ (b : ℕ). HasPlace added_to fits.start target.level (bound_aim target.separator) true b) (sym t_block)
@@ -210,15 +204,20 @@ parts g before after old new way page parent left half clear right new_block tar
               cleared = page.block;
               was = ap (λ (n : Node). n.split) (node_there st.pages page.block page split.unfinished.found) ∙ split.unfinished.flagged;
               raised = Some parent.block;
-              higher = (ap (λ (n : Node). n.split) (node_there st.pages parent.block parent split.found) ∙ split.whole,
-              ap (λ (n : Node). n.level) edit.halves.left_is ∙ edit.parent_level ∙ ap suc (sym (ap (λ (n : Node). n.level) edit.cleared_is)));
+              higher = (
+                ap (λ (n : Node). n.split) (node_there st.pages parent.block parent split.found) ∙ split.whole,
+                ap (λ (n : Node). n.level) edit.halves.left_is ∙ edit.parent_level ∙ ap suc (sym (ap (λ (n : Node). n.level) edit.cleared_is)),
+              );
               moves = moves;
               less = weighs;
-            })
-            (subst (λ (b : ℕ). is_held_by_another st.table before.session b Exclusive ≡ false) (sym (h.left_block ∙ h.read_parent.stored.block_is)) h.read_parent.free,
-            (h.free,
-            free_beside st before.session half.block parent.right right (clear ∷ []) h.right_stored
-            (subst (λ (b : ℕ). is_held_by_another st.table before.session b Exclusive ≡ false) (sym (h.clears.block_is ∙ h.read.stored.block_is)) h.read.free, tt))));
+            }) (
+              subst (λ (b : ℕ). is_held_by_another st.table before.session b Exclusive ≡ false) (sym (h.left_block ∙ h.read_parent.stored.block_is)) h.read_parent.free,
+              (
+                h.free,
+                free_beside st before.session half.block parent.right right (clear ∷ []) h.right_stored
+                    (subst (λ (b : ℕ). is_held_by_another st.table before.session b Exclusive ≡ false) (sym (h.clears.block_is ∙ h.read.stored.block_is)) h.read.free, tt),
+              ),
+            ));
         table = ap (λ (x : State). x.table) now;
         fits = subst (λ (x : State). FinishFits x after) (sym now) (subst (FinishFits added_to) (sym after_is) (record {
           session = fits.session;
@@ -239,8 +238,10 @@ parts g before after old new way page parent left half clear right new_block tar
   where
     st : State
     st = g.state old
+
     changed : List Page
     changed = halves_and left half right clear
+
     only_targets : OnlyTargetsAreFlagged st (targets_of before) → FlagsMove (Some parent.block) (Some page.block) st (after_act changed st) → (b : ℕ) → is_flagged (after_act changed st) b ≡ true
         → is_among_targets (before.below.items ++ target ∷ []) b ≡ true
     only_targets only moves b flagged = elim (cases_eq b parent.block) [
@@ -292,23 +293,27 @@ parts_may st session op way page parent left half clear right new order fits at_
     let levels : page.block ≢ parent.block = λ same. two_levels (subst (λ (b : ℕ). slice_get st.pages b ≡ Some parent) (sym same) found_parent) found ready.level_is h.ready.level_is in
     let all : length (links_of parent.items) ≤ st.limits.items = subst (λ (n : ℕ). n ≤ st.limits.items) (links_count parent.items parent_links) h.read_parent.stored.storable.few in
     let not_new : page.block ≢ half.block = fresh_apart st half.block page.block page h.fresh found (λ gone. live_not_deleted (sym alive ∙ gone)) in
-    let not_new_parent : parent.block ≢ half.block = fresh_apart st half.block parent.block parent h.fresh found_parent (λ gone. live_not_deleted (sym ready.alive ∙ gone)) in
-    (
+    let not_new_parent : parent.block ≢ half.block = fresh_apart st half.block parent.block parent h.fresh found_parent (λ gone. live_not_deleted (sym ready.alive ∙ gone)) in (
       record { admitted = left_page; few = subst (λ (n : ℕ). n ≤ st.limits.items) (sym (links_count left.items left_links)) (omega (arith, kept, all, some)) },
       (subst (λ (b : ℕ). b ≤ length st.pages) (sym h.left_block) (omega (arith, used_parent)), subst (λ (b : ℕ). b < st.limits.pages) (sym h.left_block) (omega (arith, used_parent, few))),
-      ((λ same. not_new_parent (sym h.left_block ∙ sym same)),
-      subst (λ (b : ℕ). IsApartFrom b (mended_to half.block right ++ clear ∷ [])) (sym h.left_block)
-      (apart_append parent.block (mended_to half.block right) clear beside.apart (λ same. levels (sym clear_is ∙ same)))),
-      (record { admitted = half_page; few = subst (λ (n : ℕ). n ≤ st.limits.items) (sym (links_count half.items half_links)) (omega (arith, kept, moved, all, some)) },
-      (h.fresh.within, h.fresh.inside),
-      apart_append half.block (mended_to half.block right) clear beside.apart_new (λ same. not_new (sym clear_is ∙ same)),
-      beside_may st session half.block parent.right right clear h.right_stored beside.may (record { admitted = clear_page; few = clear_few })
-      (subst (λ (b : ℕ). b ≤ length st.pages) (sym clear_is) (omega (arith, used))) (subst (λ (b : ℕ). b < st.limits.pages) (sym clear_is) (omega (arith, used, few)))
-      (λ same. apart_p (same ∙ ap Some clear_is))),
+      (
+        (λ same. not_new_parent (sym h.left_block ∙ sym same)),
+        subst (λ (b : ℕ). IsApartFrom b (mended_to half.block right ++ clear ∷ [])) (sym h.left_block)
+            (apart_append parent.block (mended_to half.block right) clear beside.apart (λ same. levels (sym clear_is ∙ same))),
+      ),
+      (
+        record { admitted = half_page; few = subst (λ (n : ℕ). n ≤ st.limits.items) (sym (links_count half.items half_links)) (omega (arith, kept, moved, all, some)) },
+        (h.fresh.within, h.fresh.inside),
+        apart_append half.block (mended_to half.block right) clear beside.apart_new (λ same. not_new (sym clear_is ∙ same)),
+        beside_may st session half.block parent.right right clear h.right_stored beside.may (record { admitted = clear_page; few = clear_few })
+            (subst (λ (b : ℕ). b ≤ length st.pages) (sym clear_is) (omega (arith, used))) (subst (λ (b : ℕ). b < st.limits.pages) (sym clear_is) (omega (arith, used, few)))
+            (λ same. apart_p (same ∙ ap Some clear_is)),
+      ),
     )
   where
     live_not_deleted : Live ≡ Deleted → ⊥
     live_not_deleted e = cc
+
     two_levels : slice_get st.pages page.block ≡ Some parent → slice_get st.pages page.block ≡ Some page → parent.level ≡ suc op.target.level → page.level ≡ op.target.level → ⊥
     two_levels one two up down =
         let same : parent ≡ page = (let k : Some parent ≡ Some page = sym one ∙ two in cc) in
@@ -327,17 +332,23 @@ beside_parent st session honest op way page parent order fits at_is kept_model r
   where
     ready : ReadyParent parent (suc op.target.level) op.target.separator
     ready = ready_parent parent (suc op.target.level) op.target.separator ready_to.ready
+
     found : slice_get st.pages page.block ≡ Some page
     found = subst (λ (b : ℕ). slice_get st.pages b ≡ Some page) (sym read.stored.block_is) (read.found kept_model)
+
     found_parent : slice_get st.pages parent.block ≡ Some parent
     found_parent = subst (λ (b : ℕ). slice_get st.pages b ≡ Some parent) (sym read_parent.stored.block_is) (read_parent.found kept_model)
+
     stands : (way.level ≡ suc op.target.level) × IsOnWay st fits.start (bound_aim op.target.separator) true (suc op.target.level) way
     stands = subst (FinishStands st fits.start op.target) at_is fits.stands
+
     place : HasPlace st fits.start (suc op.target.level) (bound_aim op.target.separator) true parent.block
     place = subst (HasPlace st fits.start (suc op.target.level) (bound_aim op.target.separator) true) (sym read_parent.stored.block_is)
         (subst (λ (l : ℕ). HasPlace st fits.start l (bound_aim op.target.separator) true way.block) stands.0 stands.1.place)
+
     none_some : (b : ℕ) → None ≡ Some b → ⊥
     none_some b k = cc
+
     by : (link : Option ℕ) → parent.right ≡ link → BesideParent st page parent
     by None is = record {
       mendable = subst (RightIsMendable st) (sym is) tt;

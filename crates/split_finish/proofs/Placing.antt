@@ -1,14 +1,13 @@
 -- In a tree there is a place for the downlink of a right half: a downlink leads to the left half, and the separator fits behind it.
-use Rattle.std.proofs.Common.{◌≡◌, ◌≢◌, ◌⊎◌, inl, inr, ℕ, zero, suc, ◌+◌, ◌<◌, true, false, Option, Some, None, List, [], ◌∷◌, ◌++◌, length, take, drop, slice_get, refl, sym, ap, subst, ◌∙◌, arith}
+use Rattle.std.proofs.Common.{◌≡◌, ◌≢◌, inl, inr, ℕ, zero, suc, ◌+◌, ◌<◌, Option, Some, None, List, [], ◌∷◌, ◌++◌, length, take, drop, slice_get, refl, sym, ap, subst, ◌∙◌, arith}
 use Rattle.std.specs.Prelude.{All, slice_index_or}
 use Rattle.index_model.specs.declared.bound.Bound.{Bound}
 use Rattle.page_codec.specs.declared.page.Downlink.{Downlink}
 use Rattle.page_codec.specs.declared.page.Page.{Page}
 use Rattle.page_action.specs.States.{State}
-use Rattle.tree_shape.specs.Chains.{Rises}
-use Rattle.tree_shape.specs.Edits.{IsBetween, IsBelowNext, IsBelowBound, IsLinkAdded}
+use Rattle.tree_shape.specs.Edits.{IsBetween, IsBelowNext, IsBelowBound}
 use Rattle.tree_shape.specs.Laws.{HasLink}
-use Rattle.tree_shape.specs.LinkPlaces.{link_at, child_at, bound_at, IsBelowFirst, FitsBehind}
+use Rattle.tree_shape.specs.LinkPlaces.{link_at, bound_at, IsBelowFirst, FitsBehind}
 use Rattle.tree_shape.specs.Nodes.{links_of}
 use Rattle.tree_shape.specs.Walks.{bound_aim}
 use Rattle.tree_acts.specs.Acts.{IsUnfinished}
@@ -32,7 +31,7 @@ none_leads : (child : ℕ) (links : List Downlink) → HasLink child links → A
 none_leads child links has none =
     let at = length has.before in
     let here : slice_index_or links at (record { bound = None; child = 0 }) ≡ record { bound = has.bound; child = child } =
-        ap (λ (xs : List Downlink). slice_index_or xs at (record { bound = None; child = 0 })) has.is ∙ middle has.before (record { bound = has.bound; child = child }) has.after (record { bound = None; child = 0 }) in
+    ap (λ (xs : List Downlink). slice_index_or xs at (record { bound = None; child = 0 })) has.is ∙ middle has.before (record { bound = has.bound; child = child }) has.after (record { bound = None; child = 0 }) in
     none at (record { bound = None; child = 0 }) (subst (λ (xs : List Downlink). at < length xs) (sym has.is) (middle_in has.before (record { bound = has.bound; child = child }) has.after))
     (ap (λ (d : Downlink). d.child) here)
 
@@ -67,7 +66,7 @@ there_is_a_place st start level s p q new h u found cover (inl none) = none_lead
 there_is_a_place st start level s p q new h u found cover (inr (at, lt, leads, unfit)) =
     let links = links_of q.items in
     let is : links ≡ take at links ++ record { bound = bound_at links at; child = p.block } ∷ drop (suc at) links =
-        parted_at links at lt ∙ ap (λ (c : ℕ). take at links ++ record { bound = bound_at links at; child = c } ∷ drop (suc at) links) leads in
+    parted_at links at lt ∙ ap (λ (c : ℕ). take at links ++ record { bound = bound_at links at; child = c } ∷ drop (suc at) links) leads in
     unfit (fits_between links at s q.high (separator_tells st start level s p q new
     (take at links ++ record { bound = bound_at links at; child = p.block } ∷ record { bound = Some s; child = new } ∷ drop (suc at) links) h u found cover
     (record { before = take at links; bound = bound_at links at; after = drop (suc at) links; links_are = is; added_are = refl })))

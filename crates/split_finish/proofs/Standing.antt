@@ -1,5 +1,5 @@
 -- Where a call stands, in a tree.
-use Rattle.std.proofs.Common.{◌≡◌, ◌⊎◌, ℕ, zero, suc, ◌+◌, ◌<◌, ◌≤◌, Bool, true, false, Option, Some, None, List, [], ◌∷◌, ◌++◌, length, slice_get, slice_index, refl, sym, ap, subst, inl, inr, ◌∙◌, arith, length-append}
+use Rattle.std.proofs.Common.{◌≡◌, ◌⊎◌, ℕ, zero, suc, ◌<◌, ◌≤◌, Bool, true, false, Option, Some, None, List, [], ◌∷◌, ◌++◌, length, slice_get, slice_index, refl, sym, ap, subst, inl, inr, ◌∙◌, arith, length-append}
 use Rattle.index_model.specs.declared.bound.Bound.{Bound}
 use Rattle.page_codec.specs.declared.page.Page.{Page}
 use Rattle.page_codec.specs.Grammar.{IsPage, IsOfKind, IsMeta, IsLeafIn, IsBlock, IsWhole}
@@ -20,7 +20,7 @@ use Rattle.tree_acts.proofs.Lasting.{deleted_in_use, fresh_free}
 use Rattle.page_action.specs.Reuse.{IsFresh}
 use Rattle.tree_acts.proofs.Overlays.{inside, node_there}
 use Rattle.tree_acts.proofs.Words.{place_in}
-use Rattle.tree_acts.specs.Trees.{HasTree, HasPlace, HasTrail}
+use Rattle.tree_acts.specs.Trees.{HasTree, HasPlace}
 use Rattle.tree_acts.specs.Acts.{IsUnfinished}
 use Rattle.tree_acts.specs.Ways.{RootIsThere}
 use Rattle.tree_acts.proofs.Telling.{metapage_tells, live_tells, high_tells, trail_begins_here}
@@ -29,10 +29,9 @@ use Rattle.descent.specs.declared.way.Way.{Way}
 use Rattle.split_finish.specs.Targets.{targets_of, IsTarget, FinishStands, FinishFits}
 use Rattle.split_finish.specs.Turns.{Popped, Pushed, Retaken}
 use Rattle.split_finish.specs.declared.finish.FinishAt.{FinishAt}
-use Rattle.split_finish.specs.declared.finish.FinishAt.TheVariants.{Start, Down, Link, Root}
+use Rattle.split_finish.specs.declared.finish.FinishAt.TheVariants.{Down}
 use Rattle.split_finish.specs.declared.finish.FinishOp.{FinishOp}
-use Rattle.split_finish.specs.declared.finish.FinishStep.{FinishStep}
-use Rattle.split_finish.specs.declared.finish.FinishStep.TheVariants.{Going, Done}
+use Rattle.split_finish.specs.declared.finish.FinishStep.TheVariants.{Going}
 use Rattle.split_finish.specs.declared.finish.Target.{Target}
 
 -- the metapage that is read is the tree's
@@ -106,8 +105,8 @@ rises_to st op after way page separator h fits pushed on found alive high =
     let place_there = subst (HasPlace st fits.start way.level (bound_aim op.target.separator) true) (sym there) on.place in
     let newer : Target = record { block = way.block; level = way.level; separator = separator } in
     let place : HasPlace st fits.start way.level (bound_aim separator) true way.block =
-        subst (HasPlace st fits.start way.level (bound_aim separator) true) there
-        (high_tells st fits.start way.level (bound_aim op.target.separator) true page separator h found_there place_there alive high) in
+    subst (HasPlace st fits.start way.level (bound_aim separator) true) there
+    (high_tells st fits.start way.level (bound_aim op.target.separator) true page separator h found_there place_there alive high) in
     let count : length after.below.items ≡ suc (length op.below.items) = ap length pushed.below_is ∙ length-append op.below.items (op.target ∷ []) ∙ omega arith in
     record {
       session = subst (λ (s : ℕ). s < 64) (sym pushed.session) fits.session;
@@ -194,8 +193,8 @@ fits_retaken st op after separator at page h fits taken found alive high stands 
     let found_there : slice_get st.pages page.block ≡ Some page = subst (λ (b : ℕ). slice_get st.pages b ≡ Some page) (sym there) found in
     let place_there = subst (HasPlace st fits.start op.target.level (bound_aim op.target.separator) true) (sym there) fits.newest.place in
     let place : HasPlace st fits.start op.target.level (bound_aim separator) true op.target.block =
-        subst (HasPlace st fits.start op.target.level (bound_aim separator) true) there
-        (high_tells st fits.start op.target.level (bound_aim op.target.separator) true page separator h found_there place_there alive high) in
+    subst (HasPlace st fits.start op.target.level (bound_aim separator) true) there
+    (high_tells st fits.start op.target.level (bound_aim op.target.separator) true page separator h found_there place_there alive high) in
     record {
       session = subst (λ (s : ℕ). s < 64) (sym taken.session) fits.session;
       free = rw taken.session fits.free;

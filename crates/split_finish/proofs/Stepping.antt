@@ -1,19 +1,20 @@
 -- Steps that read and change nothing but the call, and those that act behind their readings.
-use Rattle.std.proofs.Common.{◌≡◌, ◌⊎◌, ℕ, zero, suc, ◌+◌, ◌*◌, ◌<◌, ◌≤◌, ◌||◌, nat_lt, nat_le, Bool, true, false, Option, Some, None, Result, Ok, Err, length, slice_get, refl, sym, ap, subst, inl, inr, ◌∙◌, arith}
+use Rattle.std.proofs.Common.{◌≡◌, ℕ, suc, ◌*◌, ◌<◌, ◌≤◌, ◌||◌, nat_le, Bool, true, false, None, Result, Ok, Err, refl, sym, ap, subst, inl, ◌∙◌, arith}
 use Rattle.std.proofs.lemmas.Bool.{ltb-true, lt-ltb}
-use Rattle.std.specs.Prelude.{OnOk, OnErr}
+use Rattle.std.specs.Prelude.{OnErr}
 use Rattle.index_model.specs.Faults.{HasCause}
 use Rattle.index_model.specs.declared.fault.Fault.{Fault}
 use Rattle.index_model.specs.declared.fault.Fault.TheVariants.{NoMemory, Io, Stopped, Blocked, Exists, KeyTooLong, BadRow, IndexFull, LogFull, NoFrame, VacuumRunning, NoSession, SessionBusy, BadSuper, BadVersion, LogDamaged, PageDamaged, BadLimits, TooTall, DeviceTooSmall}
 use Rattle.page_action.specs.Causes.{is_at_end}
 use Rattle.page_action.specs.States.{State, Backing, Continues}
 use Rattle.page_action.specs.declared.page_store.PageStore.{Ghosts}
-use Rattle.descent.specs.Shared.{IsInOrder, IsOneStep, Does, is_flagged, where_working}
+use Rattle.descent.specs.Shared.{IsInOrder, IsOneStep, is_flagged, where_working}
 use Rattle.descent.proofs.Acting.{one_nothing, nothing_else}
 use Rattle.split_finish.specs.Targets.{FinishFits, OnlyTargetsAreFlagged, targets_of, finish_left, walk_length}
-use Rattle.split_finish.specs.Turns.{Turned, TurnGoesOn, TurnIsOver, where_turned}
-use Rattle.split_finish.specs.Finishes.{FinishSteps, FinishStays, FinishStepped, FinishGoesOn, FinishIsDone, images_of, frames_of}
-use Rattle.split_finish.specs.Acting.{FinishActs}
+use Rattle.split_finish.specs.Turns.{Turned, where_turned}
+use Rattle.split_finish.specs.Finishes.{FinishSteps, FinishStays, FinishStepped, images_of, frames_of}
+use Rattle.page_codec.specs.declared.page.Page.{Page}
+use Rattle.split_finish.specs.Acting.{FinishActs, IsRead, MeetsParent}
 use Rattle.split_finish.specs.declared.finish.FinishOp.{FinishOp}
 use Rattle.split_finish.specs.declared.finish.FinishStep.{FinishStep}
 use Rattle.split_finish.specs.declared.finish.FinishStep.TheVariants.{Going, Done}
@@ -22,7 +23,7 @@ use Rattle.split_finish.specs.declared.finish.FinishStep.TheVariants.{Going, Don
 pub refuses : {S : Type 0} (g : Ghosts S) (op : FinishOp) (old new : S) (fault : Fault) → Continues g.follows old new → g.state new ≡ g.state old
     → ((g.backing old).stopped ≡ true → fault ≡ Stopped)
     → ((g.backing new).honest ≡ true → IsInOrder (g.state old) → FinishFits (g.state old) op
-        → HasCause (where_working (g.state old) (g.backing old) (g.backing new) op.session (images_of op.at) (frames_of op.at)) fault)
+    → HasCause (where_working (g.state old) (g.backing old) (g.backing new) op.session (images_of op.at) (frames_of op.at)) fault)
     → FinishSteps g op op old new (Err fault)
 refuses g op old new fault steps same stops cause = record {
   steps = steps;
@@ -162,28 +163,6 @@ pub record HasRead {S : Type 0} (g : Ghosts S) (old mid : S) : Type 0 where
   pub alive : (g.backing mid).stopped ≡ true → (g.backing old).stopped ≡ true
   pub promised : (g.backing mid).promised ≡ (g.backing old).promised
 
-at_start : {S : Type 0} (g : Ghosts S) (before after : FinishOp) (old mid new : S) (result : Result FinishStep Fault) (P : State → Type 0) → HasRead g old mid → P (g.state mid) → P (g.state old)
-at_start g before after old mid new result P read h = subst P read.same h
-
--- the whole step, from its readings on
-pub behind : {S : Type 0} (g : Ghosts S) (before after : FinishOp) (old mid new : S) (result : Result FinishStep Fault) → HasRead g old mid → ((g.backing old).stopped ≡ true → ⊥)
-    → FinishActs g before after mid new result → FinishSteps g before after old new result
-behind g before after old mid new result read runs acts = record {
-  steps = λ first h. acts.steps first (read.steps first h);
-  session = acts.session;
-  kept = subst (λ (st : State). IsOneStep st (g.state new)) read.same acts.kept;
-  table = subst (λ (st : State). (g.state new).table ≡ st.table) read.same acts.table;
-  refused = subst (λ (st : State). OnErr result (FinishStays st (g.state new) before after)) read.same acts.refused;
-  stopped = λ h. absurd (runs h);
-  less = λ honest is same. subst (λ (st : State). finish_left (g.state new).limits.pages (g.state new).pages after < finish_left st.limits.pages st.pages before) read.same
-      (acts.less honest is (same ∙ ap (λ (st : State). st.acts) (sym read.same)));
-  over = λ honest is same. subst (λ (st : State). 34 * suc (walk_length st.limits.pages) ≤ finish_left st.limits.pages st.pages before) read.same
-      (acts.over honest is (same ∙ ap (λ (st : State). st.acts) (sym read.same)));
-  stepped = λ honest order fits. earlier_stepped (g.state old) (g.state new) (g.backing old) (g.backing mid) (g.backing new) before after result read.failures read.alive read.promised
-      (subst (λ (st : State). FinishStepped st (g.backing mid) (g.state new) (g.backing new) before after result) read.same
-      (acts.stepped honest (subst IsInOrder (sym read.same) order) (subst (λ (st : State). FinishFits st before) (sym read.same) fits)));
-}
-
 -- a further reading, and then the act
 pub behind_more : {S : Type 0} (g : Ghosts S) (before after : FinishOp) (old mid new : S) (result : Result FinishStep Fault) → HasRead g old mid
     → FinishActs g before after mid new result → FinishActs g before after old new result
@@ -202,10 +181,27 @@ behind_more g before after old mid new result read acts = record {
       (acts.stepped honest (subst IsInOrder (sym read.same) order) (subst (λ (st : State). FinishFits st before) (sym read.same) fits)));
 }
 
+-- the whole step, from its readings on
+pub behind : {S : Type 0} (g : Ghosts S) (before after : FinishOp) (old mid new : S) (result : Result FinishStep Fault) → HasRead g old mid → ((g.backing old).stopped ≡ true → ⊥)
+    → FinishActs g before after mid new result → FinishSteps g before after old new result
+behind g before after old mid new result read runs acts =
+    let all = behind_more g before after old mid new result read acts in
+    record {
+      steps = all.steps;
+      session = all.session;
+      kept = all.kept;
+      table = all.table;
+      refused = all.refused;
+      stopped = λ h. absurd (runs h);
+      less = all.less;
+      over = all.over;
+      stepped = all.stepped;
+    }
+
 -- a step behind its readings that is refused, with nothing changed
 pub acts_not : {S : Type 0} (g : Ghosts S) (op : FinishOp) (old new : S) (fault : Fault) → Continues g.follows old new → g.state new ≡ g.state old
     → ((g.backing new).honest ≡ true → IsInOrder (g.state old) → FinishFits (g.state old) op
-        → HasCause (where_working (g.state old) (g.backing old) (g.backing new) op.session (images_of op.at) (frames_of op.at)) fault)
+    → HasCause (where_working (g.state old) (g.backing old) (g.backing new) op.session (images_of op.at) (frames_of op.at)) fault)
     → FinishActs g op op old new (Err fault)
 acts_not g op old new fault steps same cause = record {
   steps = steps;
@@ -265,4 +261,23 @@ turns_behind g before after old (Err fault) session kept turned = record {
   less = λ honest is. absurd cc;
   over = λ honest is. absurd cc;
   stepped = λ honest order fits. turn_cause (g.state old) (g.backing old) (g.backing old) before.session (images_of before.at) (frames_of before.at) fault (turned honest order.tree fits);
+}
+
+-- a page as it was read, after a further reading
+still_read : (old new : State) (first second : Backing) (session block : ℕ) (page : Page) → new ≡ old → (second.honest ≡ true → first.honest ≡ true) → IsRead old first.honest session block page
+    → IsRead new second.honest session block page
+still_read old new first second session block page same honest read = subst (λ (st : State). IsRead st second.honest session block page) (sym same) (record {
+  found = λ h. read.found (honest h);
+  stored = read.stored;
+  free = read.free;
+})
+
+pub still_meets : (old new : State) (first second : Backing) (op : FinishOp) (page parent : Page) → new ≡ old → (second.honest ≡ true → first.honest ≡ true) → MeetsParent old first.honest op page parent
+    → MeetsParent new second.honest op page parent
+still_meets old new first second op page parent same honest meets = record {
+  way = meets.way;
+  at = meets.at;
+  read = still_read old new first second op.session op.target.block page same honest meets.read;
+  read_parent = still_read old new first second op.session meets.way.block parent same honest meets.read_parent;
+  ready = meets.ready;
 }

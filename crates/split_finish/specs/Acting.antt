@@ -1,10 +1,9 @@
 -- The acts by which splits are finished: which pages they write, and what they do.
-use Rattle.std.specs.Prelude.{◌≡◌, ◌≢◌, ◌⊎◌, ℕ, suc, ◌+◌, ◌*◌, ◌<◌, ◌≤◌, Bool, true, false, All, Option, Some, None, Result, Ok, OnErr, List, [], ◌∷◌, ◌++◌, length, slice_get}
+use Rattle.std.specs.Prelude.{◌≡◌, ◌≢◌, ◌⊎◌, ℕ, suc, ◌*◌, ◌<◌, ◌≤◌, Bool, true, false, All, Some, Result, Ok, OnErr, List, [], ◌∷◌, length, slice_get}
 use Rattle.index_model.specs.declared.bound.Bound.{Bound}
 use Rattle.index_model.specs.declared.fault.Fault.{Fault}
 use Rattle.latch_table.specs.Holdings.{is_held_by_another}
 use Rattle.latch_table.specs.declared.mode.Mode.TheVariants.{Exclusive}
-use Rattle.page_codec.specs.declared.page.Downlink.{Downlink}
 use Rattle.page_codec.specs.declared.page.Page.{Page}
 use Rattle.page_codec.specs.Grammar.{IsBlock, IsPage, IsWhole}
 use Rattle.page_action.specs.States.{State, Continues}
@@ -19,12 +18,16 @@ use Rattle.tree_shape.specs.Nodes.{node_of, links_of}
 use Rattle.tree_acts.specs.Acts.{IsClear}
 use Rattle.descent.specs.Shared.{IsInOrder, IsOneStep}
 use Rattle.split_finish.specs.Targets.{FinishFits, finish_left, walk_length}
+use Rattle.descent.specs.declared.way.Way.{Way}
+use Rattle.split_finish.specs.Turns.{IsReadyToLink, IsReadyToGrow}
+use Rattle.split_finish.specs.declared.finish.FinishAt.TheVariants.{Link, Root}
 use Rattle.split_finish.specs.Finishes.{FinishStays, FinishStepped}
 use Rattle.split_finish.specs.declared.finish.FinishOp.{FinishOp}
 use Rattle.split_finish.specs.declared.finish.FinishStep.{FinishStep}
 use Rattle.split_finish.specs.declared.finish.FinishStep.TheVariants.{Going, Done}
 
--- the downlink at this place leads to the child, and one with the separator for its bound may stand behind it
+-- the downlink at this place leads to the child, and one with the separator for its bound may
+-- stand behind it
 pub record IsLinkPlace (parent : Page) (child : ℕ) (separator : Bound) (at : ℕ) : Type 0 where
   pub internal : HasLinks parent.items
   pub inside : at < length (links_of parent.items)
@@ -45,7 +48,8 @@ pub record AreLinked (parent page : Page) (separator : Bound) (new : ℕ) (pages
   pub parent_after : Page
   pub page_after : Page
   pub pages_are : pages ≡ parent_after ∷ page_after ∷ []
-  pub added : IsLinkAdded page.block new separator (links_of parent.items) (links_of parent_after.items)
+  pub added : IsLinkAdded page.block new separator (links_of parent.items)
+      (links_of parent_after.items)
   pub after_is : node_of parent_after ≡ with_links (node_of parent) (links_of parent_after.items)
   pub block_is : parent_after.block ≡ parent.block
   pub clear : IsClear page page_after
@@ -64,7 +68,8 @@ pub record AreGrown (meta page : Page) (separator : Bound) (new fresh : ℕ) (pa
   pub root_is : node_of root ≡ new_root (suc meta.level) page.block separator new
   pub root_block : root.block ≡ fresh
   pub root_items : count_of root.items ≡ 2
-  pub root_admitted : IsBlock fresh → IsBlock page.block → IsWhole separator → IsBlock new → IsPage root
+  pub root_admitted : IsBlock fresh → IsBlock page.block → IsWhole separator → IsBlock new
+      → IsPage root
   pub meta_is : meta.items ≡ Meta → IsMetaOf meta_after fresh (suc meta.level)
   pub meta_block : meta_after.block ≡ meta.block
   pub meta_items : meta_after.items ≡ meta.items
@@ -79,7 +84,24 @@ pub record IsRead (st : State) (honest : Bool) (session block : ℕ) (page : Pag
   pub stored : IsStored st.limits block page
   pub free : is_held_by_another st.table session block Exclusive ≡ false
 
--- What the part of a step does that stands behind its readings: what a step does, but that the log may have stopped before.
+-- a call has read its newest target and the parent of that, and may put the downlink there
+pub record MeetsParent (st : State) (honest : Bool) (op : FinishOp) (page parent : Page)
+    : Type 0 where
+  pub way : Way
+  pub at : op.at ≡ Link way
+  pub read : IsRead st honest op.session op.target.block page
+  pub read_parent : IsRead st honest op.session way.block parent
+  pub ready : IsReadyToLink page parent op op
+
+-- a call has read the metapage and its newest target, and may make a new root
+pub record MeetsRoot (st : State) (honest : Bool) (op : FinishOp) (meta page : Page) : Type 0 where
+  pub at : op.at ≡ Root
+  pub read_meta : IsRead st honest op.session 0 meta
+  pub read : IsRead st honest op.session op.target.block page
+  pub ready : IsReadyToGrow meta page op op
+
+-- What the part of a step does that stands behind its readings: what a step does, but that the log
+-- may have stopped before.
 pub record FinishActs {S : Type 0} (g : Ghosts S) (before after : FinishOp) (old new : S)
     (result : Result FinishStep Fault) : Type 0 where
   pub steps : Continues g.follows old new

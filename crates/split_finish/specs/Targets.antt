@@ -1,8 +1,7 @@
 -- Splits to be finished: the pages that a call has met flagged, and what is left to do for them.
-use Rattle.std.specs.Prelude.{◌≡◌, ◌⊎◌, ℕ, zero, suc, ◌+◌, ◌-◌, ◌*◌, ◌<◌, ◌≤◌, ◌&&◌, ◌||◌, ◌==◌, not, if◌then◌else◌, Bool, true, false, Option, Some, None, List, [], ◌∷◌, ◌++◌, length, slice_get}
+use Rattle.std.specs.Prelude.{◌≡◌, ℕ, suc, ◌+◌, ◌-◌, ◌*◌, ◌<◌, ◌≤◌, ◌&&◌, ◌||◌, ◌==◌, not, if◌then◌else◌, Bool, true, false, Option, Some, None, List, [], ◌∷◌, ◌++◌, length, slice_get}
 use Rattle.std.specs.Ordering.{is_eq}
 use Rattle.index_model.specs.Order.{bound_cmp}
-
 use Rattle.index_model.specs.declared.bound.Bound.{Bound}
 use Rattle.latch_table.specs.Holdings.{holding_of, nothing_held}
 use Rattle.page_codec.specs.declared.page.Page.{Page}

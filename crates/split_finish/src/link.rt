@@ -5,8 +5,7 @@ ghost use Rattle.page_codec.specs.Grammar.{IsBlock, IsPage, IsWhole};
 ghost use Rattle.tree_shape.specs.LinkPlaces.{HasLinks, FitsBehind, child_at};
 ghost use Rattle.tree_shape.specs.Nodes.{links_of};
 ghost use Rattle.split_finish.specs.Finishes.{FinishSteps};
-ghost use Rattle.split_finish.specs.Acting.{IsLinkPlace, NoLinkPlace, AreLinked, IsRead, FinishActs};
-ghost use Rattle.split_finish.specs.Turns.{IsReadyToLink};
+ghost use Rattle.split_finish.specs.Acting.{IsLinkPlace, NoLinkPlace, AreLinked, IsRead, MeetsParent, FinishActs};
 
 use crate::finish::{FinishAt, FinishOp, FinishStep};
 use descent::{Way, act_on, look_at_both};
@@ -72,7 +71,7 @@ impl FinishOp {
     {
         match self.turn_at_parent(&page, &parent, way) {
             Ok(Some(step)) => Ok(step),
-            Ok(None) => self.put_link(store, way, page, parent),
+            Ok(None) => self.put_link(store, page, parent),
             Err(fault) => Err(fault),
         }
     }
@@ -81,16 +80,11 @@ impl FinishOp {
     fn put_link<S: PageStore>(
         &mut self,
         store: &mut S,
-        way: Way,
         page: Page,
         parent: Page,
     ) -> Result<FinishStep, Fault>
-        requires at { self.old.at ≡ FinishAt.Link way }
-        requires read { IsRead (S.state store.old) (S.backing store.old).honest self.old.session
-            self.old.target.block page }
-        requires read_parent { IsRead (S.state store.old) (S.backing store.old).honest
-            self.old.session way.block parent }
-        requires ready { IsReadyToLink page parent self.old self.old }
+        requires meets { MeetsParent (S.state store.old) (S.backing store.old).honest self.old
+            page parent }
         requires some { 0 < length (S.state store.old).pages }
         ensures { FinishActs S.PageStore self.old self.new store.old store.new result }
     {
@@ -98,12 +92,12 @@ impl FinishOp {
             return Err(Fault::PageDamaged(page.block));
         };
         let Some(at) = place_behind(&parent, page.block, &self.target.separator) else {
-            return Err(Fault::PageDamaged(way.block));
+            return Err(Fault::PageDamaged(parent.block));
         };
         if links_on(&parent).len() < store.limits().items as usize {
-            self.add(store, way, page, parent, at, new)
+            self.add(store, page, parent, at, new)
         } else {
-            self.split_parent(store, way, page, parent, at, new)
+            self.split_parent(store, page, parent, at, new)
         }
     }
 
@@ -111,18 +105,13 @@ impl FinishOp {
     fn add<S: PageStore>(
         &mut self,
         store: &mut S,
-        way: Way,
         page: Page,
         parent: Page,
         at: usize,
         new: u32,
     ) -> Result<FinishStep, Fault>
-        requires at { self.old.at ≡ FinishAt.Link way }
-        requires read { IsRead (S.state store.old) (S.backing store.old).honest self.old.session
-            self.old.target.block page }
-        requires read_parent { IsRead (S.state store.old) (S.backing store.old).honest
-            self.old.session way.block parent }
-        requires ready { IsReadyToLink page parent self.old self.old }
+        requires meets { MeetsParent (S.state store.old) (S.backing store.old).honest self.old
+            page parent }
         requires right { page.right ≡ Some new }
         requires place { IsLinkPlace parent page.block self.old.target.separator at }
         requires room { length (links_of parent.items) < (S.state store.old).limits.items }

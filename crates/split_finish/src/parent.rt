@@ -7,12 +7,11 @@ ghost use Rattle.page_action.specs.States.{Continues, after_act};
 ghost use Rattle.page_action.specs.Stored.{AreActable};
 ghost use Rattle.tree_shape.specs.Nodes.{links_of};
 ghost use Rattle.descent.specs.Splitting.{RightIsStored, RightIsFound};
-ghost use Rattle.split_finish.specs.Acting.{IsLinkPlace, IsRead, FinishActs};
+ghost use Rattle.split_finish.specs.Acting.{IsLinkPlace, MeetsParent, FinishActs};
 ghost use Rattle.split_finish.specs.Parting.{halves_and};
-ghost use Rattle.split_finish.specs.Turns.{IsReadyToLink};
 
 use crate::finish::{FinishAt, FinishOp, FinishStep, Target};
-use descent::{Way, act_on, read_right, take_block};
+use descent::{act_on, read_right, take_block};
 use index_model::Fault;
 use page_action::PageStore;
 use page_codec::Page;
@@ -70,18 +69,13 @@ impl FinishOp {
     pub fn split_parent<S: PageStore>(
         &mut self,
         store: &mut S,
-        way: Way,
         page: Page,
         parent: Page,
         at: usize,
         new: u32,
     ) -> Result<FinishStep, Fault>
-        requires at { self.old.at ≡ FinishAt.Link way }
-        requires read { IsRead (S.state store.old) (S.backing store.old).honest self.old.session
-            self.old.target.block page }
-        requires read_parent { IsRead (S.state store.old) (S.backing store.old).honest
-            self.old.session way.block parent }
-        requires ready { IsReadyToLink page parent self.old self.old }
+        requires meets { MeetsParent (S.state store.old) (S.backing store.old).honest self.old
+            page parent }
         requires right { page.right ≡ Some new }
         requires place { IsLinkPlace parent page.block self.old.target.separator at }
         requires full { 4 ≤ length (links_of parent.items) }
@@ -89,7 +83,7 @@ impl FinishOp {
         ensures { FinishActs S.PageStore self.old self.new store.old store.new result }
     {
         match read_right(store, self.session, parent.right) {
-            Ok(right) => self.split_beside(store, way, page, parent, right, at, new),
+            Ok(right) => self.split_beside(store, page, parent, right, at, new),
             Err(fault) => Err(fault),
         }
     }
@@ -98,19 +92,14 @@ impl FinishOp {
     fn split_beside<S: PageStore>(
         &mut self,
         store: &mut S,
-        way: Way,
         page: Page,
         parent: Page,
         right: Option<Page>,
         at: usize,
         new: u32,
     ) -> Result<FinishStep, Fault>
-        requires at { self.old.at ≡ FinishAt.Link way }
-        requires read { IsRead (S.state store.old) (S.backing store.old).honest self.old.session
-            self.old.target.block page }
-        requires read_parent { IsRead (S.state store.old) (S.backing store.old).honest
-            self.old.session way.block parent }
-        requires ready { IsReadyToLink page parent self.old self.old }
+        requires meets { MeetsParent (S.state store.old) (S.backing store.old).honest self.old
+            page parent }
         requires right { page.right ≡ Some new }
         requires place { IsLinkPlace parent page.block self.old.target.separator at }
         requires full { 4 ≤ length (links_of parent.items) }

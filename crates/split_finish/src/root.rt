@@ -4,8 +4,7 @@ ghost use Rattle.std.specs.Prelude.{◌≡◌, ◌<◌, false, Some, length};
 ghost use Rattle.page_codec.specs.Grammar.{IsBlock};
 ghost use Rattle.latch_table.specs.Holdings.{is_held_by_another};
 ghost use Rattle.page_action.specs.Reuse.{IsFresh};
-ghost use Rattle.split_finish.specs.Acting.{IsRead, FinishActs, AreGrown};
-ghost use Rattle.split_finish.specs.Turns.{IsReadyToGrow};
+ghost use Rattle.split_finish.specs.Acting.{IsRead, MeetsRoot, FinishActs, AreGrown};
 ghost use Rattle.split_finish.specs.Finishes.{FinishSteps};
 
 use crate::finish::{FinishAt, FinishOp, FinishStep};
@@ -71,12 +70,8 @@ impl FinishOp {
         meta: Page,
         page: Page,
     ) -> Result<FinishStep, Fault>
-        requires at { self.old.at ≡ FinishAt.Root }
-        requires read_meta { IsRead (S.state store.old) (S.backing store.old).honest
-            self.old.session 0 meta }
-        requires read { IsRead (S.state store.old) (S.backing store.old).honest self.old.session
-            self.old.target.block page }
-        requires ready { IsReadyToGrow meta page self.old self.old }
+        requires meets { MeetsRoot (S.state store.old) (S.backing store.old).honest self.old
+            meta page }
         requires some { 0 < length (S.state store.old).pages }
         ensures { FinishActs S.PageStore self.old self.new store.old store.new result }
     {
@@ -98,12 +93,8 @@ impl FinishOp {
         new: u32,
         fresh: u32,
     ) -> Result<FinishStep, Fault>
-        requires at { self.old.at ≡ FinishAt.Root }
-        requires read_meta { IsRead (S.state store.old) (S.backing store.old).honest
-            self.old.session 0 meta }
-        requires read { IsRead (S.state store.old) (S.backing store.old).honest self.old.session
-            self.old.target.block page }
-        requires ready { IsReadyToGrow meta page self.old self.old }
+        requires meets { MeetsRoot (S.state store.old) (S.backing store.old).honest self.old
+            meta page }
         requires right { page.right ≡ Some new }
         requires fresh { IsFresh (S.state store.old) fresh }
         requires block { IsBlock fresh }

@@ -50,7 +50,10 @@ fn leaf(block: u32, left: u32, right: u32, key: u8) -> Page {
     let mut page = page(
         block,
         0,
-        (Some(left).filter(|b| *b > 0), Some(right).filter(|b| *b > 0)),
+        (
+            Some(left).filter(|b| *b > 0),
+            Some(right).filter(|b| *b > 0),
+        ),
         None,
     );
     if right > 0 {
@@ -120,11 +123,13 @@ fn split_leaf(alloc: Global, full: bool) -> Result<MapStore, Fault> {
 fn finish(store: &mut MapStore, session: Session, target: Target) -> Result<u32, Fault> {
     store.begin(session)?;
     let mut op = FinishOp::new(session, target);
-    let mut steps = 0;
-    for _ in 0..20 {
+    for steps in 0..20 {
         match op.step(store) {
-            Ok(FinishStep::Going) => steps += 1,
-            Ok(FinishStep::Done) => break,
+            Ok(FinishStep::Going) => {}
+            Ok(FinishStep::Done) => {
+                store.end(session);
+                return Ok(steps);
+            }
             Err(fault) => {
                 store.end(session);
                 return Err(fault);
@@ -132,7 +137,7 @@ fn finish(store: &mut MapStore, session: Session, target: Target) -> Result<u32,
         }
     }
     store.end(session);
-    Ok(steps)
+    Ok(20)
 }
 
 fn target(block: u32, key: u8) -> Target {
@@ -214,8 +219,53 @@ fn separator_is_read_again_and_latches_block(rt: HostRuntime) {
         return;
     };
     assert_eq!(rt; store.latch(other, 1, Mode::Exclusive), Ok(()));
-    assert_eq!(rt; finish(&mut store, one, target(2, 2)), Err(Fault::Blocked(1)));
+    assert_eq!(rt;
+        finish(&mut store, one, target(2, 2)),
+        Err(Fault::Blocked(1))
+    );
     store.release(other, 1);
     assert_eq!(rt; finish(&mut store, one, target(2, 2)), Ok(5));
     assert_eq!(rt; child_of(&mut store, 1, 1), 3);
+}
+
+// Three levels: on the way from the root, page 1, to leaf 4, whose split is unfinished, stands page 2, full, whose split is
+// unfinished too.
+fn two_splits(alloc: Global) -> Result<MapStore, Fault> {
+    let mut root = parent(1, 2, &[]);
+    root.level = 2;
+    let mut left = flagged(parent(2, 4, &[(5, 6), (6, 7), (7, 8)]));
+    left.right = Some(3);
+    left.high = Some(bound(9));
+    let mut right = parent(3, 9, &[]);
+    right.left = Some(2);
+    let mut store = MapStore::new(alloc, LIMITS)?;
+    store.add(meta(1, 2))?;
+    store.add(root)?;
+    store.add(left)?;
+    store.add(right)?;
+    store.add(flagged(leaf(4, 0, 5, 3)))?;
+    store.add(leaf(5, 4, 6, 5))?;
+    store.add(leaf(6, 5, 7, 6))?;
+    store.add(leaf(7, 6, 8, 7))?;
+    store.add(leaf(8, 7, 9, 9))?;
+    store.add(leaf(9, 8, 0, 11))?;
+    Ok(store)
+}
+
+#[test]
+fn splits_above_are_finished_first(rt: HostRuntime) {
+    let (Ok(mut store), Ok(one)) = (two_splits(rt.alloc()), Session::new(1)) else {
+        assert!(rt; false);
+        return;
+    };
+    assert_eq!(rt; finish(&mut store, one, target(4, 3)), Ok(12));
+    assert_eq!(rt; store.acts(), 3);
+    // Page 3 is linked, then page 2 is split for page 5; its right half is page 10, left of page 3.
+    assert_eq!(rt; child_of(&mut store, 1, 0), 2);
+    assert_eq!(rt; child_of(&mut store, 1, 1), 10);
+    assert_eq!(rt; child_of(&mut store, 1, 2), 3);
+    assert_eq!(rt; child_of(&mut store, 2, 1), 5);
+    assert_eq!(rt; store.page(3).map(|page| page.left), Ok(Some(10)));
+    assert_eq!(rt; is_flagged(&mut store, 2), false);
+    assert_eq!(rt; is_flagged(&mut store, 4), false);
 }

@@ -1,26 +1,23 @@
 -- An insert that adds its entry to the leaf that it holds.
-use Rattle.std.proofs.Common.{◌≡◌, ◌≢◌, ◌⊎◌, ℕ, zero, suc, ◌+◌, ◌<◌, ◌≤◌, Bool, true, false, ◌||◌, ◌==◌, nat_le, if◌then◌else◌, Option, Some, None, Result, Ok, Err, List, [], ◌∷◌, ◌++◌, length, slice_get, refl, sym, ap, subst, inl, inr, ◌∙◌, arith}
-use Rattle.std.proofs.lemmas.Bool.{le-leb, cases_eq, cases_Bool, eqb-true, eq-eqb, lt-leb}
+use Rattle.std.proofs.Common.{◌≡◌, ◌≢◌, ℕ, zero, suc, ◌<◌, ◌≤◌, Bool, true, false, ◌||◌, ◌==◌, Option, Some, None, Result, Ok, Err, List, [], ◌∷◌, ◌++◌, length, slice_get, refl, sym, ap, subst, inl, inr, ◌∙◌, arith}
+use Rattle.std.proofs.lemmas.Bool.{le-leb, cases_Bool, eq-eqb, lt-leb}
 use Rattle.index_model.specs.Actions.{Add}
 use Rattle.index_model.specs.Faults.{HasCause}
 use Rattle.index_model.specs.Order.{is_among}
-use Rattle.index_model.specs.declared.bound.Bound.{Bound}
 use Rattle.index_model.specs.declared.entry.Entry.{Entry}
 use Rattle.index_model.specs.declared.fault.Fault.{Fault}
-use Rattle.index_model.specs.declared.fault.Fault.TheVariants.{Exists, PageDamaged}
-use Rattle.latch_table.specs.Holdings.{Holding, Table, HasRoom, has_pin, holding_of, nothing_held, latches_exclude, released, unpinned}
+use Rattle.index_model.specs.declared.fault.Fault.TheVariants.{Exists}
+use Rattle.latch_table.specs.Holdings.{Holding, Table, HasRoom, has_pin, holding_of, nothing_held, latches_exclude}
 use Rattle.latch_table.specs.declared.mode.Mode.TheVariants.{Shared, Exclusive}
 use Rattle.page_codec.specs.Edits.{entries_of}
 use Rattle.page_codec.specs.Grammar.{IsPage}
 use Rattle.page_codec.specs.declared.page.Page.{Page}
-use Rattle.page_codec.specs.declared.page.PageState.{PageState}
 use Rattle.page_codec.specs.declared.page.PageState.TheVariants.{Live}
 use Rattle.page_action.specs.Causes.{pinned_blocks, where_read}
 use Rattle.page_action.specs.Contents.{entry_on_live_leaf}
-use Rattle.page_action.specs.States.{State, Backing, Continues, with_table, after_act}
-use Rattle.page_action.specs.Stored.{IsApartFrom, AreActable}
+use Rattle.page_action.specs.States.{State, Backing, Continues, after_act}
+use Rattle.page_action.specs.Stored.{AreActable}
 use Rattle.page_action.specs.declared.page_store.PageStore.{Ghosts}
-use Rattle.tree_shape.specs.Leaf.{MayHold}
 use Rattle.tree_shape.specs.Walks.{entry_aim, is_within}
 use Rattle.tree_acts.specs.Acts.{EntryIsPut}
 use Rattle.tree_acts.specs.Flags.{FlagsMove}
@@ -36,11 +33,11 @@ use Rattle.descent.proofs.Tables.{any_excluded}
 use Rattle.descent.proofs.Working.{working_later, read_pinned_cause}
 use Rattle.std.specs.Prelude.{IfOk, IfErr, OnErr}
 use Rattle.split_finish.specs.Targets.{OnlyTargetsAreFlagged, is_among_targets}
-use Rattle.tree_insert.specs.Inserts.{leaf_held, IsLeafFor, InsertFits, InsertStands, InsertSteps, IsToCome, is_full_page, images_at, frames_at, insert_left, targets_at, IsLeft, where_inserting}
+use Rattle.tree_insert.specs.Inserts.{leaf_held, IsLeafFor, InsertFits, InsertStands, InsertSteps, IsToCome, images_at, frames_at, targets_at, IsLeft, where_inserting}
 use Rattle.tree_insert.specs.Straight.{straight_steps}
 use Rattle.tree_insert.specs.Turns.{EntryPut, PutsEntry, PlaceRefused}
 use Rattle.tree_insert.specs.declared.insert.InsertAt.{InsertAt}
-use Rattle.tree_insert.specs.declared.insert.InsertAt.TheVariants.{Start, At, Holding as Holds, Finishing}
+use Rattle.tree_insert.specs.declared.insert.InsertAt.TheVariants.{Holding as Holds}
 use Rattle.tree_insert.specs.declared.insert.InsertOp.{InsertOp}
 use Rattle.tree_insert.specs.declared.insert.InsertStep.{InsertStep}
 use Rattle.tree_insert.specs.declared.insert.InsertStep.TheVariants.{Going, Added}
@@ -194,10 +191,13 @@ puts g op old mid new block page (Ok (Added action unfinished)) steps same alive
   where
     st : State
     st = g.state old
+
     put : EntryPut page op.entry (g.state mid) (g.state new) action
     put = told.1
+
     now : g.state new ≡ after_act (put.after ∷ []) st
     now = put.state ∙ ap (after_act (put.after ∷ [])) same
+
     whole : OnlyTargetsAreFlagged st (targets_at op.at) → FlagsMove None None st (after_act (put.after ∷ []) st) → (b : ℕ) → is_flagged (g.state new) b ≡ false
     whole only moves b =
         elim (cases_Bool (is_flagged st b)) [
@@ -209,7 +209,7 @@ puts g op old mid new block page (Err fault) steps same alive at_is block_is fou
     (λ honest order fits.
     let there = leaf_there st op block at_is fits in
     let pin : has_pin (pinned_blocks (g.state mid).table) page.block ≡ true =
-        subst (λ (s : State). has_pin (pinned_blocks s.table) page.block ≡ true) (sym same) (subst (λ (b : ℕ). has_pin (pinned_blocks st.table) b ≡ true) (sym block_is) (pinned_leaf st.table op.session block there.0)) in
+    subst (λ (s : State). has_pin (pinned_blocks s.table) page.block ≡ true) (sym same) (subst (λ (b : ℕ). has_pin (pinned_blocks st.table) b ≡ true) (sym block_is) (pinned_leaf st.table op.session block there.0)) in
     holding_cause st (g.backing old) (g.backing new) op block 1 0 fault at_is (roomy_is st block page (found honest) room)
     (working_later st (g.backing old) (g.backing mid) (g.backing new) op.session 1 0 fault le later promised
     (subst (λ (s : State). HasCause (where_working s (g.backing mid) (g.backing new) op.session 1 0) fault) same (cause pin))))

@@ -1,25 +1,24 @@
 -- An insert that finishes splits.
-use Rattle.std.proofs.Common.{◌≡◌, ◌≢◌, ◌⊎◌, ℕ, zero, suc, ◌+◌, ◌*◌, ◌<◌, ◌≤◌, Bool, true, false, Option, Some, None, Result, Ok, Err, List, [], ◌∷◌, length, slice_get, refl, sym, ap, subst, inl, inr, ◌∙◌, arith}
-use Rattle.index_model.specs.Actions.{Effect, Add, Remove, Shape}
+use Rattle.std.proofs.Common.{◌≡◌, ℕ, ◌<◌, Bool, true, false, Option, Some, None, Result, Ok, Err, List, slice_get, refl, sym, ap, subst, inl, inr, ◌∙◌, arith}
+use Rattle.index_model.specs.Actions.{Effect}
 use Rattle.index_model.specs.Faults.{HasCause}
 use Rattle.index_model.specs.declared.entry.Entry.{Entry}
 use Rattle.index_model.specs.declared.fault.Fault.{Fault}
 use Rattle.latch_table.specs.Holdings.{Table, holding_of, nothing_held}
 use Rattle.index_model.specs.declared.limits.Limits.{Limits}
-use Rattle.page_action.specs.States.{State, Backing, Continues}
+use Rattle.page_action.specs.States.{State, Backing}
 use Rattle.page_action.specs.declared.page_store.PageStore.{Ghosts}
 use Rattle.descent.specs.Shared.{IsInOrder, Does, is_flagged, where_working}
 use Rattle.descent.proofs.Acting.{nothing_else}
-use Rattle.split_finish.specs.Finishes.{FinishSteps, FinishGoesOn, FinishIsDone, OnlyShapes, images_of, frames_of}
-use Rattle.split_finish.specs.Targets.{targets_of, OnlyTargetsAreFlagged, is_among_targets, FinishFits, finish_left, walk_length}
+use Rattle.split_finish.specs.Finishes.{FinishSteps, OnlyShapes, images_of, frames_of}
+use Rattle.split_finish.specs.Targets.{OnlyTargetsAreFlagged, FinishFits, finish_left}
 use Rattle.split_finish.specs.declared.finish.FinishOp.{FinishOp}
-use Rattle.split_finish.specs.declared.finish.FinishStep.{FinishStep}
 use Rattle.split_finish.specs.declared.finish.FinishStep.TheVariants.{Going as FinishGoing, Done}
 use Rattle.tree_insert.specs.Inserts.{InsertFits, InsertStands, InsertSteps, IsNoted, insert_left, targets_at, where_inserting}
 use Rattle.tree_insert.specs.Straight.{IsStraight}
 use Rattle.tree_insert.specs.Turns.{GoesOn, GoesOnFrom, Leaves, LeavesBy, IsRefusedRightly, is_blocked}
 use Rattle.tree_insert.specs.declared.insert.InsertAt.{InsertAt}
-use Rattle.tree_insert.specs.declared.insert.InsertAt.TheVariants.{Start, At, Holding as Holds, Finishing}
+use Rattle.tree_insert.specs.declared.insert.InsertAt.TheVariants.{Start, Finishing}
 use Rattle.tree_insert.specs.declared.insert.InsertOp.{InsertOp}
 use Rattle.tree_insert.specs.declared.insert.InsertStep.{InsertStep}
 use Rattle.tree_insert.specs.declared.insert.InsertStep.TheVariants.{Going, Added}
@@ -83,8 +82,10 @@ finish_done g before after splits then_splits step old new at_is alive h on = by
     none_flagged order fits honest only =
         let there = finishing_there (g.state old) before splits at_is fits in
         (h.stepped honest order there.1).flags (subst (λ (a : InsertAt). OnlyTargetsAreFlagged (g.state old) (targets_at a)) at_is only)
+
     true_false : true ≡ false → ⊥
     true_false k = cc
+
     by : (added : Option ℕ) → before.added ≡ added → GoesOnFrom added (record before { at = Finishing then_splits }) after step → InsertSteps g before after old new (Ok step)
     by None is on = subst (λ (s : InsertStep). InsertSteps g before after old new (Ok s)) (sym on.0) (subst (λ (o : InsertOp). InsertSteps g before o old new (Ok Going)) (sym on.1) (record {
       steps = h.steps;
@@ -141,13 +142,16 @@ finish_refused g before splits then_splits fault result old new at_is alive h le
   where
     same : (let o : InsertOp = record before { at = Finishing then_splits } in o) ≡ before
     same = ap (λ (a : InsertAt). let o : InsertOp = record before { at = a } in o) (ap Finishing h.refused.op ∙ sym at_is)
+
     cause : (g.backing new).honest ≡ true → IsInOrder (g.state old) → InsertFits (g.state old) before
         → HasCause (where_inserting (g.state old) (g.backing old) (g.backing new) before.session before.entry before.at) fault
     cause honest order fits =
         let there = finishing_there (g.state old) before splits at_is fits in
         finishing_cause (g.state old) (g.backing old) (g.backing new) before splits fault at_is there.0 (h.stepped honest order there.1)
+
     refusal : InsertSteps g before (record before { at = Finishing then_splits }) old new (Err fault)
     refusal = subst (λ (o : InsertOp). InsertSteps g before o old new (Err fault)) (sym same) (refuses g before old new fault h.steps h.refused.state alive cause)
+
     over : (action : ℕ) → before.added ≡ Some action → InsertSteps g before (record before { at = Finishing then_splits }) old new (Ok (Added action (Some fault)))
     over action is = subst (λ (o : InsertOp). InsertSteps g before o old new (Ok (Added action (Some fault)))) (sym same) (record {
       steps = h.steps;
@@ -165,6 +169,7 @@ finish_refused g before splits then_splits fault result old new at_is alive h le
       };
       straight = λ honest order fits whole on room. absurd (subst (IsStraight (g.state old) before.entry) at_is on);
     })
+
     by : (blocked : Bool) (added : Option ℕ) → before.added ≡ added → LeavesBy blocked added fault result → InsertSteps g before (record before { at = Finishing then_splits }) old new result
     by blocked None is leaves = subst (λ (r : Result InsertStep Fault). InsertSteps g before (record before { at = Finishing then_splits }) old new r) (sym leaves) refusal
     by true (Some action) is leaves = subst (λ (r : Result InsertStep Fault). InsertSteps g before (record before { at = Finishing then_splits }) old new r) (sym leaves) refusal

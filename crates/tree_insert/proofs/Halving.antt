@@ -1,28 +1,25 @@
 -- The pages of an act that splits a leaf may be written.
-use Rattle.std.proofs.Common.{◌≡◌, ◌≢◌, ◌⊎◌, ℕ, zero, suc, ◌+◌, ◌-◌, ◌/◌, ◌<◌, ◌≤◌, Bool, true, false, Option, Some, None, List, [], ◌∷◌, ◌++◌, map, length, slice_get, refl, sym, ap, subst, inl, inr, ◌∙◌, arith}
-use Rattle.std.proofs.lemmas.Bool.{cases_lt, and_parts}
+use Rattle.std.proofs.Common.{◌≡◌, ◌≢◌, ℕ, ◌+◌, ◌<◌, ◌≤◌, true, Option, Some, None, [], ◌∷◌, ◌++◌, map, length, refl, sym, subst, ◌∙◌, arith}
 use Rattle.index_model.specs.declared.entry.Entry.{Entry}
 use Rattle.index_model.specs.declared.limits.Limits.{Limits}
 use Rattle.page_codec.specs.Edits.{entries_of, HasEntries}
-use Rattle.page_codec.specs.Grammar.{IsBlock, IsPage, IsOfKind, IsLeafIn}
+use Rattle.page_codec.specs.Grammar.{IsBlock, IsPage}
 use Rattle.page_codec.specs.Spelling.{count_of}
 use Rattle.page_codec.specs.declared.page.Items.{Items}
 use Rattle.page_codec.specs.declared.page.Items.TheVariants.{Meta, Entries, Downlinks}
 use Rattle.page_codec.specs.declared.page.Page.{Page}
-use Rattle.page_codec.specs.declared.page.PageState.{PageState}
-use Rattle.page_codec.specs.declared.page.PageState.TheVariants.{Live, HalfDead, Deleted}
-use Rattle.page_action.specs.Reuse.{IsFresh, is_deleted, is_deleted_page, is_deleted_state}
+use Rattle.page_codec.specs.declared.page.PageState.TheVariants.{Live, Deleted}
+use Rattle.page_action.specs.Reuse.{IsFresh}
 use Rattle.page_action.specs.States.{State}
-use Rattle.page_action.specs.Stored.{IsStorable, IsStored, IsApartFrom, IsPlaceable, AreActable}
+use Rattle.page_action.specs.Stored.{IsStored, IsApartFrom, AreActable}
 use Rattle.tree_shape.specs.Halves.{left_count}
 use Rattle.tree_shape.specs.Leaf.{MayHold}
-use Rattle.tree_shape.specs.Mending.{MayBeMended}
 use Rattle.latch_table.specs.Holdings.{Table, has_pin}
 use Rattle.page_action.specs.Causes.{pinned_blocks, count_apart}
 use Rattle.descent.proofs.Mended.{fresh_apart, RightMay, right_may}
 use Rattle.descent.proofs.Working.{apart_pinned}
 use Rattle.tree_acts.proofs.Overlays.{inside}
-use Rattle.descent.specs.Splitting.{RightIsMendable, RightIsStored, mended_to}
+use Rattle.descent.specs.Splitting.{RightIsStored, mended_to}
 use Rattle.tree_insert.specs.Turns.{IsSplittable}
 
 -- a leaf has as many items as entries
@@ -40,25 +37,30 @@ pub halves_may : (st : State) (session : ℕ) (e : Entry) (page left half : Page
     → left.block ≡ page.block → IsFresh st half.block → IsBlock half.block → RightIsStored st session page.right right
     → AreActable st.limits (length st.pages) (left ∷ half ∷ mended_to half.block right)
 halves_may st session e page left half right fits may some left_page half_page left_leaf half_leaf kept moved left_block fresh block stored = (
-    record { admitted = left_page; few = few_left },
-    (omega (arith, used, left_block), subst (λ (b : ℕ). b < st.limits.pages) (sym left_block) (omega (arith, used, fits.few))),
-    (λ same. apart_new (sym left_block ∙ sym same), subst (λ (b : ℕ). IsApartFrom b (mended_to half.block right)) (sym left_block) beside.apart),
-    (record { admitted = half_page; few = few_half }, (fresh.within, fresh.inside), beside.apart_new, beside.may),
-  )
+  record { admitted = left_page; few = few_left },
+  (omega (arith, used, left_block), subst (λ (b : ℕ). b < st.limits.pages) (sym left_block) (omega (arith, used, fits.few))),
+  (λ same. apart_new (sym left_block ∙ sym same), subst (λ (b : ℕ). IsApartFrom b (mended_to half.block right)) (sym left_block) beside.apart),
+  (record { admitted = half_page; few = few_half }, (fresh.within, fresh.inside), beside.apart_new, beside.may),
+)
   where
     used : page.block < length st.pages
     used = inside st.pages page.block page fits.found
+
     apart_new : page.block ≢ half.block
     apart_new = fresh_apart st half.block page.block page fresh fits.found (λ gone. live_not_deleted (sym may.alive ∙ gone))
       where
         live_not_deleted : Live ≡ Deleted → ⊥
         live_not_deleted h = cc
+
     all : length (entries_of page.items) ≤ st.limits.items
     all = subst (λ (n : ℕ). n ≤ st.limits.items) (leaf_count page.items may.leaf) fits.stored.storable.few
+
     few_left : count_of left.items ≤ st.limits.items
     few_left = subst (λ (n : ℕ). n ≤ st.limits.items) (sym (leaf_count left.items left_leaf)) (omega (arith, kept, all, some))
+
     few_half : count_of half.items ≤ st.limits.items
     few_half = subst (λ (n : ℕ). n ≤ st.limits.items) (sym (leaf_count half.items half_leaf)) (omega (arith, kept, moved, all, some))
+
     beside : RightMay st page.block half.block right
     beside = right_may st session page.block half.block page.right right fits.few fresh block fits.mendable fits.apart stored
 
@@ -76,8 +78,8 @@ frames_for table left half new (Some page) pin = apart_pinned left.block (half.b
 pub put_may : (limits : Limits) (used : ℕ) (page after : Page) → IsStored limits page.block page → page.block < used → used ≤ limits.pages → IsPage after → HasEntries after.items
     → length (entries_of after.items) ≤ limits.items → after.block ≡ page.block → AreActable limits used (after ∷ [])
 put_may limits used page after stored in_use inside admitted leaf few block_is = (
-    record { admitted = admitted; few = subst (λ (n : ℕ). n ≤ limits.items) (sym (leaf_count after.items leaf)) few },
-    (omega (arith, block_is, in_use), omega (arith, block_is, in_use, inside)),
-    tt,
-    tt,
-  )
+  record { admitted = admitted; few = subst (λ (n : ℕ). n ≤ limits.items) (sym (leaf_count after.items leaf)) few },
+  (omega (arith, block_is, in_use), omega (arith, block_is, in_use, inside)),
+  tt,
+  tt,
+)

@@ -1,27 +1,23 @@
 -- What an insert knows lasts while others act, and what it has to do has a bound.
-use Rattle.std.proofs.Common.{◌≡◌, ℕ, suc, length, ◌+◌, ◌*◌, ◌<◌, ◌≤◌, true, Option, Some, List, slice_get, refl, sym, subst, ◌∙◌, arith}
+use Rattle.std.proofs.Common.{ℕ, suc, length, true, sym, subst, ◌∙◌, arith}
 use Rattle.index_model.specs.declared.entry.Entry.{Entry}
 use Rattle.index_model.specs.Order.{bound_of}
 use Rattle.index_model.specs.declared.bound.Bound.{Bound}
-use Rattle.latch_table.specs.Holdings.{Holding, holding_of, latches_exclude}
-use Rattle.latch_table.specs.declared.mode.Mode.TheVariants.{Shared}
 use Rattle.page_action.specs.States.{State}
 use Rattle.tree_shape.specs.Walks.{entry_aim, bound_aim}
 use Rattle.tree_shape.proofs.Fits.{bound_falls}
 use Rattle.descent.specs.Onward.{IsOnWay}
 use Rattle.descent.specs.Shared.{MayRely, NumbersStay}
-use Rattle.descent.specs.Steps.{HoldsAlone}
 use Rattle.descent.specs.declared.way.Way.{Way}
 use Rattle.split_finish.specs.Targets.{IsTarget, FinishStands, FinishFits}
 use Rattle.split_finish.specs.declared.finish.FinishAt.{FinishAt}
 use Rattle.split_finish.specs.declared.finish.FinishAt.TheVariants.{Start as FinishStart, Down, Link, Root}
 use Rattle.split_finish.specs.declared.finish.FinishOp.{FinishOp}
 use Rattle.split_finish.specs.declared.finish.Target.{Target}
-use Rattle.tree_insert.specs.Inserts.{leaf_held, IsLeafFor, InsertStands, InsertFits}
+use Rattle.tree_insert.specs.Inserts.{InsertStands}
 use Rattle.tree_insert.specs.Laws.{InsertsAreUndisturbed, FreshInsertsAreBounded}
 use Rattle.tree_insert.specs.declared.insert.InsertAt.{InsertAt}
 use Rattle.tree_insert.specs.declared.insert.InsertAt.TheVariants.{Start, At, Holding as Holds, Finishing}
-use Rattle.tree_insert.specs.declared.insert.InsertOp.{InsertOp}
 use Rattle.tree_insert.proofs.Adding.{holds_leaf}
 
 way_still : (old new : State) (start to : ℕ) (e : Bound) (way : Way) → NumbersStay start old new → IsOnWay old start (bound_aim e) true to way → IsOnWay new start (bound_aim e) true to way
@@ -59,16 +55,16 @@ stands_still : (old new : State) (session start : ℕ) (e : Entry) (at : InsertA
 stands_still old new session start e Start rely stay h = rely.held ∙ h
 stands_still old new session start e (At way) rely stay h = (rely.held ∙ h.0, way_still old new start 0 (bound_of e) way stay h.1)
 stands_still old new session start e (Holds block) rely stay h = (
-    rely.held ∙ h.0,
-    record {
-      page = h.1.page;
-      found = rely.pages block (holds_leaf old session block h.0) ∙ h.1.found;
-      alive = h.1.alive;
-      leaf = h.1.leaf;
-      whole = h.1.whole;
-      place = stay.places 0 (entry_aim e) true block (bound_falls (bound_of e)) h.1.place;
-      within = h.1.within;
-    },
+  rely.held ∙ h.0,
+  record {
+    page = h.1.page;
+    found = rely.pages block (holds_leaf old session block h.0) ∙ h.1.found;
+    alive = h.1.alive;
+    leaf = h.1.leaf;
+    whole = h.1.whole;
+    place = stay.places 0 (entry_aim e) true block (bound_falls (bound_of e)) h.1.place;
+    within = h.1.within;
+  },
 )
 stands_still old new session start e (Finishing op) rely stay h = (h.0, finish_still old new op (subst (λ (s : ℕ). MayRely s old new) (sym h.0) rely) h.1)
 

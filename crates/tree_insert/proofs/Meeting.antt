@@ -1,40 +1,36 @@
 -- An insert that meets a page whose split is to be finished.
-use Rattle.std.proofs.Common.{◌≡◌, ◌≢◌, ◌⊎◌, ℕ, zero, suc, ◌+◌, ◌-◌, ◌*◌, ◌<◌, ◌≤◌, ◌&&◌, Bool, true, false, if◌then◌else◌, Option, Some, None, Result, Ok, Err, List, [], ◌∷◌, ◌++◌, length, slice_get, refl, sym, ap, subst, inl, inr, ◌∙◌, arith}
+use Rattle.std.proofs.Common.{◌≡◌, ℕ, zero, suc, ◌+◌, ◌*◌, ◌<◌, Bool, true, false, Some, Result, Ok, Err, List, [], length, slice_get, refl, sym, ap, subst, ◌∙◌, arith}
 use Rattle.std.specs.Ordering.{is_eq}
 use Rattle.std.specs.Cmp.{tied_itself}
 use Rattle.index_model.specs.Order.{bound_cmp}
 use Rattle.index_model.proofs.Order.{bounds_total}
-use Rattle.index_model.specs.Faults.{HasCause}
 use Rattle.index_model.specs.declared.bound.Bound.{Bound}
-use Rattle.index_model.specs.declared.entry.Entry.{Entry}
 use Rattle.index_model.specs.declared.fault.Fault.{Fault}
 use Rattle.page_codec.specs.Grammar.{IsPage}
 use Rattle.page_codec.specs.declared.page.Page.{Page}
 use Rattle.page_codec.specs.declared.page.PageState.TheVariants.{Live}
-use Rattle.page_action.specs.States.{State, Backing, Continues}
+use Rattle.page_action.specs.States.{State, Continues}
 use Rattle.page_action.specs.declared.page_store.PageStore.{Ghosts}
-use Rattle.tree_shape.specs.Nodes.{Node, node_of, node_from, nodes_of}
+use Rattle.tree_shape.specs.Nodes.{node_of, node_from, nodes_of}
 use Rattle.tree_shape.specs.Walks.{entry_aim, bound_aim}
 use Rattle.tree_acts.specs.Trees.{HasTree, HasPlace}
 use Rattle.tree_acts.proofs.Telling.{live_tells, high_tells}
-use Rattle.descent.specs.Onward.{IsOnWay}
-use Rattle.descent.specs.Shared.{IsInOrder, is_flagged}
+use Rattle.descent.specs.Shared.{IsInOrder}
 use Rattle.descent.specs.declared.way.Way.{Way}
 use Rattle.latch_table.specs.Holdings.{holding_of, nothing_held}
-use Rattle.split_finish.specs.Targets.{is_as_read, ends_at, stale_count, targets_of, walks_left, finish_left, walk_length, way_left, OnlyTargetsAreFlagged, is_among_targets, IsTarget, FinishStands, FinishFits}
+use Rattle.split_finish.specs.Targets.{is_as_read, finish_left, walk_length, is_among_targets, IsTarget, FinishStands, FinishFits}
 use Rattle.split_finish.specs.declared.finish.FinishOp.{FinishOp}
-use Rattle.split_finish.specs.declared.finish.FinishAt.{FinishAt}
 use Rattle.split_finish.specs.declared.finish.FinishAt.TheVariants.{Start as FinishStart}
 use Rattle.split_finish.specs.declared.finish.Target.{Target}
-use Rattle.tree_insert.specs.Inserts.{InsertFits, InsertSteps, insert_left, targets_at, where_inserting}
-use Rattle.tree_insert.specs.Turns.{FinishesOne, MeetsSplit, MeetsNone, Meets}
+use Rattle.tree_insert.specs.Inserts.{InsertFits, InsertSteps, insert_left, targets_at}
+use Rattle.tree_insert.specs.Turns.{Meets}
 use Rattle.tree_insert.specs.declared.insert.InsertAt.{InsertAt}
-use Rattle.tree_insert.specs.declared.insert.InsertAt.TheVariants.{Start, At, Holding as Holds, Finishing}
+use Rattle.tree_insert.specs.declared.insert.InsertAt.TheVariants.{At, Finishing}
 use Rattle.tree_insert.specs.declared.insert.InsertOp.{InsertOp}
 use Rattle.tree_insert.specs.declared.insert.InsertStep.{InsertStep}
 use Rattle.tree_insert.specs.declared.insert.InsertStep.TheVariants.{Going, Added}
 use Rattle.tree_insert.proofs.Steps.{refuses, goes_on, StandsNow}
-use Rattle.tree_insert.proofs.Walking.{on_way, to_come_there, flagged_ends}
+use Rattle.tree_insert.proofs.Walking.{on_way, flagged_ends}
 
 -- a page as it was read
 pub read_at : (pages : List Page) (block : ℕ) (page : Page) → slice_get pages block ≡ Some page → nodes_of pages block ≡ node_of page
@@ -68,10 +64,10 @@ pub one_target_fits : (st : State) (start session : ℕ) (aim : Bound → Bool) 
     → op.session ≡ session → op.target ≡ target → op.below.items ≡ [] → op.at ≡ FinishStart → FinishFits st op
 one_target_fits st start session aim way page target op tree low free runs found block_is place alive t_block t_level high s_is t_is below at =
     let own : HasPlace st start way.level (bound_aim target.separator) true page.block = high_tells st start way.level aim true page target.separator tree
-        (subst (λ (b : ℕ). slice_get st.pages b ≡ Some page) (sym block_is) found) (subst (HasPlace st start way.level aim true) (sym block_is) place) alive high in
+    (subst (λ (b : ℕ). slice_get st.pages b ≡ Some page) (sym block_is) found) (subst (HasPlace st start way.level aim true) (sym block_is) place) alive high in
     let there : HasPlace st start target.level (bound_aim target.separator) true target.block =
-        subst (λ (l : ℕ). HasPlace st start l (bound_aim target.separator) true target.block) (sym t_level)
-        (subst (HasPlace st start way.level (bound_aim target.separator) true) (block_is ∙ sym t_block) own) in
+    subst (λ (l : ℕ). HasPlace st start l (bound_aim target.separator) true target.block) (sym t_level)
+    (subst (HasPlace st start way.level (bound_aim target.separator) true) (block_is ∙ sym t_block) own) in
     record {
       session = subst (λ (s : ℕ). s < 64) (sym s_is) low;
       free = subst (λ (s : ℕ). holding_of st.table s ≡ nothing_held) (sym s_is) free;
@@ -96,19 +92,25 @@ meets g before after old new page way (Ok Going) steps same alive at_is h live f
   where
     st : State
     st = g.state old
+
     op : FinishOp
     op = h.finishes.op
+
     target : Target
     target = h.target
+
     at_target : slice_get st.pages way.block ≡ Some page → slice_get st.pages target.block ≡ Some page
     at_target there = subst (λ (b : ℕ). slice_get st.pages b ≡ Some page) (sym h.block_is) there
+
     after_at : after.at ≡ Finishing op
     after_at = ap (λ (o : InsertOp). o.at) h.finishes.after_is
+
     less : slice_get st.pages way.block ≡ Some page → insert_left st.limits.pages st.pages after.at < insert_left st.limits.pages st.pages before.at
     less there =
         let left = one_target_left st.limits.pages st.pages target op page h.finishes.target_is h.finishes.below h.finishes.at (at_target there) flagged h.high_is in
         subst (λ (a : InsertAt). insert_left st.limits.pages st.pages a < insert_left st.limits.pages st.pages before.at) (sym after_at)
         (subst (λ (a : InsertAt). finish_left st.limits.pages st.pages op < insert_left st.limits.pages st.pages a) (sym at_is) (omega (arith, left)))
+
     now : slice_get st.pages way.block ≡ Some page → IsInOrder st → InsertFits st before → StandsNow st before after
     now there order fits =
         let stands = on_way st before way at_is fits in
@@ -117,8 +119,11 @@ meets g before after old new page way (Ok Going) steps same alive at_is h live f
             session = fits.session;
             start = fits.start;
             running = fits.running;
-            stands = (h.finishes.session, one_target_fits st fits.start before.session (entry_aim before.entry) way page target op order.tree fits.session stands.0 fits.running there block_is stands.1.place live
-                h.block_is h.level_is h.high_is h.finishes.session h.finishes.target_is h.finishes.below h.finishes.at);
+            stands = (
+              h.finishes.session,
+              one_target_fits st fits.start before.session (entry_aim before.entry) way page target op order.tree fits.session stands.0 fits.running there block_is stands.1.place live
+                  h.block_is h.level_is h.high_is h.finishes.session h.finishes.target_is h.finishes.below h.finishes.at,
+            );
             to_come = tt;
           });
           added = ap (λ (o : InsertOp). o.added) h.finishes.after_is;

@@ -1,53 +1,46 @@
 -- An insert that splits its leaf.
-use Rattle.std.proofs.Common.{◌≡◌, ◌≢◌, ◌⊎◌, ℕ, zero, suc, ◌+◌, ◌<◌, ◌≤◌, Bool, true, false, ◌||◌, ◌==◌, if◌then◌else◌, Option, Some, None, Result, Ok, Err, List, [], ◌∷◌, ◌++◌, length, slice_get, refl, sym, ap, subst, inl, inr, ◌∙◌, arith}
-use Rattle.std.proofs.lemmas.Bool.{cases_eq, cases_Bool, eq-eqb, ne_eqb}
+use Rattle.std.proofs.Common.{◌≡◌, ◌≢◌, ℕ, suc, ◌<◌, ◌≤◌, Bool, true, false, ◌||◌, Option, Some, None, Result, Ok, Err, List, [], ◌∷◌, length, slice_get, refl, sym, ap, subst, inl, inr, ◌∙◌, arith}
+use Rattle.std.proofs.lemmas.Bool.{cases_eq, eq-eqb, ne_eqb}
 use Rattle.std.specs.Prelude.{IfOk, IfErr, OnOk, OnErr}
 use Rattle.index_model.specs.Actions.{Add}
 use Rattle.index_model.specs.Faults.{HasCause}
 use Rattle.index_model.specs.Order.{is_among}
 use Rattle.index_model.specs.declared.bound.Bound.{Bound}
-use Rattle.index_model.specs.declared.entry.Entry.{Entry}
 use Rattle.index_model.specs.declared.fault.Fault.{Fault}
 use Rattle.latch_table.specs.Holdings.{Holding, Table, latches_exclude, HasRoom, has_pin, holding_of, nothing_held, released, unpinned, without_latch, without_pin, is_held_by_another}
 use Rattle.latch_table.specs.declared.mode.Mode.TheVariants.{Shared, Exclusive}
 use Rattle.latch_table.proofs.Tables.{length-released, length-unpinned, holding_of-released, holding_of-unpinned, holding_of-released_other, holding_of-unpinned_other}
 use Rattle.page_codec.specs.Edits.{entries_of}
 use Rattle.page_codec.specs.declared.page.Page.{Page}
-use Rattle.page_codec.specs.declared.page.PageState.{PageState}
 use Rattle.page_codec.specs.declared.page.PageState.TheVariants.{Live}
 use Rattle.page_action.specs.Causes.{pinned_blocks}
 use Rattle.page_action.specs.Contents.{entry_on_live_leaf}
-use Rattle.page_action.specs.States.{State, Backing, Continues, with_table, with_pages, after_act}
+use Rattle.page_action.specs.States.{State, Continues, with_table, after_act}
 use Rattle.page_action.specs.Stored.{IsStored, IsApartFrom, AreActable}
 use Rattle.page_action.specs.declared.page_store.PageStore.{Ghosts}
-use Rattle.page_action.proofs.StoredPages.{stored_page}
-use Rattle.tree_shape.specs.Edits.{LeafHalves}
-use Rattle.tree_shape.specs.Leaf.{MayHold}
-use Rattle.tree_shape.specs.Nodes.{Node, node_of, nodes_of}
+use Rattle.tree_shape.specs.Nodes.{Node}
 use Rattle.tree_shape.specs.Walks.{entry_aim, is_within}
 use Rattle.tree_acts.specs.Acts.{LeafIsSplit, IsMended}
 use Rattle.tree_acts.specs.Acts.IsMended.{rightmost, neighbour}
 use Rattle.tree_acts.specs.Flags.{FlagsMove, flag_after}
 use Rattle.tree_acts.specs.Trees.{HasTree, HasPlace}
-use Rattle.tree_acts.specs.Ways.{IsNeighbour}
 use Rattle.tree_acts.proofs.Entering.{leaf_split_lasts}
 use Rattle.tree_acts.proofs.Flagging.{leaf_split_flags}
 use Rattle.tree_acts.proofs.Weighed.{leaf_split_weighs}
 use Rattle.tree_acts.proofs.Overlays.{pages_first}
 use Rattle.tree_acts.proofs.Telling.{leaf_tells, neighbour_tells}
-use Rattle.descent.specs.Shared.{IsInOrder, Does, is_flagged, level_in, where_working}
+use Rattle.descent.specs.Shared.{Does, is_flagged, level_in, where_working}
 use Rattle.descent.specs.Splitting.{RightIsMendable, RightIsStored, RightIsFound, mended_to}
 use Rattle.descent.specs.Steps.{HoldsAlone, AreApart}
-use Rattle.descent.proofs.Acting.{does_add, one_act_else, apart_from_held, AreFree}
-use Rattle.descent.proofs.Tables.{apart_nothing, apart_with}
+use Rattle.descent.proofs.Acting.{does_add, one_act_else, apart_from_held}
 use Rattle.descent.proofs.Working.{working_later}
 use Rattle.split_finish.specs.Targets.{OnlyTargetsAreFlagged, is_among_targets, targets_of}
 use Rattle.split_finish.specs.declared.finish.FinishOp.{FinishOp}
 use Rattle.split_finish.specs.declared.finish.Target.{Target}
-use Rattle.tree_insert.specs.Inserts.{leaf_held, IsLeafFor, InsertFits, InsertSteps, images_at, frames_at, insert_left, targets_at, where_inserting}
-use Rattle.tree_insert.specs.Turns.{FinishesOne, IsSplittable, SplitsLeaf}
+use Rattle.tree_insert.specs.Inserts.{leaf_held, InsertFits, InsertSteps, targets_at}
+use Rattle.tree_insert.specs.Turns.{IsSplittable, SplitsLeaf}
 use Rattle.tree_insert.specs.declared.insert.InsertAt.{InsertAt}
-use Rattle.tree_insert.specs.declared.insert.InsertAt.TheVariants.{Start, At, Holding as Holds, Finishing}
+use Rattle.tree_insert.specs.declared.insert.InsertAt.TheVariants.{Holding as Holds}
 use Rattle.tree_insert.specs.declared.insert.InsertOp.{InsertOp}
 use Rattle.tree_insert.specs.declared.insert.InsertStep.{InsertStep}
 use Rattle.tree_insert.specs.declared.insert.InsertStep.TheVariants.{Going, Added}
@@ -128,7 +121,7 @@ pub splits : {S : Type 0} (g : Ghosts S) (before after : InsertOp) (old mid new 
     → IfOk result (λ step. step ≡ Going) → OnOk result (SplitsLeaf (g.backing new).honest page before after (g.state mid) (g.state new))
     → OnErr result (g.state new ≡ g.state mid) → OnErr result (after ≡ before)
     → ((g.backing new).honest ≡ true → HasRoom (g.state mid).table before.session → IsSplittable (g.state mid) page → has_pin (pinned_blocks (g.state mid).table) page.block ≡ true
-        → IfErr result (HasCause (where_working (g.state mid) (g.backing mid) (g.backing new) before.session 3 2)))
+    → IfErr result (HasCause (where_working (g.state mid) (g.backing mid) (g.backing new) before.session 3 2)))
     → InsertSteps g before after old new result
 splits g before after old mid new block page (Ok Going) steps same alive at_is block_is found stored few le later promised absent full going told refused kept cause = record {
   steps = steps;
@@ -168,20 +161,21 @@ splits g before after old mid new block page (Ok Going) steps same alive at_is b
       let others = others_held st.table before.session page.block in
       let added_to : State = after_act changed st in
       let left_there : slice_get added_to.pages page.block ≡ Some h.left = subst (λ (b : ℕ). slice_get added_to.pages b ≡ Some h.left) h.left_block
-          (pages_first st.limits (length st.pages) st.pages h.left (h.half ∷ mended_to h.half.block h.right) may (omega arith)) in
+      (pages_first st.limits (length st.pages) st.pages h.left (h.half ∷ mended_to h.half.block h.right) may (omega arith)) in
       let left_live : h.left.state ≡ Live = ap (λ (n : Node). n.state) h.halves.left_is in
       let left_ground : h.left.level ≡ 0 = ap (λ (n : Node). n.level) h.halves.left_is ∙ ground in
       let place : HasPlace added_to fits.start 0 (entry_aim before.entry) true page.block =
-          lasts.0.places fits.start 0 (entry_aim before.entry) true page.block (record { session = before.session; is = fits.running }) (bound_falls (bound_of before.entry)) is_split.place in
+      lasts.0.places fits.start 0 (entry_aim before.entry) true page.block (record { session = before.session; is = fits.running }) (bound_falls (bound_of before.entry)) is_split.place in
       let gone : State = with_table added_to table in
       record {
         effect = Some (Add before.entry);
         does = subst (λ (s : State). Does before.session (Some (Add before.entry)) st s) (sym now)
             (does_add st before.session before.entry changed table order may lasts.0 lasts.1 was
             (record { raised = Some page.block; leaf = (is_split_whole at_page is_split.whole, raised_level left_there left_ground); moves = moves; most = omega (arith, weighs) })
-            (λ other b differ alone.
-            (λ is_b. not_the_leaf st before.session other block order there.0 differ (subst (HoldsAlone st.table other) (sym is_b ∙ h.left_block ∙ block_is) alone),
-            half_free other b differ alone))
+            (λ other b differ alone. (
+              λ is_b. not_the_leaf st before.session other block order there.0 differ (subst (HoldsAlone st.table other) (sym is_b ∙ h.left_block ∙ block_is) alone),
+              half_free other b differ alone,
+            ))
             (apart_let_go st.table table before.session order.apart free others)
             (many_held st.table before.session page.block ∙ order.holdings) others);
         noted = (refl, none_added before block at_is fits.to_come, ap (λ (o : InsertOp). o.added) h.finishes.after_is ∙ ap (λ (s : State). Some (suc s.acts)) same);
@@ -189,11 +183,13 @@ splits g before after old mid new block page (Ok Going) steps same alive at_is b
           session = fits.session;
           start = fits.start;
           running = fits.running;
-          stands = (h.finishes.session,
-              one_target_fits gone fits.start before.session (entry_aim before.entry) (record { block = page.block; level = 0; moves = 0 }) h.left h.target h.finishes.op
-              (record { tree = lasts.0.has.tree; stored = lasts.0.has.stored; counted = lasts.0.has.counted }) fits.session free fits.running
-              left_there h.left_block (record { tree = place.tree; in_tree = place.in_tree; place = place.place }) left_live h.block_is (h.level_is ∙ left_ground) h.high_is
-              h.finishes.session h.finishes.target_is h.finishes.below h.finishes.at);
+          stands = (
+            h.finishes.session,
+            one_target_fits gone fits.start before.session (entry_aim before.entry) (record { block = page.block; level = 0; moves = 0 }) h.left h.target h.finishes.op
+                (record { tree = lasts.0.has.tree; stored = lasts.0.has.stored; counted = lasts.0.has.counted }) fits.session free fits.running
+                left_there h.left_block (record { tree = place.tree; in_tree = place.in_tree; place = place.place }) left_live h.block_is (h.level_is ∙ left_ground) h.high_is
+                h.finishes.session h.finishes.target_is h.finishes.below h.finishes.at,
+          );
           to_come = tt;
         }));
         flags = λ only b flagged. subst (λ (a : InsertAt). is_among_targets (targets_at a) b ≡ true) (sym (ap (λ (o : InsertOp). o.at) h.finishes.after_is))
@@ -207,33 +203,44 @@ splits g before after old mid new block page (Ok Going) steps same alive at_is b
   where
     st : State
     st = g.state old
+
     h : SplitsLeaf (g.backing new).honest page before after (g.state mid) (g.state new)
     h = told
+
     changed : List Page
     changed = h.left ∷ h.half ∷ mended_to h.half.block h.right
+
     table : Table
     table = let_go st.table before.session page.block
+
     now : g.state new ≡ with_table (after_act changed st) table
     now = h.state ∙ ap (λ (s : State). with_table (after_act changed s) (let_go s.table before.session page.block)) same
+
     may : AreActable st.limits (length st.pages) changed
     may = subst (λ (s : State). AreActable s.limits (length s.pages) changed) same h.may
+
     right_stored : RightIsStored st before.session page.right h.right
     right_stored = subst (λ (s : State). RightIsStored s before.session page.right h.right) same h.right_stored
+
     half_free : (other b : ℕ) → other ≢ before.session → HoldsAlone st.table other b → IsApartFrom b (h.half ∷ mended_to h.half.block h.right)
     half_free other b differ alone = (
-        (apart_from_held st before.session other b (h.half ∷ []) differ alone (subst (λ (s : State). is_held_by_another s.table before.session h.half.block Exclusive ≡ false) same h.free, tt)).0,
-        right_free st before.session h.half.block other b page.right h.right differ alone right_stored,
-      )
+      (apart_from_held st before.session other b (h.half ∷ []) differ alone (subst (λ (s : State). is_held_by_another s.table before.session h.half.block Exclusive ≡ false) same h.free, tt)).0,
+      right_free st before.session h.half.block other b page.right h.right differ alone right_stored,
+    )
+
     is_split_whole : slice_get st.pages page.block ≡ Some page → page.split ≡ false → is_flagged st page.block ≡ false
     is_split_whole there whole = ap (λ (n : Node). n.split) (read_at st.pages page.block page there) ∙ whole
+
     raised_level : slice_get (after_act changed st).pages page.block ≡ Some h.left → h.left.level ≡ 0 → level_in (after_act changed st) page.block ≡ 0
     raised_level there ground = ap (λ (n : Node). n.level) (read_at (after_act changed st).pages page.block h.left there) ∙ ground
+
     only_leaf : OnlyTargetsAreFlagged st (targets_at before.at) → FlagsMove (Some page.block) None st (after_act changed st) → (b : ℕ) → is_flagged (with_table (after_act changed st) table) b ≡ true → b ≡ page.block
     only_leaf only moves b flagged = elim (cases_eq b page.block) [
       | inl is ↦ is
       | inr differ ↦ absurd (no_targets before block st at_is only b
           (sym (moves b ∙ flag_other b page.block (is_flagged st b) differ) ∙ flagged))
     ]
+
     only_target : (b : ℕ) → b ≡ page.block → is_among_targets (targets_of h.finishes.op) b ≡ true
     only_target b is = one_among h.finishes.op h.target b h.finishes.below h.finishes.target_is (h.block_is ∙ sym is)
 splits g before after old mid new block page (Ok (Added action unfinished)) steps same alive at_is block_is found stored few le later promised absent full going told refused kept cause = absurd cc
@@ -258,6 +265,7 @@ splits g before after old mid new block page (Err fault) steps same alive at_is 
   where
     st : State
     st = g.state old
+
     right_of : (link : Option ℕ) → page.right ≡ link → slice_get st.pages page.block ≡ Some page → page.state ≡ Live → (start : ℕ) (aim : Bound → Bool) → HasPlace st start 0 aim true page.block → HasTree st
         → RightIsMendable st page.right × (page.right ≢ Some page.block)
     right_of None is there live start aim place tree = (subst (RightIsMendable st) (sym is) tt, λ k. some_is_none (sym is ∙ k))

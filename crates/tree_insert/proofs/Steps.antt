@@ -1,17 +1,16 @@
 -- Steps of an insert that change nothing but where it stands.
-use Rattle.std.proofs.Common.{◌≡◌, ◌⊎◌, ℕ, suc, ◌<◌, Bool, true, false, Option, Some, None, Result, Ok, Err, List, refl, sym, ap, subst, inl, inr, ◌∙◌, arith}
+use Rattle.std.proofs.Common.{◌≡◌, ℕ, ◌<◌, Bool, true, false, Option, None, Result, Ok, Err, refl, sym, subst}
 use Rattle.std.specs.Prelude.{OnOk, OnErr, IfOk}
 use Rattle.index_model.specs.Faults.{HasCause}
 use Rattle.index_model.specs.declared.fault.Fault.{Fault}
-use Rattle.index_model.specs.declared.fault.Fault.TheVariants.{Stopped}
-use Rattle.page_action.specs.States.{State, Backing, Continues}
+use Rattle.page_action.specs.States.{State, Continues}
 use Rattle.page_action.specs.declared.page_store.PageStore.{Ghosts}
-use Rattle.descent.specs.Shared.{IsInOrder, IsOneStep}
+use Rattle.descent.specs.Shared.{IsInOrder}
 use Rattle.descent.proofs.Acting.{one_nothing, nothing_else}
 use Rattle.tree_acts.specs.Ways.{AreWhole}
 use Rattle.split_finish.specs.Targets.{OnlyTargetsAreFlagged}
 use Rattle.tree_insert.specs.Straight.{IsStraight, CountsDown}
-use Rattle.tree_insert.specs.Inserts.{InsertFits, InsertSteps, InsertGoesOn, AnswersStopped, insert_left, targets_at, where_inserting}
+use Rattle.tree_insert.specs.Inserts.{InsertFits, InsertSteps, insert_left, targets_at, where_inserting}
 use Rattle.tree_insert.specs.declared.insert.InsertOp.{InsertOp}
 use Rattle.tree_insert.specs.declared.insert.InsertStep.{InsertStep}
 use Rattle.tree_insert.specs.declared.insert.InsertStep.TheVariants.{Going, Added}
@@ -48,7 +47,7 @@ pub goes_on : {S : Type 0} (g : Ghosts S) (before after : InsertOp) (old new : S
     → ((g.backing new).honest ≡ true → insert_left (g.state old).limits.pages (g.state old).pages after.at < insert_left (g.state old).limits.pages (g.state old).pages before.at)
     → ((g.backing new).honest ≡ true → IsInOrder (g.state old) → InsertFits (g.state old) before → StandsNow (g.state old) before after)
     → ((g.backing new).honest ≡ true → IsInOrder (g.state old) → AreWhole (g.state old).pages → IsStraight (g.state old) before.entry before.at
-        → CountsDown (g.state old) (g.state old) before after (Ok Going))
+    → CountsDown (g.state old) (g.state old) before after (Ok Going))
     → InsertSteps g before after old new (Ok Going)
 goes_on g before after old new steps same session entry alive less stands straight = record {
   steps = steps;

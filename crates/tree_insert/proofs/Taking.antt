@@ -1,35 +1,32 @@
 -- An insert that comes to its leaf, and takes it.
-use Rattle.std.proofs.Common.{◌≡◌, ◌≢◌, ◌⊎◌, ℕ, zero, suc, ◌+◌, ◌*◌, ◌<◌, ◌≤◌, Bool, true, false, Option, Some, None, Result, Ok, Err, List, [], ◌∷◌, length, slice_get, refl, sym, ap, subst, inl, inr, ◌∙◌, arith}
+use Rattle.std.proofs.Common.{◌≡◌, ℕ, suc, ◌<◌, true, false, Option, Some, None, Result, Ok, Err, ◌∷◌, length, slice_get, refl, sym, ap, subst, inl, inr, ◌∙◌, arith}
 use Rattle.index_model.specs.Faults.{HasCause}
-use Rattle.index_model.specs.declared.bound.Bound.{Bound}
 use Rattle.index_model.specs.declared.fault.Fault.{Fault}
-use Rattle.index_model.specs.declared.fault.Fault.TheVariants.{Blocked, PageDamaged}
+use Rattle.index_model.specs.declared.fault.Fault.TheVariants.{Blocked}
 use Rattle.latch_table.specs.Holdings.{Holding, Table, holding_of, nothing_held, latched, pinned, is_held_by_another}
-use Rattle.latch_table.specs.declared.mode.Mode.TheVariants.{Shared, Exclusive}
+use Rattle.latch_table.specs.declared.mode.Mode.TheVariants.{Exclusive}
 use Rattle.latch_table.proofs.Tables.{length-latched, length-pinned, holding_of-latched, holding_of-pinned, holding_of-latched_other, holding_of-pinned_other}
 use Rattle.page_codec.specs.Grammar.{IsPage}
 use Rattle.page_codec.specs.declared.page.Page.{Page}
 use Rattle.page_codec.specs.declared.page.PageState.TheVariants.{Live}
-use Rattle.page_action.specs.States.{State, Backing, Continues, with_table}
+use Rattle.page_action.specs.States.{State, Continues, with_table}
 use Rattle.page_action.specs.declared.page_store.PageStore.{Ghosts}
-use Rattle.tree_shape.specs.Leaf.{MayHold}
 use Rattle.tree_shape.specs.Walks.{entry_aim, is_within}
-use Rattle.tree_acts.specs.Trees.{HasTree, HasPlace}
+use Rattle.tree_acts.specs.Trees.{HasPlace}
 use Rattle.tree_acts.proofs.Telling.{live_tells}
-use Rattle.descent.specs.Onward.{IsOnWay}
-use Rattle.descent.specs.Shared.{IsInOrder, Does, where_working}
+use Rattle.descent.specs.Shared.{IsInOrder, Does}
 use Rattle.descent.specs.Steps.{AreApart}
 use Rattle.descent.specs.declared.way.Way.{Way}
 use Rattle.descent.proofs.Acting.{holds_else, one_table, place_held_else}
 use Rattle.descent.proofs.Tables.{apart_latched, apart_pins}
 use Rattle.descent.proofs.Working.{held_cause}
-use Rattle.split_finish.specs.Targets.{OnlyTargetsAreFlagged, is_among_targets, walk_length, way_left}
+use Rattle.split_finish.specs.Targets.{is_among_targets}
 use Rattle.descent.specs.Shared.{is_flagged}
-use Rattle.tree_insert.specs.Inserts.{leaf_held, IsLeafFor, InsertFits, InsertStands, InsertSteps, insert_left, targets_at, where_inserting}
+use Rattle.tree_insert.specs.Inserts.{leaf_held, IsLeafFor, InsertFits, InsertSteps, insert_left, targets_at, where_inserting}
 use Rattle.tree_insert.specs.Straight.{IsStraight, straight_steps}
-use Rattle.tree_insert.specs.Turns.{TakesLeaf, IsNotTaken, Takes}
+use Rattle.tree_insert.specs.Turns.{IsNotTaken, Takes}
 use Rattle.tree_insert.specs.declared.insert.InsertAt.{InsertAt}
-use Rattle.tree_insert.specs.declared.insert.InsertAt.TheVariants.{Start, At, Holding as Holds, Finishing}
+use Rattle.tree_insert.specs.declared.insert.InsertAt.TheVariants.{At, Holding as Holds}
 use Rattle.tree_insert.specs.declared.insert.InsertOp.{InsertOp}
 use Rattle.tree_insert.specs.declared.insert.InsertStep.{InsertStep}
 use Rattle.tree_insert.specs.declared.insert.InsertStep.TheVariants.{Going, Added}
@@ -87,11 +84,11 @@ takes g before after old mid new page way (Ok Going) steps same backing alive at
   stepped = λ honest order fits.
       let stands = on_way st before way at_is fits in
       let free : is_held_by_another st.table before.session page.block Exclusive ≡ false =
-          subst (λ (s : State). is_held_by_another s.table before.session page.block Exclusive ≡ false) same (told fits).free in
+      subst (λ (s : State). is_held_by_another s.table before.session page.block Exclusive ≡ false) same (told fits).free in
       let taken = takes_leaf st (g.state new) before.session page.block fits.session order stands.0 free now in
       let place : HasPlace st fits.start 0 (entry_aim before.entry) true page.block =
-          subst (λ (l : ℕ). HasPlace st fits.start l (entry_aim before.entry) true page.block) (ground honest order fits)
-          (subst (HasPlace st fits.start way.level (entry_aim before.entry) true) (sym block_is) stands.1.place) in
+      subst (λ (l : ℕ). HasPlace st fits.start l (entry_aim before.entry) true page.block) (ground honest order fits)
+      (subst (HasPlace st fits.start way.level (entry_aim before.entry) true) (sym block_is) stands.1.place) in
       let there : slice_get st.pages page.block ≡ Some page = subst (λ (b : ℕ). slice_get st.pages b ≡ Some page) (sym block_is) (found honest) in
       let arrival = live_tells st fits.start 0 (entry_aim before.entry) true page order.tree there place live in
       record {
@@ -102,15 +99,18 @@ takes g before after old mid new page way (Ok Going) steps same backing alive at
           session = fits.session;
           start = fits.start;
           running = subst (λ (s : State). slice_get s.running before.session ≡ Some (Some fits.start)) (sym now) fits.running;
-          stands = (taken.1, subst (λ (s : State). IsLeafFor s fits.start before.entry page.block) (sym now) (record {
-            page = page;
-            found = there;
-            alive = live;
-            leaf = arrival.level_is;
-            whole = whole;
-            place = place_held_else st table fits.start 0 (entry_aim before.entry) true page.block place;
-            within = within;
-          }));
+          stands = (
+            taken.1,
+            subst (λ (s : State). IsLeafFor s fits.start before.entry page.block) (sym now) (record {
+              page = page;
+              found = there;
+              alive = live;
+              leaf = arrival.level_is;
+              whole = whole;
+              place = place_held_else st table fits.start 0 (entry_aim before.entry) true page.block place;
+              within = within;
+            }),
+          );
           to_come = to_come_there before way at_is fits.to_come;
         });
         flags = λ only b flagged. absurd (
@@ -118,22 +118,27 @@ takes g before after old mid new page way (Ok Going) steps same backing alive at
             let k : false ≡ true = subst (λ (a : InsertAt). is_among_targets (targets_at a) b ≡ true) at_is was in true_false (sym k));
       };
   straight = λ honest order fits whole_pages on room. (
-      subst (λ (o : InsertOp). IsStraight (g.state new) o.entry o.at) (sym is) tt,
-      subst (λ (o : InsertOp). suc (straight_steps (g.state new).pages o.at) ≡ straight_steps st.pages before.at) (sym is)
-      (subst (λ (a : InsertAt). 2 ≡ straight_steps st.pages a) (sym at_is) (let z = ground honest order fits in omega (arith, z))),
-    );
+    subst (λ (o : InsertOp). IsStraight (g.state new) o.entry o.at) (sym is) tt,
+    subst (λ (o : InsertOp). suc (straight_steps (g.state new).pages o.at) ≡ straight_steps st.pages before.at) (sym is)
+        (subst (λ (a : InsertAt). 2 ≡ straight_steps st.pages a) (sym at_is) (let z = ground honest order fits in omega (arith, z))),
+  );
 }
   where
     st : State
     st = g.state old
+
     table : Table
     table = pinned (latched st.table before.session page.block Exclusive) before.session page.block
+
     is : after ≡ record before { at = Holds page.block }
     is = (moved refl).1
+
     now : g.state new ≡ with_table st table
     now = (moved refl).0 ∙ ap (λ (s : State). with_table s (pinned (latched s.table before.session page.block Exclusive) before.session page.block)) same
+
     less_there : insert_left st.limits.pages st.pages (Holds page.block) < insert_left st.limits.pages st.pages (At way)
     less_there = omega arith
+
     fewer : insert_left (g.state new).limits.pages (g.state new).pages after.at < insert_left st.limits.pages st.pages before.at
     fewer = subst (λ (s : State). insert_left s.limits.pages s.pages after.at < insert_left st.limits.pages st.pages before.at) (sym now)
         (subst (λ (o : InsertOp). insert_left st.limits.pages st.pages o.at < insert_left st.limits.pages st.pages before.at) (sym is)
@@ -146,14 +151,15 @@ takes g before after old mid new page way (Err fault) steps same backing alive a
   where
     st : State
     st = g.state old
+
     why : (g.backing new).honest ≡ true → (order : IsInOrder st) → (fits : InsertFits st before) → IsNotTaken page before (g.state mid) fault
         → HasCause (where_inserting st (g.backing old) (g.backing new) before.session before.entry before.at) fault
     why honest order fits (inl damaged) =
         let stands = on_way st before way at_is fits in
         let used = place_in_use st order.tree fits.start way.level (entry_aim before.entry) true way.block stands.1.place in
         let place : HasPlace st fits.start 0 (entry_aim before.entry) true page.block =
-            subst (λ (l : ℕ). HasPlace st fits.start l (entry_aim before.entry) true page.block) (ground honest order fits)
-            (subst (HasPlace st fits.start way.level (entry_aim before.entry) true) (sym block_is) stands.1.place) in
+        subst (λ (l : ℕ). HasPlace st fits.start l (entry_aim before.entry) true page.block) (ground honest order fits)
+        (subst (HasPlace st fits.start way.level (entry_aim before.entry) true) (sym block_is) stands.1.place) in
         let there : slice_get st.pages page.block ≡ Some page = subst (λ (b : ℕ). slice_get st.pages b ≡ Some page) (sym block_is) (found honest) in
         let arrival = live_tells st fits.start 0 (entry_aim before.entry) true page order.tree there place live in
         absurd (damaged.1 (record {

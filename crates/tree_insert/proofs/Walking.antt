@@ -1,11 +1,11 @@
 -- An insert on its way to its leaf.
-use Rattle.std.proofs.Common.{◌≡◌, ◌≢◌, ◌⊎◌, ℕ, zero, suc, ◌+◌, ◌*◌, ◌<◌, ◌≤◌, Bool, true, false, not, Option, Some, None, Result, Ok, Err, List, [], ◌∷◌, length, slice_get, refl, sym, ap, subst, inl, inr, ◌∙◌, arith}
+use Rattle.std.proofs.Common.{◌≡◌, ℕ, ◌<◌, ◌≤◌, Bool, true, false, not, Option, Some, None, List, length, slice_get, refl, sym, subst, inl, inr, ◌∙◌, arith}
 use Rattle.index_model.specs.Faults.{HasCause}
 use Rattle.index_model.specs.Order.{IsUpTo, bound_of}
 use Rattle.index_model.specs.declared.bound.Bound.{Bound}
 use Rattle.index_model.specs.declared.entry.Entry.{Entry}
 use Rattle.index_model.specs.declared.fault.Fault.{Fault}
-use Rattle.index_model.specs.declared.fault.Fault.TheVariants.{Blocked, PageDamaged, Exists, Io, Stopped, NoMemory, KeyTooLong, BadRow, IndexFull, LogFull, NoFrame, VacuumRunning, NoSession, SessionBusy, BadSuper, BadVersion, LogDamaged, BadLimits, TooTall, DeviceTooSmall}
+use Rattle.index_model.specs.declared.fault.Fault.TheVariants.{Blocked, PageDamaged, Exists, Io, Stopped, IndexFull, LogFull, NoFrame, TooTall}
 use Rattle.latch_table.specs.Holdings.{Holding, HasRoom, holding_of, nothing_held}
 use Rattle.page_codec.specs.Edits.{HasEntries}
 use Rattle.std.specs.Prelude.{IsSome}
@@ -16,8 +16,7 @@ use Rattle.page_codec.specs.declared.page.Page.{Page}
 use Rattle.page_codec.specs.declared.page.PageState.{PageState}
 use Rattle.page_codec.specs.declared.page.PageState.TheVariants.{Live, HalfDead, Deleted}
 use Rattle.page_action.specs.States.{State, Backing}
-use Rattle.page_action.proofs.StoredPages.{stored_page}
-use Rattle.tree_shape.specs.Nodes.{node_of, nodes_of}
+use Rattle.tree_shape.specs.Nodes.{nodes_of}
 use Rattle.tree_shape.specs.Walks.{entry_aim, bound_aim, is_within, is_fit}
 use Rattle.tree_shape.proofs.Told.{places_keep_their_level}
 use Rattle.tree_acts.specs.Trees.{HasTree, HasPlace}
@@ -29,7 +28,7 @@ use Rattle.descent.specs.Shared.{IsInOrder, where_working}
 use Rattle.descent.specs.declared.way.Way.{Way}
 use Rattle.tree_insert.specs.Inserts.{InsertFits, InsertStands, IsToCome, where_inserting}
 use Rattle.tree_insert.specs.declared.insert.InsertAt.{InsertAt}
-use Rattle.tree_insert.specs.declared.insert.InsertAt.TheVariants.{Start, At, Holding as Holds, Finishing}
+use Rattle.tree_insert.specs.declared.insert.InsertAt.TheVariants.{At}
 use Rattle.tree_insert.specs.declared.insert.InsertOp.{InsertOp}
 
 -- a place is a block in use
@@ -117,6 +116,7 @@ whole_page page admitted whole = by page.items admitted.kind
     leaf Live is es h = whole is
     leaf HalfDead is es h = h.split
     leaf Deleted is es h = h.split
+
     by : (items : Items) → IsOfKind page items → page.split ≡ false
     by Meta h = h.split
     by (Entries v) h = leaf page.state refl v.items h.rest
@@ -126,7 +126,7 @@ whole_page page admitted whole = by page.items admitted.kind
 pub led : (st : State) (op : InsertOp) (way : Way) (page : Page) (bound : Bound) (most : ℕ) (result : Option Onward) → op.at ≡ At way → IsInOrder st → (fits : InsertFits st op)
     → slice_get st.pages way.block ≡ Some page → IsPage page → (page.state ≡ Live → page.split ≡ false) → bound ≡ bound_of op.entry → length st.pages ≤ most
     → ((s : State) (start : ℕ) (clear : Bool) → HasTree s → slice_get s.pages way.block ≡ Some page → IsOnWay s start (bound_aim bound) clear 0 way → (clear ≡ true → page.split ≡ false)
-        → length s.pages ≤ most → LeadsOnward s start (bound_aim bound) clear 0 way result)
+    → length s.pages ≤ most → LeadsOnward s start (bound_aim bound) clear 0 way result)
     → LeadsOnward st fits.start (entry_aim op.entry) true 0 way result
 led st op way page bound most result at_is order fits found admitted whole is few goes =
     let stands = on_way st op way at_is fits in

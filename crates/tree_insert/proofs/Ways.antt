@@ -1,5 +1,5 @@
 -- Where an insert stands on its way.
-use Rattle.std.proofs.Common.{◌≡◌, ℕ, zero, suc, ◌≤◌, Bool, true, false, Option, Some, None, slice_get, refl, sym, ap, subst, ◌∙◌, arith}
+use Rattle.std.proofs.Common.{◌≡◌, ℕ, ◌≤◌, Bool, false, Some, slice_get, sym, ap, subst, ◌∙◌, arith}
 use Rattle.index_model.specs.declared.bound.Bound.{Bound}
 use Rattle.page_codec.specs.Grammar.{IsPage, IsOfKind}
 use Rattle.page_codec.specs.declared.page.Items.{Items}
@@ -7,7 +7,7 @@ use Rattle.page_codec.specs.declared.page.Items.TheVariants.{Meta, Entries, Down
 use Rattle.page_codec.specs.declared.page.Page.{Page}
 use Rattle.page_action.specs.States.{State}
 use Rattle.tree_shape.specs.Tree.{IsMetaOf}
-use Rattle.tree_acts.specs.Trees.{HasTree, HasPlace, HasCover}
+use Rattle.tree_acts.specs.Trees.{HasTree, HasCover}
 use Rattle.tree_acts.specs.Ways.{AreWhole}
 use Rattle.descent.specs.Ways.{root_level, level_of, level_with}
 use Rattle.tree_acts.proofs.Telling.{metapage_tells, trail_begins_here, root_covers_all}

@@ -1,6 +1,5 @@
 -- What holds of inserts beside their steps.
-use Rattle.std.specs.Prelude.{ℕ, ◌<◌, ◌≤◌, None, List}
-use Rattle.index_model.specs.declared.entry.Entry.{Entry}
+use Rattle.std.specs.Prelude.{ℕ, ◌<◌, ◌≤◌, List}
 use Rattle.page_codec.specs.declared.page.Page.{Page}
 use Rattle.page_action.specs.States.{State}
 use Rattle.descent.specs.Shared.{MayRely}

@@ -4,7 +4,7 @@ use Rattle.index_model.specs.Order.{is_among}
 use Rattle.index_model.specs.declared.entry.Entry.{Entry}
 use Rattle.index_model.specs.declared.fault.Fault.{Fault}
 use Rattle.index_model.specs.declared.fault.Fault.TheVariants.{Blocked, Exists, PageDamaged}
-use Rattle.latch_table.specs.Holdings.{Table, latched, pinned, released, unpinned, is_held_by_another}
+use Rattle.latch_table.specs.Holdings.{latched, pinned, released, unpinned, is_held_by_another}
 use Rattle.latch_table.specs.declared.mode.Mode.TheVariants.{Exclusive}
 use Rattle.page_codec.specs.declared.page.Page.{Page}
 use Rattle.page_codec.specs.Edits.{entries_of}

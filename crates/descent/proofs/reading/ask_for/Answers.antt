@@ -1,5 +1,5 @@
 use Rattle.std.proofs.Common.{ap, ◌∙◌}
-use Rattle.latch_table.specs.Holdings.{released, latched}
+use Rattle.latch_table.specs.Holdings.{released}
 use Rattle.page_action.specs.States.{State, with_table}
 use Rattle.descent.proofs.Looking.{looked}
 use Rattle.descent.proofs.reading.ask_for.Goals as goal

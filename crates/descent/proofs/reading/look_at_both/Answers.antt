@@ -1,4 +1,4 @@
-use Rattle.std.proofs.Common.{rules, ◌≡◌, ◌≤◌, Some, ℕ, slice_get, sym, ap, subst, ◌∙◌, true}
+use Rattle.std.proofs.Common.{◌≤◌, slice_get, sym, ap, subst, ◌∙◌}
 use Rattle.index_model.specs.Faults.{HasCause}
 use Rattle.page_action.specs.Causes.{where_read}
 use Rattle.page_action.specs.Room.{KeepsRoom}

@@ -1,4 +1,4 @@
-use Rattle.std.proofs.Common.{rules, arith, ◌≡◌, ◌<◌, Some, ℕ, ap, sym, subst, ◌∙◌, length}
+use Rattle.std.proofs.Common.{subst}
 use Rattle.page_action.specs.States.{State}
 use Rattle.tree_acts.proofs.Overlays.{inside}
 use Rattle.descent.specs.Splitting.{RightIsMendable}

@@ -1,11 +1,10 @@
-use Rattle.std.proofs.Common.{rules, arith, ◌≡◌, ◌<◌, ◌≤◌, ℕ, ap, sym, subst, ◌∙◌, inl, inr, length}
+use Rattle.std.proofs.Common.{arith, ◌≡◌, ◌<◌, ◌≤◌, ap, sym, subst}
 use Rattle.index_model.specs.Faults.{HasCause}
-use Rattle.index_model.specs.declared.fault.Fault.{Fault}
 use Rattle.index_model.specs.declared.limits.Limits.{Limits}
 use Rattle.page_action.specs.States.{State}
 use Rattle.descent.specs.Shared.{where_working}
 use Rattle.descent.proofs.Blocks.{fresh_past_meta}
-use Rattle.descent.proofs.Working.{held_cause, full_cause}
+use Rattle.descent.proofs.Working.{full_cause}
 use Rattle.descent.proofs.splitting.take_block.Goals as goal
 
 pub returns-in-Ok-ask_for-clause-block : goal.returns-in-Ok-ask_for-clause-block

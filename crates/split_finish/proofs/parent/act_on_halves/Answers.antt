@@ -1,4 +1,4 @@
-use Rattle.std.proofs.Common.{rules, ◌≡◌, Option, length, sym, subst}
+use Rattle.std.proofs.Common.{Option, length, sym, subst}
 use Rattle.std.specs.Prelude.{OnOk}
 use Rattle.page_codec.specs.declared.page.Page.{Page}
 use Rattle.page_action.specs.Stored.{AreActable}

@@ -1,12 +1,6 @@
-use Rattle.std.proofs.Common.{◌≡◌, ◌≤◌, ℕ, true, Ok, Err, List, length, refl, sym, ap, subst, ◌∙◌, arith}
-use Rattle.page_codec.specs.declared.page.Page.{Page}
-use Rattle.page_action.specs.States.{State, Backing, IsLater, after_act}
+use Rattle.std.proofs.Common.{◌≡◌, ◌≤◌, length, ap, subst, arith}
+use Rattle.page_action.specs.States.{State, IsLater}
 use Rattle.split_finish.specs.Finishes.{images_of, frames_of}
-use Rattle.split_finish.specs.Turns.{Popped}
-use Rattle.split_finish.specs.declared.finish.FinishAt.{FinishAt}
-use Rattle.split_finish.specs.declared.finish.FinishStep.{FinishStep}
-use Rattle.split_finish.specs.declared.finish.FinishStep.TheVariants.{Going, Done}
-use Rattle.split_finish.specs.declared.finish.FinishOp.{FinishOp}
 use Rattle.split_finish.proofs.Doing.{acts_done, act_refused, popped_session}
 use Rattle.split_finish.proofs.Growing.{grows, may_grow_all}
 use Rattle.split_finish.proofs.finish.FinishOp.act_on_root.Goals as goal
@@ -16,26 +10,26 @@ returns-in-Ok g c =
     let op = c.args.self.now in
     let st : State = g.S.PageStore.state c.args.store.now in
     let later : IsLater (g.S.PageStore.backing c.args.store.now) (g.S.PageStore.backing c.act_on.new.store) =
-        g.met.S.PageStore.laws.follows_later _ _ (c.act_on.ensures.steps _ (g.met.S.PageStore.laws.follows_same _)) in
+    g.met.S.PageStore.laws.follows_later _ _ (c.act_on.ensures.steps _ (g.met.S.PageStore.laws.follows_same _)) in
     acts_done g.S.PageStore op c.pop.new.self c.args.store.now c.act_on.new.store c.pop.result c.grown-pages.result c.act_on.ensures.steps c.in-Ok.ensures.done
     (popped_session op c.pop.new.self c.pop.result c.pop.ensures)
     (λ honest order fits. grows st op (g.S.PageStore.backing c.args.store.now).honest c.args.meta c.args.page c.args.new c.args.fresh c.grown-pages.result order fits (later.honest honest)
-        c.requires.read_meta c.requires.read c.requires.ready c.requires.right c.requires.fresh c.requires.block c.requires.free
-        (g.met.S.PageStore.laws.few c.args.store.now)
-        (subst (λ (l : _). 2 ≤ l.items) c.limits-least.ensures.value c.if-prove.false)
-        c.grown-pages.ensures (g.S.PageStore.backing c.args.store.now) (g.S.PageStore.backing c.act_on.new.store) c.pop.new.self c.pop.result c.pop.ensures)
+    c.requires.meets.read_meta c.requires.meets.read c.requires.meets.ready c.requires.right c.requires.fresh c.requires.block c.requires.free
+    (g.met.S.PageStore.laws.few c.args.store.now)
+    (subst (λ (l : _). 2 ≤ l.items) c.limits-least.ensures.value c.if-prove.false)
+    c.grown-pages.ensures (g.S.PageStore.backing c.args.store.now) (g.S.PageStore.backing c.act_on.new.store) c.pop.new.self c.pop.result c.pop.ensures)
 
 pub returns-in-Err : goal.returns-in-Err
 returns-in-Err g c =
     let op = c.args.self.now in
     let st : State = g.S.PageStore.state c.args.store.now in
     let later : IsLater (g.S.PageStore.backing c.args.store.now) (g.S.PageStore.backing c.act_on.new.store) =
-        g.met.S.PageStore.laws.follows_later _ _ (c.act_on.ensures.steps _ (g.met.S.PageStore.laws.follows_same _)) in
+    g.met.S.PageStore.laws.follows_later _ _ (c.act_on.ensures.steps _ (g.met.S.PageStore.laws.follows_same _)) in
     act_refused g.S.PageStore op c.args.store.now c.act_on.new.store c.in-Err.fault c.grown-pages.result 3 c.act_on.ensures.steps c.in-Err.ensures.refused
     (let k : length c.grown-pages.result ≡ 3 = ap length c.grown-pages.ensures.pages_are in omega arith)
-    (ap images_of c.requires.at) (ap frames_of c.requires.at)
+    (ap images_of c.requires.meets.at) (ap frames_of c.requires.meets.at)
     (λ honest order fits. c.in-Err.ensures.cause (may_grow_all st op (g.S.PageStore.backing c.args.store.now).honest c.args.meta c.args.page c.args.new c.args.fresh c.grown-pages.result order fits (later.honest honest)
-        c.requires.read_meta c.requires.read c.requires.ready c.requires.right c.requires.fresh c.requires.block c.requires.free
-        (g.met.S.PageStore.laws.few c.args.store.now)
-        (subst (λ (l : _). 2 ≤ l.items) c.limits-least.ensures.value c.if-prove.false)
-        c.grown-pages.ensures))
+    c.requires.meets.read_meta c.requires.meets.read c.requires.meets.ready c.requires.right c.requires.fresh c.requires.block c.requires.free
+    (g.met.S.PageStore.laws.few c.args.store.now)
+    (subst (λ (l : _). 2 ≤ l.items) c.limits-least.ensures.value c.if-prove.false)
+    c.grown-pages.ensures))

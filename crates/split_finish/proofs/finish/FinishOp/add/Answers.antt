@@ -1,5 +1,5 @@
-use Rattle.std.proofs.Common.{◌≡◌, ◌≤◌, ℕ, true, Ok, Err, List, length, refl, sym, ap, subst, ◌∙◌, arith}
-use Rattle.page_action.specs.States.{State, Backing, IsLater}
+use Rattle.std.proofs.Common.{◌≡◌, length, ap, arith}
+use Rattle.page_action.specs.States.{State, IsLater}
 use Rattle.split_finish.specs.Finishes.{images_of, frames_of}
 use Rattle.split_finish.proofs.Doing.{acts_done, act_refused, popped_session}
 use Rattle.split_finish.proofs.Linking.{links, may_link_all}
@@ -10,21 +10,21 @@ returns-in-Ok g c =
     let op = c.args.self.now in
     let st : State = g.S.PageStore.state c.args.store.now in
     let later : IsLater (g.S.PageStore.backing c.args.store.now) (g.S.PageStore.backing c.act_on.new.store) =
-        g.met.S.PageStore.laws.follows_later _ _ (c.act_on.ensures.steps _ (g.met.S.PageStore.laws.follows_same _)) in
+    g.met.S.PageStore.laws.follows_later _ _ (c.act_on.ensures.steps _ (g.met.S.PageStore.laws.follows_same _)) in
     acts_done g.S.PageStore op c.pop.new.self c.args.store.now c.act_on.new.store c.pop.result c.linked-pages.result c.act_on.ensures.steps c.in-Ok.ensures.done
     (popped_session op c.pop.new.self c.pop.result c.pop.ensures)
-    (λ honest order fits. links st op (g.S.PageStore.backing c.args.store.now).honest c.args.way c.args.page c.args.parent c.args.new c.linked-pages.result order fits (later.honest honest)
-        c.requires.at c.requires.read c.requires.read_parent c.requires.ready c.requires.right (g.met.S.PageStore.laws.few c.args.store.now) c.requires.room c.linked-pages.ensures
-        (g.S.PageStore.backing c.args.store.now) (g.S.PageStore.backing c.act_on.new.store) c.pop.new.self c.pop.result c.pop.ensures)
+    (λ honest order fits. links st op (g.S.PageStore.backing c.args.store.now).honest c.requires.meets.way c.args.page c.args.parent c.args.new c.linked-pages.result order fits (later.honest honest)
+    c.requires.meets.at c.requires.meets.read c.requires.meets.read_parent c.requires.meets.ready c.requires.right (g.met.S.PageStore.laws.few c.args.store.now) c.requires.room c.linked-pages.ensures
+    (g.S.PageStore.backing c.args.store.now) (g.S.PageStore.backing c.act_on.new.store) c.pop.new.self c.pop.result c.pop.ensures)
 
 pub returns-in-Err : goal.returns-in-Err
 returns-in-Err g c =
     let op = c.args.self.now in
     let st : State = g.S.PageStore.state c.args.store.now in
     let later : IsLater (g.S.PageStore.backing c.args.store.now) (g.S.PageStore.backing c.act_on.new.store) =
-        g.met.S.PageStore.laws.follows_later _ _ (c.act_on.ensures.steps _ (g.met.S.PageStore.laws.follows_same _)) in
+    g.met.S.PageStore.laws.follows_later _ _ (c.act_on.ensures.steps _ (g.met.S.PageStore.laws.follows_same _)) in
     act_refused g.S.PageStore op c.args.store.now c.act_on.new.store c.in-Err.fault c.linked-pages.result 4 c.act_on.ensures.steps c.in-Err.ensures.refused
     (let k : length c.linked-pages.result ≡ 2 = ap length c.linked-pages.ensures.pages_are in omega arith)
-    (ap images_of c.requires.at) (ap frames_of c.requires.at)
-    (λ honest order fits. c.in-Err.ensures.cause (may_link_all st op (g.S.PageStore.backing c.args.store.now).honest c.args.way c.args.page c.args.parent c.args.new c.linked-pages.result order fits (later.honest honest)
-        c.requires.at c.requires.read c.requires.read_parent c.requires.ready c.requires.right (g.met.S.PageStore.laws.few c.args.store.now) c.requires.room c.linked-pages.ensures))
+    (ap images_of c.requires.meets.at) (ap frames_of c.requires.meets.at)
+    (λ honest order fits. c.in-Err.ensures.cause (may_link_all st op (g.S.PageStore.backing c.args.store.now).honest c.requires.meets.way c.args.page c.args.parent c.args.new c.linked-pages.result order fits (later.honest honest)
+    c.requires.meets.at c.requires.meets.read c.requires.meets.read_parent c.requires.meets.ready c.requires.right (g.met.S.PageStore.laws.few c.args.store.now) c.requires.room c.linked-pages.ensures))

@@ -1,6 +1,6 @@
-use Rattle.std.proofs.Common.{◌≡◌, ◌≤◌, ℕ, true, Ok, Err, length, sym, ap, subst, ◌∙◌, arith}
+use Rattle.std.proofs.Common.{true, sym, subst, ◌∙◌, arith}
 use Rattle.index_model.specs.Faults.{HasCause}
-use Rattle.page_action.specs.States.{Backing, IsLater}
+use Rattle.page_action.specs.States.{IsLater}
 use Rattle.descent.specs.Shared.{where_working}
 use Rattle.split_finish.specs.Finishes.{images_of, frames_of}
 use Rattle.split_finish.specs.declared.finish.FinishAt.{FinishAt}
@@ -11,7 +11,7 @@ use Rattle.split_finish.proofs.finish.FinishOp.grow.Goals as goal
 pub returns-in-Ok : goal.returns-in-Ok
 returns-in-Ok g c =
     let later : IsLater (g.S.PageStore.backing c.args.store.now) (g.S.PageStore.backing c.look_at_both.new.store) =
-        g.met.S.PageStore.laws.follows_later _ _ (c.look_at_both.ensures.steps _ (g.met.S.PageStore.laws.follows_same _)) in
+    g.met.S.PageStore.laws.follows_later _ _ (c.look_at_both.ensures.steps _ (g.met.S.PageStore.laws.follows_same _)) in
     behind g.S.PageStore c.args.self.now c.grow_over.new.self c.args.store.now c.look_at_both.new.store c.grow_over.new.store c.grow_over.result
     (record {
       steps = c.look_at_both.ensures.steps;
@@ -30,6 +30,6 @@ returns-in-Err g c =
     refuses g.S.PageStore op c.args.store.now c.look_at_both.new.store c.in-Err.fault c.look_at_both.ensures.steps c.look_at_both.ensures.state
     (λ h. (let k = sym c.in-Err.is ∙ c.look_at_both.ensures.stopped h in cc))
     (λ honest order fits.
-        subst (λ (a : FinishAt). HasCause (where_working st (g.S.PageStore.backing c.args.store.now) (g.S.PageStore.backing c.look_at_both.new.store) op.session (images_of a) (frames_of a)) c.in-Err.fault) (sym c.requires)
-        (c.in-Err.ensures.cause honest (has_room st op fits) (meta_inside st order.tree)
-        (place_inside st fits.start op.target.level _ true op.target.block order.tree fits.newest.place) 3 3 (omega arith)))
+    subst (λ (a : FinishAt). HasCause (where_working st (g.S.PageStore.backing c.args.store.now) (g.S.PageStore.backing c.look_at_both.new.store) op.session (images_of a) (frames_of a)) c.in-Err.fault) (sym c.requires)
+    (c.in-Err.ensures.cause honest (has_room st op fits) (meta_inside st order.tree)
+    (place_inside st fits.start op.target.level _ true op.target.block order.tree fits.newest.place) 3 3 (omega arith)))

@@ -1,11 +1,10 @@
-use Rattle.std.proofs.Common.{◌≡◌, ◌<◌, ◌≤◌, ℕ, Some, slice_get, refl, sym, ap, subst, ◌∙◌, arith, eq-eqb}
-use Rattle.page_action.specs.States.{State}
+use Rattle.std.proofs.Common.{◌≤◌, sym, ap, subst, ◌∙◌, arith, eq-eqb}
 use Rattle.tree_shape.specs.Nodes.{Node, nodes_of}
 use Rattle.tree_acts.proofs.Overlays.{node_there}
 use Rattle.split_finish.specs.Turns.{TurnGoesOn}
 use Rattle.split_finish.specs.declared.finish.FinishAt.{FinishAt}
-use Rattle.split_finish.specs.declared.finish.FinishAt.TheVariants.{Start, Down, Link, Root}
-use Rattle.split_finish.proofs.Counting.{left, less_root, less_down}
+use Rattle.split_finish.specs.declared.finish.FinishAt.TheVariants.{Start, Down, Root}
+use Rattle.split_finish.proofs.Counting.{less_root, less_down}
 use Rattle.split_finish.proofs.Standing.{starts_down}
 use Rattle.split_finish.proofs.Turning.{turn_moved}
 use Rattle.split_finish.proofs.finish.FinishOp.leave_metapage.Goals as goal

@@ -1,6 +1,6 @@
-use Rattle.std.proofs.Common.{◌≡◌, ◌≤◌, ℕ, true, Ok, Err, List, length, refl, sym, ap, subst, ◌∙◌, arith}
-use Rattle.page_action.specs.States.{State, Backing, IsLater}
-use Rattle.split_finish.proofs.Linking.{has, unfinished, parent_found, parent_covers}
+use Rattle.std.proofs.Common.{refl}
+use Rattle.page_action.specs.States.{State}
+use Rattle.split_finish.proofs.Linking.{unfinished, parent_found, parent_covers}
 use Rattle.split_finish.proofs.Placing.{there_is_a_place}
 use Rattle.split_finish.proofs.Stepping.{acts_not}
 use Rattle.split_finish.proofs.finish.FinishOp.put_link.Goals as goal
@@ -11,7 +11,7 @@ returns-in_default-place_behind g c =
     let st : State = g.S.PageStore.state c.args.store.now in
     acts_not g.S.PageStore op c.args.store.now c.args.store.now _ (λ first h. h) refl
     (λ honest order fits. absurd (there_is_a_place st fits.start op.target.level op.target.separator c.args.page c.args.parent c.in-Some.new order.tree
-        (unfinished st op (g.S.PageStore.backing c.args.store.now).honest c.args.way c.args.page c.args.parent c.in-Some.new order fits honest c.requires.at c.requires.read c.requires.read_parent c.requires.ready c.in-Some.is)
-        (parent_found st op (g.S.PageStore.backing c.args.store.now).honest c.args.way c.args.page c.args.parent c.in-Some.new order fits honest c.requires.at c.requires.read c.requires.read_parent c.requires.ready c.in-Some.is)
-        (parent_covers st op (g.S.PageStore.backing c.args.store.now).honest c.args.way c.args.page c.args.parent c.in-Some.new order fits honest c.requires.at c.requires.read c.requires.read_parent c.requires.ready c.in-Some.is)
-        c.in_default-place_behind.ensures.none))
+    (unfinished st op (g.S.PageStore.backing c.args.store.now).honest c.requires.meets.way c.args.page c.args.parent c.in-Some.new order fits honest c.requires.meets.at c.requires.meets.read c.requires.meets.read_parent c.requires.meets.ready c.in-Some.is)
+    (parent_found st op (g.S.PageStore.backing c.args.store.now).honest c.requires.meets.way c.args.page c.args.parent c.in-Some.new order fits honest c.requires.meets.at c.requires.meets.read c.requires.meets.read_parent c.requires.meets.ready c.in-Some.is)
+    (parent_covers st op (g.S.PageStore.backing c.args.store.now).honest c.requires.meets.way c.args.page c.args.parent c.in-Some.new order fits honest c.requires.meets.at c.requires.meets.read c.requires.meets.read_parent c.requires.meets.ready c.in-Some.is)
+    c.in_default-place_behind.ensures.none))

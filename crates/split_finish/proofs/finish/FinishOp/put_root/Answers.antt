@@ -1,4 +1,3 @@
-use Rattle.std.proofs.Common.{◌≡◌, ◌≤◌, ℕ, true, Ok, Err, length, sym, ap, subst, ◌∙◌, arith}
 use Rattle.split_finish.proofs.Standing.{has_room}
 use Rattle.split_finish.proofs.Stepping.{acts_not}
 use Rattle.split_finish.proofs.finish.FinishOp.put_root.Goals as goal

@@ -1,6 +1,5 @@
-use Rattle.std.proofs.Common.{◌≡◌, ◌≤◌, ℕ, true, Ok, Err, length, sym, ap, subst, ◌∙◌, arith}
+use Rattle.std.proofs.Common.{◌≤◌, ℕ, true, length, sym, ap, subst, ◌∙◌, arith}
 use Rattle.index_model.specs.Faults.{HasCause}
-use Rattle.index_model.specs.declared.fault.Fault.TheVariants.{Stopped}
 use Rattle.page_action.specs.States.{State}
 use Rattle.descent.specs.Shared.{where_working}
 use Rattle.split_finish.specs.Targets.{FinishStands}
@@ -15,10 +14,10 @@ returns-in-Ok g c =
     turns g.S.PageStore c.args.self.now c.leave_page.new.self c.args.store.now c.look.new.store c.leave_page.result c.look.ensures.steps c.look.ensures.state
     c.leave_page.ensures.session c.leave_page.ensures.refused (λ h. (let k = sym c.in-Ok.is ∙ c.look.ensures.stopped h in cc))
     (λ honest. c.leave_page.ensures.turn (g.S.PageStore.state c.args.store.now) (c.in-Ok.ensures.page honest)
-        (ap (λ (st : State). st.limits.pages) (sym c.look.ensures.state) ∙ sym (ap (λ (l : _). l.pages) c.limits-most.ensures.value))
-        (let most = c.in-Ok.ensures.inside in
-        let same = ap (λ (st : State). st.limits.pages) (sym c.look.ensures.state) ∙ sym (ap (λ (l : _). l.pages) c.limits-most.ensures.value) in
-        subst (λ (n : ℕ). length (g.S.PageStore.state c.args.store.now).pages ≤ n) same most))
+    (ap (λ (st : State). st.limits.pages) (sym c.look.ensures.state) ∙ sym (ap (λ (l : _). l.pages) c.limits-most.ensures.value))
+    (let most = c.in-Ok.ensures.inside in
+    let same = ap (λ (st : State). st.limits.pages) (sym c.look.ensures.state) ∙ sym (ap (λ (l : _). l.pages) c.limits-most.ensures.value) in
+    subst (λ (n : ℕ). length (g.S.PageStore.state c.args.store.now).pages ≤ n) same most))
 
 pub returns-in-Err : goal.returns-in-Err
 returns-in-Err g c =
@@ -27,6 +26,6 @@ returns-in-Err g c =
     refuses g.S.PageStore op c.args.store.now c.look.new.store c.in-Err.fault c.look.ensures.steps c.look.ensures.state
     (λ h. (let k = sym c.in-Err.is ∙ c.look.ensures.stopped h in cc))
     (λ honest order fits.
-        let on = subst (FinishStands st fits.start op.target) c.requires fits.stands in
-        subst (λ (a : FinishAt). HasCause (where_working st (g.S.PageStore.backing c.args.store.now) (g.S.PageStore.backing c.look.new.store) op.session (images_of a) (frames_of a)) c.in-Err.fault) (sym c.requires)
-        (c.in-Err.ensures.works honest (has_room st op fits) (place_inside st fits.start c.args.way.level _ true c.args.way.block order.tree on.place) 0 1 (omega arith)))
+    let on = subst (FinishStands st fits.start op.target) c.requires fits.stands in
+    subst (λ (a : FinishAt). HasCause (where_working st (g.S.PageStore.backing c.args.store.now) (g.S.PageStore.backing c.look.new.store) op.session (images_of a) (frames_of a)) c.in-Err.fault) (sym c.requires)
+    (c.in-Err.ensures.works honest (has_room st op fits) (place_inside st fits.start c.args.way.level _ true c.args.way.block order.tree on.place) 0 1 (omega arith)))

@@ -1,4 +1,4 @@
-use Rattle.std.proofs.Common.{rules, arith, ◌≡◌, ◌<◌, ◌≤◌, Bool, true, false, Option, ℕ, Some, length, ap, sym, subst, ◌∙◌, refl}
+use Rattle.std.proofs.Common.{arith, ◌≡◌, ◌<◌, ◌≤◌, Bool, true, false, ℕ, length, ap, sym, subst, ◌∙◌, refl}
 use Rattle.index_model.specs.Faults.{HasCause}
 use Rattle.latch_table.specs.Holdings.{is_held_by_another}
 use Rattle.latch_table.specs.declared.mode.Mode.TheVariants.{Exclusive}
@@ -26,7 +26,7 @@ returns-in-Err g c =
     let st : State = g.S.PageStore.state c.args.store.now in
     acts_not g.S.PageStore op c.args.store.now c.take_block.new.store c.in-Err.fault c.take_block.ensures.steps c.take_block.ensures.state
     (λ honest order fits.
-    subst (λ (a : FinishAt). HasCause (where_working st (g.S.PageStore.backing c.args.store.now) (g.S.PageStore.backing c.take_block.new.store) op.session (images_of a) (frames_of a)) c.in-Err.fault) (sym c.requires.at)
+    subst (λ (a : FinishAt). HasCause (where_working st (g.S.PageStore.backing c.args.store.now) (g.S.PageStore.backing c.take_block.new.store) op.session (images_of a) (frames_of a)) c.in-Err.fault) (sym c.requires.meets.at)
     (c.in-Err.ensures.cause (has_room st op fits) 4 4))
 
 pub split_links-half-requires-clause-block : goal.split_links-half-requires-clause-block
@@ -41,14 +41,14 @@ returns-in-Ok-act_on_halves g c =
     let clear : Page = c.clear_split.new.page in
     let is_new = c.split_links-half.ensures.right_block in
     let later : IsLater (g.S.PageStore.backing c.args.store.now) (g.S.PageStore.backing c.act_on_halves.new.store) =
-        g.met.S.PageStore.laws.follows_later _ _ (c.act_on_halves.ensures.steps _ (c.take_block.ensures.steps _ (g.met.S.PageStore.laws.follows_same _))) in
+    g.met.S.PageStore.laws.follows_later _ _ (c.act_on_halves.ensures.steps _ (c.take_block.ensures.steps _ (g.met.S.PageStore.laws.follows_same _))) in
     let same = c.take_block.ensures.state in
-    parts g.S.PageStore op _ c.args.store.now c.act_on_halves.new.store c.args.way c.args.page c.args.parent left half clear c.args.right c.args.new c.in-Some.target
-    (λ first h. c.act_on_halves.ensures.steps first (c.take_block.ensures.steps first h)) c.requires.at later.honest
+    parts g.S.PageStore op _ c.args.store.now c.act_on_halves.new.store c.requires.meets.way c.args.page c.args.parent left half clear c.args.right c.args.new c.in-Some.target
+    (λ first h. c.act_on_halves.ensures.steps first (c.take_block.ensures.steps first h)) c.requires.meets.at later.honest
     (record {
-      read = c.requires.read;
-      read_parent = c.requires.read_parent;
-      ready = c.requires.ready;
+      read = c.requires.meets.read;
+      read_parent = c.requires.meets.read_parent;
+      ready = c.requires.meets.ready;
       right_is = c.requires.right;
       split = split_as_read c.args.parent c.in-Ok.fresh _ c.args.page.block c.args.new op.target.separator left half c.requires.place.leads is_new c.split_links-half.ensures.split;
       left_block = c.split_links-half.ensures.left_block;
@@ -73,36 +73,36 @@ returns-in-Err-act_on_halves g c =
     let first : Backing = g.S.PageStore.backing c.args.store.now in
     let third : Backing = g.S.PageStore.backing c.act_on_halves.new.store in
     let later : IsLater (g.S.PageStore.backing c.args.store.now) (g.S.PageStore.backing c.act_on_halves.new.store) =
-        g.met.S.PageStore.laws.follows_later _ _ (c.act_on_halves.ensures.steps _ (c.take_block.ensures.steps _ (g.met.S.PageStore.laws.follows_same _))) in
+    g.met.S.PageStore.laws.follows_later _ _ (c.act_on_halves.ensures.steps _ (c.take_block.ensures.steps _ (g.met.S.PageStore.laws.follows_same _))) in
     let same = c.take_block.ensures.state in
     acts_not g.S.PageStore op c.args.store.now c.act_on_halves.new.store c.in-Err-act_on_halves.fault
     (λ before h. c.act_on_halves.ensures.steps before (c.take_block.ensures.steps before h)) (c.in-Err-act_on_halves.ensures.refused ∙ same)
     (λ honest order fits.
-    let beside = beside_parent st op.session first.honest op c.args.way c.args.page c.args.parent order fits c.requires.at (later.honest honest) c.requires.read c.requires.read_parent c.requires.ready in
-    let here : PartsParent st true op.session op c.args.way c.args.page c.args.parent left half clear c.args.right c.args.new =
-        subst (λ (b : Bool). PartsParent st b op.session op c.args.way c.args.page c.args.parent left half clear c.args.right c.args.new) (later.honest honest) (record {
-          read = c.requires.read;
-          read_parent = c.requires.read_parent;
-          ready = c.requires.ready;
-          right_is = c.requires.right;
-          split = split_as_read c.args.parent c.in-Ok.fresh _ c.args.page.block c.args.new op.target.separator left half c.requires.place.leads is_new c.split_links-half.ensures.split;
-          left_block = c.split_links-half.ensures.left_block;
-          fresh = subst (IsFresh st) (sym is_new) c.in-Ok.ensures.fresh;
-          free = subst (λ (b : ℕ). is_held_by_another st.table op.session b Exclusive ≡ false) (sym is_new) c.in-Ok.ensures.free;
-          right_stored = c.requires.beside;
-          right_found = c.requires.beside_found;
-          clears = record { after_is = c.clear_split.ensures.node; block_is = ap (λ (p : Page). p.block) c.clear_split.ensures.only };
-        }) in
-    let some_pages : 0 < length st.pages = (let u = inside st.pages c.args.way.block c.args.parent (c.requires.read_parent.found (later.honest honest)) in omega arith) in
+    let beside = beside_parent st op.session first.honest op c.requires.meets.way c.args.page c.args.parent order fits c.requires.meets.at (later.honest honest) c.requires.meets.read c.requires.meets.read_parent c.requires.meets.ready in
+    let here : PartsParent st true op.session op c.requires.meets.way c.args.page c.args.parent left half clear c.args.right c.args.new =
+    subst (λ (b : Bool). PartsParent st b op.session op c.requires.meets.way c.args.page c.args.parent left half clear c.args.right c.args.new) (later.honest honest) (record {
+      read = c.requires.meets.read;
+      read_parent = c.requires.meets.read_parent;
+      ready = c.requires.meets.ready;
+      right_is = c.requires.right;
+      split = split_as_read c.args.parent c.in-Ok.fresh _ c.args.page.block c.args.new op.target.separator left half c.requires.place.leads is_new c.split_links-half.ensures.split;
+      left_block = c.split_links-half.ensures.left_block;
+      fresh = subst (IsFresh st) (sym is_new) c.in-Ok.ensures.fresh;
+      free = subst (λ (b : ℕ). is_held_by_another st.table op.session b Exclusive ≡ false) (sym is_new) c.in-Ok.ensures.free;
+      right_stored = c.requires.beside;
+      right_found = c.requires.beside_found;
+      clears = record { after_is = c.clear_split.ensures.node; block_is = ap (λ (p : Page). p.block) c.clear_split.ensures.only };
+    }) in
+    let some_pages : 0 < length st.pages = (let u = inside st.pages c.requires.meets.way.block c.args.parent (c.requires.meets.read_parent.found (later.honest honest)) in omega arith) in
     let may : AreActable st.limits (length st.pages) (halves_and left half c.args.right clear) =
-        parts_may st op.session op c.args.way c.args.page c.args.parent left half clear c.args.right c.args.new order fits c.requires.at here (g.met.S.PageStore.laws.few c.args.store.now)
-        c.split_links-half.ensures.left_page c.split_links-half.ensures.right_page c.split_links-half.ensures.left_internal c.split_links-half.ensures.right_internal c.requires.place.internal c.requires.full
-        c.split_links-half.ensures.kept c.split_links-half.ensures.moved (subst IsBlock (sym is_new) (c.in-Ok.ensures.block some_pages))
-        (c.clear_split.ensures.page c.requires.read.stored.storable.admitted) (subst (λ (p : Page). count_of p.items ≤ st.limits.items) (sym c.clear_split.ensures.only) c.requires.read.stored.storable.few)
-        beside.mendable beside.apart_parent beside.apart_page in
+    parts_may st op.session op c.requires.meets.way c.args.page c.args.parent left half clear c.args.right c.args.new order fits c.requires.meets.at here (g.met.S.PageStore.laws.few c.args.store.now)
+    c.split_links-half.ensures.left_page c.split_links-half.ensures.right_page c.split_links-half.ensures.left_internal c.split_links-half.ensures.right_internal c.requires.place.internal c.requires.full
+    c.split_links-half.ensures.kept c.split_links-half.ensures.moved (subst IsBlock (sym is_new) (c.in-Ok.ensures.block some_pages))
+    (c.clear_split.ensures.page c.requires.meets.read.stored.storable.admitted) (subst (λ (p : Page). count_of p.items ≤ st.limits.items) (sym c.clear_split.ensures.only) c.requires.meets.read.stored.storable.few)
+    beside.mendable beside.apart_parent beside.apart_page in
     let why : HasCause (where_acted st first third (halves_and left half c.args.right clear)) c.in-Err-act_on_halves.fault =
-        subst (λ (b : Backing). HasCause (where_acted st b third (halves_and left half c.args.right clear)) c.in-Err-act_on_halves.fault) c.take_block.ensures.backing
-        (subst (λ (s : State). HasCause (where_acted s (g.S.PageStore.backing c.take_block.new.store) third (halves_and left half c.args.right clear)) c.in-Err-act_on_halves.fault) same
-        (c.in-Err-act_on_halves.ensures.cause (subst (λ (s : State). AreActable s.limits (length s.pages) (halves_and left half c.args.right clear)) (sym same) may))) in
-    subst (λ (a : FinishAt). HasCause (where_working st first third op.session (images_of a) (frames_of a)) c.in-Err-act_on_halves.fault) (sym c.requires.at)
+    subst (λ (b : Backing). HasCause (where_acted st b third (halves_and left half c.args.right clear)) c.in-Err-act_on_halves.fault) c.take_block.ensures.backing
+    (subst (λ (s : State). HasCause (where_acted s (g.S.PageStore.backing c.take_block.new.store) third (halves_and left half c.args.right clear)) c.in-Err-act_on_halves.fault) same
+    (c.in-Err-act_on_halves.ensures.cause (subst (λ (s : State). AreActable s.limits (length s.pages) (halves_and left half c.args.right clear)) (sym same) may))) in
+    subst (λ (a : FinishAt). HasCause (where_working st first third op.session (images_of a) (frames_of a)) c.in-Err-act_on_halves.fault) (sym c.requires.meets.at)
     (act_cause_of st first first third op.session 4 (halves_and left half c.args.right clear) c.in-Err-act_on_halves.fault (omega arith) (λ h. h) refl (few_parts left half clear c.args.right) why))

@@ -1,4 +1,4 @@
-use Rattle.std.proofs.Common.{◌≡◌, ◌≤◌, ◌==◌, ℕ, suc, true, false, not, inl, inr, Bool, nat_eq, eq-eqb, slice_get, Option, Some, None, length, refl, sym, ap, subst, ◌∙◌, arith}
+use Rattle.std.proofs.Common.{◌≡◌, ◌==◌, ℕ, true, false, not, inl, inr, Bool, nat_eq, eq-eqb, Option, Some, refl, sym, ap, subst, ◌∙◌, arith}
 use Rattle.std.proofs.lemmas.Bool.Decides.{eqb_tells}
 use Rattle.std.specs.Option.{option_eq}
 use Rattle.page_action.proofs.StoredPages.{stored_page}
@@ -7,7 +7,7 @@ use Rattle.tree_acts.specs.Acts.{IsUnfinished}
 use Rattle.tree_acts.proofs.Telling.{root_tells}
 use Rattle.tree_shape.specs.Nodes.{Node, nodes_of}
 use Rattle.tree_acts.proofs.Overlays.{node_there}
-use Rattle.split_finish.specs.declared.finish.FinishAt.TheVariants.{Start, Down, Link, Root}
+use Rattle.split_finish.specs.declared.finish.FinishAt.TheVariants.{Start, Root}
 use Rattle.split_finish.proofs.Counting.{less_again}
 use Rattle.split_finish.proofs.Standing.{live_level, flagged_in, to_finish}
 use Rattle.split_finish.proofs.Turning.{turn_moved, turn_popped, turn_retaken}

@@ -1,13 +1,7 @@
-use Rattle.std.proofs.Common.{rules, arith, ◌≡◌, ◌≤◌, ◌<◌, ℕ, Some, true, false, length, slice_get, refl, ap, sym, subst, ◌∙◌, inl, inr}
-use Rattle.index_model.specs.Faults.{HasCause}
+use Rattle.std.proofs.Common.{arith, ◌≡◌, ◌≤◌, ◌<◌, ℕ, length, ap, sym, subst, ◌∙◌}
 use Rattle.index_model.specs.declared.limits.Limits.{Limits}
-use Rattle.latch_table.specs.Holdings.{has_pin}
-use Rattle.page_codec.specs.Edits.{entries_of}
-use Rattle.page_codec.specs.declared.page.Page.{Page}
-use Rattle.page_action.specs.Causes.{pinned_blocks}
-use Rattle.page_action.specs.States.{State, Backing, IsLater}
+use Rattle.page_action.specs.States.{State, IsLater}
 use Rattle.page_action.specs.Stored.{IsStored}
-use Rattle.tree_insert.specs.declared.insert.InsertOp.{InsertOp}
 use Rattle.tree_insert.proofs.Adding.{puts, reads_leaf, no_place}
 use Rattle.tree_insert.proofs.Splitting.{splits}
 use Rattle.tree_insert.proofs.Steps.{refuses}

@@ -1,8 +1,8 @@
-use Rattle.std.proofs.Common.{rules, arith, ◌≡◌, ℕ, suc, ◌≤◌, ◌<◌, ◌+◌, Some, true, refl, sym, ap, subst, ◌∙◌, slice_get}
+use Rattle.std.proofs.Common.{arith, ◌≡◌, ℕ, suc, ◌≤◌, ◌+◌, true, refl, sym, subst, ◌∙◌}
 use Rattle.page_action.specs.States.{State}
 use Rattle.tree_shape.specs.Walks.{entry_aim}
-use Rattle.split_finish.specs.Targets.{OnlyTargetsAreFlagged, way_left, walk_length}
-use Rattle.tree_insert.specs.Inserts.{InsertStands, IsToCome, insert_left, targets_at}
+use Rattle.split_finish.specs.Targets.{OnlyTargetsAreFlagged}
+use Rattle.tree_insert.specs.Inserts.{InsertStands, IsToCome, targets_at}
 use Rattle.tree_insert.specs.Straight.{straight_steps}
 use Rattle.tree_insert.specs.declared.insert.InsertAt.{InsertAt}
 use Rattle.tree_insert.proofs.Left.{way_short}
@@ -26,8 +26,11 @@ returns g c =
         session = fits.session;
         start = fits.start;
         running = fits.running;
-        stands = (free, on_way_from_root old fits.start (entry_aim c.args.self.now.entry) true 0 c.in-Ok.meta c.in-Some.way order.tree (c.in-Ok.ensures.page honest) (omega arith)
-            (λ root names. sym c.in-Some.is ∙ c.way_down.ensures.named root names));
+        stands = (
+          free,
+          on_way_from_root old fits.start (entry_aim c.args.self.now.entry) true 0 c.in-Ok.meta c.in-Some.way order.tree (c.in-Ok.ensures.page honest) (omega arith)
+              (λ root names. sym c.in-Some.is ∙ c.way_down.ensures.named root names),
+        );
         to_come = subst (λ (a : InsertAt). IsToCome a c.args.self.now.added) c.requires.at fits.to_come;
       };
       added = refl;

@@ -1,8 +1,7 @@
-use Rattle.std.proofs.Common.{rules, ◌≡◌, Result, Ok, Err, refl, sym, ap, subst, ◌∙◌}
+use Rattle.std.proofs.Common.{Result, Ok, ap, subst, ◌∙◌}
 use Rattle.index_model.specs.declared.fault.Fault.{Fault}
 use Rattle.split_finish.specs.Finishes.{FinishSteps}
 use Rattle.split_finish.specs.declared.finish.FinishStep.{FinishStep}
-use Rattle.split_finish.specs.declared.finish.FinishStep.TheVariants.{Done}
 use Rattle.tree_insert.proofs.Ending.{finish_done, finish_refused, refused_rightly}
 use Rattle.tree_insert.proofs.insert.InsertOp.finish.Goals as goal
 

@@ -1,4 +1,4 @@
-use Rattle.std.proofs.Common.{refl, sym, ◌∙◌}
+use Rattle.std.proofs.Common.{refl}
 use Rattle.tree_insert.proofs.insert.InsertOp.meet.Goals as goal
 
 pub returns-in-Some : goal.returns-in-Some

@@ -1,8 +1,8 @@
-use Rattle.std.proofs.Common.{rules, arith, ◌≡◌, ◌≤◌, ◌<◌, true, false, Option, ℕ, Some, List, [], ◌∷◌, ◌++◌, length, map, suc, refl, ap, sym, subst, ◌∙◌}
+use Rattle.std.proofs.Common.{arith, ◌≡◌, ◌<◌, true, false, Option, ℕ, Some, List, ◌∷◌, length, suc, ap, sym, subst, ◌∙◌}
 use Rattle.index_model.specs.Faults.{HasCause}
-use Rattle.latch_table.specs.Holdings.{Table, HasRoom, released, unpinned, is_held_by_another}
+use Rattle.latch_table.specs.Holdings.{HasRoom, released, unpinned, is_held_by_another}
 use Rattle.page_codec.specs.declared.page.Page.{Page}
-use Rattle.page_action.specs.Causes.{where_acted, pinned_blocks, count_apart}
+use Rattle.page_action.specs.Causes.{where_acted, pinned_blocks}
 use Rattle.page_action.specs.States.{State, Backing, IsLater, with_table, after_act}
 use Rattle.page_action.specs.Stored.{AreActable}
 use Rattle.page_action.specs.Reuse.{IsFresh}
@@ -14,7 +14,7 @@ use Rattle.tree_shape.specs.Nodes.{node_of}
 use Rattle.tree_insert.specs.declared.insert.InsertAt.TheVariants.{Finishing}
 use Rattle.tree_insert.specs.declared.insert.InsertOp.{InsertOp}
 use Rattle.descent.specs.Shared.{where_working}
-use Rattle.descent.specs.Splitting.{mended_to, RightIsStored}
+use Rattle.descent.specs.Splitting.{mended_to}
 use Rattle.descent.proofs.Working.{working_later, act_cause}
 use Rattle.tree_insert.proofs.Halving.{halves_may, few_changed, frames_for}
 use Rattle.tree_insert.proofs.insert.InsertOp.split.Goals as goal
@@ -48,7 +48,7 @@ returns-in-Ok-act_on_halves-clause-splits g c =
     let is_new = c.split_leaf-half.ensures.right_block in
     let block : c.in-Some.target.block ≡ c.args.page.block = c.in-Some.ensures.target.0 ∙ c.split_leaf-half.ensures.left_block in
     let later : IsLater (g.S.PageStore.backing c.read_right.new.store) (g.S.PageStore.backing c.unpin.new.self) =
-        g.met.S.PageStore.laws.follows_later _ _ (c.unpin.ensures.steps _ (c.release.ensures.steps _ (c.act_on_halves.ensures.steps _ (c.take_block.ensures.steps _ (g.met.S.PageStore.laws.follows_same _))))) in
+    g.met.S.PageStore.laws.follows_later _ _ (c.unpin.ensures.steps _ (c.release.ensures.steps _ (c.act_on_halves.ensures.steps _ (c.take_block.ensures.steps _ (g.met.S.PageStore.laws.follows_same _))))) in
     record {
       left = left;
       half = half;
@@ -97,14 +97,14 @@ returns-in-Err-act_on_halves-clause-cause g c honest room fits pinned =
     let left_block = c.split_leaf-half.ensures.left_block in
     let fresh : IsFresh st half.block = subst (λ (b : ℕ). IsFresh st b) (sym is_new) (subst (λ (s : State). IsFresh s c.in-Ok-take_block.new) read c.in-Ok-take_block.ensures.fresh) in
     let block : IsBlock half.block = subst IsBlock (sym is_new)
-        (c.in-Ok-take_block.ensures.block (subst (λ (s : State). 0 < length s.pages) (sym read) (let u : c.args.page.block < length st.pages = c.requires.used in omega arith))) in
+    (c.in-Ok-take_block.ensures.block (subst (λ (s : State). 0 < length s.pages) (sym read) (let u : c.args.page.block < length st.pages = c.requires.used in omega arith))) in
     let may : AreActable st.limits (length st.pages) changed = halves_may st session c.args.self.now.entry c.args.page left half right fits c.requires.may c.requires.some
-        c.split_leaf-half.ensures.left_page c.split_leaf-half.ensures.right_page c.split_leaf-half.ensures.left_leaf c.split_leaf-half.ensures.right_leaf
-        c.split_leaf-half.ensures.kept c.split_leaf-half.ensures.moved left_block fresh block c.in-Ok.ensures.stored in
+    c.split_leaf-half.ensures.left_page c.split_leaf-half.ensures.right_page c.split_leaf-half.ensures.left_leaf c.split_leaf-half.ensures.right_leaf
+    c.split_leaf-half.ensures.kept c.split_leaf-half.ensures.moved left_block fresh block c.in-Ok.ensures.stored in
     let why : HasCause (where_acted st second third changed) c.in-Err-act_on_halves.fault =
-        subst (λ (b : Backing). HasCause (where_acted st b third changed) c.in-Err-act_on_halves.fault) c.take_block.ensures.backing
-        (subst (λ (s : State). HasCause (where_acted s (g.S.PageStore.backing c.take_block.new.store) third changed) c.in-Err-act_on_halves.fault) same
-        (c.in-Err-act_on_halves.ensures.cause (subst (λ (s : State). AreActable s.limits (length s.pages) changed) (sym same) may))) in
+    subst (λ (b : Backing). HasCause (where_acted st b third changed) c.in-Err-act_on_halves.fault) c.take_block.ensures.backing
+    (subst (λ (s : State). HasCause (where_acted s (g.S.PageStore.backing c.take_block.new.store) third changed) c.in-Err-act_on_halves.fault) same
+    (c.in-Err-act_on_halves.ensures.cause (subst (λ (s : State). AreActable s.limits (length s.pages) changed) (sym same) may))) in
     let later : IsLater first second = g.met.S.PageStore.laws.follows_later _ _ (c.read_right.ensures.steps _ (g.met.S.PageStore.laws.follows_same _)) in
     act_cause st first second third session 3 2 changed c.in-Err-act_on_halves.fault later.failures c.in-Ok.ensures.alive c.read_right.ensures.room.promised
     (few_changed left half half.block right)

@@ -1,5 +1,5 @@
-use Rattle.std.proofs.Common.{rules, arith, ◌≡◌, ℕ, suc, ◌+◌, ◌≤◌, ◌<◌, Some, None, Ok, Err, true, false, refl, sym, ap, subst, ◌∙◌, slice_get, length}
-use Rattle.page_action.specs.States.{State, Backing, IsLater}
+use Rattle.std.proofs.Common.{arith, ◌≡◌, ℕ, suc, ◌+◌, ◌≤◌, ◌<◌, Some, Ok, true, refl, sym, ap, subst, ◌∙◌, length}
+use Rattle.page_action.specs.States.{State, IsLater}
 use Rattle.descent.specs.Onward.{LeadsOnward, LeavesLess}
 use Rattle.tree_shape.specs.Walks.{entry_aim, bound_aim, is_within}
 use Rattle.index_model.specs.declared.bound.Bound.{Bound}
@@ -52,7 +52,7 @@ returns-in-Some-Going g c =
     (λ honest. subst (λ (a : InsertAt). insert_left st.limits.pages st.pages (At on) < insert_left st.limits.pages st.pages a) (sym c.requires.at) (omega (arith, less)))
     (λ honest order fits.
     let led_on = led st op c.args.way c.in-Ok.page c.bound.result c.limits.result.pages c.lead.result c.requires.at order fits (c.in-Ok.ensures.page honest) c.in-Ok.ensures.stored.storable.admitted
-        (c.if-is_unfinished.ensures.whole refl) c.bound.ensures (subst (λ (n : ℕ). length st.pages ≤ n) (sym most) c.in-Ok.ensures.inside) c.lead.ensures.goes in
+    (c.if-is_unfinished.ensures.whole refl) c.bound.ensures (subst (λ (n : ℕ). length st.pages ≤ n) (sym most) c.in-Ok.ensures.inside) c.lead.ensures.goes in
     let stands = on_way st op c.args.way c.requires.at fits in
     record {
       fits = record {
@@ -67,9 +67,9 @@ returns-in-Some-Going g c =
     })
     (λ honest order whole on_way_there.
     let covers : HasCover st c.args.way.level (bound_aim c.bound.result) c.args.way.block =
-        subst (λ (b : Bound). HasCover st c.args.way.level (bound_aim b) c.args.way.block) (sym c.bound.ensures) (subst (IsStraight st op.entry) c.requires.at on_way_there) in
+    subst (λ (b : Bound). HasCover st c.args.way.level (bound_aim b) c.args.way.block) (sym c.bound.ensures) (subst (IsStraight st op.entry) c.requires.at on_way_there) in
     let led_straight : LeadsStraight st (bound_aim c.bound.result) 0 c.args.way (Some (Going on)) =
-        subst (LeadsStraight st (bound_aim c.bound.result) 0 c.args.way) result (c.lead.ensures.straight st order.tree whole (c.in-Ok.ensures.page honest) covers) in (
+    subst (LeadsStraight st (bound_aim c.bound.result) 0 c.args.way) result (c.lead.ensures.straight st order.tree whole (c.in-Ok.ensures.page honest) covers) in (
       subst (λ (b : Bound). HasCover st on.level (bound_aim b) on.block) c.bound.ensures led_straight.1,
       subst (λ (a : InsertAt). suc (on.level + 2) ≡ straight_steps st.pages a) (sym c.requires.at) (let z = led_straight.0 in omega (arith, z)),
     )))
@@ -93,7 +93,7 @@ returns-in-Some-Here g c =
     (λ honest. c.in-Ok.ensures.page (later.honest honest))
     (λ honest order fits.
     let led_on = led st op c.args.way c.in-Ok.page c.bound.result c.limits.result.pages c.lead.result c.requires.at order fits (c.in-Ok.ensures.page (later.honest honest)) c.in-Ok.ensures.stored.storable.admitted
-        (c.if-is_unfinished.ensures.whole refl) c.bound.ensures (subst (λ (n : ℕ). length st.pages ≤ n) (sym most) c.in-Ok.ensures.inside) c.lead.ensures.goes in
+    (c.if-is_unfinished.ensures.whole refl) c.bound.ensures (subst (λ (n : ℕ). length st.pages ≤ n) (sym most) c.in-Ok.ensures.inside) c.lead.ensures.goes in
     (subst (LeadsOnward st fits.start (entry_aim op.entry) true 0 c.args.way) result led_on).0)
 
 pub returns-in-None : goal.returns-in-None
@@ -104,5 +104,5 @@ returns-in-None g c =
     refuses g.S.PageStore op c.args.store.now c.look.new.store _ c.look.ensures.steps c.look.ensures.state c.requires.alive
     (λ honest order fits.
     let led_on = led st op c.args.way c.in-Ok.page c.bound.result c.limits.result.pages c.lead.result c.requires.at order fits (c.in-Ok.ensures.page honest) c.in-Ok.ensures.stored.storable.admitted
-        (c.if-is_unfinished.ensures.whole refl) c.bound.ensures (subst (λ (n : ℕ). length st.pages ≤ n) (sym most) c.in-Ok.ensures.inside) c.lead.ensures.goes in
+    (c.if-is_unfinished.ensures.whole refl) c.bound.ensures (subst (λ (n : ℕ). length st.pages ≤ n) (sym most) c.in-Ok.ensures.inside) c.lead.ensures.goes in
     absurd (subst (LeadsOnward st fits.start (entry_aim op.entry) true 0 c.args.way) c.in-None.is led_on))
