@@ -5,7 +5,7 @@ use Rattle.std.proofs.lemmas.List.{append-nil, append_cancel_left}
 use Rattle.std.proofs.lemmas.Option.{slice_get_read}
 use Rattle.std.proofs.lemmas.Bool.{cases_eq}
 use Rattle.index_model.specs.Actions.{Effect, Action}
-use Rattle.index_model.specs.Calls.{Ask, Call, Meets, IsOwned}
+use Rattle.index_model.specs.Calls.{Call, Meets, IsOwned}
 use Rattle.index_model.specs.Faults.{Circumstances, HasCause}
 use Rattle.index_model.specs.declared.entry.Entry.{Entry}
 use Rattle.index_model.specs.declared.fault.Fault.{Fault}
@@ -15,7 +15,7 @@ use Rattle.page_action.specs.States.{State, IsLater, after_begin}
 use Rattle.page_action.specs.declared.page_store.PageStore.{Ghosts}
 use Rattle.descent.specs.Shared.{OthersRely}
 use Rattle.tree_calls.specs.Due.{IsDueIn, HasSteps}
-use Rattle.tree_calls.specs.Ops.{asked_by, asked_of, IsCaused}
+use Rattle.tree_calls.specs.Ops.{asked_by, IsCaused}
 use Rattle.tree_calls.specs.Sessions.{Matches, OpRuns, CallFits, SlotFits, IsIdle, acts_of, begun_call, SessionGoes, SessionBegins}
 use Rattle.tree_calls.specs.declared.answer.Answer.{Answer}
 use Rattle.tree_calls.specs.declared.answer.Answer.TheVariants.{Begun, Refused}

@@ -8,7 +8,7 @@ use Rattle.index_model.specs.declared.entry.Entry.{Entry}
 use Rattle.index_model.specs.declared.fault.Fault.{Fault}
 use Rattle.index_model.specs.declared.fault.Fault.TheVariants.{Stopped}
 use Rattle.page_action.specs.Causes.{nothing_wrong, where_forced}
-use Rattle.page_action.specs.States.{State, after_begin, after_end}
+use Rattle.page_action.specs.States.{State, after_end}
 use Rattle.page_action.specs.declared.page_store.PageStore.{Ghosts}
 use Rattle.tree_calls.specs.Due.{IsDueIn, CountsDown, HasSteps}
 use Rattle.tree_calls.specs.Ops.{DeadSets, IsCaused, session_of, asked_of, where_slot_stepped, where_asked_next, where_beginning, AnswersStopped}
@@ -17,7 +17,6 @@ use Rattle.tree_calls.specs.declared.answer.Answer.{Answer}
 use Rattle.tree_calls.specs.declared.answer.Answer.TheVariants.{Begun, Going, Added, Ready, Done, Finished, Gave, Ended, Forced, Flushed, Checkpointed, Refused}
 use Rattle.tree_calls.specs.declared.op.Op.{Op}
 use Rattle.tree_calls.specs.declared.request.Request.{Request}
-use Rattle.page_codec.specs.declared.page.Page.{Page}
 use Rattle.tree_schedule.specs.Snapshots.{here_with, snapshot_of, slot_of, Fits}
 use Rattle.tree_schedule.specs.Events.{Steps, Takes, GivesUp, Upkeep, Forces, Checkpoints, BeginsCall, MovesCall, KeepsStore, kept_answer, session_to_begin, where_begun_at, DoesOneAct, EventAlways, AnswersUpkeep}
 use Rattle.tree_schedule.specs.Runs.{EventRuns, Makes}

@@ -1,7 +1,7 @@
 -- What an event does, by what it answers.
 use Rattle.std.specs.Prelude.{◌≡◌, ◌≢◌, ◌⊎◌, ℕ, suc, ◌≤◌, Bool, true, false, Option, Some, None, Result, Ok, Err, List, [], ◌∷◌, ◌++◌, length, slice_get, slice_set}
 use Rattle.index_model.specs.Actions.{Effect, Action, contents_after}
-use Rattle.index_model.specs.Calls.{Ask, Call}
+use Rattle.index_model.specs.Calls.{Call}
 use Rattle.index_model.specs.Faults.{Circumstances, HasCause}
 use Rattle.index_model.specs.declared.entry.Entry.{Entry}
 use Rattle.index_model.specs.declared.fault.Fault.{Fault}
@@ -14,7 +14,7 @@ use Rattle.tree_calls.specs.Due.{IsDueIn, CountsDown, HasSteps}
 use Rattle.tree_calls.specs.Ops.{DeadSets, asked_by, asked_of, where_stepped, where_asked_next, where_beginning, IsCaused, AnswersStopped}
 use Rattle.tree_calls.specs.Sessions.{Told, IsAsked, acts_of, begun_call, is_busy, slot_add, LeavesLess, LeavesNoMore, GivesLess, AnswersStep, AnswersNext, AnswersEnd, RefusalChangesNothing}
 use Rattle.tree_calls.specs.declared.answer.Answer.{Answer}
-use Rattle.tree_calls.specs.declared.answer.Answer.TheVariants.{Begun, Going, Forced, Checkpointed, Refused}
+use Rattle.tree_calls.specs.declared.answer.Answer.TheVariants.{Begun, Forced, Checkpointed, Refused}
 use Rattle.tree_calls.specs.declared.op.Op.{Op}
 use Rattle.tree_calls.specs.declared.request.Request.{Request}
 use Rattle.tree_calls.specs.declared.request.Request.TheVariants.{Insert as ToInsert, Scan as ToScan}

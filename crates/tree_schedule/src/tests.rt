@@ -156,7 +156,8 @@ fn take_turns(store: &mut MapStore, slots: &mut [Option<Op>; 3], turns: u32) -> 
         match answer {
             Answer::Begun => begun = begun.saturating_add(1),
             Answer::Added {
-                unfinished: None, ..
+                unfinished: None,
+                ..
             } => added = added.saturating_add(1),
             Answer::Going | Answer::Refused(Fault::Blocked(_) | Fault::NoSession) => {}
             _ => return None,
