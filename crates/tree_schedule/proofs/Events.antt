@@ -1,0 +1,370 @@
+-- Each event of a world that is fitted, by its kind.
+use Rattle.std.proofs.Common.{◌≡◌, ◌≢◌, ℕ, zero, suc, ◌<◌, ◌≤◌, ◌⊎◌, Bool, true, false, Option, Some, None, Ok, Err, List, [], ◌∷◌, ◌++◌, length, slice_get, slice_set, slice_index_or, refl, sym, ap, subst, arith, inl, inr, ◌∙◌}
+use Rattle.std.specs.Prelude.{unwrap_or}
+use Rattle.std.proofs.lemmas.List.{append-nil, append_cancel_left}
+use Rattle.std.proofs.lemmas.Option.{slice_get_read}
+use Rattle.std.proofs.lemmas.Bool.{cases_eq}
+use Rattle.index_model.specs.Actions.{Effect, Action}
+use Rattle.index_model.specs.Calls.{Call, Meets, IsOwned}
+use Rattle.index_model.specs.Faults.{Circumstances, HasCause}
+use Rattle.index_model.specs.declared.entry.Entry.{Entry}
+use Rattle.index_model.specs.declared.fault.Fault.{Fault}
+use Rattle.index_model.specs.declared.fault.Fault.TheVariants.{Stopped, NoSession, SessionBusy}
+use Rattle.page_action.specs.Causes.{where_forced}
+use Rattle.page_action.specs.States.{State, IsLater, after_begin}
+use Rattle.page_action.specs.declared.page_store.PageStore.{Ghosts}
+use Rattle.descent.specs.Shared.{OthersRely}
+use Rattle.tree_calls.specs.Due.{IsDueIn, HasSteps}
+use Rattle.tree_calls.specs.Ops.{asked_by, IsCaused}
+use Rattle.tree_calls.specs.Sessions.{Matches, OpRuns, CallFits, SlotFits, IsIdle, acts_of, begun_call, SessionGoes, SessionBegins}
+use Rattle.tree_calls.specs.declared.answer.Answer.{Answer}
+use Rattle.tree_calls.specs.declared.answer.Answer.TheVariants.{Begun, Refused}
+use Rattle.tree_calls.specs.declared.op.Op.{Op}
+use Rattle.tree_calls.specs.declared.request.Request.{Request}
+use Rattle.tree_calls.proofs.Counting.{due_still}
+use Rattle.tree_calls.proofs.Meeting.{grown}
+use Rattle.tree_calls.proofs.Telling.{told_same}
+use Rattle.tree_calls.proofs.Undisturbed.{undisturbed, idle_undisturbed}
+use Rattle.tree_schedule.specs.Snapshots.{Snapshot, here_at, slot_of, IsRunningCall, SlotRuns, IsFree, SlotMatches, Fits, slot_has_call, has_call}
+use Rattle.tree_schedule.specs.Events.{Move, Steps, Takes, GivesUp, Upkeep, Forces, Checkpoints, Kind, BeginsCall, MovesCall, KeepsStore, IsOfSession, Stays, kept_answer, MovesOn, MayBegin, session_to_begin, where_begun_at, where_moving, Happens, where_happening, OthersStay, session_at, EventAlways, CountsSteps, LeavesBe, IsDurable, EventDoes}
+use Rattle.tree_schedule.specs.Runs.{EventRuns}
+use Rattle.tree_schedule.proofs.Frames.{goes_fits}
+use Rattle.tree_schedule.proofs.Keeping.{no_growth}
+use Rattle.tree_schedule.proofs.Lists.{get_set_same, get_set_other, length_set, get_within, get_append_some, get_append_new, get_append_cases, same_some}
+use Rattle.tree_schedule.proofs.Owners.{told_durable, acts_few}
+
+true_false : true ≡ false → ⊥
+true_false h = cc
+
+-- a session with a call has a slot with an operation
+pub slot_of_call : (slots : List (Option Op)) (session : ℕ) (x : Option Op) → session < length slots → x ≡ slice_index_or slots session x → has_call slots session ≡ true
+    → (op : Op) × (slice_index_or slots session x ≡ Some op) × (slice_get slots session ≡ Some (Some op))
+slot_of_call slots session x lt read has = of x read (slice_get_read slots (length slots) session x refl lt read)
+  where
+    of : (y : Option Op) → y ≡ slice_index_or slots session y → slice_get slots session ≡ Some y → (op : Op) × (slice_index_or slots session y ≡ Some op) × (slice_get slots session ≡ Some (Some op))
+    of None r g = absurd (true_false (sym has ∙ ap slot_has_call g))
+    of (Some op) r g = (op, sym r, g)
+
+-- a slot as an access reads it
+pub slot_read : (slots : List (Option Op)) (session : ℕ) (x : Option Op) → session < length slots → x ≡ slice_index_or slots session x → slice_get slots session ≡ Some (slice_index_or slots session x)
+slot_read slots session x lt read = slice_get_read slots (length slots) session x refl lt read ∙ ap (λ (y : Option Op). Some y) read
+
+-- what an event leaves as it was: a call is due after as many steps on the same pages, within the same limits
+leaves_be : {S : Type 0} (g : Ghosts S) (kind : Kind) (old new : Snapshot S) → (g.state new.store).limits ≡ (g.state old.store).limits → (g.state new.store).frames ≡ (g.state old.store).frames
+    → (new.history ≡ old.history → (g.state new.store).pages ≡ (g.state old.store).pages)
+    → ((session : ℕ) → IsOfSession session kind → OthersStay session old.slots new.slots) → LeavesBe g kind old new
+leaves_be g kind old new limits frames pages others = record {
+  limits = limits;
+  frames = frames;
+  pages = pages;
+  due = λ quiet session other of apart steps due.
+      subst (λ (slot : Option Op). IsDueIn (g.state new.store) slot steps) (sym (ap (λ (o : Option (Option Op)). unwrap_or o None) (others session of other apart)))
+      (due_still (g.state old.store) (g.state new.store) (slot_of old.slots other) steps limits (pages quiet) due);
+}
+
+-- nothing at all is changed but the log and the device
+stays_be : {S : Type 0} (g : Ghosts S) (kind : Kind) (old new : Snapshot S) → g.state new.store ≡ g.state old.store → new.slots ≡ old.slots → LeavesBe g kind old new
+stays_be g kind old new same slots = leaves_be g kind old new (ap (λ (st : State). st.limits) same) (ap (λ (st : State). st.frames) same) (λ quiet. ap (λ (st : State). st.pages) same)
+    (λ session of other apart. ap (λ (s : List (Option Op)). slice_get s other) slots)
+
+-- what a session runs after its slot is set
+slot_set : (slots : List (Option Op)) (session : ℕ) (slot : Option Op) → session < length slots → slot_of (slice_set slots session slot) session ≡ slot
+slot_set slots session slot within = ap (λ (o : Option (Option Op)). unwrap_or o None) (get_set_same slots session slot within)
+
+-- the slot of one session is set: what holds of what it ran and runs
+pub at_slots : (slots : List (Option Op)) (session : ℕ) (before slot : Option Op) (P : Option Op → Option Op → Type 0) → slice_get slots session ≡ Some before → P before slot
+    → P (slot_of slots session) (slot_of (slice_set slots session slot) session)
+at_slots slots session before slot P found h =
+    let was : slot_of slots session ≡ before = ap (λ (o : Option (Option Op)). unwrap_or o None) found in
+    let is : slot_of (slice_set slots session slot) session ≡ slot = slot_set slots session slot (get_within slots session before found) in
+    subst (λ (x : Option Op). P x (slot_of (slice_set slots session slot) session)) (sym was) (subst (λ (x : Option Op). P before x) (sym is) h)
+
+-- the other slots stay
+pub others_stay_set : (slots : List (Option Op)) (session : ℕ) (slot : Option Op) → (s : ℕ) → session ≡ s → OthersStay s slots (slice_set slots session slot)
+others_stay_set slots session slot s same other apart = get_set_other slots session other slot (λ e. apart (e ∙ same))
+
+-- the running call of a session fits
+pub call_fits : {S : Type 0} (g : Ghosts S) (start : Entry → Bool) (old : Snapshot S) (session : ℕ) (op : Op) → Fits g start old
+    → (runs : SlotRuns g start old session op) → CallFits (g.state old.store) old.sets start old.history runs.number runs.call op
+call_fits g start old session op fits runs = record { world = fits.matches; running = runs.is.running; meets = fits.meets runs.number runs.call runs.is.found; runs = runs.runs }
+
+-- nothing that a moment shows is changed but the log and the device
+pub fits_still : {S : Type 0} (g : Ghosts S) (start : Entry → Bool) (old : Snapshot S) (store : S) → g.state store ≡ g.state old.store → Fits g start old
+    → Fits g start (record { store = store; slots = old.slots; sets = old.sets; history = old.history; calls = old.calls })
+fits_still {S} g start old store same fits = record {
+  matches = subst (λ (st : State). Matches st start old.history) (sym same) fits.matches;
+  running = λ u o h. slot_still u o (fits.running u o h);
+  beyond = λ u far. subst (λ (st : State). IsIdle st u) (sym same) (fits.beyond u far);
+  known = fits.known;
+  meets = fits.meets;
+  owned = fits.owned;
+}
+  where
+    slot_still : (u : ℕ) (o : Option Op) → SlotMatches g start old u o → SlotMatches g start (record { store = store; slots = old.slots; sets = old.sets; history = old.history; calls = old.calls }) u o
+    slot_still u None h = record { none = h.none; idle = subst (λ (st : State). IsIdle st u) (sym same) h.idle }
+    slot_still u (Some op) h = record { number = h.number; call = h.call; is = h.is; only = h.only; runs = subst (λ (st : State). OpRuns st old.sets start old.history h.call op) (sym same) h.runs }
+
+-- a move of a running call
+module _ {S : Type 0} (g : Ghosts S) (start : Entry → Bool) (old : Snapshot S) (store : S) (session : ℕ) (op : Op) (slot : Option Op) (move : Move) (at : Circumstances) (answer : Answer)
+    (fits : Fits g start old) (found : slice_get old.slots session ≡ Some (Some op)) (follows : g.follows old.store store) (later : IsLater (g.backing old.store) (g.backing store))
+    (goes : (number : ℕ) (call : Call) → SlotFits (g.state old.store) old.sets start old.history number call (Some op) → SessionGoes at (g.state old.store) (g.state store) old.sets start old.history number call slot answer)
+    (where_is : where_moving g old.sets old.store store move (Some (Some op)) ≡ at)
+    (always : EventAlways g (MovesCall session move) answer (here_at old) (record { store = store; slots = slice_set old.slots session slot; sets = old.sets }))
+    (counts : (start' : Entry → Bool) (l : List Action) (n : ℕ) (c : Call) → SlotFits (g.state old.store) old.sets start' l n c (Some op) → CountsSteps (MovesCall session move) answer (g.state old.store) (g.state store) (Some op) slot) where
+  runs : SlotRuns g start old session op
+  runs = fits.running session (Some op) found
+
+  fit : CallFits (g.state old.store) old.sets start old.history runs.number runs.call op
+  fit = call_fits g start old session op fits runs
+
+  one : SessionGoes at (g.state old.store) (g.state store) old.sets start old.history runs.number runs.call slot answer
+  one = goes runs.number runs.call fit
+
+  others : OthersRely session (g.state old.store) (g.state store)
+  others = subst (λ (t : ℕ). OthersRely t (g.state old.store) (g.state store)) runs.is.session_is one.others
+
+  new : Snapshot S
+  new = record { store = store; slots = slice_set old.slots session slot; sets = old.sets; history = old.history ++ acts_of runs.number one.effect; calls = slice_set old.calls runs.number one.after }
+
+  new_fits : Fits g start new
+  unfolding new
+  new_fits = goes_fits g start old store session one.after one.effect op slot fits found runs
+      (told_same (old.history ++ acts_of runs.number one.effect) (length old.history) one.effect runs.call one.after runs.is.running (grown old.history runs.number one.effect) answer one.told)
+      one.asked others one.world one.meets one.holds
+
+  no_effect : (effect : Option Effect) → old.history ++ acts_of runs.number effect ≡ old.history → effect ≡ None
+  no_effect None same = refl
+  no_effect (Some e) same = absurd (let none : acts_of runs.number (Some e) ≡ [] = append_cancel_left old.history (acts_of runs.number (Some e)) [] (same ∙ sym (append-nil old.history)) in cc)
+
+  move_does : EventDoes g start (MovesCall session move) answer old new
+  unfolding new
+  move_does = record {
+    always = always;
+    happens = subst (λ (b : Bool). MovesOn g start b session answer old new) (sym (ap slot_has_call found)) (record {
+      number = runs.number;
+      call = runs.call;
+      is = runs.is;
+      effect = one.effect;
+      after = one.after;
+      asked = one.asked;
+      told = one.told;
+      history_is = refl;
+      calls_is = refl;
+      others = others;
+      flags = one.flags;
+    });
+    grows = record { acts = acts_of runs.number one.effect; is = refl; few = acts_few runs.number one.effect };
+    caused = subst (λ (o : Option (Option Op)). IsCaused (where_moving g old.sets old.store store move o) answer) (sym found) (subst (λ (x : Circumstances). IsCaused x answer) (sym where_is) one.caused);
+    counts = at_slots old.slots session (Some op) slot (λ x y. CountsSteps (MovesCall session move) answer (g.state old.store) (g.state store) x y) found (counts start old.history runs.number runs.call fit);
+    quiet = leaves_be g (MovesCall session move) old new one.limits one.frames (λ same. one.pages (no_effect one.effect same)) (others_stay_set old.slots session slot);
+    durable = told_durable answer (g.backing store).durable (length old.history) one.effect runs.call one.after one.told;
+    sets = refl;
+    follows = follows;
+    later = later;
+    fits = new_fits;
+  }
+
+  -- there is a continuation by this move
+  pub moves_on : EventRuns g (here_at old) (record { store = store; slots = slice_set old.slots session slot; sets = old.sets }) (MovesCall session move) answer start old.history old.calls
+  unfolding new
+  moves_on = record { then_history = old.history ++ acts_of runs.number one.effect; then_calls = slice_set old.calls runs.number one.after; does = move_does }
+
+-- an event that is refused, with nothing changed
+module _ {S : Type 0} (g : Ghosts S) (start : Entry → Bool) (old : Snapshot S) (store : S) (fault : Fault) (fits : Fits g start old) (same : g.state store ≡ g.state old.store)
+    (follows : g.follows old.store store) (later : IsLater (g.backing old.store) (g.backing store)) where
+  abbrev then_now : Snapshot S
+  then_now = record { store = store; slots = old.slots; sets = old.sets; history = old.history; calls = old.calls }
+
+  stays : Stays g (Refused fault) old then_now
+  stays = record { fault = fault; refused = refl; still = record { state_is = same; slots_is = refl; history_is = refl; calls_is = refl } }
+
+  not_counted : (kind : Kind) (before : Option Op) → (move : (session : ℕ) → kind ≡ MovesCall session Steps → before ≡ None) → CountsSteps kind (Refused fault) (g.state old.store) (g.state store) before before
+  not_counted (BeginsCall session request) before move = λ begun. absurd cc
+  not_counted (MovesCall session Steps) before move = subst (λ (slot : Option Op). CountsSteps (MovesCall session Steps) (Refused fault) (g.state old.store) (g.state store) slot slot) (sym (move session refl))
+      (record { due = λ left due. absurd due; no_more = λ acts. omega arith })
+  not_counted (MovesCall session Takes) before move = λ steps due. due_still (g.state old.store) (g.state store) before steps (ap (λ (st : State). st.limits) same) (ap (λ (st : State). st.pages) same) due
+  not_counted (MovesCall session GivesUp) before move = tt
+  not_counted (KeepsStore upkeep) before move = tt
+
+  stay_with : (kind : Kind) → Happens g start kind (Refused fault) old then_now → EventAlways g kind (Refused fault) (here_at old) (here_at then_now) → IsCaused (where_happening g kind (here_at old) (here_at then_now)) (Refused fault)
+      → ((session : ℕ) → kind ≡ MovesCall session Steps → slot_of old.slots (session_at kind) ≡ None)
+      → EventDoes g start kind (Refused fault) old then_now
+  stay_with kind happens always caused idle = record {
+    always = always;
+    happens = happens;
+    grows = no_growth old.history;
+    caused = caused;
+    counts = not_counted kind (slot_of old.slots (session_at kind)) idle;
+    quiet = stays_be g kind old then_now same refl;
+    durable = tt;
+    sets = refl;
+    follows = follows;
+    later = later;
+    fits = fits_still g start old store same fits;
+  }
+
+  -- there is a continuation by what is refused, which is none
+  pub stays_on : (kind : Kind) → Happens g start kind (Refused fault) old then_now → EventAlways g kind (Refused fault) (here_at old) (here_at then_now) → IsCaused (where_happening g kind (here_at old) (here_at then_now)) (Refused fault)
+      → ((session : ℕ) → kind ≡ MovesCall session Steps → slot_of old.slots (session_at kind) ≡ None)
+      → EventRuns g (here_at old) (here_at then_now) kind (Refused fault) start old.history old.calls
+  stays_on kind happens always caused idle = record { then_history = old.history; then_calls = old.calls; does = stay_with kind happens always caused idle }
+
+  pub refused_stay : Stays g (Refused fault) old then_now
+  refused_stay = stays
+
+-- what is done for the store
+module _ {S : Type 0} (g : Ghosts S) (start : Entry → Bool) (old : Snapshot S) (store : S) (upkeep : Upkeep) (fits : Fits g start old) (same : g.state store ≡ g.state old.store)
+    (follows : g.follows old.store store) (later : IsLater (g.backing old.store) (g.backing store)) where
+  kept_durable : (u : Upkeep) (count durable : ℕ) → count ≤ durable → IsDurable durable (kept_answer u count)
+  kept_durable Forces count durable le = le
+  kept_durable Checkpoints count durable le = le
+
+  kept_caused : (u : Upkeep) (count : ℕ) (at : Circumstances) → IsCaused at (kept_answer u count)
+  kept_caused Forces count at = tt
+  kept_caused Checkpoints count at = tt
+
+  pub keeps_on_store : (count : ℕ) → count ≡ (g.state old.store).acts → (g.backing store).durable ≡ (g.state old.store).acts
+      → EventAlways g (KeepsStore upkeep) (kept_answer upkeep count) (here_at old) (record { store = store; slots = old.slots; sets = old.sets })
+      → EventRuns g (here_at old) (record { store = store; slots = old.slots; sets = old.sets }) (KeepsStore upkeep) (kept_answer upkeep count) start old.history old.calls
+  keeps_on_store count number durable always =
+      let then : Snapshot S = record { store = store; slots = old.slots; sets = old.sets; history = old.history; calls = old.calls } in
+      record {
+        then_history = old.history;
+        then_calls = old.calls;
+        does = record {
+          always = always;
+          happens = inl (record {
+            told = ap (kept_answer upkeep) (number ∙ fits.matches.count);
+            durable = durable ∙ fits.matches.count;
+            still = record { state_is = same; slots_is = refl; history_is = refl; calls_is = refl };
+          });
+          grows = no_growth old.history;
+          caused = kept_caused upkeep count (where_forced (g.backing old.store) (g.backing store));
+          counts = tt;
+          quiet = stays_be g (KeepsStore upkeep) old then same refl;
+          durable = kept_durable upkeep count (g.backing store).durable (let n : count ≡ (g.state old.store).acts = number in let d : (g.backing store).durable ≡ (g.state old.store).acts = durable in omega arith);
+          sets = refl;
+          follows = follows;
+          later = later;
+          fits = fits_still g start old store same fits;
+        };
+      }
+
+-- a call is begun
+module _ {S : Type 0} (g : Ghosts S) (start : Entry → Bool) (old : Snapshot S) (store : S) (session : ℕ) (request : Request) (op : Op)
+    (fits : Fits g start old) (free : slice_get old.slots session ≡ Some None) (begins : SessionBegins (g.state old.store) (g.state store) old.sets start old.history (length old.calls) session request (Some op)) where
+  abbrev call : Call
+  call = begun_call session (asked_by old.sets request) (length old.history)
+
+  abbrev begun : Snapshot S
+  begun = record { store = store; slots = slice_set old.slots session (Some op); sets = old.sets; history = old.history; calls = old.calls ++ call ∷ [] }
+
+  -- a running call was so before, or it is the one that begins
+  old_or_new : (u j : ℕ) (c : Call) → IsRunningCall (old.calls ++ call ∷ []) u j c → IsRunningCall old.calls u j c ⊎ ((j ≡ length old.calls) × (u ≡ session))
+  old_or_new u j c r = elim (get_append_cases old.calls call j c r.found) [
+    | inl a ↦ inl (record { found = a; session_is = r.session_is; running = r.running })
+    | inr b ↦ inr (b.0, sym r.session_is ∙ ap (λ (x : Call). x.session) b.1)
+  ]
+
+  begun_slot : (u : ℕ) (o : Option Op) → u ≢ session → SlotMatches g start old u o → SlotMatches g start begun u o
+  begun_slot u None ne h = record {
+    none = λ j c r. elim (old_or_new u j c r) [ inl a ↦ h.none j c a | inr b ↦ ne b.1 ];
+    idle = idle_undisturbed (g.state old.store) (g.state store) u (begins.others u ne) h.idle;
+  }
+  begun_slot u (Some other) ne h = record {
+    number = h.number;
+    call = h.call;
+    is = record { found = get_append_some old.calls (call ∷ []) h.number h.call h.is.found; session_is = h.is.session_is; running = h.is.running };
+    only = λ j c r. elim (old_or_new u j c r) [ inl a ↦ h.only j c a | inr b ↦ absurd (ne b.1) ];
+    runs = subst (λ (l : List Action). OpRuns (g.state store) old.sets start l h.call other) (append-nil old.history)
+        (undisturbed (g.state old.store) (g.state store) old.sets start old.history [] h.call other (begins.others h.call.session (λ e. ne (sym h.is.session_is ∙ e))) h.runs);
+  }
+
+  begun_fits : Fits g start begun
+  begun_fits =
+      let was_free : IsFree g old session = fits.running session None free in
+      let within : session < length old.slots = get_within old.slots session None free in
+      record {
+        matches = begins.world;
+        running = λ u o h. elim (cases_eq u session) [
+          | inl e ↦ (
+              let k : o ≡ Some op = same_some (slice_get (slice_set old.slots session (Some op)) session) o (Some op)
+              (subst (λ (i : ℕ). slice_get (slice_set old.slots session (Some op)) i ≡ Some o) e h) (get_set_same old.slots session (Some op) within) in
+              subst (λ (i : ℕ). SlotMatches g start begun i o) (sym e) (subst (λ (x : Option Op). SlotMatches g start begun session x) (sym k) (record {
+                number = length old.calls;
+                call = call;
+                is = record { found = get_append_new old.calls call; session_is = refl; running = refl };
+                only = λ j c r. elim (old_or_new session j c r) [ inl a ↦ absurd (was_free.none j c a) | inr b ↦ b.0 ];
+                runs = begins.holds.1;
+              })))
+          | inr n ↦ begun_slot u o n (fits.running u o (sym (get_set_other old.slots session u (Some op) n) ∙ h))
+        ];
+        beyond = λ u far. (
+            let many : length (slice_set old.slots session (Some op)) ≡ length old.slots = length_set old.slots session (Some op) in
+            let apart : u ≢ session = λ e. absurd (let x : u ≡ session = e in omega arith) in
+            idle_undisturbed (g.state old.store) (g.state store) u (begins.others u apart) (fits.beyond u (omega arith)));
+        known = λ i c h. rw (length_set old.slots session (Some op)) (elim (get_append_cases old.calls call i c h) [
+          | inl a ↦ fits.known i c a
+          | inr b ↦ (let q : c.session ≡ session = ap (λ (x : Call). x.session) b.1 in omega arith)
+        ]);
+        meets = λ i c h. elim (get_append_cases old.calls call i c h) [
+          | inl a ↦ fits.meets i c a
+          | inr b ↦ subst (λ (j : ℕ). Meets start old.history j c) (sym b.0) (subst (λ (x : Call). Meets start old.history (length old.calls) x) (sym b.1) begins.meets)
+        ];
+        owned = λ before a h. (
+            let was : IsOwned start old.history old.calls before a = fits.owned before a h in
+            record { call = was.call; found = get_append_some old.calls (call ∷ []) a.by was.call was.found; since = was.since; until = was.until; may = was.may });
+      }
+
+  pub begins_on : g.state store ≡ after_begin session (g.state old.store) → g.follows old.store store → IsLater (g.backing old.store) (g.backing store) → HasSteps (g.state old.store) (g.state store) request (Some op)
+      → EventAlways g (BeginsCall session request) Begun (here_at old) (record { store = store; slots = slice_set old.slots session (Some op); sets = old.sets })
+      → EventRuns g (here_at old) (record { store = store; slots = slice_set old.slots session (Some op); sets = old.sets }) (BeginsCall session request) Begun start old.history old.calls
+  begins_on state follows later counts always = record {
+    then_history = old.history;
+    then_calls = old.calls ++ call ∷ [];
+    does = record {
+      always = always;
+      happens = subst (λ (o : Option (Option Op)). MayBegin g o session request Begun old begun) (sym free)
+          (inl (record { told = refl; history_is = refl; calls_is = refl; others = begins.others }));
+      grows = no_growth old.history;
+      caused = tt;
+      counts = λ told. subst (λ (x : Option Op). HasSteps (g.state old.store) (g.state store) request x) (sym (slot_set old.slots session (Some op) (get_within old.slots session None free))) counts;
+      quiet = leaves_be g (BeginsCall session request) old begun (ap (λ (st : State). st.limits) state) (ap (λ (st : State). st.frames) state) (λ same. ap (λ (st : State). st.pages) state) (others_stay_set old.slots session (Some op));
+      durable = tt;
+      sets = refl;
+      follows = follows;
+      later = later;
+      fits = begun_fits;
+    };
+  }
+
+-- the session that was found
+pub found : (is_stopped : Bool) (o : Option (Option Op)) (session known : ℕ) → Ok known ≡ session_to_begin is_stopped o session → (is_stopped ≡ false) × (o ≡ Some None) × (known ≡ session)
+found true o session known h = absurd cc
+found false None session known h = absurd cc
+found false (Some None) session known h = (refl, refl, cc)
+found false (Some (Some op)) session known h = absurd cc
+
+-- a refused beginning is one of these, whatever the session has
+pub not_begun : {S : Type 0} (g : Ghosts S) (o : Option (Option Op)) (session : ℕ) (request : Request) (answer : Answer) (old new : Snapshot S) → Stays g answer old new → MayBegin g o session request answer old new
+not_begun g None session request answer old new h = h
+not_begun g (Some None) session request answer old new h = inr h
+not_begun g (Some (Some op)) session request answer old new h = h
+
+-- a session that isn't found has its cause
+module _ {S : Type 0} (g : Ghosts S) (store : S) (session : ℕ) where
+  pub not_found_why : (is_stopped : Bool) (o : Option (Option Op)) (fault : Fault) → is_stopped ≡ (g.backing store).stopped → Err fault ≡ session_to_begin is_stopped o session → HasCause (where_begun_at g store o) fault
+  not_found_why true None fault same h = (let e : fault ≡ Stopped = cc in rw e (sym same))
+  not_found_why true (Some slot) fault same h = (let e : fault ≡ Stopped = cc in rw (e, ← same) refl)
+  not_found_why false None fault same h = (let e : fault ≡ NoSession = cc in rw e refl)
+  not_found_why false (Some None) fault same h = absurd cc
+  not_found_why false (Some (Some op)) fault same h = (let e : fault ≡ SessionBusy = cc in rw e refl)
+
+pub not_found_first : (is_stopped : Bool) (o : Option (Option Op)) (session : ℕ) (fault : Fault) → Err fault ≡ session_to_begin is_stopped o session → is_stopped ≡ true → Refused fault ≡ Refused Stopped
+not_found_first true o session fault h is = (let e : fault ≡ Stopped = cc in ap Refused e)
+not_found_first false o session fault h is = absurd cc
+
+pub set_same : (slots : List (Option Op)) (session : ℕ) (slot : Option Op) → slice_get slots session ≡ Some slot → slice_set slots session slot ≡ slots
+set_same [] session slot h = refl
+set_same (x ∷ xs) zero slot h = cc
+set_same (x ∷ xs) (suc n) slot h = ap (λ (l : List (Option Op)). x ∷ l) (set_same xs n slot h)

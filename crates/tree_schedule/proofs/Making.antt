@@ -1,0 +1,330 @@
+-- What each kind of event makes, by what the call behind it promises.
+use Rattle.std.proofs.Common.{◌≡◌, ℕ, suc, Bool, true, false, Option, Some, None, Err, List, length, slice_get, slice_set, refl, sym, ap, subst, inl, inr, ◌∙◌}
+use Rattle.std.specs.Prelude.{unwrap_or}
+use Rattle.index_model.specs.Actions.{Action}
+use Rattle.index_model.specs.Calls.{Ask, Call}
+use Rattle.index_model.specs.Faults.{Circumstances, HasCause}
+use Rattle.index_model.specs.declared.entry.Entry.{Entry}
+use Rattle.index_model.specs.declared.fault.Fault.{Fault}
+use Rattle.index_model.specs.declared.fault.Fault.TheVariants.{Stopped}
+use Rattle.page_action.specs.Causes.{nothing_wrong, where_forced}
+use Rattle.page_action.specs.States.{State, after_end}
+use Rattle.page_action.specs.declared.page_store.PageStore.{Ghosts}
+use Rattle.tree_calls.specs.Due.{IsDueIn, CountsDown, HasSteps}
+use Rattle.tree_calls.specs.Ops.{DeadSets, IsCaused, session_of, asked_of, where_slot_stepped, where_asked_next, where_beginning, AnswersStopped}
+use Rattle.tree_calls.specs.Sessions.{Matches, IsIdle, SlotFits, KeepsPages, SessionGoes, SessionBegins, IsBegun, BeginsBy, is_busy, slot_add, LeavesLess, LeavesNoMore, GivesLess, AnswersStep, AnswersNext, AnswersEnd, RefusalChangesNothing}
+use Rattle.tree_calls.specs.declared.answer.Answer.{Answer}
+use Rattle.tree_calls.specs.declared.answer.Answer.TheVariants.{Begun, Going, Added, Ready, Done, Finished, Gave, Ended, Forced, Flushed, Checkpointed, Refused}
+use Rattle.tree_calls.specs.declared.op.Op.{Op}
+use Rattle.tree_calls.specs.declared.request.Request.{Request}
+use Rattle.tree_schedule.specs.Snapshots.{here_with, snapshot_of, slot_of, Fits}
+use Rattle.tree_schedule.specs.Events.{Steps, Takes, GivesUp, Upkeep, Forces, Checkpoints, BeginsCall, MovesCall, KeepsStore, kept_answer, session_to_begin, where_begun_at, DoesOneAct, EventAlways, AnswersUpkeep}
+use Rattle.tree_schedule.specs.Runs.{EventRuns, Makes}
+use Rattle.tree_schedule.proofs.Events.{at_slots, others_stay_set, moves_on, stays_on, refused_stay, keeps_on_store, begins_on, not_begun, not_found_why, not_found_first, set_same}
+use Rattle.tree_schedule.proofs.Keeping.{Laws}
+use Rattle.tree_schedule.proofs.Lists.{length_set}
+
+-- what does no act
+no_act : (old new : State) → new.acts ≡ old.acts → new.pages ≡ old.pages → new.limits ≡ old.limits → new.frames ≡ old.frames → DoesOneAct old new
+no_act old new acts pages limits frames = record { acts = inl acts; quiet = λ same. pages; limits = limits; frames = frames }
+
+-- what changes no state
+still : (old new : State) → new ≡ old → DoesOneAct old new
+still old new same = no_act old new (ap (λ (st : State). st.acts) same) (ap (λ (st : State). st.pages) same) (ap (λ (st : State). st.limits) same) (ap (λ (st : State). st.frames) same)
+
+-- a step of a session's running call
+module _ {S : Type 0} (g : Ghosts S) (laws : Laws g) (old new : S) (follows : g.follows old new) (slots : List (Option Op)) (sets : DeadSets) (session : ℕ) (before slot : Option Op) (op : Op) (answer : Answer)
+    (is : before ≡ Some op) (found_at : slice_get slots session ≡ Some before) where
+  slot_was : slot_of slots session ≡ before
+  slot_was = ap (λ (o : Option (Option Op)). unwrap_or o None) found_at
+
+  found_op : slice_get slots session ≡ Some (Some op)
+  found_op = found_at ∙ ap (λ (o : Option Op). Some o) is
+
+  pub step_makes : AnswersStep before slot answer → RefusalChangesNothing (g.state old) (g.state new) before slot answer → ((g.backing old).stopped ≡ true → AnswersStopped (slot_add before) answer)
+      → ((g.backing new).honest ≡ true → LeavesLess (g.state old) (g.state new) before slot answer) → KeepsPages (g.state old) (g.state new)
+      → ((g.backing new).honest ≡ true → LeavesNoMore (g.state old) (g.state new) before slot)
+      → ((g.backing new).honest ≡ true → (start : Entry → Bool) (history : List Action) (number : ℕ) (call : Call) → SlotFits (g.state old) sets start history number call before
+      → SessionGoes (where_slot_stepped before (g.state old) (g.backing old) (g.backing new)) (g.state old) (g.state new) sets start history number call slot answer)
+      → ((g.backing new).honest ≡ true → (start : Entry → Bool) (history : List Action) (number : ℕ) (call : Call) → SlotFits (g.state old) sets start history number call before
+      → (left : ℕ) → IsDueIn (g.state old) before (suc left) → CountsDown (g.state old) (g.state new) before slot left answer)
+      → Makes g (MovesCall session Steps) answer (here_with old slots sets) (here_with new (slice_set slots session slot) sets)
+  step_makes kind refused stopped less kept no_more goes due = record {
+    sessions = length_set slots session slot;
+    always = always;
+    does = λ honest start history calls fits.
+        moves_on g start (snapshot_of (here_with old slots sets) history calls) new session op slot Steps (where_slot_stepped (Some op) (g.state old) (g.backing old) (g.backing new)) answer fits found_op follows (laws.follows_later old new follows)
+        (λ number call runs. subst (λ (x : Option Op). SessionGoes (where_slot_stepped x (g.state old) (g.backing old) (g.backing new)) (g.state old) (g.state new) sets start history number call slot answer) is
+        (goes honest start history number call (subst (λ (x : Option Op). SlotFits (g.state old) sets start history number call x) (sym is) runs))) refl always
+        (λ s l n c runs. record {
+          due = λ left h. subst (λ (x : Option Op). CountsDown (g.state old) (g.state new) x slot left answer) is
+              (due honest s l n c (subst (λ (x : Option Op). SlotFits (g.state old) sets s l n c x) (sym is) runs) left (subst (λ (x : Option Op). IsDueIn (g.state old) x (suc left)) (sym is) h));
+          no_more = subst (λ (x : Option Op). LeavesNoMore (g.state old) (g.state new) x slot) is (no_more honest);
+        });
+  }
+    where
+      always : EventAlways g (MovesCall session Steps) answer (here_with old slots sets) (here_with new (slice_set slots session slot) sets)
+      always = record {
+        answers = at_slots slots session before slot (λ x y. AnswersStep x y answer) found_at kind;
+        refused = at_slots slots session before slot (λ x y. RefusalChangesNothing (g.state old) (g.state new) x y answer) found_at refused;
+        stopped = λ h. subst (λ (x : Option Op). AnswersStopped (slot_add x) answer) (sym slot_was) (stopped h);
+        less = λ honest. at_slots slots session before slot (λ x y. LeavesLess (g.state old) (g.state new) x y answer) found_at (less honest);
+        kept = record { acts = kept.acts; quiet = kept.quiet; limits = kept.limits; frames = kept.frames };
+        calm = tt;
+        others = others_stay_set slots session slot;
+        left = tt;
+        causes = tt;
+      }
+
+  pub end_makes : AnswersEnd before answer → slot ≡ None → g.backing new ≡ g.backing old → g.state new ≡ after_end (session_of op) (g.state old)
+      → ((start : Entry → Bool) (history : List Action) (number : ℕ) (call : Call) → SlotFits (g.state old) sets start history number call before → SessionGoes nothing_wrong (g.state old) (g.state new) sets start history number call slot answer)
+      → Makes g (MovesCall session GivesUp) answer (here_with old slots sets) (here_with new (slice_set slots session slot) sets)
+  end_makes kind over backing given_up goes = record {
+    sessions = length_set slots session slot;
+    always = always;
+    does = λ honest start history calls fits.
+        moves_on g start (snapshot_of (here_with old slots sets) history calls) new session op slot GivesUp nothing_wrong answer fits found_op follows (laws.follows_later old new follows)
+        (λ number call runs. goes start history number call (subst (λ (x : Option Op). SlotFits (g.state old) sets start history number call x) (sym is) runs)) refl always
+        (λ s l n c runs. tt);
+  }
+    where
+      ended : answer ≡ Ended
+      ended = subst (λ (x : Option Op). AnswersEnd x answer) is kind
+
+      always : EventAlways g (MovesCall session GivesUp) answer (here_with old slots sets) (here_with new (slice_set slots session slot) sets)
+      always = record {
+        answers = at_slots slots session before slot (λ x y. AnswersEnd x answer) found_at kind;
+        refused = λ fault h. absurd (let a : answer ≡ Ended = ended in cc);
+        stopped = tt;
+        less = λ honest. tt;
+        kept = no_act (g.state old) (g.state new) (ap (λ (st : State). st.acts) given_up) (ap (λ (st : State). st.pages) given_up) (ap (λ (st : State). st.limits) given_up) (ap (λ (st : State). st.frames) given_up);
+        calm = ap (λ (st : State). st.acts) given_up;
+        others = others_stay_set slots session slot;
+        left = record { over = at_slots slots session before slot (λ x y. y ≡ None) found_at over; backing = backing; begun = ap (λ (st : State). st.begun) given_up };
+        causes = tt;
+      }
+
+-- a `next` of a session's running call, which changes nothing of the store
+module _ {S : Type 0} (g : Ghosts S) (laws : Laws g) (store : S) (slots : List (Option Op)) (sets : DeadSets) (session : ℕ) (before slot : Option Op) (op : Op) (answer : Answer)
+    (is : before ≡ Some op) (found_at : slice_get slots session ≡ Some before) where
+  refused_same : (a : Answer) → GivesLess before slot a → (fault : Fault) → a ≡ Refused fault → slot ≡ before
+  refused_same Begun h fault e = absurd cc
+  refused_same Going h fault e = absurd cc
+  refused_same (Added x u) h fault e = absurd cc
+  refused_same (Ready r) h fault e = absurd cc
+  refused_same Done h fault e = absurd cc
+  refused_same (Finished s) h fault e = absurd cc
+  refused_same (Gave x) h fault e = absurd cc
+  refused_same Ended h fault e = absurd cc
+  refused_same (Forced n) h fault e = absurd cc
+  refused_same (Flushed b) h fault e = absurd cc
+  refused_same (Checkpointed n) h fault e = absurd cc
+  refused_same (Refused f) h fault e = h.0
+
+  pub next_makes : AnswersNext before answer → GivesLess before slot answer
+      → ((st : State) (start : Entry → Bool) (history : List Action) (number : ℕ) (call : Call) → SlotFits st sets start history number call before → SessionGoes (where_asked_next call.ask) st st sets start history number call slot answer)
+      → ((st : State) (steps : ℕ) → IsDueIn st before steps → IsDueIn st slot steps)
+      → Makes g (MovesCall session Takes) answer (here_with store slots sets) (here_with store (slice_set slots session slot) sets)
+  next_makes kind less goes due = record {
+    sessions = length_set slots session slot;
+    always = always;
+    does = λ honest start history calls fits.
+        moves_on g start (snapshot_of (here_with store slots sets) history calls) store session op slot Takes (where_asked_next (asked_of sets op)) answer fits (found_at ∙ ap (λ (o : Option Op). Some o) is) (laws.follows_same store)
+        (laws.follows_later store store (laws.follows_same store))
+        (λ number call runs. subst (λ (a : Ask). SessionGoes (where_asked_next a) (g.state store) (g.state store) sets start history number call slot answer) runs.runs.ask
+        (goes (g.state store) start history number call (subst (λ (x : Option Op). SlotFits (g.state store) sets start history number call x) (sym is) runs))) refl always
+        (λ s l n c runs steps h. due (g.state store) steps (subst (λ (x : Option Op). IsDueIn (g.state store) x steps) (sym is) h));
+  }
+    where
+      always : EventAlways g (MovesCall session Takes) answer (here_with store slots sets) (here_with store (slice_set slots session slot) sets)
+      always = record {
+        answers = at_slots slots session before slot (λ x y. AnswersNext x answer) found_at kind;
+        refused = λ fault h. record {
+          state_is = refl;
+          slots_is = ap (λ (x : Option Op). slice_set slots session x) (refused_same answer less fault h) ∙ set_same slots session before found_at;
+        };
+        stopped = tt;
+        less = λ honest. at_slots slots session before slot (λ x y. GivesLess x y answer) found_at less;
+        kept = still (g.state store) (g.state store) refl;
+        calm = refl;
+        others = others_stay_set slots session slot;
+        left = refl;
+        causes = tt;
+      }
+
+-- what is done for the store
+module _ {S : Type 0} (g : Ghosts S) (laws : Laws g) (old new : S) (follows : g.follows old new) (slots : List (Option Op)) (sets : DeadSets) (upkeep : Upkeep) (same : g.state new ≡ g.state old) where
+  told_so : (u : Upkeep) (count : ℕ) → AnswersUpkeep u (kept_answer u count)
+  told_so Forces count = tt
+  told_so Checkpoints count = tt
+
+  not_refused : (u : Upkeep) (count : ℕ) (fault : Fault) → kept_answer u count ≡ Refused fault → ⊥
+  not_refused Forces count fault h = cc
+  not_refused Checkpoints count fault h = cc
+
+  refused_so : (u : Upkeep) (fault : Fault) → AnswersUpkeep u (Refused fault)
+  refused_so Forces fault = tt
+  refused_so Checkpoints fault = tt
+
+  pub kept_makes : (count : ℕ) → count ≡ (g.state old).acts → (g.backing new).durable ≡ (g.state old).acts → ((g.backing old).stopped ≡ true → ⊥)
+      → Makes g (KeepsStore upkeep) (kept_answer upkeep count) (here_with old slots sets) (here_with new slots sets)
+  kept_makes count number durable alive = record {
+    sessions = refl;
+    always = always;
+    does = λ honest start history calls fits.
+        keeps_on_store g start (snapshot_of (here_with old slots sets) history calls) new upkeep fits same follows (laws.follows_later old new follows) count number durable always;
+  }
+    where
+      always : EventAlways g (KeepsStore upkeep) (kept_answer upkeep count) (here_with old slots sets) (here_with new slots sets)
+      always = record {
+        answers = told_so upkeep count;
+        refused = λ fault h. absurd (not_refused upkeep count fault h);
+        stopped = λ h. absurd (alive h);
+        less = λ honest. tt;
+        kept = still (g.state old) (g.state new) same;
+        calm = ap (λ (st : State). st.acts) same;
+        others = λ s of other apart. refl;
+        left = tt;
+        causes = tt;
+      }
+
+  pub not_kept_makes : (fault : Fault) → ((g.backing old).stopped ≡ true → fault ≡ Stopped) → HasCause (where_forced (g.backing old) (g.backing new)) fault
+      → Makes g (KeepsStore upkeep) (Refused fault) (here_with old slots sets) (here_with new slots sets)
+  not_kept_makes fault stopped cause = record {
+    sessions = refl;
+    always = always;
+    does = λ honest start history calls fits.
+        (let before = snapshot_of (here_with old slots sets) history calls in
+        let later = laws.follows_later old new follows in
+        stays_on g start before new fault fits same follows later (KeepsStore upkeep) (inr (refused_stay g start before new fault fits same follows later)) always cause (λ s h. absurd cc));
+  }
+    where
+      always : EventAlways g (KeepsStore upkeep) (Refused fault) (here_with old slots sets) (here_with new slots sets)
+      always = record {
+        answers = refused_so upkeep fault;
+        refused = λ f h. record { state_is = same; slots_is = refl };
+        stopped = λ h. ap Refused (stopped h);
+        less = λ honest. tt;
+        kept = still (g.state old) (g.state new) same;
+        calm = ap (λ (st : State). st.acts) same;
+        others = λ s of other apart. refl;
+        left = tt;
+        causes = tt;
+      }
+
+-- a beginning in a session that was found
+module _ {S : Type 0} (g : Ghosts S) (laws : Laws g) (old new : S) (follows : g.follows old new) (slots : List (Option Op)) (sets : DeadSets) (session : ℕ) (request : Request) (before slot : Option Op) (answer : Answer)
+    (alive : (g.backing old).stopped ≡ false) (free : slice_get slots session ≡ Some None) (before_is : before ≡ None) where
+  true_false : true ≡ false → ⊥
+  true_false h = cc
+
+  always_of : (a : Answer) → BeginsBy (g.state old) (g.backing old) (g.state new) session request before slot a → EventAlways g (BeginsCall session request) a (here_with old slots sets) (here_with new (slice_set slots session slot) sets)
+  always_of Begun h = record {
+    answers = tt;
+    refused = λ fault e. absurd cc;
+    stopped = λ is. absurd (true_false (sym is ∙ alive));
+    less = λ honest. tt;
+    kept = no_act (g.state old) (g.state new) (ap (λ (st : State). st.acts) h.state) (ap (λ (st : State). st.pages) h.state) (ap (λ (st : State). st.limits) h.state) (ap (λ (st : State). st.frames) h.state);
+    calm = ap (λ (st : State). st.acts) h.state;
+    others = others_stay_set slots session slot;
+    left = tt;
+    causes = tt;
+  }
+  always_of (Refused fault) h = record {
+    answers = tt;
+    refused = λ f e. record { state_is = h.state; slots_is = ap (λ (x : Option Op). slice_set slots session x) (h.slot_is ∙ before_is) ∙ set_same slots session None free };
+    stopped = λ is. absurd (true_false (sym is ∙ alive));
+    less = λ honest. tt;
+    kept = still (g.state old) (g.state new) h.state;
+    calm = ap (λ (st : State). st.acts) h.state;
+    others = others_stay_set slots session slot;
+    left = tt;
+    causes = subst (λ (o : Option (Option Op)). IsCaused (where_begun_at g old o) (Refused fault)) (sym free)
+        (subst (λ (o : Option Op). HasCause (where_beginning (g.state old) (g.backing old) (is_busy o)) fault) before_is h.cause);
+  }
+  always_of Going h = absurd h
+  always_of (Added x u) h = absurd h
+  always_of (Ready r) h = absurd h
+  always_of Done h = absurd h
+  always_of (Finished s) h = absurd h
+  always_of (Gave x) h = absurd h
+  always_of Ended h = absurd h
+  always_of (Forced n) h = absurd h
+  always_of (Flushed b) h = absurd h
+  always_of (Checkpointed n) h = absurd h
+
+  module _ (begins : (start : Entry → Bool) (history : List Action) (number : ℕ) → answer ≡ Begun → Matches (g.state old) start history → IsIdle (g.state old) session → SessionBegins (g.state old) (g.state new) sets start history number session request slot)
+      (counts : answer ≡ Begun → HasSteps (g.state old) (g.state new) request slot) (start : Entry → Bool) (history : List Action) (calls : List Call) (fits : Fits g start (snapshot_of (here_with old slots sets) history calls)) where
+    does_of : (a : Answer) → answer ≡ a → BeginsBy (g.state old) (g.backing old) (g.state new) session request before slot a → EventRuns g (here_with old slots sets) (here_with new (slice_set slots session slot) sets) (BeginsCall session request) a start history calls
+    does_of Begun is h =
+        let idle : IsIdle (g.state old) session = (fits.running session None free).idle in
+        begun_with slot h (always_of Begun h) (begins start history (length calls) is fits.matches idle) (counts is)
+      where
+        begun_with : (o : Option Op) → IsBegun (g.state old) (g.state new) session request before o → EventAlways g (BeginsCall session request) Begun (here_with old slots sets) (here_with new (slice_set slots session o) sets)
+            → SessionBegins (g.state old) (g.state new) sets start history (length calls) session request o → HasSteps (g.state old) (g.state new) request o
+            → EventRuns g (here_with old slots sets) (here_with new (slice_set slots session o) sets) (BeginsCall session request) Begun start history calls
+        begun_with None b always began steps = absurd (began.holds.0 refl)
+        begun_with (Some op) b always began steps =
+            begins_on g start (snapshot_of (here_with old slots sets) history calls) new session request op fits free began b.state follows (laws.follows_later old new follows) steps always
+    does_of (Refused fault) is h =
+        let slots_is : slice_set slots session slot ≡ slots = ap (λ (x : Option Op). slice_set slots session x) (h.slot_is ∙ before_is) ∙ set_same slots session None free in
+        let snap = snapshot_of (here_with old slots sets) history calls in
+        let later = laws.follows_later old new follows in
+        let cause = subst (λ (o : Option Op). HasCause (where_beginning (g.state old) (g.backing old) (is_busy o)) fault) before_is h.cause in
+        subst (λ (s : List (Option Op)). EventRuns g (here_with old slots sets) (here_with new s sets) (BeginsCall session request) (Refused fault) start history calls) (sym slots_is)
+        (stays_on g start snap new fault fits h.state follows later (BeginsCall session request)
+        (not_begun g (slice_get slots session) session request (Refused fault) snap _ (refused_stay g start snap new fault fits h.state follows later))
+        (subst (λ (s : List (Option Op)). EventAlways g (BeginsCall session request) (Refused fault) (here_with old slots sets) (here_with new s sets)) slots_is (always_of (Refused fault) h))
+        (subst (λ (o : Option (Option Op)). HasCause (where_of o) fault) (sym free) cause)
+        (λ s e. absurd cc))
+      where
+        where_of : Option (Option Op) → Circumstances
+        where_of o = where_begun_at g old o
+    does_of Going is h = absurd h
+    does_of (Added x u) is h = absurd h
+    does_of (Ready r) is h = absurd h
+    does_of Done is h = absurd h
+    does_of (Finished s) is h = absurd h
+    does_of (Gave x) is h = absurd h
+    does_of Ended is h = absurd h
+    does_of (Forced n) is h = absurd h
+    does_of (Flushed b) is h = absurd h
+    does_of (Checkpointed n) is h = absurd h
+
+  pub begin_makes : BeginsBy (g.state old) (g.backing old) (g.state new) session request before slot answer
+      → ((start : Entry → Bool) (history : List Action) (number : ℕ) → answer ≡ Begun → Matches (g.state old) start history → IsIdle (g.state old) session → SessionBegins (g.state old) (g.state new) sets start history number session request slot)
+      → (answer ≡ Begun → HasSteps (g.state old) (g.state new) request slot)
+      → Makes g (BeginsCall session request) answer (here_with old slots sets) (here_with new (slice_set slots session slot) sets)
+  begin_makes by begins counts = record {
+    sessions = length_set slots session slot;
+    always = always_of answer by;
+    does = λ honest start history calls fits. does_of begins counts start history calls fits answer refl by;
+  }
+
+-- a beginning that finds no session
+pub not_found_makes : {S : Type 0} (g : Ghosts S) (laws : Laws g) (store : S) (slots : List (Option Op)) (sets : DeadSets) (session : ℕ) (request : Request) (fault : Fault)
+    → Err fault ≡ session_to_begin (g.backing store).stopped (slice_get slots session) session → Makes g (BeginsCall session request) (Refused fault) (here_with store slots sets) (here_with store slots sets)
+not_found_makes g laws store slots sets session request fault none = record {
+  sessions = refl;
+  always = always;
+  does = λ honest start history calls fits.
+      (let snap = snapshot_of (here_with store slots sets) history calls in
+      let follows = laws.follows_same store in
+      let later = laws.follows_later store store follows in
+      stays_on g start snap store fault fits refl follows later (BeginsCall session request)
+      (not_begun g (slice_get slots session) session request (Refused fault) snap _ (refused_stay g start snap store fault fits refl follows later)) always
+      (not_found_why g store session (g.backing store).stopped (slice_get slots session) fault refl none) (λ s e. absurd cc));
+}
+  where
+    always : EventAlways g (BeginsCall session request) (Refused fault) (here_with store slots sets) (here_with store slots sets)
+    always = record {
+      answers = tt;
+      refused = λ f h. record { state_is = refl; slots_is = refl };
+      stopped = not_found_first (g.backing store).stopped (slice_get slots session) session fault none;
+      less = λ honest. tt;
+      kept = still (g.state store) (g.state store) refl;
+      calm = refl;
+      others = λ s of other apart. refl;
+      left = tt;
+      causes = not_found_why g store session (g.backing store).stopped (slice_get slots session) fault refl none;
+    }

@@ -1,0 +1,93 @@
+-- Runs that go on by one event.
+use Rattle.std.proofs.Common.{ℕ, ◌≤◌, Bool, List, [], ◌∷◌, ◌++◌, refl, sym, subst, arith, append_assoc}
+use Rattle.std.proofs.lemmas.List.{append-nil}
+use Rattle.index_model.specs.declared.entry.Entry.{Entry}
+use Rattle.page_action.proofs.Laters.{later_trans}
+use Rattle.page_action.specs.declared.page_store.PageStore.{Ghosts}
+use Rattle.tree_calls.specs.declared.answer.Answer.{Answer}
+use Rattle.tree_calls.specs.declared.answer.Answer.TheVariants.{Begun, Going, Added, Ready, Done, Finished, Gave, Ended, Forced, Flushed, Checkpointed, Refused}
+use Rattle.tree_schedule.specs.Snapshots.{Snapshot, Fits}
+use Rattle.tree_schedule.specs.Events.{kind_of, IsDurable, EventDoes}
+use Rattle.tree_schedule.specs.Runs.{AreDurable, EventGoes, IsRun, Ran}
+use Rattle.tree_schedule.specs.declared.event.Event.{Event}
+use Rattle.tree_schedule.proofs.Keeping.{Laws, safe, keeps_on}
+
+pub durable_more : (few many : ℕ) (answer : Answer) → few ≤ many → IsDurable few answer → IsDurable many answer
+durable_more few many Begun le h = tt
+durable_more few many Going le h = tt
+durable_more few many (Added a u) le h = tt
+durable_more few many (Ready r) le h = tt
+durable_more few many Done le h = tt
+durable_more few many (Finished s) le h = tt
+durable_more few many (Gave g) le h = tt
+durable_more few many Ended le h = tt
+durable_more few many (Forced n) le h = omega arith
+durable_more few many (Flushed b) le h = tt
+durable_more few many (Checkpointed n) le h = omega arith
+durable_more few many (Refused f) le h = tt
+
+all_durable : (few many : ℕ) (answers : List Answer) (answer : Answer) → few ≤ many → AreDurable few answers → IsDurable many answer → AreDurable many (answers ++ answer ∷ [])
+all_durable few many [] answer le h last = (last, tt)
+all_durable few many (x ∷ xs) answer le h last = (durable_more few many x le h.0, all_durable few many xs answer le h.1 last)
+
+run_more : {S : Type 0} (g : Ghosts S) (start : Entry → Bool) (told : List Answer) (events : List Event) (answers : List Answer) (event : Event) (answer : Answer) (first mid last : Snapshot S)
+    → IsRun g start told events answers first mid → AreDurable (g.backing mid.store).durable (told ++ answers) → EventGoes g start event answer mid last
+    → IsRun g start told (events ++ event ∷ []) (answers ++ answer ∷ []) first last
+run_more {S} g start told [] [] event answer first mid last run durable goes =
+    subst (λ (m : Snapshot S). IsRun g start told (event ∷ []) (answer ∷ []) m last) (sym run)
+    (subst (λ (l : List Answer). AreDurable (g.backing mid.store).durable l) (append-nil told) durable, (last, goes, refl))
+run_more g start told (x ∷ xs) (y ∷ ys) event answer first mid last run durable goes = (
+  run.0,
+  (
+    run.1.0,
+    run.1.1,
+    run_more g start (told ++ y ∷ []) xs ys event answer run.1.0 mid last run.1.2
+        (subst (λ (l : List Answer). AreDurable (g.backing mid.store).durable l) (sym (append_assoc told (y ∷ []) ys)) durable) goes,
+  ),
+)
+run_more g start told [] (y ∷ ys) event answer first mid last run durable goes = absurd run
+run_more g start told (x ∷ xs) [] event answer first mid last run durable goes = absurd run
+
+-- one event, with what a crash leaves, where it follows
+pub event_goes : {S : Type 0} (g : Ghosts S) (laws : Laws g) (start : Entry → Bool) (event : Event) (answer : Answer) (old new : Snapshot S) → Fits g start old
+    → EventDoes g start (kind_of event) answer old new → EventGoes g start event answer old new
+event_goes g laws start event answer old new fits does = record {
+  does = does;
+  crash = λ keeps. safe g laws start old new does.follows keeps.own does.fits.matches (keeps_on g laws start old new does.follows does.grows fits.matches.count does.fits.matches keeps);
+}
+
+-- one event is a run
+pub one_ran : {S : Type 0} (g : Ghosts S) (start : Entry → Bool) (event : Event) (answer : Answer) (old new : Snapshot S) → EventGoes g start event answer old new → Ran g start (event ∷ []) (answer ∷ []) old new
+one_ran g start event answer old new goes = record {
+  run = (tt, (new, goes, refl));
+  fits = goes.does.fits;
+  acknowledged = (goes.does.durable, tt);
+  follows = goes.does.follows;
+  later = goes.does.later;
+  crash = goes.crash;
+}
+
+-- a run goes on by one event
+pub ran_more : {S : Type 0} (g : Ghosts S) (laws : Laws g) (start : Entry → Bool) (events : List Event) (answers : List Answer) (event : Event) (answer : Answer) (first mid last : Snapshot S)
+    → g.follows first.store last.store → Ran g start events answers first mid → Ran g start (event ∷ []) (answer ∷ []) mid last → Ran g start (events ++ event ∷ []) (answers ++ answer ∷ []) first last
+ran_more {S} g laws start events answers event answer first mid last follows ran one =
+    let goes : EventGoes g start event answer mid last = subst (λ (m : Snapshot S). EventGoes g start event answer mid m) one.run.1.2 one.run.1.1 in
+    record {
+      run = run_more g start [] events answers event answer first mid last ran.run ran.acknowledged goes;
+      fits = one.fits;
+      acknowledged = all_durable (g.backing mid.store).durable (g.backing last.store).durable answers answer one.later.durable ran.acknowledged one.acknowledged.0;
+      follows = follows;
+      later = later_trans (g.backing first.store) (g.backing mid.store) (g.backing last.store) ran.later one.later;
+      crash = λ keeps. safe g laws start first last follows keeps.own one.fits.matches (one.crash (ran.crash keeps).keeps).keeps;
+    }
+
+-- a run of no event
+pub none_ran : {S : Type 0} (g : Ghosts S) (laws : Laws g) (start : Entry → Bool) (now : Snapshot S) → Fits g start now → Ran g start [] [] now now
+none_ran g laws start now fits = record {
+  run = refl;
+  fits = fits;
+  acknowledged = tt;
+  follows = laws.follows_same now.store;
+  later = laws.follows_later now.store now.store (laws.follows_same now.store);
+  crash = λ keeps. safe g laws start now now (laws.follows_same now.store) keeps.own fits.matches keeps;
+}

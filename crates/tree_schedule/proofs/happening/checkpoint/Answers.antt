@@ -1,0 +1,15 @@
+use Rattle.tree_schedule.specs.Snapshots.{here_with, snapshot_of}
+use Rattle.tree_schedule.specs.declared.event.Event.TheVariants.{Checkpoint}
+use Rattle.tree_schedule.proofs.Running.{event_goes, one_ran}
+use Rattle.tree_schedule.proofs.happening.checkpoint.Goals as goal
+
+pub returns-clause-runs : goal.returns-clause-runs
+returns-clause-runs g c sets honest start history calls fits =
+    let d = (c.make_checkpoint.ensures.makes sets).does honest start history calls fits in
+    let old = snapshot_of (here_with c.args.store.now c.args.slots.now sets) history calls in
+    let new = snapshot_of (here_with c.make_checkpoint.new.store c.args.slots.now sets) d.then_history d.then_calls in
+    record {
+      then_history = d.then_history;
+      then_calls = d.then_calls;
+      ran = one_ran g.S.PageStore start Checkpoint c.make_checkpoint.result old new (event_goes g.S.PageStore g.met.S.PageStore.laws start Checkpoint c.make_checkpoint.result old new fits d.does);
+    }

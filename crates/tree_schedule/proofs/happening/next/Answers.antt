@@ -1,0 +1,15 @@
+use Rattle.std.proofs.Common.{sym, ◌∙◌}
+use Rattle.tree_schedule.proofs.Events.{slot_of_call, slot_read}
+use Rattle.tree_schedule.proofs.Making.{next_makes}
+use Rattle.tree_schedule.proofs.happening.next.Goals as goal
+
+pub returns : goal.returns
+returns g c =
+    let slots = c.args.slots.now in
+    let within = c.is_running.ensures.within c.if-not-is_running.false in
+    let at = slot_of_call slots c.args.session c.index-slots-session.result within c.index-slots-session.is (sym c.is_running.ensures.value ∙ c.if-not-is_running.false) in
+    record {
+      makes = λ sets. next_makes g.S.PageStore g.met.S.PageStore.laws c.args.store.now slots sets c.args.session _ c.next.new.slot at.0 c.next.result at.1
+          (slot_read slots c.args.session c.index-slots-session.result within c.index-slots-session.is)
+          c.next.ensures.kind c.next.ensures.less (λ st. c.next.ensures.goes st sets) c.next.ensures.due;
+    }

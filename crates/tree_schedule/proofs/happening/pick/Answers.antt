@@ -1,0 +1,20 @@
+use Rattle.std.specs.Prelude.{map}
+use Rattle.tree_schedule.proofs.happening.pick.Goals as goal
+
+pub returns-in-Insert-clause-makes : goal.returns-in-Insert-clause-makes
+returns-in-Insert-clause-makes g c = rw c.in-Insert.is (c.begin.ensures.makes (map g.T.DeadRows.is_in c.args.sets.now))
+
+pub returns-in-Scan-clause-makes : goal.returns-in-Scan-clause-makes
+returns-in-Scan-clause-makes g c = rw c.in-Scan.is (c.begin-in-Scan.ensures.makes (map g.T.DeadRows.is_in c.args.sets.now))
+
+pub returns-in-Next-clause-makes : goal.returns-in-Next-clause-makes
+returns-in-Next-clause-makes g c = rw c.in-Next.is (c.next.ensures.makes (map g.T.DeadRows.is_in c.args.sets.now))
+
+pub returns-in-End-clause-makes : goal.returns-in-End-clause-makes
+returns-in-End-clause-makes g c = rw c.in-End.is (c.end.ensures.makes (map g.T.DeadRows.is_in c.args.sets.now))
+
+pub returns-in-Force-clause-makes : goal.returns-in-Force-clause-makes
+returns-in-Force-clause-makes g c = rw c.in-Force.is (c.make_force.ensures.makes (map g.T.DeadRows.is_in c.args.sets.now))
+
+pub returns-in-Checkpoint-clause-makes : goal.returns-in-Checkpoint-clause-makes
+returns-in-Checkpoint-clause-makes g c = rw c.in-Checkpoint.is (c.make_checkpoint.ensures.makes (map g.T.DeadRows.is_in c.args.sets.now))

@@ -1,0 +1,18 @@
+use Rattle.std.specs.Prelude.{map}
+use Rattle.std.proofs.Common.{◌≡◌, ◌+◌, ◌≤◌, length, take}
+use Rattle.std.specs.Vec.{vec_capacity}
+use Rattle.page_action.specs.States.{Continues}
+use Rattle.tree_schedule.specs.Snapshots.{here_with}
+use Rattle.tree_schedule.specs.Runs.{Carries, Runs, answers_behind}
+use Rattle.tree_schedule.proofs.happening.run.Given as goal
+
+abbrev pub invariant-loop-event : goal.invariant-loop-event
+invariant-loop-event g l = record {
+  room : length l.initial.answers.items + length l.events ≤ vec_capacity l.answers;
+  each : length l.answers.items ≡ length l.initial.answers.items + l.event-index;
+  kept : take (length l.initial.answers.items) l.answers.items ≡ l.initial.answers.items;
+  steps : Continues g.S.PageStore.follows l.fn.store l.store;
+  sessions : length l.slots ≡ length l.fn.slots;
+  runs : Carries g.S.PageStore (here_with l.fn.store l.fn.slots (map g.T.DeadRows.is_in l.sets)) (here_with l.store l.slots (map g.T.DeadRows.is_in l.sets))
+      (Runs g.S.PageStore (here_with l.fn.store l.fn.slots (map g.T.DeadRows.is_in l.sets)) (here_with l.store l.slots (map g.T.DeadRows.is_in l.sets)) (take l.event-index l.events) (answers_behind l.initial.answers.items l.answers.items));
+}

@@ -1,0 +1,338 @@
+-- What an event does, by what it answers.
+use Rattle.std.specs.Prelude.{◌≡◌, ◌≢◌, ◌⊎◌, ℕ, suc, ◌≤◌, Bool, true, false, Option, Some, None, Result, Ok, Err, List, [], ◌∷◌, ◌++◌, length, slice_get, slice_set}
+use Rattle.index_model.specs.Actions.{Effect, Action, contents_after}
+use Rattle.index_model.specs.Calls.{Call}
+use Rattle.index_model.specs.Faults.{Circumstances, HasCause}
+use Rattle.index_model.specs.declared.entry.Entry.{Entry}
+use Rattle.index_model.specs.declared.fault.Fault.{Fault}
+use Rattle.index_model.specs.declared.fault.Fault.TheVariants.{Stopped, NoSession, SessionBusy}
+use Rattle.page_action.specs.Causes.{nothing_wrong, where_forced}
+use Rattle.page_action.specs.States.{State, IsLater}
+use Rattle.page_action.specs.declared.page_store.PageStore.{Ghosts}
+use Rattle.descent.specs.Shared.{OthersRely, MovesFlags}
+use Rattle.tree_calls.specs.Due.{IsDueIn, CountsDown, HasSteps}
+use Rattle.tree_calls.specs.Ops.{DeadSets, asked_by, asked_of, where_stepped, where_asked_next, where_beginning, IsCaused, AnswersStopped}
+use Rattle.tree_calls.specs.Sessions.{Told, IsAsked, acts_of, begun_call, is_busy, slot_add, LeavesLess, LeavesNoMore, GivesLess, AnswersStep, AnswersNext, AnswersEnd, RefusalChangesNothing}
+use Rattle.tree_calls.specs.declared.answer.Answer.{Answer}
+use Rattle.tree_calls.specs.declared.answer.Answer.TheVariants.{Begun, Forced, Checkpointed, Refused}
+use Rattle.tree_calls.specs.declared.op.Op.{Op}
+use Rattle.tree_calls.specs.declared.request.Request.{Request}
+use Rattle.tree_calls.specs.declared.request.Request.TheVariants.{Insert as ToInsert, Scan as ToScan}
+use Rattle.tree_schedule.specs.Snapshots.{StoreAndSlots, Snapshot, here_at, slot_of, IsRunningCall, has_call, Fits}
+use Rattle.tree_schedule.specs.declared.event.Event.{Event}
+use Rattle.tree_schedule.specs.declared.event.Event.TheVariants.{Insert, Scan, Step, Next, End, Force, Checkpoint}
+
+-- what may be done with a running call: a step, asking for the next entry, giving it up
+pub data Move : Type 0 where
+  Steps : Move
+  Takes : Move
+  GivesUp : Move
+
+-- what may be done for the store: its acts made durable, or a checkpoint
+pub data Upkeep : Type 0 where
+  Forces : Upkeep
+  Checkpoints : Upkeep
+
+-- an event begins a session's call, moves its running call, or is of the store
+pub data Kind : Type 0 where
+  BeginsCall : ℕ → Request → Kind
+  MovesCall : ℕ → Move → Kind
+  KeepsStore : Upkeep → Kind
+
+abbrev pub kind_of : Event → Kind
+kind_of (Insert session e) = BeginsCall session (ToInsert e)
+kind_of (Scan session range) = BeginsCall session (ToScan range)
+kind_of (Step session) = MovesCall session Steps
+kind_of (Next session) = MovesCall session Takes
+kind_of (End session) = MovesCall session GivesUp
+kind_of Force = KeepsStore Forces
+kind_of Checkpoint = KeepsStore Checkpoints
+
+-- the kind is of this session, or of no session
+abbrev pub IsOfSession : ℕ → Kind → Type 0
+IsOfSession session (BeginsCall of request) = of ≡ session
+IsOfSession session (MovesCall of move) = of ≡ session
+IsOfSession session (KeepsStore upkeep) = Unit {0}
+
+-- the event is one of this session, or one of the store
+abbrev pub IsOf : ℕ → Event → Type 0
+IsOf session event = IsOfSession session (kind_of event)
+
+-- ... each of these
+abbrev pub AreOf : ℕ → List Event → Type 0
+AreOf session [] = Unit {0}
+AreOf session (event ∷ events) = IsOf session event × AreOf session events
+
+-- an event of a session's running call: it appends an action of this effect, or none, which the call was asked for; what is
+-- told of it; no other call is changed, and other sessions may rely; and which flags it moves
+pub record CallGoesOn {S : Type 0} (g : Ghosts S) (start : Entry → Bool) (session : ℕ) (answer : Answer) (old new : Snapshot S) : Type 0 where
+  pub number : ℕ
+  pub call : Call
+  pub is : IsRunningCall old.calls session number call
+  pub effect : Option Effect
+  pub after : Call
+  pub asked : IsAsked (contents_after start old.history) call.ask call.added effect
+  pub told : Told answer (length old.history) effect call after
+  pub history_is : new.history ≡ old.history ++ acts_of number effect
+  pub calls_is : new.calls ≡ slice_set old.calls number after
+  pub others : OthersRely session (g.state old.store) (g.state new.store)
+  pub flags : MovesFlags effect (g.state old.store) (g.state new.store)
+
+-- a call is begun: it gets the next number
+pub record CallBegins {S : Type 0} (g : Ghosts S) (session : ℕ) (request : Request) (answer : Answer) (old new : Snapshot S) : Type 0 where
+  pub told : answer ≡ Begun
+  pub history_is : new.history ≡ old.history
+  pub calls_is : new.calls ≡ old.calls ++ begun_call session (asked_by old.sets request) (length old.history) ∷ []
+  pub others : OthersRely session (g.state old.store) (g.state new.store)
+
+-- nothing that a history tells of is changed
+pub record IsStill {S : Type 0} (g : Ghosts S) (old new : Snapshot S) : Type 0 where
+  pub state_is : g.state new.store ≡ g.state old.store
+  pub slots_is : new.slots ≡ old.slots
+  pub history_is : new.history ≡ old.history
+  pub calls_is : new.calls ≡ old.calls
+
+-- the event is refused, and nothing is changed
+pub record Stays {S : Type 0} (g : Ghosts S) (answer : Answer) (old new : Snapshot S) : Type 0 where
+  pub fault : Fault
+  pub refused : answer ≡ Refused fault
+  pub still : IsStill g old new
+
+-- what is answered where so many actions are durable
+abbrev pub kept_answer : Upkeep → ℕ → Answer
+kept_answer Forces count = Forced count
+kept_answer Checkpoints count = Checkpointed count
+
+-- all actions are durable, and so many; nothing else is changed
+pub record UpkeepIsDone {S : Type 0} (g : Ghosts S) (upkeep : Upkeep) (answer : Answer) (old new : Snapshot S) : Type 0 where
+  pub told : answer ≡ kept_answer upkeep (length old.history)
+  pub durable : (g.backing new.store).durable ≡ length old.history
+  pub still : IsStill g old new
+
+-- What was done for the store, whatever the pages are: these are as they were; where it is told as done, so many acts were
+-- done, and all are durable; a refusal has its cause.
+pub record StoreIsKept {S : Type 0} (g : Ghosts S) (upkeep : Upkeep) (answer : Answer) (old new : S) : Type 0 where
+  pub state_is : g.state new ≡ g.state old
+  pub number : (count : ℕ) → answer ≡ kept_answer upkeep count → count ≡ (g.state old).acts
+  pub durable : (count : ℕ) → answer ≡ kept_answer upkeep count → (g.backing new).durable ≡ (g.state old).acts
+  pub caused : (fault : Fault) → answer ≡ Refused fault → HasCause (where_forced (g.backing old) (g.backing new)) fault
+
+-- a session's running call goes on; without one the event is refused
+abbrev pub MovesOn : {S : Type 0} → Ghosts S → (Entry → Bool) → Bool → ℕ → Answer → Snapshot S → Snapshot S → Type 0
+MovesOn g start true session answer old new = CallGoesOn g start session answer old new
+MovesOn g start false session answer old new = Stays g answer old new
+
+-- a session without a call may begin one
+abbrev pub MayBegin : {S : Type 0} → Ghosts S → Option (Option Op) → ℕ → Request → Answer → Snapshot S → Snapshot S → Type 0
+MayBegin g None session request answer old new = Stays g answer old new
+MayBegin g (Some None) session request answer old new = CallBegins g session request answer old new ⊎ Stays g answer old new
+MayBegin g (Some (Some op)) session request answer old new = Stays g answer old new
+
+-- what an event of this kind does to the history and to the calls, by what it answers
+abbrev pub Happens : {S : Type 0} → Ghosts S → (Entry → Bool) → Kind → Answer → Snapshot S → Snapshot S → Type 0
+Happens g start (BeginsCall session request) answer old new = MayBegin g (slice_get old.slots session) session request answer old new
+Happens g start (MovesCall session move) answer old new = MovesOn g start (has_call old.slots session) session answer old new
+Happens g start (KeepsStore upkeep) answer old new = UpkeepIsDone g upkeep answer old new ⊎ Stays g answer old new
+
+-- the circumstances where there is no such session, or no call in it
+abbrev pub where_no_call : Bool → Circumstances
+where_no_call is_stopped = record nothing_wrong { is_stopped = is_stopped; no_such_session = true }
+
+-- the session that may begin a call, where the log hasn't failed, there is such a session, and it has no call: refused
+-- for the first of these that isn't so
+abbrev pub session_to_begin : Bool → Option (Option Op) → ℕ → Result ℕ Fault
+session_to_begin true slot session = Err Stopped
+session_to_begin false None session = Err NoSession
+session_to_begin false (Some None) session = Ok session
+session_to_begin false (Some (Some op)) session = Err SessionBusy
+
+-- the circumstances of an event of a call: of one that runs, or of none
+abbrev pub where_moved : Circumstances → (Op → Circumstances) → Option (Option Op) → Circumstances
+where_moved idle running None = idle
+where_moved idle running (Some None) = idle
+where_moved idle running (Some (Some op)) = running op
+
+-- the circumstances of a beginning
+abbrev pub where_begun_at : {S : Type 0} → Ghosts S → S → Option (Option Op) → Circumstances
+where_begun_at g store None = where_no_call (g.backing store).stopped
+where_begun_at g store (Some slot) = where_beginning (g.state store) (g.backing store) (is_busy slot)
+
+-- the circumstances of a move of a session's call, with these sets, from this store to that
+abbrev pub where_moving : {S : Type 0} → Ghosts S → DeadSets → S → S → Move → Option (Option Op) → Circumstances
+where_moving g sets old new Steps slot =
+    where_moved (where_no_call (g.backing old).stopped) (λ op. where_stepped op (g.state old) (g.backing old) (g.backing new)) slot
+where_moving g sets old new Takes slot = where_moved (where_no_call false) (λ op. where_asked_next (asked_of sets op)) slot
+where_moving g sets old new GivesUp slot = where_moved (where_no_call false) (λ op. nothing_wrong) slot
+
+-- the circumstances of an event
+abbrev pub where_happening : {S : Type 0} → Ghosts S → Kind → StoreAndSlots S → StoreAndSlots S → Circumstances
+where_happening g (BeginsCall session request) old new = where_begun_at g old.store (slice_get old.slots session)
+where_happening g (MovesCall session move) old new = where_moving g old.sets old.store new.store move (slice_get old.slots session)
+where_happening g (KeepsStore upkeep) old new = where_forced (g.backing old.store) (g.backing new.store)
+
+-- a beginning is told as begun, or refused
+abbrev pub AnswersBeginning : Answer → Type 0
+AnswersBeginning Begun = Unit {0}
+AnswersBeginning (Refused fault) = Unit {0}
+AnswersBeginning answer = ⊥
+
+-- what was done for the store is told so, or refused
+abbrev pub AnswersUpkeep : Upkeep → Answer → Type 0
+AnswersUpkeep Forces (Forced count) = Unit {0}
+AnswersUpkeep Checkpoints (Checkpointed count) = Unit {0}
+AnswersUpkeep upkeep (Refused fault) = Unit {0}
+AnswersUpkeep upkeep answer = ⊥
+
+-- what a move of a call may answer, by what the session runs before and after
+abbrev pub AnswersMove : Move → Option Op → Option Op → Answer → Type 0
+AnswersMove Steps before after answer = AnswersStep before after answer
+AnswersMove Takes before after answer = AnswersNext before answer
+AnswersMove GivesUp before after answer = AnswersEnd before answer
+
+-- what an event may answer
+abbrev pub AnswersEvent : Kind → Answer → List (Option Op) → List (Option Op) → Type 0
+AnswersEvent (BeginsCall session request) answer old new = AnswersBeginning answer
+AnswersEvent (MovesCall session move) answer old new = AnswersMove move (slot_of old session) (slot_of new session) answer
+AnswersEvent (KeepsStore upkeep) answer old new = AnswersUpkeep upkeep answer
+
+-- where the log failed before, this is refused with Stopped, whatever else is so
+abbrev pub RefusesStopped : Bool → Answer → Type 0
+RefusesStopped is_stopped answer = is_stopped ≡ true → answer ≡ Refused Stopped
+
+-- on a stopped log every beginning, step, force and checkpoint is refused with Stopped before all else; the step of an
+-- insert whose entry is logged ends as added, with that fault
+abbrev pub StopsFirst : Kind → Bool → Answer → List (Option Op) → Type 0
+StopsFirst (BeginsCall session request) is_stopped answer slots = RefusesStopped is_stopped answer
+StopsFirst (MovesCall session Steps) is_stopped answer slots = is_stopped ≡ true → AnswersStopped (slot_add (slot_of slots session)) answer
+StopsFirst (MovesCall session Takes) is_stopped answer slots = Unit {0}
+StopsFirst (MovesCall session GivesUp) is_stopped answer slots = Unit {0}
+StopsFirst (KeepsStore upkeep) is_stopped answer slots = RefusesStopped is_stopped answer
+
+-- neither the pages, calls and holdings of the store nor a slot are changed
+pub record IsUnchanged {S : Type 0} (g : Ghosts S) (old new : StoreAndSlots S) : Type 0 where
+  pub state_is : g.state new.store ≡ g.state old.store
+  pub slots_is : new.slots ≡ old.slots
+
+-- a refused event changes nothing, but that a step that wasn't blocked ends its call
+abbrev pub RefusalKeeps : {S : Type 0} → Ghosts S → Kind → Answer → StoreAndSlots S → StoreAndSlots S → Type 0
+RefusalKeeps g (MovesCall session Steps) answer old new =
+    RefusalChangesNothing (g.state old.store) (g.state new.store) (slot_of old.slots session) (slot_of new.slots session) answer
+RefusalKeeps g kind answer old new = (fault : Fault) → answer ≡ Refused fault → IsUnchanged g old new
+
+-- while no act is done, a step that ends no call leaves less to do, and so does an entry that is given
+abbrev pub IsLessLeft : Kind → Answer → State → State → Option Op → Option Op → Type 0
+IsLessLeft (MovesCall session Steps) answer old new before after = LeavesLess old new before after answer
+IsLessLeft (MovesCall session Takes) answer old new before after = GivesLess before after answer
+IsLessLeft kind answer old new before after = Unit {0}
+
+-- behind an `End` the session runs nothing; nothing of the log, and no count of calls, is changed
+pub record IsEnded {S : Type 0} (g : Ghosts S) (session : ℕ) (old new : StoreAndSlots S) : Type 0 where
+  pub over : slot_of new.slots session ≡ None
+  pub backing : g.backing new.store ≡ g.backing old.store
+  pub begun : (g.state new.store).begun ≡ (g.state old.store).begun
+
+-- what is so behind an event: an end leaves its session nothing to run; asking for the next entry leaves the pages, calls and
+-- holdings of the store as they were
+abbrev pub IsLeft : {S : Type 0} → Ghosts S → Kind → StoreAndSlots S → StoreAndSlots S → Type 0
+IsLeft g (MovesCall session GivesUp) old new = IsEnded g session old new
+IsLeft g (MovesCall session Takes) old new = g.state new.store ≡ g.state old.store
+IsLeft g kind old new = Unit {0}
+
+-- what the other sessions run is as it was
+abbrev pub OthersStay : ℕ → List (Option Op) → List (Option Op) → Type 0
+OthersStay session old new = (other : ℕ) → other ≢ session → slice_get new other ≡ slice_get old other
+
+-- the session of an event
+abbrev pub session_at : Kind → ℕ
+session_at (BeginsCall session request) = session
+session_at (MovesCall session move) = session
+session_at (KeepsStore upkeep) = 0
+
+-- an event does one act at most, and with none the pages are as they were; so are limits and frames
+pub record DoesOneAct (old new : State) : Type 0 where
+  pub acts : (new.acts ≡ old.acts) ⊎ (new.acts ≡ suc old.acts)
+  pub quiet : new.acts ≡ old.acts → new.pages ≡ old.pages
+  pub limits : new.limits ≡ old.limits
+  pub frames : new.frames ≡ old.frames
+
+-- only a step does an act
+abbrev pub OnlyStepsAct : Kind → State → State → Type 0
+OnlyStepsAct (MovesCall session Steps) old new = Unit {0}
+OnlyStepsAct kind old new = new.acts ≡ old.acts
+
+-- a beginning that is refused has its cause
+abbrev pub BeginningIsCaused : {S : Type 0} → Ghosts S → Kind → Answer → StoreAndSlots S → Type 0
+BeginningIsCaused g (BeginsCall session request) answer old =
+    IsCaused (where_begun_at g old.store (slice_get old.slots session)) answer
+BeginningIsCaused g kind answer old = Unit {0}
+
+-- What holds of an event whatever the pages are: what it may answer; that a refusal changes nothing; that a stopped log
+-- refuses it first; what is left to do for its call, over a device that keeps its model; that it does one act at most, and
+-- only a step does one; that no other session's slot is changed; what it leaves; and that a beginning that is refused has
+-- its cause.
+pub record EventAlways {S : Type 0} (g : Ghosts S) (kind : Kind) (answer : Answer) (old new : StoreAndSlots S) : Type 0 where
+  pub answers : AnswersEvent kind answer old.slots new.slots
+  pub refused : RefusalKeeps g kind answer old new
+  pub stopped : StopsFirst kind (g.backing old.store).stopped answer old.slots
+  pub less : (g.backing new.store).honest ≡ true → IsLessLeft kind answer (g.state old.store) (g.state new.store) (slot_of old.slots (session_at kind)) (slot_of new.slots (session_at kind))
+  pub kept : DoesOneAct (g.state old.store) (g.state new.store)
+  pub calm : OnlyStepsAct kind (g.state old.store) (g.state new.store)
+  pub others : (session : ℕ) → IsOfSession session kind → OthersStay session old.slots new.slots
+  pub left : IsLeft g kind old new
+  pub causes : BeginningIsCaused g kind answer old
+
+-- A step: a call that was due comes to what is awaited at its last step, and each step before leaves one fewer. While no
+-- action is logged, no more is left to do than before, whether it was due or not.
+pub record StepIsCounted (old new : State) (before after : Option Op) (answer : Answer) : Type 0 where
+  pub due : (left : ℕ) → IsDueIn old before (suc left) → CountsDown old new before after left answer
+  pub no_more : LeavesNoMore old new before after
+
+-- a call that was due is due after as many steps
+abbrev pub StaysAsDue : State → State → Option Op → Option Op → Type 0
+StaysAsDue old new before after = (steps : ℕ) → IsDueIn old before steps → IsDueIn new after steps
+
+-- how many steps a call takes, by its event: a beginning says after how many it is due, each step is counted, and a `next`
+-- costs none
+abbrev pub CountsSteps : Kind → Answer → State → State → Option Op → Option Op → Type 0
+CountsSteps (BeginsCall session request) answer old new before after = answer ≡ Begun → HasSteps old new request after
+CountsSteps (MovesCall session Steps) answer old new before after = StepIsCounted old new before after answer
+CountsSteps (MovesCall session Takes) answer old new before after = StaysAsDue old new before after
+CountsSteps (MovesCall session GivesUp) answer old new before after = Unit {0}
+CountsSteps (KeepsStore upkeep) answer old new before after = Unit {0}
+
+-- What an event leaves as it was: the limits and the number of frames; and where it appends no action, the pages. So an event
+-- of others that appends no action costs a call that is due no step.
+pub record LeavesBe {S : Type 0} (g : Ghosts S) (kind : Kind) (old new : Snapshot S) : Type 0 where
+  pub limits : (g.state new.store).limits ≡ (g.state old.store).limits
+  pub frames : (g.state new.store).frames ≡ (g.state old.store).frames
+  pub pages : new.history ≡ old.history → (g.state new.store).pages ≡ (g.state old.store).pages
+  pub due : new.history ≡ old.history → (session other : ℕ) → IsOfSession session kind → other ≢ session
+      → StaysAsDue (g.state old.store) (g.state new.store) (slot_of old.slots other) (slot_of new.slots other)
+
+-- a number of actions that was answered as durable is not above this
+abbrev pub IsDurable : ℕ → Answer → Type 0
+IsDurable durable (Forced count) = count ≤ durable
+IsDurable durable (Checkpointed count) = count ≤ durable
+IsDurable durable answer = Unit {0}
+
+-- at most one action is appended
+pub record GrowsByOne (old new : List Action) : Type 0 where
+  pub acts : List Action
+  pub is : new ≡ old ++ acts
+  pub few : length acts ≤ 1
+
+-- One event of this kind, of what is fitted: what happens, why it is refused, how many steps its call takes, what it leaves
+-- as it was, the sets among it, and what fits then. The store follows the one before, so no count goes back, and each crash
+-- in between is told of.
+pub record EventDoes {S : Type 0} (g : Ghosts S) (start : Entry → Bool) (kind : Kind) (answer : Answer) (old new : Snapshot S) : Type 0 where
+  pub always : EventAlways g kind answer (here_at old) (here_at new)
+  pub happens : Happens g start kind answer old new
+  pub grows : GrowsByOne old.history new.history
+  pub caused : IsCaused (where_happening g kind (here_at old) (here_at new)) answer
+  pub counts : CountsSteps kind answer (g.state old.store) (g.state new.store) (slot_of old.slots (session_at kind)) (slot_of new.slots (session_at kind))
+  pub quiet : LeavesBe g kind old new
+  pub durable : IsDurable (g.backing new.store).durable answer
+  pub sets : new.sets ≡ old.sets
+  pub follows : g.follows old.store new.store
+  pub later : IsLater (g.backing old.store) (g.backing new.store)
+  pub fits : Fits g start new

@@ -1,0 +1,4 @@
+pub mod Snapshots
+pub mod Crashes
+pub mod Events
+pub mod Runs

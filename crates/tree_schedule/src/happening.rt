@@ -1,0 +1,252 @@
+//! One event of a store with its sessions.
+
+ghost use Rattle.std.specs.Prelude.{◌≡◌, ◌<◌, ◌≤◌, ◌+◌, ◌∷◌, [], true, List, Option, ℕ, IfErr, IsOk, OnOk, OnErr, length, map, slice_get, take, vec_len, vec_capacity};
+ghost use Rattle.page_action.specs.Room.{HasWholeRoom};
+ghost use Rattle.page_action.specs.States.{Continues};
+ghost use Rattle.tree_calls.specs.Ops.{DeadSets};
+ghost use Rattle.tree_calls.specs.Sessions.{no_call};
+ghost use Rattle.tree_calls.specs.declared.op.Op.{Op};
+ghost use Rattle.tree_schedule.specs.Snapshots.{here_with, has_call};
+ghost use Rattle.tree_schedule.specs.Events.{BeginsCall, MovesCall, Steps, Takes, GivesUp, KeepsStore, Forces, Checkpoints, kind_of, session_to_begin, AnswersUpkeep, StoreIsKept, EventAlways};
+ghost use Rattle.tree_schedule.specs.Runs.{Carries, Runs, Makes, answers_behind};
+
+use crate::event::Event;
+use index_model::{DeadRows, Fault, Session};
+use page_action::PageStore;
+use tree_calls::{Answer, Op, Request};
+
+/// Does one event on a store, whose session i runs what the slot i has, and answers what the event gave, a refusal among
+/// the answers. Where several refusals apply, the first of `Stopped`, `NoSession`, `SessionBusy` is answered. There are 64
+/// slots at most. The sets of dead rows are those that calls name by their places, the same at each event.
+pub fn one<S: PageStore, T: DeadRows>(
+    store: &mut S,
+    slots: &mut [Option<Op>],
+    sets: &[T],
+    event: Event,
+) -> Answer
+    requires few { length slots.old ≤ 64 }
+    ensures steps { Continues S.follows store.old store.new }
+    ensures sessions { length slots.new ≡ length slots.old }
+    ensures always { EventAlways S.PageStore (kind_of event) result
+        (here_with store.old slots.old (map T.is_in sets.now))
+        (here_with store.new slots.new (map T.is_in sets.now)) }
+    ensures runs { let old = here_with store.old slots.old (map T.is_in sets.now) in
+        let new = here_with store.new slots.new (map T.is_in sets.now) in
+        Carries S.PageStore old new (Runs S.PageStore old new (event ∷ []) (result ∷ [])) }
+{
+    pick(store, slots, sets, event)
+}
+
+/// Does these events one after the other, each as `one` does, and puts an answer for each behind the answers that are
+/// there. Refused with `NoMemory` (1) where there is no room for the answers: nothing is done then. There are 64 slots at
+/// most.
+pub fn run<S: PageStore, T: DeadRows>(
+    store: &mut S,
+    slots: &mut [Option<Op>],
+    sets: &[T],
+    events: &[Event],
+    answers: &mut Vec<Answer>,
+) -> Result<(), Fault>
+    requires few { length slots.old ≤ 64 }
+    ensures steps { Continues S.follows store.old store.new }
+    ensures sessions { length slots.new ≡ length slots.old }
+    ensures runs { OnOk result
+        (let old = here_with store.old slots.old (map T.is_in sets.now) in
+        let new = here_with store.new slots.new (map T.is_in sets.now) in
+        Carries S.PageStore old new (Runs S.PageStore old new events.now
+        (answers_behind answers.old.items answers.new.items))) }
+    ensures each { OnOk result (length answers.new.items
+        ≡ length answers.old.items + length events.now) }
+    ensures kept { take (length answers.old.items) answers.new.items ≡ answers.old.items }
+    ensures refused { OnErr result ((store.new ≡ store.old) × (slots.new ≡ slots.old)
+        × (answers.new.items ≡ answers.old.items)) }
+    ensures fault { IfErr result (λ fault. fault ≡ Fault.NoMemory) }
+    ensures room { vec_len answers.old + length events.now ≤ vec_capacity answers.old
+        → IsOk result }
+{
+    let Ok(()) = answers.reserve(events.len()) else {
+        return Err(Fault::NoMemory);
+    };
+    for event in events {
+        let answer = one(store, slots, sets, *event);
+        answers.push_reserved(answer);
+    }
+    Ok(())
+}
+
+// The call of each event.
+fn pick<S: PageStore, T: DeadRows>(
+    store: &mut S,
+    slots: &mut [Option<Op>],
+    sets: &[T],
+    event: Event,
+) -> Answer
+    requires few { length slots.old ≤ 64 }
+    ensures steps { Continues S.follows store.old store.new }
+    ensures makes { Makes S.PageStore (kind_of event) result
+        (here_with store.old slots.old (map T.is_in sets.now))
+        (here_with store.new slots.new (map T.is_in sets.now)) }
+{
+    match event {
+        Event::Insert(session, entry) => begin(store, slots, session, Request::Insert(entry)),
+        Event::Scan(session, range) => begin(store, slots, session, Request::Scan(range)),
+        Event::Step(session) => step(store, slots, sets, session),
+        Event::Next(session) => next(store, slots, session),
+        Event::End(session) => end(store, slots, session),
+        Event::Force => make_force(store, slots),
+        Event::Checkpoint => make_checkpoint(store, slots),
+    }
+}
+
+fn begin<S: PageStore>(
+    store: &mut S,
+    slots: &mut [Option<Op>],
+    session: u32,
+    request: Request,
+) -> Answer
+    requires few { length slots.old ≤ 64 }
+    ensures steps { Continues S.follows store.old store.new }
+    ensures makes { (sets : DeadSets) → Makes S.PageStore (BeginsCall session request) result
+        (here_with store.old slots.old sets) (here_with store.new slots.new sets) }
+{
+    match find(store.is_stopped(), slots, session) {
+        Ok(known) => tree_calls::begin(store, known, request, &mut slots[session as usize]),
+        Err(fault) => Answer::Refused(fault),
+    }
+}
+
+fn step<S: PageStore, T: DeadRows>(
+    store: &mut S,
+    slots: &mut [Option<Op>],
+    sets: &[T],
+    session: u32,
+) -> Answer
+    ensures steps { Continues S.follows store.old store.new }
+    ensures makes { Makes S.PageStore (MovesCall session Steps) result
+        (here_with store.old slots.old (map T.is_in sets.now))
+        (here_with store.new slots.new (map T.is_in sets.now)) }
+{
+    if !is_running(slots, session) {
+        return refuse_idle(store.is_stopped());
+    }
+    tree_calls::step(store, &mut slots[session as usize], sets)
+}
+
+fn next<S: PageStore>(store: &S, slots: &mut [Option<Op>], session: u32) -> Answer
+    ensures makes { (sets : DeadSets) → Makes S.PageStore (MovesCall session Takes) result
+        (here_with store.now slots.old sets) (here_with store.now slots.new sets) }
+{
+    if !is_running(slots, session) {
+        return refuse_idle(false);
+    }
+    tree_calls::next(&mut slots[session as usize])
+}
+
+fn end<S: PageStore>(store: &mut S, slots: &mut [Option<Op>], session: u32) -> Answer
+    ensures steps { Continues S.follows store.old store.new }
+    ensures makes { (sets : DeadSets) → Makes S.PageStore (MovesCall session GivesUp) result
+        (here_with store.old slots.old sets) (here_with store.new slots.new sets) }
+{
+    if !is_running(slots, session) {
+        return refuse_idle(false);
+    }
+    tree_calls::end(store, &mut slots[session as usize])
+}
+
+/// Makes all actions durable, as the event `Force` does, and answers `Forced` with their number. Refused with `Stopped` (3)
+/// and `Io` (2). The slots are those of the store's sessions.
+pub fn force<S: PageStore>(store: &mut S, slots: &[Option<Op>]) -> Answer
+    ensures steps { Continues S.follows store.old store.new }
+    ensures answers { AnswersUpkeep Forces result }
+    ensures kept { StoreIsKept S.PageStore Forces result store.old store.new }
+    ensures runs { (sets : DeadSets) → let old = here_with store.old slots.now sets in
+        let new = here_with store.new slots.now sets in
+        Carries S.PageStore old new
+        (Runs S.PageStore old new (Event.Force ∷ []) (result ∷ [])) }
+{
+    make_force(store, slots)
+}
+
+/// Makes all actions durable, writes each changed page to its place and closes the log, as the event `Checkpoint` does, and
+/// answers `Checkpointed` with the number of actions. Refused with `Stopped` (3) and `Io` (2). The slots are those of the
+/// store's sessions.
+pub fn checkpoint<S: PageStore>(store: &mut S, slots: &[Option<Op>]) -> Answer
+    ensures steps { Continues S.follows store.old store.new }
+    ensures answers { AnswersUpkeep Checkpoints result }
+    ensures kept { StoreIsKept S.PageStore Checkpoints result store.old store.new }
+    ensures room { (count : ℕ) → result ≡ Answer.Checkpointed count
+        → HasWholeRoom (S.state store.old).limits (S.backing store.new) }
+    ensures runs { (sets : DeadSets) → let old = here_with store.old slots.now sets in
+        let new = here_with store.new slots.now sets in
+        Carries S.PageStore old new
+        (Runs S.PageStore old new (Event.Checkpoint ∷ []) (result ∷ [])) }
+{
+    make_checkpoint(store, slots)
+}
+
+fn make_force<S: PageStore>(store: &mut S, slots: &[Option<Op>]) -> Answer
+    ensures steps { Continues S.follows store.old store.new }
+    ensures makes { (sets : DeadSets) → Makes S.PageStore (KeepsStore Forces) result
+        (here_with store.old slots.now sets) (here_with store.new slots.now sets) }
+    ensures kept { StoreIsKept S.PageStore Forces result store.old store.new }
+    ensures answers { AnswersUpkeep Forces result }
+{
+    match store.force() {
+        Ok(count) => Answer::Forced(count),
+        Err(fault) => Answer::Refused(fault),
+    }
+}
+
+fn make_checkpoint<S: PageStore>(store: &mut S, slots: &[Option<Op>]) -> Answer
+    ensures steps { Continues S.follows store.old store.new }
+    ensures makes { (sets : DeadSets) → Makes S.PageStore (KeepsStore Checkpoints) result
+        (here_with store.old slots.now sets) (here_with store.new slots.now sets) }
+    ensures kept { StoreIsKept S.PageStore Checkpoints result store.old store.new }
+    ensures answers { AnswersUpkeep Checkpoints result }
+    ensures room { (count : ℕ) → result ≡ Answer.Checkpointed count
+        → HasWholeRoom (S.state store.old).limits (S.backing store.new) }
+{
+    match store.checkpoint() {
+        Ok(count) => Answer::Checkpointed(count),
+        Err(fault) => Answer::Refused(fault),
+    }
+}
+
+// The session that may begin a call: refused where the log failed before, then where there is none of this number,
+// then where it has a call.
+fn find(is_stopped: bool, slots: &[Option<Op>], session: u32) -> Result<Session, Fault>
+    requires few { length slots.now ≤ 64 }
+    ensures { result ≡ session_to_begin is_stopped (slice_get slots.now session) session }
+{
+    if is_stopped {
+        return Err(Fault::Stopped);
+    }
+    let at = session as usize;
+    if at >= slots.len() {
+        return Err(Fault::NoSession);
+    }
+    if slots[at].is_some() {
+        return Err(Fault::SessionBusy);
+    }
+    Session::new(session)
+}
+
+/// Whether the session has a call. One that does not exist has none.
+pub fn is_running(slots: &[Option<Op>], session: u32) -> bool
+    ensures value { result ≡ has_call slots.now session }
+    ensures within { result ≡ true → session < length slots.now }
+{
+    let at = session as usize;
+    at < slots.len() && slots[at].is_some()
+}
+
+// What is answered to an event of a session that has no call.
+fn refuse_idle(is_stopped: bool) -> Answer
+    ensures { result ≡ no_call is_stopped }
+{
+    if is_stopped {
+        Answer::Refused(Fault::Stopped)
+    } else {
+        Answer::Refused(Fault::NoSession)
+    }
+}
