@@ -11,7 +11,7 @@ use Rattle.page_codec.specs.declared.page.Page.{Page}
 use Rattle.page_action.specs.Causes.{where_read, where_acted, is_at_end, count_apart, pinned_blocks}
 use Rattle.page_action.specs.Room.{KeepsRoom}
 use Rattle.page_action.specs.Reuse.{IsFull, is_reusable}
-use Rattle.page_action.specs.States.{State, Backing}
+use Rattle.page_action.specs.States.{State, Backing, IsLater}
 use Rattle.descent.specs.Shared.{where_working, any_is_reusable}
 
 or_left : (a b c : Bool) → (a ≡ true → c ≡ true) → (a || b) ≡ true → (c || b) ≡ true
@@ -169,3 +169,12 @@ read_pinned_cause st first third session images frames block IndexFull honest us
 read_pinned_cause st first third session images frames block LogFull honest used pin h = absurd cc
 read_pinned_cause st first third session images frames block TooTall honest used pin h = absurd cc
 read_pinned_cause st first third session images frames block fault honest used pin h = h
+
+-- ... where the calls before them left the state and the backing as they were
+pub rooms_kept : (st started mid : State) (first begun second third : Backing) → started ≡ st → mid ≡ started → begun ≡ first → IsLater begun second → second.durable ≤ mid.acts
+    → KeepsRoom started begun second → KeepsRoom mid second third → KeepsRoom st first third
+rooms_kept st started mid first begun second third is_st is_mid was later few one two =
+    keeps_room_on st first second third (subst (λ (b : Backing). b.durable ≤ second.durable) was later.durable)
+    (subst (λ (s : State). second.durable ≤ s.acts) (is_mid ∙ is_st) few)
+    (subst (λ (s : State). KeepsRoom s first second) is_st (subst (λ (b : Backing). KeepsRoom started b second) was one))
+    (subst (λ (s : State). KeepsRoom s second third) (is_mid ∙ is_st) two)

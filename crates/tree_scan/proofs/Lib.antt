@@ -8,3 +8,4 @@ pub mod Rooting
 pub mod Arriving
 pub mod Moving
 pub mod Lasting
+pub mod Refusing

@@ -1,9 +1,8 @@
-use Rattle.std.proofs.Common.{◌≤◌, slice_get, sym, ap, subst, ◌∙◌}
+use Rattle.std.proofs.Common.{slice_get, sym, ap, subst, ◌∙◌}
 use Rattle.index_model.specs.Faults.{HasCause}
 use Rattle.page_action.specs.Causes.{where_read}
-use Rattle.page_action.specs.Room.{KeepsRoom}
 use Rattle.page_action.specs.States.{State, Backing, IsLater}
-use Rattle.descent.proofs.Working.{read_cause, keeps_room_on}
+use Rattle.descent.proofs.Working.{read_cause, rooms_kept}
 use Rattle.descent.proofs.reading.look_at_both.Goals as goal
 
 pub returns-in-Ok-clause-pages : goal.returns-in-Ok-clause-pages
@@ -16,33 +15,19 @@ returns-in-Ok-clause-pages g c honest =
 
 pub returns-in-Ok-clause-room : goal.returns-in-Ok-clause-room
 returns-in-Ok-clause-room g c =
-    let st : State = g.S.PageStore.state c.args.store.now in
-    let first : Backing = g.S.PageStore.backing c.args.store.now in
-    let second : Backing = g.S.PageStore.backing c.page.new.self in
-    let third : Backing = g.S.PageStore.backing c.page-2.new.self in
-    let later : IsLater (g.S.PageStore.backing c.ask_for-2.new.store) second = g.met.S.PageStore.laws.follows_later _ _ (c.page.ensures.steps _ (g.met.S.PageStore.laws.follows_same _)) in
-    let started = c.ask_for-2.ensures.state ∙ c.ask_for.ensures.state in
-    let before = c.page.ensures.state ∙ started in
-    let was = c.ask_for-2.ensures.backing ∙ c.ask_for.ensures.backing in
-    keeps_room_on st first second third (subst (λ (b : Backing). b.durable ≤ second.durable) was later.durable)
-    (subst (λ (s : State). second.durable ≤ s.acts) before (g.met.S.PageStore.laws.durable_few c.page.new.self))
-    (subst (λ (s : State). KeepsRoom s first second) started (subst (λ (b : Backing). KeepsRoom (g.S.PageStore.state c.ask_for-2.new.store) b second) was c.page.ensures.room))
-    (subst (λ (s : State). KeepsRoom s second third) before c.page-2.ensures.room)
+    rooms_kept (g.S.PageStore.state c.args.store.now) (g.S.PageStore.state c.ask_for-2.new.store) (g.S.PageStore.state c.page.new.self)
+    (g.S.PageStore.backing c.args.store.now) (g.S.PageStore.backing c.ask_for-2.new.store) (g.S.PageStore.backing c.page.new.self) (g.S.PageStore.backing c.page-2.new.self)
+    (c.ask_for-2.ensures.state ∙ c.ask_for.ensures.state) c.page.ensures.state (c.ask_for-2.ensures.backing ∙ c.ask_for.ensures.backing)
+    (g.met.S.PageStore.laws.follows_later _ _ (c.page.ensures.steps _ (g.met.S.PageStore.laws.follows_same _))) (g.met.S.PageStore.laws.durable_few c.page.new.self)
+    c.page.ensures.room c.page-2.ensures.room
 
 pub returns-in-Err-clause-room : goal.returns-in-Err-clause-room
 returns-in-Err-clause-room g c =
-    let st : State = g.S.PageStore.state c.args.store.now in
-    let first : Backing = g.S.PageStore.backing c.args.store.now in
-    let second : Backing = g.S.PageStore.backing c.page.new.self in
-    let third : Backing = g.S.PageStore.backing c.page-2.new.self in
-    let later : IsLater (g.S.PageStore.backing c.ask_for-2.new.store) second = g.met.S.PageStore.laws.follows_later _ _ (c.page.ensures.steps _ (g.met.S.PageStore.laws.follows_same _)) in
-    let started = c.ask_for-2.ensures.state ∙ c.ask_for.ensures.state in
-    let before = c.page.ensures.state ∙ started in
-    let was = c.ask_for-2.ensures.backing ∙ c.ask_for.ensures.backing in
-    keeps_room_on st first second third (subst (λ (b : Backing). b.durable ≤ second.durable) was later.durable)
-    (subst (λ (s : State). second.durable ≤ s.acts) before (g.met.S.PageStore.laws.durable_few c.page.new.self))
-    (subst (λ (s : State). KeepsRoom s first second) started (subst (λ (b : Backing). KeepsRoom (g.S.PageStore.state c.ask_for-2.new.store) b second) was c.page.ensures.room))
-    (subst (λ (s : State). KeepsRoom s second third) before c.page-2.ensures.room)
+    rooms_kept (g.S.PageStore.state c.args.store.now) (g.S.PageStore.state c.ask_for-2.new.store) (g.S.PageStore.state c.page.new.self)
+    (g.S.PageStore.backing c.args.store.now) (g.S.PageStore.backing c.ask_for-2.new.store) (g.S.PageStore.backing c.page.new.self) (g.S.PageStore.backing c.page-2.new.self)
+    (c.ask_for-2.ensures.state ∙ c.ask_for.ensures.state) c.page.ensures.state (c.ask_for-2.ensures.backing ∙ c.ask_for.ensures.backing)
+    (g.met.S.PageStore.laws.follows_later _ _ (c.page.ensures.steps _ (g.met.S.PageStore.laws.follows_same _))) (g.met.S.PageStore.laws.durable_few c.page.new.self)
+    c.page.ensures.room c.page-2.ensures.room
 
 pub returns-in-Err-clause-cause : goal.returns-in-Err-clause-cause
 returns-in-Err-clause-cause g c honest room one two images frames some =

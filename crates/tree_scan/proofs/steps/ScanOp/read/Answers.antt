@@ -25,6 +25,7 @@ use Rattle.tree_scan.proofs.Arriving.{leaf_has_entries, other_items, live_leaf, 
 use Rattle.tree_scan.proofs.Causes.{scanning_cause}
 use Rattle.tree_scan.proofs.Leaf.{reads_leaf}
 use Rattle.tree_scan.proofs.Moving.{going_does, going_fits, going_less, reading_does, reading_fits, reading_less}
+use Rattle.tree_scan.proofs.Refusing.{refuses, scan_led}
 use Rattle.tree_scan.proofs.Resting.{quiet_by, rests}
 use Rattle.tree_scan.proofs.Rooting.{place_in_use}
 use Rattle.tree_scan.proofs.steps.ScanOp.read.Goals as goal
@@ -55,63 +56,32 @@ returns-in_err-page g c = record {
 }
 
 pub returns-in_default : goal.returns-in_default
-returns-in_default g c = record {
-  steps = search rules;
-  session = refl;
-  range = refl;
-  quiet = search rules;
-  kept = search rules;
-  refused = search rules;
-  stopped = search rules;
-  ready = search rules;
-  less = search rules;
-  no_more = search rules;
-  stepped = λ honest order fits.
-      let old : State = g.S.PageStore.state c.args.store.now in
-      let before : ScanOp = c.args.self.now in
-      let way : Way = c.args.way in
-      let on_way : IsOnWay old fits.start (frontier_aim before.frontier) false 0 way = subst (ScanStands old fits.start before.leaf before.frontier) c.requires.at fits.stands in
-      let page : Page = c.in_ok-page.page in
-      let found : slice_get old.pages way.block ≡ Some page = c.in_ok-page.ensures.page honest in
-      let few : length old.pages ≤ c.limits-most.result.pages = subst (λ (n : ℕ). length old.pages ≤ n) (ap (λ (l : Limits). l.pages) (sym (c.limits-most.ensures.value ∙ ap (λ (st : State). st.limits) c.look.ensures.state))) c.in_ok-page.ensures.inside in
-      let led : LeadsOnward old fits.start (frontier_aim before.frontier) false 0 way c.lead.result =
-      c.lead.ensures.goes old fits.start false order.tree found on_way (λ e. cc) few in
-      let here : (way.level ≡ 0) × HasCover old 0 (frontier_aim before.frontier) way.block =
-      subst (LeadsOnward old fits.start (frontier_aim before.frontier) false 0 way) (c.in-Some-Here.is ∙ ap Some c.in-Some-Here.field-0-is) led in
-      let admitted = c.in_ok-page.ensures.stored.storable.admitted in
-      let block_is : page.block ≡ way.block = c.in_ok-page.ensures.stored.block_is in
-      let there : slice_get old.pages page.block ≡ Some page = subst (λ (b : ℕ). slice_get old.pages b ≡ Some page) (sym block_is) found in
-      let cover : HasCover old 0 (frontier_aim before.frontier) page.block = subst (HasCover old 0 (frontier_aim before.frontier)) (sym block_is) here.1 in
-      let has = leaf_has_entries old (frontier_aim before.frontier) page order.tree there admitted cover in
-      absurd (other_items page.items c.in_default.not-Entries has);
-  straight = λ honest order whole none starts. tt;
-}
+returns-in_default g c =
+    let old : State = g.S.PageStore.state c.args.store.now in
+    let before : ScanOp = c.args.self.now in
+    let way : Way = c.args.way in
+    let page : Page = c.in_ok-page.page in
+    refuses g.S.PageStore before c.args.store.now c.look.new.store _ c.look.ensures.steps c.look.ensures.state
+    (λ h. (let k = sym c.in_ok-page.was ∙ c.look.ensures.stopped h in cc))
+    (λ honest order fits.
+    let found = c.in_ok-page.ensures.page honest in
+    let led = scan_led old before way page c.limits-most.result c.lead.result c.requires.at order fits found
+    (c.limits-most.ensures.value ∙ ap (λ (st : State). st.limits) c.look.ensures.state) c.in_ok-page.ensures.inside c.lead.ensures.goes in
+    let here = subst (LeadsOnward old fits.start (frontier_aim before.frontier) false 0 way) (c.in-Some-Here.is ∙ ap Some c.in-Some-Here.field-0-is) led in
+    let block_is : page.block ≡ way.block = c.in_ok-page.ensures.stored.block_is in
+    absurd (other_items page.items c.in_default.not-Entries (leaf_has_entries old (frontier_aim before.frontier) page order.tree
+    (subst (λ (b : ℕ). slice_get old.pages b ≡ Some page) (sym block_is) found) c.in_ok-page.ensures.stored.storable.admitted
+    (subst (HasCover old 0 (frontier_aim before.frontier)) (sym block_is) here.1))))
 
 pub returns-in-None : goal.returns-in-None
-returns-in-None g c = record {
-  steps = search rules;
-  session = refl;
-  range = refl;
-  quiet = search rules;
-  kept = search rules;
-  refused = search rules;
-  stopped = search rules;
-  ready = search rules;
-  less = search rules;
-  no_more = search rules;
-  stepped = λ honest order fits.
-      let old : State = g.S.PageStore.state c.args.store.now in
-      let before : ScanOp = c.args.self.now in
-      let way : Way = c.args.way in
-      let on_way : IsOnWay old fits.start (frontier_aim before.frontier) false 0 way = subst (ScanStands old fits.start before.leaf before.frontier) c.requires.at fits.stands in
-      let page : Page = c.in_ok-page.page in
-      let found : slice_get old.pages way.block ≡ Some page = c.in_ok-page.ensures.page honest in
-      let few : length old.pages ≤ c.limits-most.result.pages = subst (λ (n : ℕ). length old.pages ≤ n) (ap (λ (l : Limits). l.pages) (sym (c.limits-most.ensures.value ∙ ap (λ (st : State). st.limits) c.look.ensures.state))) c.in_ok-page.ensures.inside in
-      let led : LeadsOnward old fits.start (frontier_aim before.frontier) false 0 way c.lead.result =
-      c.lead.ensures.goes old fits.start false order.tree found on_way (λ e. cc) few in
-      absurd (subst (LeadsOnward old fits.start (frontier_aim before.frontier) false 0 way) c.in-None.is led);
-  straight = λ honest order whole none starts. tt;
-}
+returns-in-None g c =
+    let old : State = g.S.PageStore.state c.args.store.now in
+    refuses g.S.PageStore c.args.self.now c.args.store.now c.look.new.store _ c.look.ensures.steps c.look.ensures.state
+    (λ h. (let k = sym c.in_ok-page.was ∙ c.look.ensures.stopped h in cc))
+    (λ honest order fits.
+    absurd (subst (LeadsOnward old fits.start (frontier_aim c.args.self.now.frontier) false 0 c.args.way) c.in-None.is
+    (scan_led old c.args.self.now c.args.way c.in_ok-page.page c.limits-most.result c.lead.result c.requires.at order fits (c.in_ok-page.ensures.page honest)
+    (c.limits-most.ensures.value ∙ ap (λ (st : State). st.limits) c.look.ensures.state) c.in_ok-page.ensures.inside c.lead.ensures.goes)))
 
 pub returns-in-Some-Going : goal.returns-in-Some-Going
 returns-in-Some-Going g c =
@@ -143,12 +113,8 @@ returns-in-Some-Going g c =
       stepped = λ honest order fits.
           let later : IsLater (g.S.PageStore.backing c.look.new.store) (g.S.PageStore.backing c.go_on.new.store) = g.met.S.PageStore.laws.follows_later _ _ (c.go_on.ensures.steps _ (g.met.S.PageStore.laws.follows_same _)) in
           let way : Way = c.args.way in
-          let on_way : IsOnWay old fits.start (frontier_aim before.frontier) false 0 way = subst (ScanStands old fits.start before.leaf before.frontier) c.requires.at fits.stands in
-          let page : Page = c.in_ok-page.page in
-          let found : slice_get old.pages way.block ≡ Some page = c.in_ok-page.ensures.page (later.honest honest) in
-          let few : length old.pages ≤ c.limits-most.result.pages = subst (λ (n : ℕ). length old.pages ≤ n) (ap (λ (l : Limits). l.pages) (sym (c.limits-most.ensures.value ∙ ap (λ (st : State). st.limits) c.look.ensures.state))) c.in_ok-page.ensures.inside in
-          let led : LeadsOnward old fits.start (frontier_aim before.frontier) false 0 way c.lead.result =
-          c.lead.ensures.goes old fits.start false order.tree found on_way (λ e. cc) few in
+          let led = scan_led old before way c.in_ok-page.page c.limits-most.result c.lead.result c.requires.at order fits (c.in_ok-page.ensures.page (later.honest honest))
+          (c.limits-most.ensures.value ∙ ap (λ (st : State). st.limits) c.look.ensures.state) c.in_ok-page.ensures.inside c.lead.ensures.goes in
           record {
             does = going_does old new before order fits is;
             fits = subst (ScanFits new) (sym c.go_on.ensures.op)
@@ -201,9 +167,8 @@ returns-in-Entries g c =
       stepped = λ honest order fits.
           let on_way : IsOnWay old fits.start (frontier_aim before.frontier) false 0 way = subst (ScanStands old fits.start before.leaf before.frontier) c.requires.at fits.stands in
           let found : slice_get old.pages way.block ≡ Some page = c.in_ok-page.ensures.page (later.honest honest) in
-          let few : length old.pages ≤ c.limits-most.result.pages = subst (λ (n : ℕ). length old.pages ≤ n) (ap (λ (l : Limits). l.pages) (sym (c.limits-most.ensures.value ∙ ap (λ (st : State). st.limits) c.look.ensures.state))) c.in_ok-page.ensures.inside in
-          let led : LeadsOnward old fits.start (frontier_aim before.frontier) false 0 way c.lead.result =
-          c.lead.ensures.goes old fits.start false order.tree found on_way (λ e. cc) few in
+          let led = scan_led old before way page c.limits-most.result c.lead.result c.requires.at order fits found
+          (c.limits-most.ensures.value ∙ ap (λ (st : State). st.limits) c.look.ensures.state) c.in_ok-page.ensures.inside c.lead.ensures.goes in
           let here : (way.level ≡ 0) × HasCover old 0 (frontier_aim before.frontier) way.block =
           subst (LeadsOnward old fits.start (frontier_aim before.frontier) false 0 way) (c.in-Some-Here.is ∙ ap Some c.in-Some-Here.field-0-is) led in
           let admitted = c.in_ok-page.ensures.stored.storable.admitted in
