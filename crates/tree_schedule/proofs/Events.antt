@@ -16,7 +16,7 @@ use Rattle.page_action.specs.declared.page_store.PageStore.{Ghosts}
 use Rattle.descent.specs.Shared.{OthersRely}
 use Rattle.tree_calls.specs.Due.{IsDueIn, HasSteps}
 use Rattle.tree_calls.specs.Ops.{asked_by, IsCaused}
-use Rattle.tree_calls.specs.Sessions.{Matches, OpRuns, CallFits, SlotFits, IsIdle, acts_of, begun_call, SessionGoes, SessionBegins}
+use Rattle.tree_calls.specs.Sessions.{Matches, OpRuns, CallFits, SlotFits, IsIdle, acts_of, begun_call, SessionGoes, SessionBegins, OnlyOwnAreFlagged}
 use Rattle.tree_calls.specs.declared.answer.Answer.{Answer}
 use Rattle.tree_calls.specs.declared.answer.Answer.TheVariants.{Begun, Refused}
 use Rattle.tree_calls.specs.declared.op.Op.{Op}
@@ -26,7 +26,7 @@ use Rattle.tree_calls.proofs.Meeting.{grown}
 use Rattle.tree_calls.proofs.Telling.{told_same}
 use Rattle.tree_calls.proofs.Undisturbed.{undisturbed, idle_undisturbed}
 use Rattle.tree_schedule.specs.Snapshots.{Snapshot, here_at, slot_of, IsRunningCall, SlotRuns, IsFree, SlotMatches, Fits, slot_has_call, has_call}
-use Rattle.tree_schedule.specs.Events.{Move, Steps, Takes, GivesUp, Upkeep, Forces, Checkpoints, Kind, BeginsCall, MovesCall, KeepsStore, IsOfSession, Stays, kept_answer, MovesOn, MayBegin, session_to_begin, where_begun_at, where_moving, Happens, where_happening, OthersStay, session_at, EventAlways, CountsSteps, LeavesBe, IsDurable, EventDoes}
+use Rattle.tree_schedule.specs.Events.{Move, Steps, Takes, GivesUp, Upkeep, Forces, Checkpoints, Kind, BeginsCall, MovesCall, KeepsStore, IsOfSession, Stays, kept_answer, MovesOn, MayBegin, session_to_begin, where_begun_at, where_moving, Happens, where_happening, OthersStay, session_at, EventAlways, CountsSteps, KeepsFlags, LeavesBe, IsDurable, EventDoes}
 use Rattle.tree_schedule.specs.Runs.{EventRuns}
 use Rattle.tree_schedule.proofs.Frames.{goes_fits}
 use Rattle.tree_schedule.proofs.Keeping.{no_growth}
@@ -110,7 +110,8 @@ module _ {S : Type 0} (g : Ghosts S) (start : Entry → Bool) (old : Snapshot S)
     (goes : (number : ℕ) (call : Call) → SlotFits (g.state old.store) old.sets start old.history number call (Some op) → SessionGoes at (g.state old.store) (g.state store) old.sets start old.history number call slot answer)
     (where_is : where_moving g old.sets old.store store move (Some (Some op)) ≡ at)
     (always : EventAlways g (MovesCall session move) answer (here_at old) (record { store = store; slots = slice_set old.slots session slot; sets = old.sets }))
-    (counts : (start' : Entry → Bool) (l : List Action) (n : ℕ) (c : Call) → SlotFits (g.state old.store) old.sets start' l n c (Some op) → CountsSteps (MovesCall session move) answer (g.state old.store) (g.state store) (Some op) slot) where
+    (counts : (start' : Entry → Bool) (l : List Action) (n : ℕ) (c : Call) → SlotFits (g.state old.store) old.sets start' l n c (Some op) → CountsSteps (MovesCall session move) answer (g.state old.store) (g.state store) (Some op) slot)
+    (flagged : (start' : Entry → Bool) (l : List Action) (n : ℕ) (c : Call) → SlotFits (g.state old.store) old.sets start' l n c (Some op) → KeepsFlags (MovesCall session move) answer (g.state old.store) (g.state store) (Some op) slot) where
   runs : SlotRuns g start old session op
   runs = fits.running session (Some op) found
 
@@ -156,6 +157,7 @@ module _ {S : Type 0} (g : Ghosts S) (start : Entry → Bool) (old : Snapshot S)
     grows = record { acts = acts_of runs.number one.effect; is = refl; few = acts_few runs.number one.effect };
     caused = subst (λ (o : Option (Option Op)). IsCaused (where_moving g old.sets old.store store move o) answer) (sym found) (subst (λ (x : Circumstances). IsCaused x answer) (sym where_is) one.caused);
     counts = at_slots old.slots session (Some op) slot (λ x y. CountsSteps (MovesCall session move) answer (g.state old.store) (g.state store) x y) found (counts start old.history runs.number runs.call fit);
+    flagged = at_slots old.slots session (Some op) slot (λ x y. KeepsFlags (MovesCall session move) answer (g.state old.store) (g.state store) x y) found (flagged start old.history runs.number runs.call fit);
     quiet = leaves_be g (MovesCall session move) old new one.limits one.frames (λ same. one.pages (no_effect one.effect same)) (others_stay_set old.slots session slot);
     durable = told_durable answer (g.backing store).durable (length old.history) one.effect runs.call one.after one.told;
     sets = refl;
@@ -186,6 +188,13 @@ module _ {S : Type 0} (g : Ghosts S) (start : Entry → Bool) (old : Snapshot S)
   not_counted (MovesCall session GivesUp) before move = tt
   not_counted (KeepsStore upkeep) before move = tt
 
+  flags_stay : (kind : Kind) (before : Option Op) → KeepsFlags kind (Refused fault) (g.state old.store) (g.state store) before before
+  flags_stay (BeginsCall session request) before = tt
+  flags_stay (MovesCall session Steps) before = λ only. subst (λ (st : State). OnlyOwnAreFlagged st before) (sym same) only
+  flags_stay (MovesCall session Takes) before = tt
+  flags_stay (MovesCall session GivesUp) before = tt
+  flags_stay (KeepsStore upkeep) before = tt
+
   stay_with : (kind : Kind) → Happens g start kind (Refused fault) old then_now → EventAlways g kind (Refused fault) (here_at old) (here_at then_now) → IsCaused (where_happening g kind (here_at old) (here_at then_now)) (Refused fault)
       → ((session : ℕ) → kind ≡ MovesCall session Steps → slot_of old.slots (session_at kind) ≡ None)
       → EventDoes g start kind (Refused fault) old then_now
@@ -195,6 +204,7 @@ module _ {S : Type 0} (g : Ghosts S) (start : Entry → Bool) (old : Snapshot S)
     grows = no_growth old.history;
     caused = caused;
     counts = not_counted kind (slot_of old.slots (session_at kind)) idle;
+    flagged = flags_stay kind (slot_of old.slots (session_at kind));
     quiet = stays_be g kind old then_now same refl;
     durable = tt;
     sets = refl;
@@ -241,6 +251,7 @@ module _ {S : Type 0} (g : Ghosts S) (start : Entry → Bool) (old : Snapshot S)
           grows = no_growth old.history;
           caused = kept_caused upkeep count (where_forced (g.backing old.store) (g.backing store));
           counts = tt;
+          flagged = tt;
           quiet = stays_be g (KeepsStore upkeep) old then same refl;
           durable = kept_durable upkeep count (g.backing store).durable (let n : count ≡ (g.state old.store).acts = number in let d : (g.backing store).durable ≡ (g.state old.store).acts = durable in omega arith);
           sets = refl;
@@ -329,6 +340,7 @@ module _ {S : Type 0} (g : Ghosts S) (start : Entry → Bool) (old : Snapshot S)
       grows = no_growth old.history;
       caused = tt;
       counts = λ told. subst (λ (x : Option Op). HasSteps (g.state old.store) (g.state store) request x) (sym (slot_set old.slots session (Some op) (get_within old.slots session None free))) counts;
+      flagged = tt;
       quiet = leaves_be g (BeginsCall session request) old begun (ap (λ (st : State). st.limits) state) (ap (λ (st : State). st.frames) state) (λ same. ap (λ (st : State). st.pages) state) (others_stay_set old.slots session (Some op));
       durable = tt;
       sets = refl;

@@ -12,7 +12,7 @@ use Rattle.page_action.specs.States.{State, after_end}
 use Rattle.page_action.specs.declared.page_store.PageStore.{Ghosts}
 use Rattle.tree_calls.specs.Due.{IsDueIn, CountsDown, HasSteps}
 use Rattle.tree_calls.specs.Ops.{DeadSets, IsCaused, session_of, asked_of, where_slot_stepped, where_asked_next, where_beginning, AnswersStopped}
-use Rattle.tree_calls.specs.Sessions.{Matches, IsIdle, SlotFits, KeepsPages, SessionGoes, SessionBegins, IsBegun, BeginsBy, is_busy, slot_add, LeavesLess, LeavesNoMore, GivesLess, AnswersStep, AnswersNext, AnswersEnd, RefusalChangesNothing}
+use Rattle.tree_calls.specs.Sessions.{Matches, IsIdle, SlotFits, KeepsPages, SessionGoes, SessionBegins, IsBegun, BeginsBy, is_busy, slot_add, LeavesLess, LeavesNoMore, GivesLess, AnswersStep, AnswersNext, AnswersEnd, RefusalChangesNothing, OnlyOwnAreFlagged, LeavesOwnFlagged}
 use Rattle.tree_calls.specs.declared.answer.Answer.{Answer}
 use Rattle.tree_calls.specs.declared.answer.Answer.TheVariants.{Begun, Going, Added, Ready, Done, Finished, Gave, Ended, Forced, Flushed, Checkpointed, Refused}
 use Rattle.tree_calls.specs.declared.op.Op.{Op}
@@ -48,8 +48,10 @@ module _ {S : Type 0} (g : Ghosts S) (laws : Laws g) (old new : S) (follows : g.
       → SessionGoes (where_slot_stepped before (g.state old) (g.backing old) (g.backing new)) (g.state old) (g.state new) sets start history number call slot answer)
       → ((g.backing new).honest ≡ true → (start : Entry → Bool) (history : List Action) (number : ℕ) (call : Call) → SlotFits (g.state old) sets start history number call before
       → (left : ℕ) → IsDueIn (g.state old) before (suc left) → CountsDown (g.state old) (g.state new) before slot left answer)
+      → ((g.backing new).honest ≡ true → (start : Entry → Bool) (history : List Action) (number : ℕ) (call : Call) → SlotFits (g.state old) sets start history number call before
+      → OnlyOwnAreFlagged (g.state old) before → LeavesOwnFlagged (g.state new) before slot answer)
       → Makes g (MovesCall session Steps) answer (here_with old slots sets) (here_with new (slice_set slots session slot) sets)
-  step_makes kind refused stopped less kept no_more goes due = record {
+  step_makes kind refused stopped less kept no_more goes due flagged = record {
     sessions = length_set slots session slot;
     always = always;
     does = λ honest start history calls fits.
@@ -60,7 +62,9 @@ module _ {S : Type 0} (g : Ghosts S) (laws : Laws g) (old new : S) (follows : g.
           due = λ left h. subst (λ (x : Option Op). CountsDown (g.state old) (g.state new) x slot left answer) is
               (due honest s l n c (subst (λ (x : Option Op). SlotFits (g.state old) sets s l n c x) (sym is) runs) left (subst (λ (x : Option Op). IsDueIn (g.state old) x (suc left)) (sym is) h));
           no_more = subst (λ (x : Option Op). LeavesNoMore (g.state old) (g.state new) x slot) is (no_more honest);
-        });
+        })
+        (λ s l n c runs. subst (λ (x : Option Op). OnlyOwnAreFlagged (g.state old) x → LeavesOwnFlagged (g.state new) x slot answer) is
+        (flagged honest s l n c (subst (λ (x : Option Op). SlotFits (g.state old) sets s l n c x) (sym is) runs)));
   }
     where
       always : EventAlways g (MovesCall session Steps) answer (here_with old slots sets) (here_with new (slice_set slots session slot) sets)
@@ -85,7 +89,7 @@ module _ {S : Type 0} (g : Ghosts S) (laws : Laws g) (old new : S) (follows : g.
     does = λ honest start history calls fits.
         moves_on g start (snapshot_of (here_with old slots sets) history calls) new session op slot GivesUp nothing_wrong answer fits found_op follows (laws.follows_later old new follows)
         (λ number call runs. goes start history number call (subst (λ (x : Option Op). SlotFits (g.state old) sets start history number call x) (sym is) runs)) refl always
-        (λ s l n c runs. tt);
+        (λ s l n c runs. tt) (λ s l n c runs. tt);
   }
     where
       ended : answer ≡ Ended
@@ -133,7 +137,8 @@ module _ {S : Type 0} (g : Ghosts S) (laws : Laws g) (store : S) (slots : List (
         (laws.follows_later store store (laws.follows_same store))
         (λ number call runs. subst (λ (a : Ask). SessionGoes (where_asked_next a) (g.state store) (g.state store) sets start history number call slot answer) runs.runs.ask
         (goes (g.state store) start history number call (subst (λ (x : Option Op). SlotFits (g.state store) sets start history number call x) (sym is) runs))) refl always
-        (λ s l n c runs steps h. due (g.state store) steps (subst (λ (x : Option Op). IsDueIn (g.state store) x steps) (sym is) h));
+        (λ s l n c runs steps h. due (g.state store) steps (subst (λ (x : Option Op). IsDueIn (g.state store) x steps) (sym is) h))
+        (λ s l n c runs. tt);
   }
     where
       always : EventAlways g (MovesCall session Takes) answer (here_with store slots sets) (here_with store (slice_set slots session slot) sets)

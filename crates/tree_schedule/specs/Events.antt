@@ -12,7 +12,7 @@ use Rattle.page_action.specs.declared.page_store.PageStore.{Ghosts}
 use Rattle.descent.specs.Shared.{OthersRely, MovesFlags}
 use Rattle.tree_calls.specs.Due.{IsDueIn, CountsDown, HasSteps}
 use Rattle.tree_calls.specs.Ops.{DeadSets, asked_by, asked_of, where_stepped, where_asked_next, where_beginning, IsCaused, AnswersStopped}
-use Rattle.tree_calls.specs.Sessions.{Told, IsAsked, acts_of, begun_call, is_busy, slot_add, LeavesLess, LeavesNoMore, GivesLess, AnswersStep, AnswersNext, AnswersEnd, RefusalChangesNothing}
+use Rattle.tree_calls.specs.Sessions.{Told, IsAsked, acts_of, begun_call, is_busy, slot_add, LeavesLess, LeavesNoMore, GivesLess, AnswersStep, AnswersNext, AnswersEnd, RefusalChangesNothing, OnlyOwnAreFlagged, LeavesOwnFlagged}
 use Rattle.tree_calls.specs.declared.answer.Answer.{Answer}
 use Rattle.tree_calls.specs.declared.answer.Answer.TheVariants.{Begun, Forced, Checkpointed, Refused}
 use Rattle.tree_calls.specs.declared.op.Op.{Op}
@@ -300,6 +300,12 @@ CountsSteps (MovesCall session Takes) answer old new before after = StaysAsDue o
 CountsSteps (MovesCall session GivesUp) answer old new before after = Unit {0}
 CountsSteps (KeepsStore upkeep) answer old new before after = Unit {0}
 
+-- behind a step only those pages are flagged whose splits its insert is to finish yet, where that was so before; and none
+-- behind its end, unless that tells of a fault
+abbrev pub KeepsFlags : Kind → Answer → State → State → Option Op → Option Op → Type 0
+KeepsFlags (MovesCall session Steps) answer old new before after = OnlyOwnAreFlagged old before → LeavesOwnFlagged new before after answer
+KeepsFlags kind answer old new before after = Unit {0}
+
 -- What an event leaves as it was: the limits and the number of frames; and where it appends no action, the pages. So an event
 -- of others that appends no action costs a call that is due no step.
 pub record LeavesBe {S : Type 0} (g : Ghosts S) (kind : Kind) (old new : Snapshot S) : Type 0 where
@@ -321,15 +327,16 @@ pub record GrowsByOne (old new : List Action) : Type 0 where
   pub is : new ≡ old ++ acts
   pub few : length acts ≤ 1
 
--- One event of this kind, of what is fitted: what happens, why it is refused, how many steps its call takes, what it leaves
--- as it was, the sets among it, and what fits then. The store follows the one before, so no count goes back, and each crash
--- in between is told of.
+-- One event of this kind, of what is fitted: what happens, why it is refused, how many steps its call takes, which pages it
+-- leaves flagged, what it leaves as it was, the sets among it, and what fits then. The store follows the one before, so no
+-- count goes back, and each crash in between is told of.
 pub record EventDoes {S : Type 0} (g : Ghosts S) (start : Entry → Bool) (kind : Kind) (answer : Answer) (old new : Snapshot S) : Type 0 where
   pub always : EventAlways g kind answer (here_at old) (here_at new)
   pub happens : Happens g start kind answer old new
   pub grows : GrowsByOne old.history new.history
   pub caused : IsCaused (where_happening g kind (here_at old) (here_at new)) answer
   pub counts : CountsSteps kind answer (g.state old.store) (g.state new.store) (slot_of old.slots (session_at kind)) (slot_of new.slots (session_at kind))
+  pub flagged : KeepsFlags kind answer (g.state old.store) (g.state new.store) (slot_of old.slots (session_at kind)) (slot_of new.slots (session_at kind))
   pub quiet : LeavesBe g kind old new
   pub durable : IsDurable (g.backing new.store).durable answer
   pub sets : new.sets ≡ old.sets
