@@ -1,150 +1,248 @@
--- What taking the leaf and adding the entry leave of a store.
-use Rattle.std.proofs.Common.{◌≡◌, ◌≢◌, ℕ, zero, suc, ◌<◌, ◌≤◌, Bool, true, false, ◌||◌, nat_le, Option, Some, None, if◌then◌else◌, List, [], ◌∷◌, length, slice_get, refl, sym, ap, subst, ◌∙◌, arith}
-use Rattle.std.proofs.lemmas.Bool.{ltb-true, lt-ltb}
-use Rattle.std.specs.Prelude.{unwrap_or}
-use Rattle.index_model.specs.Actions.{Add, said_of}
+-- An insert that adds its entry to the leaf that it holds.
+use Rattle.std.proofs.Common.{◌≡◌, ◌≢◌, ℕ, zero, suc, ◌<◌, ◌≤◌, Bool, true, false, ◌||◌, ◌==◌, Option, Some, None, Result, Ok, Err, List, [], ◌∷◌, ◌++◌, length, slice_get, refl, sym, ap, subst, inl, inr, ◌∙◌, arith}
+use Rattle.std.proofs.lemmas.Bool.{le-leb, cases_Bool, eq-eqb, lt-leb}
+use Rattle.index_model.specs.Actions.{Add}
 use Rattle.index_model.specs.Faults.{HasCause}
-use Rattle.index_model.specs.Order.{same_entry, is_among}
+use Rattle.index_model.specs.Order.{is_among}
 use Rattle.index_model.specs.declared.entry.Entry.{Entry}
 use Rattle.index_model.specs.declared.fault.Fault.{Fault}
-use Rattle.index_model.specs.declared.fault.Fault.TheVariants.{NoMemory, Io, Stopped, Blocked, Exists, KeyTooLong, BadRow, IndexFull, LogFull, NoFrame, VacuumRunning, NoSession, SessionBusy, BadSuper, BadVersion, LogDamaged, PageDamaged, BadLimits, TooTall, DeviceTooSmall}
-use Rattle.latch_table.specs.Holdings.{Holding, Table, holding_of, nothing_held, latched, pinned, latches_exclude, is_held_by_another}
+use Rattle.index_model.specs.declared.fault.Fault.TheVariants.{Exists}
+use Rattle.latch_table.specs.Holdings.{Holding, Table, HasRoom, has_pin, holding_of, nothing_held, latches_exclude}
 use Rattle.latch_table.specs.declared.mode.Mode.TheVariants.{Shared, Exclusive}
-use Rattle.latch_table.proofs.Tables.{length-latched, length-pinned, holding_of-latched, holding_of-pinned, holding_of-latched_other, holding_of-pinned_other}
-use Rattle.page_codec.specs.Edits.{entries_of, with_entries}
+use Rattle.page_codec.specs.Edits.{entries_of}
+use Rattle.page_codec.specs.Grammar.{IsPage}
 use Rattle.page_codec.specs.declared.page.Page.{Page}
-use Rattle.page_action.specs.Causes.{where_acted, is_at_end, are_frames_pinned}
+use Rattle.page_codec.specs.declared.page.PageState.TheVariants.{Live}
+use Rattle.page_action.specs.Causes.{pinned_blocks, where_read}
 use Rattle.page_action.specs.Contents.{entry_on_live_leaf}
-use Rattle.page_action.specs.States.{State, Backing, with_table, with_pages, after_act}
-use Rattle.tree_shape.specs.Tree.{IsOnlyLeaf, IsBlinkTree}
-use Rattle.descent.specs.Steps.{HoldsAlone, AreApart, IsInOrder, Does}
-use Rattle.descent.proofs.Contents.{contents_of_two, contents_of_tree, leaf_is}
-use Rattle.descent.proofs.Quiet.{does_hold}
-use Rattle.descent.proofs.Tables.{apart_latched, apart_pins, any_excluded}
-use Rattle.insert_split.specs.Inserts.{leaf_held, where_inserting}
-
--- the leaf latched exclusively and pinned
-abbrev held_of : Holding → ℕ → Holding
-held_of was block = record { latches = record { block = block; mode = Exclusive } ∷ was.latches; pins = was.pins }
-
-holds_latch : (table : Table) (session block : ℕ) → session < length table → holding_of table session ≡ nothing_held → holding_of (latched table session block Exclusive) session ≡ held_of nothing_held block
-holds_latch table session block low nothing = holding_of-latched table session block Exclusive low ∙ ap (λ (h : Holding). held_of h block) nothing
-
-pub takes_leaf : (old new : State) (session block : ℕ) → session < 64 → IsInOrder old → holding_of old.table session ≡ nothing_held → is_held_by_another old.table session block Exclusive ≡ false
-    → new ≡ with_table old (pinned (latched old.table session block Exclusive) session block) → Does session None old new × (holding_of new.table session ≡ leaf_held block)
-takes_leaf old new session block low order nothing free is =
-    let many : length old.table ≡ 64 = order.holdings in
-    let below : session < length old.table = omega arith in
-    let mid : Table = latched old.table session block Exclusive in
-    let mid_many : length mid ≡ length old.table = length-latched old.table session block Exclusive in
-    let mid_below : session < length mid = omega arith in
-    let mid_apart : AreApart mid = apart_latched old.table session block Exclusive below order.apart free in
-    let mid_held : holding_of mid session ≡ held_of nothing_held block = holds_latch old.table session block below nothing in
-    let room : length (holding_of mid session).pins < 2 = subst (λ (h : Holding). length h.pins < 2) (sym mid_held) (omega arith) in
-    let end : Table = pinned mid session block in
-    let end_held : holding_of end session ≡ leaf_held block = holding_of-pinned mid session block mid_below room ∙ ap (λ (h : Holding). let k : Holding = record { latches = h.latches; pins = block ∷ h.pins } in k) mid_held in (
-      does_hold session old new end is order
-          (apart_pins mid session _ mid_below mid_apart)
-          (length-pinned mid session block ∙ mid_many ∙ many)
-          (λ other differ. holding_of-pinned_other mid session other block differ ∙ holding_of-latched_other old.table session other block Exclusive differ),
-      ap (λ (st : State). holding_of st.table session) is ∙ end_held,
-    )
+use Rattle.page_action.specs.States.{State, Backing, Continues, after_act}
+use Rattle.page_action.specs.Stored.{AreActable}
+use Rattle.page_action.specs.declared.page_store.PageStore.{Ghosts}
+use Rattle.tree_shape.specs.Walks.{entry_aim, is_within}
+use Rattle.tree_acts.specs.Acts.{EntryIsPut}
+use Rattle.tree_acts.specs.Flags.{FlagsMove}
+use Rattle.tree_acts.specs.Trees.{HasTree, HasPlace, HasCover}
+use Rattle.tree_acts.proofs.Entering.{putting_lasts}
+use Rattle.tree_acts.proofs.Flagging.{putting_flags}
+use Rattle.tree_acts.proofs.Weighed.{putting_weighs}
+use Rattle.tree_acts.proofs.Telling.{live_tells, leaf_tells}
+use Rattle.descent.specs.Shared.{IsInOrder, Does, is_flagged, where_working}
+use Rattle.descent.specs.Steps.{HoldsAlone}
+use Rattle.descent.proofs.Acting.{does_add, one_act}
+use Rattle.descent.proofs.Tables.{any_excluded}
+use Rattle.descent.proofs.Working.{working_later, read_pinned_cause}
+use Rattle.std.specs.Prelude.{IfOk, IfErr, OnErr}
+use Rattle.split_finish.specs.Targets.{OnlyTargetsAreFlagged, is_among_targets}
+use Rattle.insert_split.specs.Inserts.{leaf_held, IsLeafFor, InsertFits, InsertStands, InsertSteps, IsToCome, images_at, frames_at, targets_at, IsLeft, where_inserting}
+use Rattle.insert_split.specs.Straight.{straight_steps}
+use Rattle.insert_split.specs.Turns.{EntryPut, PutsEntry, PlaceRefused}
+use Rattle.insert_split.specs.declared.insert.InsertAt.{InsertAt}
+use Rattle.insert_split.specs.declared.insert.InsertAt.TheVariants.{Holding as Holds}
+use Rattle.insert_split.specs.declared.insert.InsertOp.{InsertOp}
+use Rattle.insert_split.specs.declared.insert.InsertStep.{InsertStep}
+use Rattle.insert_split.specs.declared.insert.InsertStep.TheVariants.{Going, Added}
+use Rattle.insert_split.proofs.Steps.{runs_no_more, refuses}
+use Rattle.insert_split.proofs.Walking.{as_inserting, leaf_items, up_to_within, place_in_use}
 
 true_false : true ≡ false → ⊥
 true_false h = cc
 
--- the leaf with one entry more, written by one act
-module _ (old : State) (session : ℕ) (e : Entry) (page changed : Page) (order : IsInOrder old) (held : holding_of old.table session ≡ leaf_held 1)
-    (found : slice_get old.pages 1 ≡ Some page) (at_one : changed.block ≡ 1) (entries : List Entry) (is : changed ≡ with_entries page entries)
-    (absent : is_among (entries_of page.items) e ≡ false)
-    (among : (x : Entry) → is_among (entries_of changed.items) x ≡ (same_entry e x || is_among (entries_of page.items) x)) where
-  only : IsOnlyLeaf page
-  only = subst IsOnlyLeaf (leaf_is old.pages order.tree page found) order.tree.is_only
+-- what holds of an insert that holds its leaf
+pub leaf_there : (st : State) (op : InsertOp) (block : ℕ) → op.at ≡ Holds block → (fits : InsertFits st op)
+    → (holding_of st.table op.session ≡ leaf_held block) × IsLeafFor st fits.start op.entry block
+leaf_there st op block at_is fits = subst (InsertStands st op.session fits.start op.entry) at_is fits.stands
 
-  old_pages : old.pages ≡ order.tree.meta ∷ page ∷ []
-  old_pages = order.tree.pages_are ∙ ap (λ (p : Page). order.tree.meta ∷ p ∷ []) (leaf_is old.pages order.tree page found)
+pub none_added : (op : InsertOp) (block : ℕ) → op.at ≡ Holds block → IsToCome op.at op.added → op.added ≡ None
+none_added op block at_is h = subst (λ (a : InsertAt). IsToCome a op.added) at_is h
 
-  new_pages : with_pages old.pages (changed ∷ []) ≡ order.tree.meta ∷ changed ∷ []
-  new_pages = rw (old_pages, at_one) refl
+pub no_targets : (op : InsertOp) (block : ℕ) (st : State) → op.at ≡ Holds block → OnlyTargetsAreFlagged st (targets_at op.at) → (b : ℕ) → is_flagged st b ≡ true → ⊥
+no_targets op block st at_is only b flagged =
+    (let k : false ≡ true = subst (λ (a : InsertAt). is_among_targets (targets_at a) b ≡ true) at_is (only b flagged) in true_false (sym k))
 
-  changed_only : IsOnlyLeaf changed
-  changed_only = subst IsOnlyLeaf (sym is) (record { kind = tt; alive = only.alive; whole = only.whole; leftmost = only.leftmost; rightmost = only.rightmost; unbounded = only.unbounded })
+-- the leaf as it was read
+pub same_leaf : (st : State) (start : ℕ) (e : Entry) (block : ℕ) (page : Page) → slice_get st.pages block ≡ Some page → (leaf : IsLeafFor st start e block) → leaf.page ≡ page
+same_leaf st start e block page found leaf = (let k : Some leaf.page ≡ Some page = sym leaf.found ∙ found in cc)
 
-  new_tree : IsBlinkTree (with_pages old.pages (changed ∷ []))
-  new_tree = record { meta = order.tree.meta; leaf = changed; pages_are = new_pages; names_root = order.tree.names_root; is_only = changed_only }
+pub room_held : (st : State) (session block : ℕ) → holding_of st.table session ≡ leaf_held block → HasRoom st.table session
+room_held st session block held = subst (λ (h : Holding). length h.latches < 8) (sym held) (omega arith)
 
-  was : (x : Entry) → entry_on_live_leaf old.pages x ≡ is_among (entries_of page.items) x
-  was x = contents_of_tree old.pages order.tree x ∙ ap (λ (p : Page). is_among (entries_of p.items) x) (leaf_is old.pages order.tree page found)
+or_there : (a b : Bool) → b ≡ true → (a || b) ≡ true
+or_there true b h = refl
+or_there false b h = h
 
-  others_keep : (block : ℕ) → (block ≡ 1 → ⊥) → slice_get (with_pages old.pages (changed ∷ [])) block ≡ slice_get old.pages block
-  others_keep block differ = ap (λ (ps : List Page). slice_get ps block) new_pages ∙ by block differ ∙ sym (ap (λ (ps : List Page). slice_get ps block) old_pages)
-    where
-      by : (b : ℕ) → (b ≡ 1 → ⊥) → slice_get (order.tree.meta ∷ changed ∷ []) b ≡ slice_get (order.tree.meta ∷ page ∷ []) b
-      by zero ne = refl
-      by (suc zero) ne = absurd (ne refl)
-      by (suc (suc b)) ne = refl
+pin_right : (xs ys : List ℕ) (b : ℕ) → has_pin ys b ≡ true → has_pin (xs ++ ys) b ≡ true
+pin_right [] ys b h = h
+pin_right (x ∷ xs) ys b h = or_there (x == b) (has_pin (xs ++ ys) b) (pin_right xs ys b h)
 
-  -- who holds the leaf alone is this session
-  not_the_leaf : (other block : ℕ) → other ≢ session → HoldsAlone old.table other block → block ≡ 1 → ⊥
-  not_the_leaf other block differ alone is_leaf =
-      let mine : HoldsAlone old.table session 1 = subst (λ (h : Holding). latches_exclude h.latches 1 Shared ≡ true) (sym held) refl in
-      let free : latches_exclude (holding_of old.table other).latches 1 Exclusive ≡ false = order.apart session other 1 (λ same. differ (sym same)) mine in
-      let theirs : latches_exclude (holding_of old.table other).latches 1 Exclusive ≡ true = any_excluded (holding_of old.table other).latches 1 Exclusive (subst (λ (b : ℕ). HoldsAlone old.table other b) is_leaf alone) in
-      true_false (sym theirs ∙ free)
+or_here : (a b : Bool) → a ≡ true → (a || b) ≡ true
+or_here true b h = refl
+or_here false b h = absurd cc
 
-  said : (x : Entry) → unwrap_or (said_of (Add e) x) (is_among (entries_of page.items) x) ≡ (same_entry e x || is_among (entries_of page.items) x)
-  said x = by (same_entry e x)
-    where
-      by : (b : Bool) → unwrap_or (if b then Some true else None) (is_among (entries_of page.items) x) ≡ (b || is_among (entries_of page.items) x)
-      by true = refl
-      by false = refl
+or_split : (a b c : Bool) → (b ≡ true → c ≡ true) → (a || b) ≡ true → (a || c) ≡ true
+or_split true b c f h = refl
+or_split false b c f h = f h
 
-  pub adds_entry : (new : State) → new ≡ after_act (changed ∷ []) old → Does session (Some (Add e)) old new
-  adds_entry new new_is = subst (λ (st : State). Does session (Some (Add e)) old st) (sym new_is) (record {
-    changes = record {
-      acts = refl;
-      apt = was e ∙ absent;
-      contents = λ x. ap (λ (ps : List Page). entry_on_live_leaf ps x) new_pages ∙ contents_of_two order.tree.meta changed order.tree.names_root.kind changed_only.alive x
-          ∙ among x ∙ sym (said x) ∙ ap (unwrap_or (said_of (Add e) x)) (sym (was x));
-    };
-    limits = refl;
-    frames = refl;
-    begun = refl;
-    running = refl;
-    order = record { tree = new_tree; apart = order.apart; holdings = order.holdings; calls = order.calls };
-    others = λ other differ. record { held = refl; number = refl; pages = λ block alone. others_keep block (not_the_leaf other block differ alone) };
-  })
+pin_left : (xs ys : List ℕ) (b : ℕ) → has_pin xs b ≡ true → has_pin (xs ++ ys) b ≡ true
+pin_left [] ys b h = absurd cc
+pin_left (x ∷ xs) ys b h = or_split (x == b) (has_pin xs b) (has_pin (xs ++ ys) b) (λ k. pin_left xs ys b k) h
 
-or_right : (a b : Bool) → b ≡ true → (a || b) ≡ true
-or_right true b h = refl
-or_right false b h = h
+same_block : (b : ℕ) → has_pin (b ∷ []) b ≡ true
+same_block b = or_here (b == b) false (eq-eqb b b refl)
 
-or_first : (a b c : Bool) → (a ≡ true → c ≡ true) → (a || b) ≡ true → (c || b) ≡ true
-or_first true b c f h = rw (f refl) refl
-or_first false b c f h = or_right c b h
+-- the leaf that a session holds is pinned
+pub pinned_leaf : (table : Table) (session block : ℕ) → holding_of table session ≡ leaf_held block → has_pin (pinned_blocks table) block ≡ true
+pinned_leaf [] session block held = absurd (none session held)
+  where
+    none : (s : ℕ) → holding_of [] s ≡ leaf_held block → ⊥
+    none s h = (let k : length (nothing_held.pins) ≡ 1 = ap (λ (x : Holding). length x.pins) h in omega arith)
+pinned_leaf (h ∷ table) zero block held = pin_left h.pins (pinned_blocks table) block (subst (λ (x : Holding). has_pin x.pins block ≡ true) (sym held) (same_block block))
+pinned_leaf (h ∷ table) (suc session) block held = pin_right h.pins (pinned_blocks table) block (pinned_leaf table session block held)
 
--- why the act of an insert is refused
-pub acted_cause : (st : State) (first second third : Backing) (session : ℕ) (e : Entry) (page : Page) → first.failures ≤ second.failures → (second.stopped ≡ true → first.stopped ≡ true)
-    → second.promised ≡ first.promised → page.block ≡ 1 → (f : Fault) → HasCause (where_acted st second third (page ∷ [])) f → HasCause (where_inserting st first third session e) f
-acted_cause st first second third session e page le alive promised at_one NoMemory h = absurd cc
-acted_cause st first second third session e page le alive promised at_one Io h =
-    (let k : second.failures < third.failures = ltb-true second.failures third.failures h in lt-ltb first.failures third.failures (omega arith))
-acted_cause st first second third session e page le alive promised at_one Stopped h = or_first second.stopped (is_at_end st.acts) first.stopped alive h
-acted_cause st first second third session e page le alive promised at_one (Blocked b) h = absurd cc
-acted_cause st first second third session e page le alive promised at_one Exists h = absurd cc
-acted_cause st first second third session e page le alive promised at_one KeyTooLong h = h
-acted_cause st first second third session e page le alive promised at_one BadRow h = h
-acted_cause st first second third session e page le alive promised at_one IndexFull h = absurd cc
-acted_cause st first second third session e page le alive promised at_one LogFull h = subst (λ (n : ℕ). nat_le n 1 ≡ true) promised h
-acted_cause st first second third session e page le alive promised at_one NoFrame h =
-    or_right (are_frames_pinned st (0 ∷ [])) (are_frames_pinned st (1 ∷ [])) (subst (λ (b : ℕ). are_frames_pinned st (b ∷ []) ≡ true) at_one h)
-acted_cause st first second third session e page le alive promised at_one VacuumRunning h = absurd cc
-acted_cause st first second third session e page le alive promised at_one NoSession h = absurd cc
-acted_cause st first second third session e page le alive promised at_one SessionBusy h = absurd cc
-acted_cause st first second third session e page le alive promised at_one BadSuper h = h
-acted_cause st first second third session e page le alive promised at_one BadVersion h = h
-acted_cause st first second third session e page le alive promised at_one LogDamaged h = h
-acted_cause st first second third session e page le alive promised at_one (PageDamaged b) h = absurd cc
-acted_cause st first second third session e page le alive promised at_one BadLimits h = h
-acted_cause st first second third session e page le alive promised at_one TooTall h = absurd cc
-acted_cause st first second third session e page le alive promised at_one DeviceTooSmall h = h
+-- the session holds it alone
+pub holds_leaf : (st : State) (session block : ℕ) → holding_of st.table session ≡ leaf_held block → HoldsAlone st.table session block
+holds_leaf st session block held = subst (λ (h : Holding). latches_exclude h.latches block Shared ≡ true) (sym held) (own block)
+  where
+    own : (b : ℕ) → latches_exclude (leaf_held b).latches b Shared ≡ true
+    own b = rw (eq-eqb b b refl) refl
+
+-- no other session holds it
+pub not_the_leaf : (st : State) (session other block : ℕ) → IsInOrder st → holding_of st.table session ≡ leaf_held block → other ≢ session → HoldsAlone st.table other block → ⊥
+not_the_leaf st session other block order held differ alone =
+    let mine : HoldsAlone st.table session block = holds_leaf st session block held in
+    let free : latches_exclude (holding_of st.table other).latches block Exclusive ≡ false = order.apart session other block (λ same. differ (sym same)) mine in
+    true_false (sym (any_excluded (holding_of st.table other).latches block Exclusive alone) ∙ free)
+
+-- how many images and frames a leaf takes that is full, or isn't
+pub full_is : (st : State) (block : ℕ) (page : Page) → slice_get st.pages block ≡ Some page → st.limits.items ≤ length (entries_of page.items) → (images_at st (Holds block) ≡ 3) × (frames_at st (Holds block) ≡ 2)
+full_is st block page found le = (rw (found, le-leb st.limits.items (length (entries_of page.items)) le) refl, rw (found, le-leb st.limits.items (length (entries_of page.items)) le) refl)
+
+pub roomy_is : (st : State) (block : ℕ) (page : Page) → slice_get st.pages block ≡ Some page → length (entries_of page.items) < st.limits.items → (images_at st (Holds block) ≡ 1) × (frames_at st (Holds block) ≡ 0)
+roomy_is st block page found lt = (rw (found, lt-leb st.limits.items (length (entries_of page.items)) lt) refl, rw (found, lt-leb st.limits.items (length (entries_of page.items)) lt) refl)
+
+pub holding_cause : (st : State) (old new : Backing) (op : InsertOp) (block images frames : ℕ) (fault : Fault) → op.at ≡ Holds block → (images_at st (Holds block) ≡ images) × (frames_at st (Holds block) ≡ frames)
+    → HasCause (where_working st old new op.session images frames) fault → HasCause (where_inserting st old new op.session op.entry op.at) fault
+holding_cause st old new op block images frames fault at_is counts h =
+    subst (λ (a : InsertAt). HasCause (where_inserting st old new op.session op.entry a) fault) (sym at_is)
+    (as_inserting st old new op.session op.entry (Holds block) (images_at st (Holds block)) (frames_at st (Holds block)) fault refl
+    (subst (λ (n : ℕ). HasCause (where_working st old new op.session n (frames_at st (Holds block))) fault) (sym counts.0)
+    (subst (λ (n : ℕ). HasCause (where_working st old new op.session images n) fault) (sym counts.1) h)))
+
+-- what the leaf of an entry is, as it was read
+pub covers_there : (st : State) (start : ℕ) (e : Entry) (block : ℕ) (page : Page) → HasTree st → page.block ≡ block → slice_get st.pages block ≡ Some page → (leaf : IsLeafFor st start e block)
+    → HasCover st 0 (entry_aim e) page.block
+covers_there st start e block page tree block_is found leaf =
+    let same = same_leaf st start e block page found leaf in
+    let there : slice_get st.pages page.block ≡ Some page = subst (λ (b : ℕ). slice_get st.pages b ≡ Some page) (sym block_is) found in
+    let place = subst (HasPlace st start 0 (entry_aim e) true) (sym block_is) leaf.place in
+    (live_tells st start 0 (entry_aim e) true page tree there place (subst (λ (p : Page). p.state ≡ Live) same leaf.alive)).covers (subst (λ (p : Page). is_within (entry_aim e) p.high ≡ true) same leaf.within)
+
+-- a step that puts the entry
+pub puts : {S : Type 0} (g : Ghosts S) (op : InsertOp) (old mid new : S) (block : ℕ) (page : Page) (result : Result InsertStep Fault)
+    → Continues g.follows old new → g.state mid ≡ g.state old → (g.backing old).stopped ≡ false → op.at ≡ Holds block → page.block ≡ block
+    → ((g.backing new).honest ≡ true → slice_get (g.state old).pages block ≡ Some page)
+    → (g.backing old).failures ≤ (g.backing mid).failures → ((g.backing mid).stopped ≡ true → (g.backing old).stopped ≡ true) → (g.backing mid).promised ≡ (g.backing old).promised
+    → is_among (entries_of page.items) op.entry ≡ false → length (entries_of page.items) < (g.state old).limits.items
+    → IfOk result (PutsEntry page op.entry (g.state mid) (g.state new)) → OnErr result (g.state new ≡ g.state mid)
+    → (has_pin (pinned_blocks (g.state mid).table) page.block ≡ true → IfErr result (HasCause (where_working (g.state mid) (g.backing mid) (g.backing new) op.session 1 0)))
+    → InsertSteps g op op old new result
+puts g op old mid new block page (Ok Going) steps same alive at_is block_is found le later promised absent room told refused cause = absurd told
+puts g op old mid new block page (Ok (Added action unfinished)) steps same alive at_is block_is found le later promised absent room told refused cause = record {
+  steps = steps;
+  session = refl;
+  entry = refl;
+  kept = one_act st (g.state new) (put.after ∷ []) now;
+  refused = tt;
+  stopped = λ h. runs_no_more (g.backing old).stopped alive h;
+  less = λ honest is. absurd cc;
+  stepped = λ honest order fits.
+      let there = leaf_there st op block at_is fits in
+      let leaf = there.1 in
+      let same_page = same_leaf st fits.start op.entry block page (found honest) leaf in
+      let at_page : slice_get st.pages page.block ≡ Some page = subst (λ (b : ℕ). slice_get st.pages b ≡ Some page) (sym block_is) (found honest) in
+      let live : page.state ≡ Live = subst (λ (p : Page). p.state ≡ Live) same_page leaf.alive in
+      let is_put : EntryIsPut st fits.start op.entry page put.after = record {
+        found = at_page;
+        alive = live;
+        leaf = subst (λ (p : Page). p.level ≡ 0) same_page leaf.leaf;
+        place = subst (HasPlace st fits.start 0 (entry_aim op.entry) true) (sym block_is) leaf.place;
+        within = subst (λ (p : Page). is_within (entry_aim op.entry) p.high ≡ true) same_page leaf.within;
+        put = put.put;
+        after_is = put.node_is;
+        block_is = put.block_is;
+        may = subst (λ (s : State). AreActable s.limits (length s.pages) (put.after ∷ [])) same put.may;
+      } in
+      let lasts = putting_lasts st fits.start op.entry page put.after order.tree is_put in
+      let moves = putting_flags st fits.start op.entry page put.after order.tree is_put in
+      let weighs = putting_weighs st fits.start op.entry page put.after order.tree is_put in
+      let was : entry_on_live_leaf st.pages op.entry ≡ false = leaf_tells st op.entry page order.tree at_page (covers_there st fits.start op.entry block page order.tree block_is (found honest) leaf) ∙ absent in
+      record {
+        effect = Some (Add op.entry);
+        does = subst (λ (s : State). Does op.session (Some (Add op.entry)) st s) (sym now)
+            (does_add st op.session op.entry (put.after ∷ []) st.table order is_put.may lasts.0 lasts.1 was
+            (record { raised = None; leaf = tt; moves = moves; most = omega (arith, weighs) })
+            (λ other b differ alone. ((λ is_b. not_the_leaf st op.session other block order there.0 differ (subst (HoldsAlone st.table other) (sym is_b ∙ put.block_is ∙ block_is) alone)), tt))
+            order.apart order.holdings (λ other differ. refl));
+        noted = (refl, none_added op block at_is fits.to_come, ap Some (put.number ∙ ap (λ (s : State). suc s.acts) same));
+        left = subst (λ (u : Option Fault). IsLeft st (g.backing old) (g.state new) (g.backing new) op (Some (Add op.entry)) u) (sym told.0)
+            (λ only b. whole only moves b);
+      };
+  straight = λ honest order fits whole_pages on room. (subst (λ (a : InsertAt). straight_steps st.pages a ≡ 1) (sym at_is) refl, told.0);
+}
+  where
+    st : State
+    st = g.state old
+
+    put : EntryPut page op.entry (g.state mid) (g.state new) action
+    put = told.1
+
+    now : g.state new ≡ after_act (put.after ∷ []) st
+    now = put.state ∙ ap (after_act (put.after ∷ [])) same
+
+    whole : OnlyTargetsAreFlagged st (targets_at op.at) → FlagsMove None None st (after_act (put.after ∷ []) st) → (b : ℕ) → is_flagged (g.state new) b ≡ false
+    whole only moves b =
+        elim (cases_Bool (is_flagged st b)) [
+          | inl flagged ↦ absurd (no_targets op block st at_is only b flagged)
+          | inr clear ↦ ap (λ (s : State). is_flagged s b) now ∙ moves b ∙ clear
+        ]
+puts g op old mid new block page (Err fault) steps same alive at_is block_is found le later promised absent room told refused cause =
+    refuses g op old new fault steps (refused ∙ same) alive
+    (λ honest order fits.
+    let there = leaf_there st op block at_is fits in
+    let pin : has_pin (pinned_blocks (g.state mid).table) page.block ≡ true =
+    subst (λ (s : State). has_pin (pinned_blocks s.table) page.block ≡ true) (sym same) (subst (λ (b : ℕ). has_pin (pinned_blocks st.table) b ≡ true) (sym block_is) (pinned_leaf st.table op.session block there.0)) in
+    holding_cause st (g.backing old) (g.backing new) op block 1 0 fault at_is (roomy_is st block page (found honest) room)
+    (working_later st (g.backing old) (g.backing mid) (g.backing new) op.session 1 0 fault le later promised
+    (subst (λ (s : State). HasCause (where_working s (g.backing mid) (g.backing new) op.session 1 0) fault) same (cause pin))))
+  where
+    st : State
+    st = g.state old
+
+-- why the leaf isn't read
+pub reads_leaf : (st : State) (old new : Backing) (op : InsertOp) (block : ℕ) (fault : Fault) → new.honest ≡ true → IsInOrder st → op.at ≡ Holds block → InsertFits st op
+    → HasCause (where_read st old new block) fault → HasCause (where_inserting st old new op.session op.entry op.at) fault
+reads_leaf st old new op block fault honest order at_is fits h =
+    let there = leaf_there st op block at_is fits in
+    let used = place_in_use st order.tree fits.start 0 (entry_aim op.entry) true block there.1.place in
+    holding_cause st old new op block (images_at st (Holds block)) (frames_at st (Holds block)) fault at_is (refl, refl)
+    (read_pinned_cause st old new op.session (images_at st (Holds block)) (frames_at st (Holds block)) block fault honest used.1 (pinned_leaf st.table op.session block there.0) h)
+
+-- why the leaf gives no place: the entry is there
+pub no_place : (st : State) (old new : Backing) (op : InsertOp) (block : ℕ) (page : Page) (fault : Fault) → IsInOrder st → op.at ≡ Holds block → InsertFits st op
+    → slice_get st.pages block ≡ Some page → page.block ≡ block → IsPage page → PlaceRefused page op.entry fault → HasCause (where_inserting st old new op.session op.entry op.at) fault
+no_place st old new op block page fault order at_is fits found block_is admitted (inl damaged) =
+    let there = leaf_there st op block at_is fits in
+    let leaf = there.1 in
+    let same_page = same_leaf st fits.start op.entry block page found leaf in
+    let used = place_in_use st order.tree fits.start 0 (entry_aim op.entry) true block leaf.place in
+    absurd (damaged.1 (record {
+      leaf = leaf_items page admitted (subst (λ (p : Page). p.level ≡ 0) same_page leaf.leaf) (subst (λ (b : ℕ). 0 < b) (sym block_is) used.0);
+      alive = subst (λ (p : Page). p.state ≡ Live) same_page leaf.alive;
+      whole = subst (λ (p : Page). p.split ≡ false) same_page leaf.whole;
+      within = up_to_within page.high op.entry (subst (λ (p : Page). is_within (entry_aim op.entry) p.high ≡ true) same_page leaf.within);
+    }))
+no_place st old new op block page fault order at_is fits found block_is admitted (inr exists) =
+    let there = leaf_there st op block at_is fits in
+    let at_page : slice_get st.pages page.block ≡ Some page = subst (λ (b : ℕ). slice_get st.pages b ≡ Some page) (sym block_is) found in
+    let is_there : entry_on_live_leaf st.pages op.entry ≡ true = leaf_tells st op.entry page order.tree at_page (covers_there st fits.start op.entry block page order.tree block_is found there.1) ∙ exists.1 in
+    subst (HasCause (where_inserting st old new op.session op.entry op.at)) (sym exists.0)
+    (subst (λ (a : InsertAt). HasCause (where_inserting st old new op.session op.entry a) Exists) (sym at_is) is_there)

@@ -1,1 +1,11 @@
+pub mod Left
+pub mod Steps
+pub mod Ways
+pub mod Walking
+pub mod Meeting
+pub mod Taking
+pub mod Halving
 pub mod Adding
+pub mod Splitting
+pub mod Ending
+pub mod Lasting

@@ -1,126 +1,192 @@
 -- What an insert knows between its steps, and what a step of it does.
-use Rattle.std.specs.Prelude.{◌≡◌, ◌⊎◌, ℕ, suc, ◌<◌, ◌≤◌, ◌||◌, nat_le, Bool, true, false, Option, Some, None, Result, Ok, Err, OnErr, [], ◌∷◌, length, slice_get}
-use Rattle.index_model.specs.Actions.{Add}
+use Rattle.std.specs.Prelude.{◌≡◌, ℕ, suc, ◌+◌, ◌*◌, ◌<◌, nat_le, if◌then◌else◌, Bool, true, false, Option, Some, None, Result, Ok, Err, OnErr, List, [], ◌∷◌, length, slice_get}
+use Rattle.index_model.specs.Actions.{Effect, Add, Remove, Shape}
 use Rattle.index_model.specs.Faults.{Circumstances, HasCause}
 use Rattle.index_model.specs.declared.entry.Entry.{Entry}
 use Rattle.index_model.specs.declared.fault.Fault.{Fault}
-use Rattle.index_model.specs.declared.fault.Fault.TheVariants.{Stopped, Exists, IndexFull, PageDamaged}
-use Rattle.index_model.specs.Order.{is_among}
-use Rattle.tree_shape.specs.Leaf.{MayHold}
-use Rattle.latch_table.specs.Holdings.{Holding, holding_of, nothing_held, is_held_by_another}
-use Rattle.latch_table.specs.declared.mode.Mode.TheVariants.{Shared, Exclusive}
+use Rattle.index_model.specs.declared.fault.Fault.TheVariants.{Stopped}
+use Rattle.latch_table.specs.Holdings.{Holding, holding_of, nothing_held}
+use Rattle.latch_table.specs.declared.mode.Mode.TheVariants.{Exclusive}
 use Rattle.page_codec.specs.Edits.{entries_of}
 use Rattle.page_codec.specs.declared.page.Page.{Page}
-use Rattle.page_action.specs.Causes.{nothing_wrong, has_failed, is_at_end, are_frames_pinned}
+use Rattle.page_codec.specs.declared.page.PageState.TheVariants.{Live}
 use Rattle.page_action.specs.Contents.{entry_on_live_leaf}
-use Rattle.page_action.specs.States.{State, Backing, Continues, with_table}
+use Rattle.page_action.specs.States.{State, Backing, Continues}
 use Rattle.page_action.specs.declared.page_store.PageStore.{Ghosts}
-use Rattle.descent.specs.Steps.{IsInOrder, Does}
+use Rattle.tree_shape.specs.Walks.{entry_aim, is_within}
+use Rattle.tree_acts.specs.Trees.{HasPlace}
+use Rattle.tree_acts.specs.Ways.{AreWhole}
+use Rattle.descent.specs.Onward.{IsOnWay}
+use Rattle.descent.specs.Shared.{IsInOrder, Does, IsOneStep, is_flagged, where_working}
+use Rattle.split_finish.specs.Finishes.{images_of, frames_of}
+use Rattle.split_finish.specs.Targets.{targets_of, OnlyTargetsAreFlagged, FinishFits, finish_left, walk_length, way_left}
+use Rattle.split_finish.specs.declared.finish.Target.{Target}
+use Rattle.insert_split.specs.Straight.{IsStraight, HasRoomFor, CountsDown}
 use Rattle.insert_split.specs.declared.insert.InsertAt.{InsertAt}
-use Rattle.insert_split.specs.declared.insert.InsertAt.TheVariants.{Start, At, Holding as Holds}
+use Rattle.insert_split.specs.declared.insert.InsertAt.TheVariants.{Start, At, Holding as Holds, Finishing}
 use Rattle.insert_split.specs.declared.insert.InsertOp.{InsertOp}
 use Rattle.insert_split.specs.declared.insert.InsertStep.{InsertStep}
 use Rattle.insert_split.specs.declared.insert.InsertStep.TheVariants.{Going, Added}
 
 -- the leaf latched, and pinned
 abbrev pub leaf_held : ℕ → Holding
-leaf_held block = record { latches = record { block = block; mode = Exclusive } ∷ []; pins = block ∷ [] }
+leaf_held block = record {
+  latches = record { block = block; mode = Exclusive } ∷ [];
+  pins = block ∷ [];
+}
 
--- what it holds, and that its page number leads to the leaf: in a tree of one leaf, page 1
-abbrev pub InsertStands : State → ℕ → InsertAt → Type 0
-InsertStands st session Start = holding_of st.table session ≡ nothing_held
-InsertStands st session (At block) = (holding_of st.table session ≡ nothing_held) × (block ≡ 1)
-InsertStands st session (Holds block) = (holding_of st.table session ≡ leaf_held block) × (block ≡ 1)
+-- the block is the live leaf that covers the entry, not flagged nor right behind a flagged one
+pub record IsLeafFor (st : State) (start : ℕ) (e : Entry) (block : ℕ) : Type 0 where
+  pub page : Page
+  pub found : slice_get st.pages block ≡ Some page
+  pub alive : page.state ≡ Live
+  pub leaf : page.level ≡ 0
+  pub whole : page.split ≡ false
+  pub place : HasPlace st start 0 (entry_aim e) true block
+  pub within : is_within (entry_aim e) page.high ≡ true
+
+-- what it holds, and where it stands: before its first step, on its way to its leaf, with its leaf, or with splits to finish
+abbrev pub InsertStands : State → ℕ → ℕ → Entry → InsertAt → Type 0
+InsertStands st session start e Start = holding_of st.table session ≡ nothing_held
+InsertStands st session start e (At way) =
+    (holding_of st.table session ≡ nothing_held) × IsOnWay st start (entry_aim e) true 0 way
+InsertStands st session start e (Holds block) =
+    (holding_of st.table session ≡ leaf_held block) × IsLeafFor st start e block
+InsertStands st session start e (Finishing op) = (op.session ≡ session) × FinishFits st op
+
+-- the entry isn't logged before its leaf is found
+abbrev pub IsToCome : InsertAt → Option ℕ → Type 0
+IsToCome Start added = added ≡ None
+IsToCome (At way) added = added ≡ None
+IsToCome (Holds block) added = added ≡ None
+IsToCome (Finishing op) added = Unit {0}
 
 -- what an insert knows between its steps
 pub record InsertFits (st : State) (op : InsertOp) : Type 0 where
   pub session : op.session < 64
-  pub stands : InsertStands st op.session op.at
+  pub start : ℕ
+  pub running : slice_get st.running op.session ≡ Some (Some start)
+  pub stands : InsertStands st op.session start op.entry op.at
+  pub to_come : IsToCome op.at op.added
+
+-- the pages whose splits the insert is to finish
+abbrev pub targets_at : InsertAt → List Target
+targets_at Start = []
+targets_at (At way) = []
+targets_at (Holds block) = []
+targets_at (Finishing op) = targets_of op
+
+-- what is left to do, in steps, while the pages are as they are and there are at most so many
+abbrev pub insert_left : ℕ → List Page → InsertAt → ℕ
+insert_left most pages Start = 33 * suc (walk_length most) + walk_length most
+insert_left most pages (At way) = 33 * suc (walk_length most) + way_left most way
+insert_left most pages (Holds block) = 33 * suc (walk_length most)
+insert_left most pages (Finishing op) = finish_left most pages op
 
 -- the leaf has no room for one more entry
 abbrev pub is_full_page : ℕ → Option Page → Bool
 is_full_page items None = false
 is_full_page items (Some page) = nat_le items (length (entries_of page.items))
 
--- how many more steps may answer `Going`, at most
-abbrev pub steps_left : InsertAt → ℕ
-steps_left Start = 2
-steps_left (At block) = 1
-steps_left (Holds block) = 0
+-- how many images the act of a step has, at most
+abbrev pub images_at : State → InsertAt → ℕ
+images_at st Start = 0
+images_at st (At way) = 0
+images_at st (Holds block) =
+    if is_full_page st.limits.items (slice_get st.pages block) then 3 else 1
+images_at st (Finishing op) = images_of op.at
 
--- a step that answers `Going` leaves fewer, whatever the pages are
-abbrev pub LeavesFewer : InsertAt → InsertAt → Result InsertStep Fault → Type 0
-LeavesFewer before after (Ok Going) = steps_left after < steps_left before
-LeavesFewer before after (Ok (Added action unfinished)) = Unit {0}
-LeavesFewer before after (Err fault) = Unit {0}
+-- ... and how many frames it needs, beside that of the leaf that it has pinned
+abbrev pub frames_at : State → InsertAt → ℕ
+frames_at st Start = 1
+frames_at st (At way) = 1
+frames_at st (Holds block) =
+    if is_full_page st.limits.items (slice_get st.pages block) then 2 else 0
+frames_at st (Finishing op) = frames_of op.at
 
 -- why a step of an insert is refused, on pages that are a tree and a device that keeps its model
-abbrev pub where_inserting : State → Backing → Backing → ℕ → Entry → Circumstances
-where_inserting st old new session e = record nothing_wrong {
-  device_failed = has_failed old new;
-  is_stopped = old.stopped || is_at_end st.acts;
-  is_held_by_another = λ b. is_held_by_another st.table session b Shared || is_held_by_another st.table session b Exclusive;
-  entry_was_there = entry_on_live_leaf st.pages e;
-  no_block_is_free = is_full_page st.limits.items (slice_get st.pages 1);
-  log_is_full = nat_le old.promised 1;
-  frames_are_pinned = are_frames_pinned st (0 ∷ []) || are_frames_pinned st (1 ∷ []);
-}
+abbrev pub where_inserting : State → Backing → Backing → ℕ → Entry → InsertAt → Circumstances
+where_inserting st old new session e at =
+    record (where_working st old new session (images_at st at) (frames_at st at)) {
+      entry_was_there = entry_on_live_leaf st.pages e;
+    }
 
--- why a page gives no place for an entry
-abbrev pub PlaceRefused : Page → Entry → ℕ → Fault → Type 0
-PlaceRefused page e most fault =
-    ((fault ≡ PageDamaged page.block) × (MayHold page e → ⊥))
-    ⊎ (((fault ≡ Exists) × (is_among (entries_of page.items) e ≡ true))
-    ⊎ ((fault ≡ IndexFull) × (most ≤ length (entries_of page.items))))
+-- what the insert notes of a step: the number of the action that adds its entry
+abbrev pub IsNoted : Option Effect → ℕ → Entry → Option ℕ → Option ℕ → Type 0
+IsNoted None acts e before after = after ≡ before
+IsNoted (Some (Add x)) acts e before after =
+    (x ≡ e) × (before ≡ None) × (after ≡ Some (suc acts))
+IsNoted (Some (Remove es)) acts e before after = ⊥
+IsNoted (Some Shape) acts e before after = after ≡ before
 
--- the step is the next on its way: the metapage, the leaf, its latch
-abbrev pub IsNextAt : InsertAt → InsertAt → Type 0
-IsNextAt Start after = after ≡ At 1
-IsNextAt (At block) after = after ≡ Holds block
-IsNextAt (Holds block) after = ⊥
-
--- it holds its leaf
-abbrev pub IsHolding : InsertAt → Type 0
-IsHolding Start = ⊥
-IsHolding (At block) = ⊥
-IsHolding (Holds block) = Unit {0}
-
--- a step that goes on has no action yet, on one leaf
+-- a step that goes on: where only pages were flagged whose splits it was to finish, only such are
 pub record InsertGoesOn (old new : State) (before after : InsertOp) : Type 0 where
-  pub does : Does before.session None old new
+  pub effect : Option Effect
+  pub does : Does before.session effect old new
+  pub noted : IsNoted effect old.acts before.entry before.added after.added
   pub fits : InsertFits new after
-  pub next : IsNextAt before.at after.at
+  pub flags : OnlyTargetsAreFlagged old (targets_at before.at)
+      → OnlyTargetsAreFlagged new (targets_at after.at)
 
--- the last step adds the entry, by the action of this number, and leaves no split unfinished
-pub record InsertAdds (old new : State) (before : InsertOp) (action : ℕ) (unfinished : Option Fault) : Type 0 where
-  pub does : Does before.session (Some (Add before.entry)) old new
-  pub number : action ≡ suc old.acts
-  pub finished : unfinished ≡ None
-  pub held : IsHolding before.at
+-- what the end of an insert leaves unfinished: nothing, and then no page is flagged if only those were that it was to finish;
+-- or a fault, which has its cause
+abbrev pub IsLeft : State → Backing → State → Backing → InsertOp → Option Effect → Option Fault
+    → Type 0
+IsLeft old old_backing new new_backing before effect None =
+    OnlyTargetsAreFlagged old (targets_at before.at)
+    → (block : ℕ) → is_flagged new block ≡ false
+IsLeft old old_backing new new_backing before effect (Some fault) = (effect ≡ None)
+    × HasCause (where_inserting old old_backing new_backing before.session before.entry before.at)
+    fault
+
+-- the last step of an insert whose entry is logged, by the action of this number
+pub record InsertEnds (old : State) (old_backing : Backing) (new : State) (new_backing : Backing)
+    (before : InsertOp) (action : ℕ) (unfinished : Option Fault) : Type 0 where
+  pub effect : Option Effect
+  pub does : Does before.session effect old new
+  pub noted : IsNoted effect old.acts before.entry before.added (Some action)
+  pub left : IsLeft old old_backing new new_backing before effect unfinished
 
 -- what a step of an insert does, by what it answers
-abbrev pub InsertStepped : State → Backing → State → Backing → InsertOp → InsertOp → Result InsertStep Fault → Type 0
-InsertStepped old old_backing new new_backing before after (Ok Going) = InsertGoesOn old new before after
-InsertStepped old old_backing new new_backing before after (Ok (Added action unfinished)) = InsertAdds old new before action unfinished
-InsertStepped old old_backing new new_backing before after (Err fault) =
-    HasCause (where_inserting old old_backing new_backing before.session before.entry) fault
+abbrev pub InsertStepped : State → Backing → State → Backing → InsertOp → InsertOp
+    → Result InsertStep Fault → Type 0
+InsertStepped old old_backing new new_backing before after (Ok Going) =
+    InsertGoesOn old new before after
+InsertStepped old old_backing new new_backing before after (Ok (Added action unfinished)) =
+    InsertEnds old old_backing new new_backing before action unfinished
+InsertStepped old old_backing new new_backing before after (Err fault) = HasCause
+    (where_inserting old old_backing new_backing before.session before.entry before.at) fault
 
 -- a refused step changes neither the pages, nor who holds what, nor the call
 pub record InsertStays (old new : State) (before after : InsertOp) : Type 0 where
   pub state : new ≡ old
   pub op : after ≡ before
 
--- A step of an insert. On any pages: a refused one changes nothing, a stopped log refuses it, and one that goes on leaves
--- fewer steps, and nothing but latches and pins changed. On pages in order, over a device that keeps its model: what it
--- does, and why it is refused.
-pub record InsertSteps {S : Type 0} (g : Ghosts S) (before after : InsertOp) (old new : S) (result : Result InsertStep Fault) : Type 0 where
+-- on a stopped log a step is refused; where the entry is logged, the insert ends with that
+abbrev pub AnswersStopped : Option ℕ → Result InsertStep Fault → Type 0
+AnswersStopped None result = result ≡ Err Stopped
+AnswersStopped (Some action) result = result ≡ Ok (Added action (Some Stopped))
+
+-- A step of an insert. On any pages: it does one act at most, a refused one changes nothing, and a stopped log refuses it.
+-- On any pages, over a device that keeps its model: one that goes on without an act leaves less to do. On pages in order:
+-- what it does, and why it is refused.
+pub record InsertSteps {S : Type 0} (g : Ghosts S) (before after : InsertOp) (old new : S)
+    (result : Result InsertStep Fault) : Type 0 where
   pub steps : Continues g.follows old new
   pub session : after.session ≡ before.session
   pub entry : after.entry ≡ before.entry
+  pub kept : IsOneStep (g.state old) (g.state new)
   pub refused : OnErr result (InsertStays (g.state old) (g.state new) before after)
-  pub stopped : (g.backing old).stopped ≡ true → result ≡ Err Stopped
-  pub quiet : result ≡ Ok Going → g.state new ≡ with_table (g.state old) (g.state new).table
-  pub fewer : LeavesFewer before.at after.at result
-  pub no_more : steps_left after.at ≤ steps_left before.at
-  pub stepped : (g.backing new).honest ≡ true → IsInOrder (g.state old) → InsertFits (g.state old) before
+  pub stopped : (g.backing old).stopped ≡ true → AnswersStopped before.added result
+  pub less : (g.backing new).honest ≡ true → result ≡ Ok Going
+      → (g.state new).acts ≡ (g.state old).acts
+      → insert_left (g.state new).limits.pages (g.state new).pages after.at
+      < insert_left (g.state old).limits.pages (g.state old).pages before.at
+  pub stepped : (g.backing new).honest ≡ true → IsInOrder (g.state old)
+      → InsertFits (g.state old) before
       → InsertStepped (g.state old) (g.backing old) (g.state new) (g.backing new) before after result
+  -- where no page is flagged and its leaf has room, each step is one nearer to the last
+  pub straight : (g.backing new).honest ≡ true → IsInOrder (g.state old)
+      → InsertFits (g.state old) before → AreWhole (g.state old).pages
+      → IsStraight (g.state old) before.entry before.at → HasRoomFor (g.state old) before.entry
+      → CountsDown (g.state old) (g.state new) before after result

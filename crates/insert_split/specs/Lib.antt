@@ -1,1 +1,4 @@
+pub mod Straight
 pub mod Inserts
+pub mod Turns
+pub mod Laws

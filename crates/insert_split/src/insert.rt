@@ -1,38 +1,41 @@
-//! The steps of an insert. Until leaves split, an index is one leaf, and an insert into a full leaf is refused with
-//! `IndexFull`.
+//! An insert, and which step it makes next.
 
-ghost use Rattle.std.specs.Prelude.{◌≡◌, ◌<◌, ◌≤◌, true, false, length, IfOk, IfErr, OnOk, OnErr};
-ghost use Rattle.index_model.specs.Order.{is_among};
-ghost use Rattle.page_codec.specs.Edits.{entries_of};
-ghost use Rattle.page_codec.specs.Grammar.{IsPage};
-ghost use Rattle.tree_shape.specs.Leaf.{IsPlaceOf, MayHold};
-ghost use Rattle.insert_split.specs.Inserts.{InsertSteps, PlaceRefused};
+ghost use Rattle.std.specs.Prelude.{◌≡◌, Err, Ok, Some, None, IfSome, IfNone, IfOk, OnOk, OnErr, true, false};
+ghost use Rattle.latch_table.specs.Holdings.{HasRoom, latched, pinned};
+ghost use Rattle.page_action.specs.States.{Continues, with_table};
+ghost use Rattle.insert_split.specs.Inserts.{IsToCome, InsertSteps, AnswersStopped};
+ghost use Rattle.insert_split.specs.Turns.{Meets, Takes, IsFinishing, GoesOn, Leaves, IsRefusedRightly};
 
-use descent::{look, root};
+use crate::room::place_in;
+use descent::{Onward, Way, lead, look, way_down};
 use index_model::{Entry, Fault, Session};
 use latch_table::Mode;
 use page_action::PageStore;
-use page_codec::{Items, Page};
-use std::slice;
-use tree_shape::{find, may_hold, put};
+use page_codec::{Page, PageState};
+use split_finish::{FinishOp, FinishStep, Target};
+use tree_shape::{Aim, entries_on, may_hold};
 
 /// Where an insert is between its steps.
-#[derive(Clone, Copy)]
+#[derive(Drop)]
 pub enum InsertAt {
     /// Before its first step.
     Start,
-    /// The next step reads this page.
-    At(u32),
+    /// On its way to the leaf of its entry.
+    At(Way),
     /// It holds this leaf latched, and pinned.
     Holding(u32),
+    /// It finishes splits: its own, behind which it is over, or one that it met, behind which it starts again.
+    Finishing(FinishOp),
 }
 
 /// An insert of one session.
-#[derive(Clone, Copy)]
+#[derive(Drop)]
 pub struct InsertOp {
     pub session: Session,
     pub entry: Entry,
     pub at: InsertAt,
+    /// The number of the action that added the entry.
+    pub added: Option<u64>,
 }
 
 /// What a step of an insert answers.
@@ -50,99 +53,230 @@ pub enum InsertStep {
 impl InsertOp {
     /// An insert of the entry before its first step.
     pub fn new(session: Session, entry: Entry) -> InsertOp
-        ensures { result ≡ record { session = session; entry = entry; at = InsertAt.Start } }
+        ensures { result ≡ record {
+          session = session;
+          entry = entry;
+          at = InsertAt.Start;
+          added = None;
+        } }
     {
         InsertOp {
             session,
             entry,
             at: InsertAt::Start,
+            added: None,
         }
     }
 
     /// Makes one step. After `Added` and after each fault but `Blocked` the call is over, and its store's `end` is due.
     ///
-    /// Refused with `Blocked`, and the same step may be made again; with `Exists` where the entry is there; with
-    /// `IndexFull` where its leaf is full; with `Io`, `Stopped`, `LogFull`, `NoFrame`; with `PageDamaged` on pages that
-    /// are no tree. A refused step changes nothing.
+    /// Refused with `Blocked` (4), and the same step may be made again; with `Exists` (5) where the entry is there; with
+    /// `IndexFull` (8) where a page would be split and no block is free; with `Io` (2), `Stopped` (3), `LogFull` (9),
+    /// `NoFrame` (10); with `TooTall` (19) where a split that it meets would be one of a root on level 31; with `PageDamaged`
+    /// (17) on pages that are no tree. A refused step changes nothing. Once the entry is logged, each of these but `Blocked`
+    /// stands in `unfinished` of `Added`.
     pub fn step<S: PageStore>(&mut self, store: &mut S) -> Result<InsertStep, Fault>
-        ensures { InsertSteps S.PageStore self.old self.new store.old store.new result }
+        ensures all { InsertSteps S.PageStore self.old self.new store.old store.new result }
+        ensures logged { IsToCome self.old.at self.old.added
+            → IsRefusedRightly self.old.added result }
     {
+        if store.is_stopped() {
+            return self.stop();
+        }
         match self.at {
             InsertAt::Start => self.find_root(store),
-            InsertAt::At(block) => self.take(store, block),
+            InsertAt::At(way) => self.walk(store, way),
             InsertAt::Holding(block) => self.add(store, block),
+            InsertAt::Finishing(_) => self.finish(store),
+        }
+    }
+
+    // What is answered on a stopped log.
+    fn stop(&self) -> Result<InsertStep, Fault>
+        ensures { AnswersStopped self.now.added result }
+    {
+        match self.added {
+            Some(action) => Ok(InsertStep::Added {
+                action,
+                unfinished: Some(Fault::Stopped),
+            }),
+            None => Err(Fault::Stopped),
         }
     }
 
     // The first step: reads the metapage.
     fn find_root<S: PageStore>(&mut self, store: &mut S) -> Result<InsertStep, Fault>
-        requires { self.old.at ≡ InsertAt.Start }
+        requires at { self.old.at ≡ InsertAt.Start }
+        requires alive { (S.backing store.old).stopped ≡ false }
         ensures { InsertSteps S.PageStore self.old self.new store.old store.new result }
     {
-        let block = root(store, self.session)?;
-        self.at = InsertAt::At(block);
+        let meta = match look(store, self.session, 0) {
+            Ok(meta) => meta,
+            Err(fault) => return Err(fault),
+        };
+        let Some(way) = way_down(&meta) else {
+            return Err(Fault::PageDamaged(0));
+        };
+        self.at = InsertAt::At(way);
         Ok(InsertStep::Going)
     }
 
-    // Reads the leaf, latches it exclusively and pins it.
-    fn take<S: PageStore>(&mut self, store: &mut S, block: u32) -> Result<InsertStep, Fault>
-        requires { self.old.at ≡ InsertAt.At block }
+    // Reads a page on its way.
+    fn walk<S: PageStore>(&mut self, store: &mut S, way: Way) -> Result<InsertStep, Fault>
+        requires at { self.old.at ≡ InsertAt.At way }
+        requires alive { (S.backing store.old).stopped ≡ false }
         ensures { InsertSteps S.PageStore self.old self.new store.old store.new result }
     {
-        let page = look(store, self.session, block)?;
-        if !may_hold(&page, &self.entry) {
-            return Err(Fault::PageDamaged(block));
+        let page = match look(store, self.session, way.block) {
+            Ok(page) => page,
+            Err(fault) => return Err(fault),
+        };
+        if is_unfinished(&page) {
+            return self.meet(&page, way);
         }
-        store.latch(self.session, block, Mode::Exclusive)?;
-        store.pin(self.session, block);
-        self.at = InsertAt::Holding(block);
-        Ok(InsertStep::Going)
+        let aim = Aim::Below(self.entry.bound());
+        match lead(&page, &way, &aim, 0, store.limits().pages) {
+            Some(Onward::Going(on)) => {
+                self.at = InsertAt::At(on);
+                Ok(InsertStep::Going)
+            }
+            Some(Onward::Here) => self.take(store, &page),
+            None => Err(Fault::PageDamaged(way.block)),
+        }
+    }
+
+    // Finishes the split of a page that it met on its way.
+    fn meet(&mut self, page: &Page, way: Way) -> Result<InsertStep, Fault>
+        ensures { Meets page.now way self.old self.new result }
+    {
+        match target_of(page, way) {
+            Some(target) => {
+                self.at = InsertAt::Finishing(FinishOp::new(self.session, target));
+                Ok(InsertStep::Going)
+            }
+            None => Err(Fault::PageDamaged(way.block)),
+        }
+    }
+
+    // Latches its leaf exclusively, and pins it.
+    fn take<S: PageStore>(&mut self, store: &mut S, page: &Page) -> Result<InsertStep, Fault>
+        ensures steps { Continues S.follows store.old store.new }
+        ensures backing { S.backing store.new ≡ S.backing store.old }
+        ensures takes { HasRoom (S.state store.old).table self.old.session
+            → Takes page.now self.old self.new (S.state store.old) (S.state store.new) result }
+        ensures going { IfOk result (λ step. step ≡ InsertStep.Going) }
+        ensures taken { OnOk result ((S.state store.new ≡ with_table (S.state store.old)
+            (pinned (latched (S.state store.old).table self.old.session page.now.block Mode.Exclusive)
+            self.old.session page.now.block))
+            × (self.new ≡ record self.old { at = InsertAt.Holding page.now.block })) }
+        ensures state { OnErr result (S.state store.new ≡ S.state store.old) }
+        ensures op { OnErr result (self.new ≡ self.old) }
+    {
+        if !may_hold(page, &self.entry) {
+            return Err(Fault::PageDamaged(page.block));
+        }
+        match store.latch(self.session, page.block, Mode::Exclusive) {
+            Ok(()) => {
+                store.pin(self.session, page.block);
+                self.at = InsertAt::Holding(page.block);
+                Ok(InsertStep::Going)
+            }
+            Err(fault) => Err(fault),
+        }
     }
 
     // Puts the entry into the leaf that it holds.
     fn add<S: PageStore>(&mut self, store: &mut S, block: u32) -> Result<InsertStep, Fault>
-        requires { self.old.at ≡ InsertAt.Holding block }
+        requires at { self.old.at ≡ InsertAt.Holding block }
+        requires alive { (S.backing store.old).stopped ≡ false }
         ensures { InsertSteps S.PageStore self.old self.new store.old store.new result }
     {
-        if store.is_stopped() {
-            return Err(Fault::Stopped);
+        let page = match store.page(block) {
+            Ok(page) => page,
+            Err(fault) => return Err(fault),
+        };
+        let at = match place_in(&page, &self.entry) {
+            Ok(at) => at,
+            Err(fault) => return Err(fault),
+        };
+        if entries_on(&page).len() < store.limits().items as usize {
+            self.put(store, page, at)
+        } else {
+            self.split(store, page, at)
         }
-        let mut page = store.page(block)?;
-        let at = place_in(&page, &self.entry, store.limits().items)?;
-        put(&mut page, at, self.entry);
-        match store.act(slice::from_ref(&page)) {
-            Ok(action) => Ok(InsertStep::Added {
+    }
+
+    // Makes a step by which splits are finished.
+    fn finish<S: PageStore>(&mut self, store: &mut S) -> Result<InsertStep, Fault>
+        requires at { IsFinishing self.old.at }
+        requires alive { (S.backing store.old).stopped ≡ false }
+        ensures all { InsertSteps S.PageStore self.old self.new store.old store.new result }
+        ensures logged { IsRefusedRightly self.old.added result }
+    {
+        let InsertAt::Finishing(op) = &mut self.at else {
+            return Err(Fault::PageDamaged(0));
+        };
+        match op.step(store) {
+            Ok(FinishStep::Going) => Ok(InsertStep::Going),
+            Ok(FinishStep::Done) => Ok(self.go_on()),
+            Err(fault) => self.leave(fault),
+        }
+    }
+
+    // Nothing is left to finish: the insert is over, or starts again.
+    fn go_on(&mut self) -> InsertStep
+        ensures { GoesOn self.old self.new result }
+    {
+        match self.added {
+            Some(action) => InsertStep::Added {
                 action,
                 unfinished: None,
+            },
+            None => {
+                self.at = InsertAt::Start;
+                InsertStep::Going
+            }
+        }
+    }
+
+    // A split can't be finished: where the entry is logged, the insert is over all the same, but for a page that is blocked.
+    fn leave(&self, fault: Fault) -> Result<InsertStep, Fault>
+        ensures { Leaves self.now.added fault result }
+    {
+        match self.added {
+            Some(action) if !matches!(fault, Fault::Blocked(_)) => Ok(InsertStep::Added {
+                action,
+                unfinished: Some(fault),
             }),
-            Err(fault) => Err(fault),
+            _ => Err(fault),
         }
     }
 }
 
-// The place of the entry on the page, which is to be its leaf and to have room.
-fn place_in(page: &Page, entry: &Entry, most: u32) -> Result<usize, Fault>
-    requires { most ≤ 50 }
-    ensures may { OnOk result (MayHold page.now entry.now) }
-    ensures absent { IsPage page.now → OnOk result
-        (is_among (entries_of page.now.items) entry.now ≡ false) }
-    ensures place { IsPage page.now → IfOk result
-        (IsPlaceOf entry.now (entries_of page.now.items)) }
-    ensures room { OnOk result (length (entries_of page.now.items) < most) }
-    ensures within { IfOk result (λ at. at ≤ length (entries_of page.now.items)) }
-    ensures cause { IfErr result (PlaceRefused page.now entry.now most) }
+// Whether it is a live page whose split is to be finished.
+fn is_unfinished(page: &Page) -> bool
+    ensures live { result ≡ true → page.now.state ≡ PageState.Live }
+    ensures flagged { result ≡ true → page.now.split ≡ true }
+    ensures whole { result ≡ false → page.now.state ≡ PageState.Live → page.now.split ≡ false }
 {
-    if !may_hold(page, entry) {
-        return Err(Fault::PageDamaged(page.block));
+    matches!(page.state, PageState::Live) && page.split
+}
+
+// What is to be finished of a page, met on this way; None where it is on another level, or has no high key.
+fn target_of(page: &Page, way: Way) -> Option<Target>
+    ensures target { IfSome result (λ t. (t.block ≡ way.block) × (t.level ≡ way.level)
+        × (page.now.level ≡ way.level) × (page.now.high ≡ Some t.separator)) }
+    ensures none { page.now.level ≡ way.level → IfNone result (page.now.high ≡ None) }
+{
+    if page.level != way.level {
+        return None;
     }
-    let Items::Entries(entries) = &page.items else {
-        return Err(Fault::PageDamaged(page.block));
-    };
-    let Err(at) = find(entries.as_slice(), entry) else {
-        return Err(Fault::Exists);
-    };
-    if entries.len() >= most as usize {
-        return Err(Fault::IndexFull);
+    match page.high {
+        Some(separator) => Some(Target {
+            block: way.block,
+            level: way.level,
+            separator,
+        }),
+        None => None,
     }
-    Ok(at)
 }

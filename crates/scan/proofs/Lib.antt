@@ -1,1 +1,11 @@
-pub mod Reading
+pub mod Resting
+pub mod Standing
+pub mod Causes
+pub mod Behind
+pub mod Counting
+pub mod Leaf
+pub mod Rooting
+pub mod Arriving
+pub mod Moving
+pub mod Lasting
+pub mod Refusing

@@ -1,8 +1,11 @@
-//! A forward scan of a range, one page a step.
+//! A forward scan of a range over a tree of any size, one page a step.
 #![tactic(auto)]
 
+mod laws;
+mod onward;
 mod steps;
 
+pub use laws::{fresh_scans_are_bounded, scans_are_undisturbed};
 pub use steps::{ScanAt, ScanOp, ScanStep};
 
 #[cfg(test)]

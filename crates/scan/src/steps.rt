@@ -1,15 +1,19 @@
-//! The steps of a scan. Until leaves split, an index is one leaf.
+//! The steps of a scan.
 
-ghost use Rattle.std.specs.Prelude.{◌≡◌, ◌≤◌, ◌<◌, ◌↔◌, true, IsTrue, [], length, drop, OnErr, MatchOption};
-ghost use Rattle.index_model.specs.Range.{start_of};
-ghost use Rattle.tree_shape.specs.Tree.{IsOnlyLeaf};
+ghost use Rattle.std.specs.Prelude.{◌≡◌, ◌≤◌, [], Some, None, length};
+ghost use Rattle.index_model.specs.Order.{IsAscending};
+ghost use Rattle.latch_table.specs.Holdings.{pinned};
+ghost use Rattle.page_action.specs.States.{Continues, with_table};
+ghost use Rattle.tree_shape.specs.Leaf.{IsCopiedFrom};
+ghost use Rattle.scan.specs.Scans.{without_leaf};
 
+use crate::onward::{behind_leaf, frontier_past};
 use arrayvec::ArrayVec;
-use descent::{look, root};
+use descent::{Onward, Way, lead, look, way_down};
 use index_model::{Bound, Entry, Fault, Range, Session};
 use page_action::PageStore;
-use page_codec::{Items, Page, PageState};
-use tree_shape::matches_beyond;
+use page_codec::{Items, Page};
+use tree_shape::{Aim, matches_beyond};
 
 /// Where a scan is between its steps.
 #[derive(Clone, Copy)]
@@ -17,7 +21,7 @@ pub enum ScanAt {
     /// Before its first step.
     Start,
     /// The next step reads this page.
-    At(u32),
+    At(Way),
     /// It has read the last leaf.
     Last,
 }
@@ -34,6 +38,8 @@ pub struct ScanOp {
     pub copied: ArrayVec<Entry, 50>,
     /// How many of them were given.
     pub given: usize,
+    /// The leaf that it stands on and has pinned, until it has read another page.
+    pub leaf: Option<u32>,
 }
 
 /// What a step of a scan answers.
@@ -48,7 +54,7 @@ pub enum ScanStep {
 }
 
 impl ScanOp {
-    ghost use Rattle.scan.specs.Scans.{fresh_scan, waiting, ScanSteps, IsNext};
+    ghost use Rattle.scan.specs.Scans.{fresh_scan, waiting, gone_to, behind, ScanSteps, IsNext};
 
     /// A scan of the range before its first step.
     pub fn new(session: Session, range: Range) -> ScanOp
@@ -61,6 +67,7 @@ impl ScanOp {
             frontier: range.start(),
             copied: ArrayVec::new(),
             given: 0,
+            leaf: None,
         }
     }
 
@@ -100,7 +107,7 @@ impl ScanOp {
         }
         match self.at {
             ScanAt::Start => self.find_root(store),
-            ScanAt::At(block) => self.read(store, block),
+            ScanAt::At(way) => self.read(store, way),
             ScanAt::Last => Ok(ScanStep::Done),
         }
     }
@@ -111,40 +118,90 @@ impl ScanOp {
         requires none { waiting self.old ≡ [] }
         ensures { ScanSteps S.PageStore self.old self.new store.old store.new result }
     {
-        let block = root(store, self.session)?;
-        self.at = ScanAt::At(block);
+        let page = look(store, self.session, 0)?;
+        let Some(way) = way_down(&page) else {
+            return Err(Fault::PageDamaged(0));
+        };
+        self.go_on(store, way);
         Ok(ScanStep::Going)
     }
 
-    // Copies the matches of a leaf, and pins it.
-    fn read<S: PageStore>(&mut self, store: &mut S, block: u32) -> Result<ScanStep, Fault>
-        requires at { self.old.at ≡ ScanAt.At block }
+    // Reads a page: it leads on, or it is the leaf behind the frontier, whose matches are copied.
+    fn read<S: PageStore>(&mut self, store: &mut S, way: Way) -> Result<ScanStep, Fault>
+        requires at { self.old.at ≡ ScanAt.At way }
         requires none { waiting self.old ≡ [] }
         ensures { ScanSteps S.PageStore self.old self.new store.old store.new result }
     {
-        let page = look(store, self.session, block)?;
-        if !is_only_leaf(&page) {
-            return Err(Fault::PageDamaged(block));
+        let page = look(store, self.session, way.block)?;
+        let most = store.limits().pages;
+        match lead(&page, &way, &Aim::UpTo(self.frontier), 0, most) {
+            None => Err(Fault::PageDamaged(way.block)),
+            Some(Onward::Going(on)) => {
+                self.go_on(store, on);
+                Ok(ScanStep::Going)
+            }
+            Some(Onward::Here) => {
+                let Items::Entries(entries) = &page.items else {
+                    return Err(Fault::PageDamaged(way.block));
+                };
+                self.stand_on(store, way.block);
+                self.take(&page, entries.as_slice());
+                Ok(ScanStep::Ready(self.ready()))
+            }
         }
-        let Items::Entries(entries) = &page.items else {
-            return Err(Fault::PageDamaged(block));
-        };
-        store.pin(self.session, block);
-        self.copied = matches_beyond(entries.as_slice(), &self.frontier, &self.range.below);
-        self.given = 0;
-        self.at = ScanAt::Last;
-        Ok(ScanStep::Ready(self.ready()))
     }
-}
 
-// Whether the page is a live leaf that is alone on its level.
-fn is_only_leaf(page: &Page) -> bool
-    ensures { IsTrue result ↔ IsOnlyLeaf page.now }
-{
-    matches!(page.items, Items::Entries(_))
-        && matches!(page.state, PageState::Live)
-        && !page.split
-        && page.left.is_none()
-        && page.right.is_none()
-        && page.high.is_none()
+    // Goes on to another page, and stands on no leaf.
+    fn go_on<S: PageStore>(&mut self, store: &mut S, way: Way)
+        ensures steps { Continues S.follows store.old store.new }
+        ensures backing { S.backing store.new ≡ S.backing store.old }
+        ensures state { S.state store.new ≡ with_table (S.state store.old)
+            (without_leaf (S.state store.old).table self.old.session self.old.leaf) }
+        ensures op { self.new ≡ gone_to self.old way }
+    {
+        self.let_go(store);
+        self.at = ScanAt::At(way);
+    }
+
+    // Stands on this leaf, and on no other.
+    fn stand_on<S: PageStore>(&mut self, store: &mut S, block: u32)
+        ensures steps { Continues S.follows store.old store.new }
+        ensures backing { S.backing store.new ≡ S.backing store.old }
+        ensures state { S.state store.new ≡ with_table (S.state store.old)
+            (pinned (without_leaf (S.state store.old).table self.old.session self.old.leaf)
+            self.old.session block) }
+        ensures op { self.new ≡ record self.old { leaf = Some block } }
+    {
+        self.let_go(store);
+        store.pin(self.session, block);
+        self.leaf = Some(block);
+    }
+
+    // Lets go the leaf that it stands on, if there is one.
+    fn let_go<S: PageStore>(&mut self, store: &mut S)
+        ensures steps { Continues S.follows store.old store.new }
+        ensures backing { S.backing store.new ≡ S.backing store.old }
+        ensures state { S.state store.new ≡ with_table (S.state store.old)
+            (without_leaf (S.state store.old).table self.old.session self.old.leaf) }
+        ensures op { self.new ≡ record self.old { leaf = None } }
+    {
+        if let Some(block) = self.leaf {
+            store.unpin(self.session, block);
+        }
+        self.leaf = None;
+    }
+
+    // The matches of a leaf become ready, and the frontier goes on behind it.
+    fn take(&mut self, page: &Page, entries: &[Entry])
+        requires few { length entries.now ≤ 50 }
+        ensures copied { IsAscending entries.now → IsCopiedFrom entries.now self.old.frontier
+            self.old.range.below self.new.copied.items }
+        ensures many { length self.new.copied.items ≤ 50 }
+        ensures op { self.new ≡ behind self.old page.now.high page.now.right self.new.copied.items }
+    {
+        self.copied = matches_beyond(entries, &self.frontier, &self.range.below);
+        self.given = 0;
+        self.at = behind_leaf(page, &self.range.below);
+        self.frontier = frontier_past(self.frontier, &page.high);
+    }
 }

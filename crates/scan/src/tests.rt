@@ -1,8 +1,9 @@
 use super::*;
 use arrayvec::ArrayVec;
-use index_model::{Entry, Fault, Key, Limits, Range, RowAddr, Session};
-use page_action::MapStore;
-use page_codec::{Items, Page, PageState};
+use index_model::{Bound, Entry, Fault, Key, Limits, Range, RowAddr, Session};
+use latch_table::Mode;
+use page_action::{MapStore, PageStore, find_misplaced};
+use page_codec::{Downlink, Items, Page, PageState};
 use std::alloc::Global;
 use std::test::*;
 
@@ -12,13 +13,24 @@ const LIMITS: Limits = Limits {
     log_bytes: 65_536,
 };
 
-fn page(block: u32, right: Option<u32>, items: Items) -> Page {
+fn entry(key: u8, block: u32) -> Entry {
+    Entry {
+        key: Key::new(&[key]).unwrap_or(Key::EMPTY),
+        row: RowAddr::new(block, 1).unwrap_or_default(),
+    }
+}
+
+fn bound(key: u8) -> Bound {
+    entry(key, 1).bound()
+}
+
+fn page(block: u32, level: u8, left: Option<u32>, right: Option<u32>, items: Items) -> Page {
     Page {
         block,
-        level: 0,
+        level,
         state: PageState::Live,
         split: false,
-        left: None,
+        left,
         right,
         high: None,
         cycle: 0,
@@ -27,63 +39,161 @@ fn page(block: u32, right: Option<u32>, items: Items) -> Page {
     }
 }
 
-// The metapage, and a leaf with these entries as the root.
-fn tree(alloc: Global, entries: &[Entry]) -> Result<MapStore, Fault> {
-    let mut leaf = ArrayVec::new();
-    for entry in entries {
-        let _ = leaf.try_push(*entry);
+// A leaf with entries of these keys, up to that one.
+fn leaf(block: u32, left: Option<u32>, right: Option<u32>, keys: &[u8], high: Option<u8>) -> Page {
+    let mut entries = ArrayVec::new();
+    for key in keys {
+        let _ = entries.try_push(entry(*key, 1));
+    }
+    let mut page = page(block, 0, left, right, Items::Entries(entries));
+    page.high = high.map(bound);
+    page
+}
+
+// Three leaves under a root.
+fn tree(alloc: Global) -> Result<MapStore, Fault> {
+    let mut links = ArrayVec::new();
+    for (low, child) in [(None, 1), (Some(20), 2), (Some(40), 3)] {
+        let _ = links.try_push(Downlink {
+            bound: low.map(bound),
+            child,
+        });
     }
     let mut store = MapStore::new(alloc, LIMITS)?;
-    store.add(page(0, Some(1), Items::Meta))?;
-    store.add(page(1, None, Items::Entries(leaf)))?;
+    store.add(page(0, 1, None, Some(4), Items::Meta))?;
+    store.add(leaf(1, None, Some(2), &[10, 20], Some(20)))?;
+    store.add(leaf(2, Some(1), Some(3), &[30, 40], Some(40)))?;
+    store.add(leaf(3, Some(2), None, &[50, 60], None))?;
+    store.add(page(4, 1, None, None, Items::Downlinks(links)))?;
     Ok(store)
 }
 
-fn entry(key: u8, block: u32) -> Entry {
-    Entry {
-        key: Key::new(&[key]).unwrap_or(Key::EMPTY),
-        row: RowAddr::new(block, 1).unwrap_or_default(),
+fn change(store: &mut MapStore, pages: &[Page]) -> Result<u64, Fault> {
+    if pages.is_empty()
+        || pages.len() > 4
+        || find_misplaced(pages, store.used(), store.limits()).is_some()
+    {
+        return Err(Fault::NoMemory);
+    }
+    store.act(pages)
+}
+
+fn range(from: Option<u8>, below: Option<u8>) -> Range {
+    Range {
+        from: from.and_then(|byte| Key::new(&[byte]).ok()),
+        below: below.and_then(|byte| Key::new(&[byte]).ok()),
     }
 }
 
-// The entries that a scan has given, each by its block, when it answers `Done`.
-fn scan(store: &mut MapStore, session: Session, range: Range) -> Result<ArrayVec<u32, 8>, Fault> {
-    let mut given = ArrayVec::new();
-    let mut op = ScanOp::new(session, range);
-    for _ in 0..9 {
+// Steps until entries are ready, and takes them: their keys, or None when all is given.
+fn leaf_of(op: &mut ScanOp, store: &mut MapStore) -> Result<Option<ArrayVec<u8, 4>>, Fault> {
+    for _ in 0..4 {
         match op.step(store)? {
             ScanStep::Going => {}
-            ScanStep::Done => return Ok(given),
+            ScanStep::Done => return Ok(None),
             ScanStep::Ready(count) => {
-                if count == op.ready()
-                    && let Some(entry) = op.next()
-                {
-                    let _ = given.try_push(entry.row.block());
+                let mut keys = ArrayVec::new();
+                for _ in 0..count {
+                    if let Some(entry) = op.next() {
+                        let _ = keys.try_push(entry.key.bytes().first().copied().unwrap_or(0));
+                    }
                 }
+                return Ok(Some(keys));
             }
         }
     }
     Err(Fault::NoMemory)
 }
 
+fn gives(op: &mut ScanOp, store: &mut MapStore, wanted: &[u8]) -> bool {
+    match leaf_of(op, store) {
+        Ok(Some(keys)) => keys.as_slice() == wanted,
+        _ => false,
+    }
+}
+
+fn is_done(op: &mut ScanOp, store: &mut MapStore) -> bool {
+    matches!(op.step(store), Ok(ScanStep::Done))
+}
+
 #[test]
-fn scan_gives_its_range(rt: HostRuntime) {
-    let entries = [entry(1, 10), entry(3, 30), entry(3, 31), entry(4, 40)];
-    let (Ok(mut store), Ok(session)) = (tree(rt.alloc(), &entries), Session::new(0)) else {
+fn scan_of_all(rt: HostRuntime) {
+    let (Ok(mut store), Ok(session)) = (tree(rt.alloc()), Session::new(0)) else {
         assert!(rt; false);
         return;
     };
-    for (from, below, blocks) in [
-        (None, None, &[10, 30, 31, 40][..]),
-        (Some(2), Some(4), &[30, 31]),
-        (Some(4), None, &[40]),
-        (Some(2), Some(3), &[]),
-    ] {
-        let range = Range {
-            from: from.and_then(|byte| Key::new(&[byte]).ok()),
-            below: below.and_then(|byte| Key::new(&[byte]).ok()),
-        };
-        let given = scan(&mut store, session, range).unwrap_or_default();
-        assert_eq!(rt; given.as_slice(), blocks);
-    }
+    let mut op = ScanOp::new(session, range(None, None));
+    assert!(rt; gives(&mut op, &mut store, &[10, 20]));
+    assert!(rt; gives(&mut op, &mut store, &[30, 40]));
+    assert!(rt; gives(&mut op, &mut store, &[50, 60]));
+    assert!(rt; is_done(&mut op, &mut store));
+}
+
+#[test]
+fn scan_of_a_range(rt: HostRuntime) {
+    let (Ok(mut store), Ok(session)) = (tree(rt.alloc()), Session::new(0)) else {
+        assert!(rt; false);
+        return;
+    };
+    let mut ends_within = ScanOp::new(session, range(Some(15), Some(40)));
+    assert!(rt; gives(&mut ends_within, &mut store, &[20]));
+    assert!(rt; gives(&mut ends_within, &mut store, &[30]));
+    assert!(rt; is_done(&mut ends_within, &mut store));
+    let mut ends_behind = ScanOp::new(session, range(Some(30), Some(41)));
+    assert!(rt; gives(&mut ends_behind, &mut store, &[30, 40]));
+    assert!(rt; gives(&mut ends_behind, &mut store, &[]));
+    assert!(rt; is_done(&mut ends_behind, &mut store));
+}
+
+#[test]
+fn scan_goes_on_by_the_saved_link(rt: HostRuntime) {
+    let (Ok(mut store), Ok(session)) = (tree(rt.alloc()), Session::new(0)) else {
+        assert!(rt; false);
+        return;
+    };
+    let mut op = ScanOp::new(session, range(None, None));
+    assert!(rt; gives(&mut op, &mut store, &[10, 20]));
+    let mut left = leaf(1, None, Some(5), &[10], Some(10));
+    left.split = true;
+    let right = leaf(5, Some(1), Some(2), &[15, 20], Some(20));
+    let mended = leaf(2, Some(5), Some(3), &[30, 40], Some(40));
+    assert_eq!(rt; change(&mut store, &[left, right, mended]), Ok(1));
+    assert!(rt; gives(&mut op, &mut store, &[30, 40]));
+    assert!(rt; gives(&mut op, &mut store, &[50, 60]));
+    assert!(rt; is_done(&mut op, &mut store));
+    let mut again = ScanOp::new(session, range(Some(12), Some(30)));
+    assert!(rt; gives(&mut again, &mut store, &[15, 20]));
+    assert!(rt; gives(&mut again, &mut store, &[]));
+    assert!(rt; is_done(&mut again, &mut store));
+}
+
+#[test]
+fn leaf_stays_pinned_until_another_page_is_read(rt: HostRuntime) {
+    let (Ok(mut store), Ok(session), Ok(other)) = (
+        tree(rt.alloc()),
+        Session::new(0),
+        Session::new(1),
+    ) else {
+        assert!(rt; false);
+        return;
+    };
+    let mut op = ScanOp::new(session, range(None, None));
+    assert!(rt; gives(&mut op, &mut store, &[10, 20]));
+    assert_eq!(rt;
+        store.latch(other, 1, Mode::Cleanup),
+        Err(Fault::Blocked(1))
+    );
+    assert_eq!(rt; store.latch(other, 2, Mode::Exclusive), Ok(()));
+    assert_eq!(rt; leaf_of(&mut op, &mut store).err(), Some(Fault::Blocked(2)));
+    assert_eq!(rt;
+        store.latch(other, 1, Mode::Cleanup),
+        Err(Fault::Blocked(1))
+    );
+    store.release(other, 2);
+    assert!(rt; gives(&mut op, &mut store, &[30, 40]));
+    assert_eq!(rt; store.latch(other, 1, Mode::Cleanup), Ok(()));
+    assert_eq!(rt;
+        store.latch(other, 2, Mode::Cleanup),
+        Err(Fault::Blocked(2))
+    );
 }

@@ -5,7 +5,7 @@ use Rattle.std.proofs.lemmas.List.{append-nil, append_cancel_left}
 use Rattle.std.proofs.lemmas.Option.{slice_get_read}
 use Rattle.std.proofs.lemmas.Bool.{cases_eq}
 use Rattle.index_model.specs.Actions.{Effect, Action}
-use Rattle.index_model.specs.Calls.{Ask, Call, Meets, IsOwned}
+use Rattle.index_model.specs.Calls.{Call, Meets, IsOwned}
 use Rattle.index_model.specs.Faults.{Circumstances, HasCause}
 use Rattle.index_model.specs.declared.entry.Entry.{Entry}
 use Rattle.index_model.specs.declared.fault.Fault.{Fault}
@@ -13,19 +13,20 @@ use Rattle.index_model.specs.declared.fault.Fault.TheVariants.{Stopped, NoSessio
 use Rattle.page_action.specs.Causes.{where_forced}
 use Rattle.page_action.specs.States.{State, IsLater, after_begin}
 use Rattle.page_action.specs.declared.page_store.PageStore.{Ghosts}
-use Rattle.descent.specs.Steps.{OthersRely}
+use Rattle.descent.specs.Shared.{OthersRely}
 use Rattle.session_calls.specs.Due.{IsDueIn, HasSteps}
-use Rattle.session_calls.specs.Ops.{asked_by, asked_of, IsCaused}
-use Rattle.session_calls.specs.Sessions.{Matches, OpRuns, CallFits, SlotFits, IsIdle, acts_of, begun_call, SessionGoes, SessionBegins}
+use Rattle.session_calls.specs.Ops.{asked_by, IsCaused}
+use Rattle.session_calls.specs.Sessions.{Matches, OpRuns, CallFits, SlotFits, IsIdle, acts_of, begun_call, SessionGoes, SessionBegins, OnlyOwnAreFlagged}
 use Rattle.session_calls.specs.declared.answer.Answer.{Answer}
 use Rattle.session_calls.specs.declared.answer.Answer.TheVariants.{Begun, Refused}
 use Rattle.session_calls.specs.declared.op.Op.{Op}
 use Rattle.session_calls.specs.declared.request.Request.{Request}
+use Rattle.session_calls.proofs.Counting.{due_still}
 use Rattle.session_calls.proofs.Meeting.{grown}
 use Rattle.session_calls.proofs.Telling.{told_same}
 use Rattle.session_calls.proofs.Undisturbed.{undisturbed, idle_undisturbed}
 use Rattle.schedule.specs.Snapshots.{Snapshot, here_at, slot_of, IsRunningCall, SlotRuns, IsFree, SlotMatches, Fits, slot_has_call, has_call}
-use Rattle.schedule.specs.Events.{Move, Steps, Takes, GivesUp, Upkeep, Forces, Checkpoints, Kind, BeginsCall, MovesCall, KeepsStore, IsOfSession, Stays, kept_answer, MovesOn, MayBegin, session_to_begin, where_begun_at, where_moving, Happens, where_happening, OthersStay, session_at, EventAlways, CountsSteps, LeavesBe, IsDurable, EventDoes}
+use Rattle.schedule.specs.Events.{Move, Steps, Takes, GivesUp, Upkeep, Forces, Checkpoints, Kind, BeginsCall, MovesCall, KeepsStore, IsOfSession, Stays, kept_answer, MovesOn, MayBegin, session_to_begin, where_begun_at, where_moving, Happens, where_happening, OthersStay, session_at, EventAlways, CountsSteps, KeepsFlags, LeavesBe, IsDurable, EventDoes}
 use Rattle.schedule.specs.Runs.{EventRuns}
 use Rattle.schedule.proofs.Frames.{goes_fits}
 use Rattle.schedule.proofs.Keeping.{no_growth}
@@ -57,13 +58,9 @@ leaves_be g kind old new limits frames pages others = record {
   frames = frames;
   pages = pages;
   due = λ quiet session other of apart steps due.
-      still_due (g.state old.store) (g.state new.store) steps limits (pages quiet) (slot_of old.slots other) (slot_of new.slots other)
-      (ap (λ (o : Option (Option Op)). unwrap_or o None) (others session of other apart)) due;
+      subst (λ (slot : Option Op). IsDueIn (g.state new.store) slot steps) (sym (ap (λ (o : Option (Option Op)). unwrap_or o None) (others session of other apart)))
+      (due_still (g.state old.store) (g.state new.store) (slot_of old.slots other) steps limits (pages quiet) due);
 }
-  where
-    still_due : (before now : State) (steps : ℕ) → now.limits ≡ before.limits → now.pages ≡ before.pages
-        → (was is : Option Op) → is ≡ was → IsDueIn before was steps → IsDueIn now is steps
-    still_due before now steps l p was is same due = rw (l, p, same) due
 
 -- nothing at all is changed but the log and the device
 stays_be : {S : Type 0} (g : Ghosts S) (kind : Kind) (old new : Snapshot S) → g.state new.store ≡ g.state old.store → new.slots ≡ old.slots → LeavesBe g kind old new
@@ -108,19 +105,20 @@ fits_still {S} g start old store same fits = record {
     slot_still u (Some op) h = record { number = h.number; call = h.call; is = h.is; only = h.only; runs = subst (λ (st : State). OpRuns st old.sets start old.history h.call op) (sym same) h.runs }
 
 -- a move of a running call
-module _ {S : Type 0} (g : Ghosts S) (start : Entry → Bool) (old : Snapshot S) (store : S) (session : ℕ) (op : Op) (slot : Option Op) (move : Move) (at : Ask → ℕ → Circumstances) (answer : Answer)
+module _ {S : Type 0} (g : Ghosts S) (start : Entry → Bool) (old : Snapshot S) (store : S) (session : ℕ) (op : Op) (slot : Option Op) (move : Move) (at : Circumstances) (answer : Answer)
     (fits : Fits g start old) (found : slice_get old.slots session ≡ Some (Some op)) (follows : g.follows old.store store) (later : IsLater (g.backing old.store) (g.backing store))
-    (goes : (number : ℕ) (call : Call) → SlotFits (g.state old.store) old.sets start old.history number call (Some op) → SessionGoes (at call.ask call.session) (g.state old.store) (g.state store) old.sets start old.history number call slot answer)
-    (where_is : where_moving g old.sets old.store store session move (Some (Some op)) ≡ at (asked_of old.sets op) session)
+    (goes : (number : ℕ) (call : Call) → SlotFits (g.state old.store) old.sets start old.history number call (Some op) → SessionGoes at (g.state old.store) (g.state store) old.sets start old.history number call slot answer)
+    (where_is : where_moving g old.sets old.store store move (Some (Some op)) ≡ at)
     (always : EventAlways g (MovesCall session move) answer (here_at old) (record { store = store; slots = slice_set old.slots session slot; sets = old.sets }))
-    (counts : (start' : Entry → Bool) (l : List Action) (n : ℕ) (c : Call) → SlotFits (g.state old.store) old.sets start' l n c (Some op) → CountsSteps (MovesCall session move) answer (g.state old.store) (g.state store) (Some op) slot) where
+    (counts : (start' : Entry → Bool) (l : List Action) (n : ℕ) (c : Call) → SlotFits (g.state old.store) old.sets start' l n c (Some op) → CountsSteps (MovesCall session move) answer (g.state old.store) (g.state store) (Some op) slot)
+    (flagged : (start' : Entry → Bool) (l : List Action) (n : ℕ) (c : Call) → SlotFits (g.state old.store) old.sets start' l n c (Some op) → KeepsFlags (MovesCall session move) answer (g.state old.store) (g.state store) (Some op) slot) where
   runs : SlotRuns g start old session op
   runs = fits.running session (Some op) found
 
   fit : CallFits (g.state old.store) old.sets start old.history runs.number runs.call op
   fit = call_fits g start old session op fits runs
 
-  one : SessionGoes (at runs.call.ask runs.call.session) (g.state old.store) (g.state store) old.sets start old.history runs.number runs.call slot answer
+  one : SessionGoes at (g.state old.store) (g.state store) old.sets start old.history runs.number runs.call slot answer
   one = goes runs.number runs.call fit
 
   others : OthersRely session (g.state old.store) (g.state store)
@@ -139,9 +137,6 @@ module _ {S : Type 0} (g : Ghosts S) (start : Entry → Bool) (old : Snapshot S)
   no_effect None same = refl
   no_effect (Some e) same = absurd (let none : acts_of runs.number (Some e) ≡ [] = append_cancel_left old.history (acts_of runs.number (Some e)) [] (same ∙ sym (append-nil old.history)) in cc)
 
-  caused : IsCaused (at (asked_of old.sets op) session) answer
-  caused = subst (λ (t : ℕ). IsCaused (at (asked_of old.sets op) t) answer) runs.is.session_is (subst (λ (a : Ask). IsCaused (at a runs.call.session) answer) runs.runs.ask one.caused)
-
   move_does : EventDoes g start (MovesCall session move) answer old new
   unfolding new
   move_does = record {
@@ -157,10 +152,12 @@ module _ {S : Type 0} (g : Ghosts S) (start : Entry → Bool) (old : Snapshot S)
       history_is = refl;
       calls_is = refl;
       others = others;
+      flags = one.flags;
     });
     grows = record { acts = acts_of runs.number one.effect; is = refl; few = acts_few runs.number one.effect };
-    caused = subst (λ (o : Option (Option Op)). IsCaused (where_moving g old.sets old.store store session move o) answer) (sym found) (subst (λ (x : Circumstances). IsCaused x answer) (sym where_is) caused);
+    caused = subst (λ (o : Option (Option Op)). IsCaused (where_moving g old.sets old.store store move o) answer) (sym found) (subst (λ (x : Circumstances). IsCaused x answer) (sym where_is) one.caused);
     counts = at_slots old.slots session (Some op) slot (λ x y. CountsSteps (MovesCall session move) answer (g.state old.store) (g.state store) x y) found (counts start old.history runs.number runs.call fit);
+    flagged = at_slots old.slots session (Some op) slot (λ x y. KeepsFlags (MovesCall session move) answer (g.state old.store) (g.state store) x y) found (flagged start old.history runs.number runs.call fit);
     quiet = leaves_be g (MovesCall session move) old new one.limits one.frames (λ same. one.pages (no_effect one.effect same)) (others_stay_set old.slots session slot);
     durable = told_durable answer (g.backing store).durable (length old.history) one.effect runs.call one.after one.told;
     sets = refl;
@@ -187,9 +184,16 @@ module _ {S : Type 0} (g : Ghosts S) (start : Entry → Bool) (old : Snapshot S)
   not_counted (BeginsCall session request) before move = λ begun. absurd cc
   not_counted (MovesCall session Steps) before move = subst (λ (slot : Option Op). CountsSteps (MovesCall session Steps) (Refused fault) (g.state old.store) (g.state store) slot slot) (sym (move session refl))
       (record { due = λ left due. absurd due; no_more = λ acts. omega arith })
-  not_counted (MovesCall session Takes) before move = λ steps due. rw same due
+  not_counted (MovesCall session Takes) before move = λ steps due. due_still (g.state old.store) (g.state store) before steps (ap (λ (st : State). st.limits) same) (ap (λ (st : State). st.pages) same) due
   not_counted (MovesCall session GivesUp) before move = tt
   not_counted (KeepsStore upkeep) before move = tt
+
+  flags_stay : (kind : Kind) (before : Option Op) → KeepsFlags kind (Refused fault) (g.state old.store) (g.state store) before before
+  flags_stay (BeginsCall session request) before = tt
+  flags_stay (MovesCall session Steps) before = λ only. subst (λ (st : State). OnlyOwnAreFlagged st before) (sym same) only
+  flags_stay (MovesCall session Takes) before = tt
+  flags_stay (MovesCall session GivesUp) before = tt
+  flags_stay (KeepsStore upkeep) before = tt
 
   stay_with : (kind : Kind) → Happens g start kind (Refused fault) old then_now → EventAlways g kind (Refused fault) (here_at old) (here_at then_now) → IsCaused (where_happening g kind (here_at old) (here_at then_now)) (Refused fault)
       → ((session : ℕ) → kind ≡ MovesCall session Steps → slot_of old.slots (session_at kind) ≡ None)
@@ -200,6 +204,7 @@ module _ {S : Type 0} (g : Ghosts S) (start : Entry → Bool) (old : Snapshot S)
     grows = no_growth old.history;
     caused = caused;
     counts = not_counted kind (slot_of old.slots (session_at kind)) idle;
+    flagged = flags_stay kind (slot_of old.slots (session_at kind));
     quiet = stays_be g kind old then_now same refl;
     durable = tt;
     sets = refl;
@@ -246,6 +251,7 @@ module _ {S : Type 0} (g : Ghosts S) (start : Entry → Bool) (old : Snapshot S)
           grows = no_growth old.history;
           caused = kept_caused upkeep count (where_forced (g.backing old.store) (g.backing store));
           counts = tt;
+          flagged = tt;
           quiet = stays_be g (KeepsStore upkeep) old then same refl;
           durable = kept_durable upkeep count (g.backing store).durable (let n : count ≡ (g.state old.store).acts = number in let d : (g.backing store).durable ≡ (g.state old.store).acts = durable in omega arith);
           sets = refl;
@@ -334,6 +340,7 @@ module _ {S : Type 0} (g : Ghosts S) (start : Entry → Bool) (old : Snapshot S)
       grows = no_growth old.history;
       caused = tt;
       counts = λ told. subst (λ (x : Option Op). HasSteps (g.state old.store) (g.state store) request x) (sym (slot_set old.slots session (Some op) (get_within old.slots session None free))) counts;
+      flagged = tt;
       quiet = leaves_be g (BeginsCall session request) old begun (ap (λ (st : State). st.limits) state) (ap (λ (st : State). st.frames) state) (λ same. ap (λ (st : State). st.pages) state) (others_stay_set old.slots session (Some op));
       durable = tt;
       sets = refl;

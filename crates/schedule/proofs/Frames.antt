@@ -6,7 +6,7 @@ use Rattle.index_model.specs.Calls.{Ask, AskInsert, AskScan, AskBulkDelete, AskC
 use Rattle.index_model.specs.declared.entry.Entry.{Entry}
 use Rattle.index_model.proofs.Histories.{there_before, meets_later}
 use Rattle.page_action.specs.declared.page_store.PageStore.{Ghosts}
-use Rattle.descent.specs.Steps.{OthersRely}
+use Rattle.descent.specs.Shared.{OthersRely}
 use Rattle.session_calls.specs.Sessions.{Matches, IsIdle, SlotIs, IsAsked, acts_of}
 use Rattle.session_calls.specs.declared.op.Op.{Op}
 use Rattle.session_calls.proofs.Telling.{IsSameCall}

@@ -26,7 +26,7 @@ module _ {S : Type 0} (g : Ghosts S) (laws : Laws g) (start : Entry → Bool) wh
   pages_now new own matches part all =
       subst (λ (l : List Action). ArePagesAfter start l (g.past new.store (length new.history))) (sym (take_all part new.history all))
       (subst (λ (ps : List Page). ArePagesAfter start new.history ps) (sym (ap (λ (n : ℕ). g.past new.store n) (sym matches.count) ∙ laws.past_now new.store own))
-      (record { contents = matches.contents; tree = matches.order.tree }))
+      (record { contents = matches.contents; tree = matches.order.tree.tree }))
 
   module _ (old new : Snapshot S) (follows : g.follows old.store new.store) where
     -- what a crash leaves, where the history is kept before and after

@@ -1,29 +1,36 @@
 -- What each kind of event makes, by what the call behind it promises.
-use Rattle.std.proofs.Common.{◌≡◌, ℕ, suc, Bool, true, false, Option, Some, None, Err, List, length, slice_get, slice_set, refl, sym, ap, subst, inr, ◌∙◌}
+use Rattle.std.proofs.Common.{◌≡◌, ℕ, suc, Bool, true, false, Option, Some, None, Err, List, length, slice_get, slice_set, refl, sym, ap, subst, inl, inr, ◌∙◌}
 use Rattle.std.specs.Prelude.{unwrap_or}
 use Rattle.index_model.specs.Actions.{Action}
-use Rattle.index_model.specs.Calls.{Call}
+use Rattle.index_model.specs.Calls.{Ask, Call}
 use Rattle.index_model.specs.Faults.{Circumstances, HasCause}
 use Rattle.index_model.specs.declared.entry.Entry.{Entry}
 use Rattle.index_model.specs.declared.fault.Fault.{Fault}
 use Rattle.index_model.specs.declared.fault.Fault.TheVariants.{Stopped}
 use Rattle.page_action.specs.Causes.{nothing_wrong, where_forced}
-use Rattle.page_action.specs.States.{State, with_table}
+use Rattle.page_action.specs.States.{State, after_end}
 use Rattle.page_action.specs.declared.page_store.PageStore.{Ghosts}
-use Rattle.session_calls.specs.Due.{IsDue, IsDueIn, CountsDown, HasSteps}
-use Rattle.session_calls.specs.Ops.{DeadSets, IsCaused, where_stepped, where_asked_next, where_beginning, AnswersStopped}
-use Rattle.session_calls.specs.Sessions.{Matches, IsIdle, SlotFits, SessionGoes, SessionBegins, IsBegun, BeginsBy, is_busy, slot_add, LeavesLess, LeavesNoMore, GivesLess, AnswersStep, AnswersNext, AnswersEnd, RefusalChangesNothing}
+use Rattle.session_calls.specs.Due.{IsDueIn, CountsDown, HasSteps}
+use Rattle.session_calls.specs.Ops.{DeadSets, IsCaused, session_of, asked_of, where_slot_stepped, where_asked_next, where_beginning, AnswersStopped}
+use Rattle.session_calls.specs.Sessions.{Matches, IsIdle, SlotFits, KeepsPages, SessionGoes, SessionBegins, IsBegun, BeginsBy, is_busy, slot_add, LeavesLess, LeavesNoMore, GivesLess, AnswersStep, AnswersNext, AnswersEnd, RefusalChangesNothing, OnlyOwnAreFlagged, LeavesOwnFlagged}
 use Rattle.session_calls.specs.declared.answer.Answer.{Answer}
 use Rattle.session_calls.specs.declared.answer.Answer.TheVariants.{Begun, Going, Added, Ready, Done, Finished, Gave, Ended, Forced, Flushed, Checkpointed, Refused}
 use Rattle.session_calls.specs.declared.op.Op.{Op}
 use Rattle.session_calls.specs.declared.request.Request.{Request}
-use Rattle.page_codec.specs.declared.page.Page.{Page}
 use Rattle.schedule.specs.Snapshots.{here_with, snapshot_of, slot_of, Fits}
-use Rattle.schedule.specs.Events.{Steps, Takes, GivesUp, Upkeep, Forces, Checkpoints, BeginsCall, MovesCall, KeepsStore, kept_answer, session_to_begin, where_begun_at, EventAlways, AnswersUpkeep}
+use Rattle.schedule.specs.Events.{Steps, Takes, GivesUp, Upkeep, Forces, Checkpoints, BeginsCall, MovesCall, KeepsStore, kept_answer, session_to_begin, where_begun_at, DoesOneAct, EventAlways, AnswersUpkeep}
 use Rattle.schedule.specs.Runs.{EventRuns, Makes}
 use Rattle.schedule.proofs.Events.{at_slots, others_stay_set, moves_on, stays_on, refused_stay, keeps_on_store, begins_on, not_begun, not_found_why, not_found_first, set_same}
 use Rattle.schedule.proofs.Keeping.{Laws}
 use Rattle.schedule.proofs.Lists.{length_set}
+
+-- what does no act
+no_act : (old new : State) → new.acts ≡ old.acts → new.pages ≡ old.pages → new.limits ≡ old.limits → new.frames ≡ old.frames → DoesOneAct old new
+no_act old new acts pages limits frames = record { acts = inl acts; quiet = λ same. pages; limits = limits; frames = frames }
+
+-- what changes no state
+still : (old new : State) → new ≡ old → DoesOneAct old new
+still old new same = no_act old new (ap (λ (st : State). st.acts) same) (ap (λ (st : State). st.pages) same) (ap (λ (st : State). st.limits) same) (ap (λ (st : State). st.frames) same)
 
 -- a step of a session's running call
 module _ {S : Type 0} (g : Ghosts S) (laws : Laws g) (old new : S) (follows : g.follows old new) (slots : List (Option Op)) (sets : DeadSets) (session : ℕ) (before slot : Option Op) (op : Op) (answer : Answer)
@@ -35,23 +42,29 @@ module _ {S : Type 0} (g : Ghosts S) (laws : Laws g) (old new : S) (follows : g.
   found_op = found_at ∙ ap (λ (o : Option Op). Some o) is
 
   pub step_makes : AnswersStep before slot answer → RefusalChangesNothing (g.state old) (g.state new) before slot answer → ((g.backing old).stopped ≡ true → AnswersStopped (slot_add before) answer)
-      → LeavesLess (g.state old) (g.state new) before slot answer → (answer ≡ Going → g.state new ≡ with_table (g.state old) (g.state new).table) → LeavesNoMore (g.state old) (g.state new) before slot
+      → ((g.backing new).honest ≡ true → LeavesLess (g.state old) (g.state new) before slot answer) → KeepsPages (g.state old) (g.state new)
+      → ((g.backing new).honest ≡ true → LeavesNoMore (g.state old) (g.state new) before slot)
       → ((g.backing new).honest ≡ true → (start : Entry → Bool) (history : List Action) (number : ℕ) (call : Call) → SlotFits (g.state old) sets start history number call before
-      → SessionGoes (where_stepped call.ask (g.state old) (g.backing old) (g.backing new) call.session) (g.state old) (g.state new) sets start history number call slot answer)
+      → SessionGoes (where_slot_stepped before (g.state old) (g.backing old) (g.backing new)) (g.state old) (g.state new) sets start history number call slot answer)
       → ((g.backing new).honest ≡ true → (start : Entry → Bool) (history : List Action) (number : ℕ) (call : Call) → SlotFits (g.state old) sets start history number call before
       → (left : ℕ) → IsDueIn (g.state old) before (suc left) → CountsDown (g.state old) (g.state new) before slot left answer)
+      → ((g.backing new).honest ≡ true → (start : Entry → Bool) (history : List Action) (number : ℕ) (call : Call) → SlotFits (g.state old) sets start history number call before
+      → OnlyOwnAreFlagged (g.state old) before → LeavesOwnFlagged (g.state new) before slot answer)
       → Makes g (MovesCall session Steps) answer (here_with old slots sets) (here_with new (slice_set slots session slot) sets)
-  step_makes kind refused stopped less quiet no_more goes due = record {
+  step_makes kind refused stopped less kept no_more goes due flagged = record {
     sessions = length_set slots session slot;
     always = always;
     does = λ honest start history calls fits.
-        moves_on g start (snapshot_of (here_with old slots sets) history calls) new session op slot Steps (λ ask t. where_stepped ask (g.state old) (g.backing old) (g.backing new) t) answer fits found_op follows (laws.follows_later old new follows)
-        (λ number call runs. goes honest start history number call (subst (λ (x : Option Op). SlotFits (g.state old) sets start history number call x) (sym is) runs)) refl always
+        moves_on g start (snapshot_of (here_with old slots sets) history calls) new session op slot Steps (where_slot_stepped (Some op) (g.state old) (g.backing old) (g.backing new)) answer fits found_op follows (laws.follows_later old new follows)
+        (λ number call runs. subst (λ (x : Option Op). SessionGoes (where_slot_stepped x (g.state old) (g.backing old) (g.backing new)) (g.state old) (g.state new) sets start history number call slot answer) is
+        (goes honest start history number call (subst (λ (x : Option Op). SlotFits (g.state old) sets start history number call x) (sym is) runs))) refl always
         (λ s l n c runs. record {
           due = λ left h. subst (λ (x : Option Op). CountsDown (g.state old) (g.state new) x slot left answer) is
               (due honest s l n c (subst (λ (x : Option Op). SlotFits (g.state old) sets s l n c x) (sym is) runs) left (subst (λ (x : Option Op). IsDueIn (g.state old) x (suc left)) (sym is) h));
-          no_more = subst (λ (x : Option Op). LeavesNoMore (g.state old) (g.state new) x slot) is no_more;
-        });
+          no_more = subst (λ (x : Option Op). LeavesNoMore (g.state old) (g.state new) x slot) is (no_more honest);
+        })
+        (λ s l n c runs. subst (λ (x : Option Op). OnlyOwnAreFlagged (g.state old) x → LeavesOwnFlagged (g.state new) x slot answer) is
+        (flagged honest s l n c (subst (λ (x : Option Op). SlotFits (g.state old) sets s l n c x) (sym is) runs)));
   }
     where
       always : EventAlways g (MovesCall session Steps) answer (here_with old slots sets) (here_with new (slice_set slots session slot) sets)
@@ -59,23 +72,24 @@ module _ {S : Type 0} (g : Ghosts S) (laws : Laws g) (old new : S) (follows : g.
         answers = at_slots slots session before slot (λ x y. AnswersStep x y answer) found_at kind;
         refused = at_slots slots session before slot (λ x y. RefusalChangesNothing (g.state old) (g.state new) x y answer) found_at refused;
         stopped = λ h. subst (λ (x : Option Op). AnswersStopped (slot_add x) answer) (sym slot_was) (stopped h);
-        less = at_slots slots session before slot (λ x y. LeavesLess (g.state old) (g.state new) x y answer) found_at less;
-        calm = λ going. ap (λ (st : State). st.acts) (quiet going);
+        less = λ honest. at_slots slots session before slot (λ x y. LeavesLess (g.state old) (g.state new) x y answer) found_at (less honest);
+        kept = record { acts = kept.acts; quiet = kept.quiet; limits = kept.limits; frames = kept.frames };
+        calm = tt;
         others = others_stay_set slots session slot;
         left = tt;
         causes = tt;
       }
 
-  pub end_makes : AnswersEnd before answer → slot ≡ None → g.backing new ≡ g.backing old → (g.state new).begun ≡ (g.state old).begun
+  pub end_makes : AnswersEnd before answer → slot ≡ None → g.backing new ≡ g.backing old → g.state new ≡ after_end (session_of op) (g.state old)
       → ((start : Entry → Bool) (history : List Action) (number : ℕ) (call : Call) → SlotFits (g.state old) sets start history number call before → SessionGoes nothing_wrong (g.state old) (g.state new) sets start history number call slot answer)
       → Makes g (MovesCall session GivesUp) answer (here_with old slots sets) (here_with new (slice_set slots session slot) sets)
-  end_makes kind over backing begun goes = record {
+  end_makes kind over backing given_up goes = record {
     sessions = length_set slots session slot;
     always = always;
     does = λ honest start history calls fits.
-        moves_on g start (snapshot_of (here_with old slots sets) history calls) new session op slot GivesUp (λ ask t. nothing_wrong) answer fits found_op follows (laws.follows_later old new follows)
+        moves_on g start (snapshot_of (here_with old slots sets) history calls) new session op slot GivesUp nothing_wrong answer fits found_op follows (laws.follows_later old new follows)
         (λ number call runs. goes start history number call (subst (λ (x : Option Op). SlotFits (g.state old) sets start history number call x) (sym is) runs)) refl always
-        (λ s l n c runs. tt);
+        (λ s l n c runs. tt) (λ s l n c runs. tt);
   }
     where
       ended : answer ≡ Ended
@@ -86,10 +100,11 @@ module _ {S : Type 0} (g : Ghosts S) (laws : Laws g) (old new : S) (follows : g.
         answers = at_slots slots session before slot (λ x y. AnswersEnd x answer) found_at kind;
         refused = λ fault h. absurd (let a : answer ≡ Ended = ended in cc);
         stopped = tt;
-        less = tt;
-        calm = λ h. absurd (let a : answer ≡ Ended = ended in cc);
+        less = λ honest. tt;
+        kept = no_act (g.state old) (g.state new) (ap (λ (st : State). st.acts) given_up) (ap (λ (st : State). st.pages) given_up) (ap (λ (st : State). st.limits) given_up) (ap (λ (st : State). st.frames) given_up);
+        calm = ap (λ (st : State). st.acts) given_up;
         others = others_stay_set slots session slot;
-        left = record { over = at_slots slots session before slot (λ x y. y ≡ None) found_at over; backing = backing; begun = begun };
+        left = record { over = at_slots slots session before slot (λ x y. y ≡ None) found_at over; backing = backing; begun = ap (λ (st : State). st.begun) given_up };
         causes = tt;
       }
 
@@ -112,16 +127,18 @@ module _ {S : Type 0} (g : Ghosts S) (laws : Laws g) (store : S) (slots : List (
 
   pub next_makes : AnswersNext before answer → GivesLess before slot answer
       → ((st : State) (start : Entry → Bool) (history : List Action) (number : ℕ) (call : Call) → SlotFits st sets start history number call before → SessionGoes (where_asked_next call.ask) st st sets start history number call slot answer)
-      → ((items : ℕ) (pages : List Page) (steps : ℕ) → IsDue items pages before steps → IsDue items pages slot steps)
+      → ((st : State) (steps : ℕ) → IsDueIn st before steps → IsDueIn st slot steps)
       → Makes g (MovesCall session Takes) answer (here_with store slots sets) (here_with store (slice_set slots session slot) sets)
   next_makes kind less goes due = record {
     sessions = length_set slots session slot;
     always = always;
     does = λ honest start history calls fits.
-        moves_on g start (snapshot_of (here_with store slots sets) history calls) store session op slot Takes (λ ask t. where_asked_next ask) answer fits (found_at ∙ ap (λ (o : Option Op). Some o) is) (laws.follows_same store)
+        moves_on g start (snapshot_of (here_with store slots sets) history calls) store session op slot Takes (where_asked_next (asked_of sets op)) answer fits (found_at ∙ ap (λ (o : Option Op). Some o) is) (laws.follows_same store)
         (laws.follows_later store store (laws.follows_same store))
-        (λ number call runs. goes (g.state store) start history number call (subst (λ (x : Option Op). SlotFits (g.state store) sets start history number call x) (sym is) runs)) refl always
-        (λ s l n c runs steps h. due (g.state store).limits.items (g.state store).pages steps (subst (λ (x : Option Op). IsDueIn (g.state store) x steps) (sym is) h));
+        (λ number call runs. subst (λ (a : Ask). SessionGoes (where_asked_next a) (g.state store) (g.state store) sets start history number call slot answer) runs.runs.ask
+        (goes (g.state store) start history number call (subst (λ (x : Option Op). SlotFits (g.state store) sets start history number call x) (sym is) runs))) refl always
+        (λ s l n c runs steps h. due (g.state store) steps (subst (λ (x : Option Op). IsDueIn (g.state store) x steps) (sym is) h))
+        (λ s l n c runs. tt);
   }
     where
       always : EventAlways g (MovesCall session Takes) answer (here_with store slots sets) (here_with store (slice_set slots session slot) sets)
@@ -132,8 +149,9 @@ module _ {S : Type 0} (g : Ghosts S) (laws : Laws g) (store : S) (slots : List (
           slots_is = ap (λ (x : Option Op). slice_set slots session x) (refused_same answer less fault h) ∙ set_same slots session before found_at;
         };
         stopped = tt;
-        less = at_slots slots session before slot (λ x y. GivesLess x y answer) found_at less;
-        calm = λ h. refl;
+        less = λ honest. at_slots slots session before slot (λ x y. GivesLess x y answer) found_at less;
+        kept = still (g.state store) (g.state store) refl;
+        calm = refl;
         others = others_stay_set slots session slot;
         left = refl;
         causes = tt;
@@ -167,8 +185,9 @@ module _ {S : Type 0} (g : Ghosts S) (laws : Laws g) (old new : S) (follows : g.
         answers = told_so upkeep count;
         refused = λ fault h. absurd (not_refused upkeep count fault h);
         stopped = λ h. absurd (alive h);
-        less = tt;
-        calm = λ h. ap (λ (st : State). st.acts) same;
+        less = λ honest. tt;
+        kept = still (g.state old) (g.state new) same;
+        calm = ap (λ (st : State). st.acts) same;
         others = λ s of other apart. refl;
         left = tt;
         causes = tt;
@@ -190,8 +209,9 @@ module _ {S : Type 0} (g : Ghosts S) (laws : Laws g) (old new : S) (follows : g.
         answers = refused_so upkeep fault;
         refused = λ f h. record { state_is = same; slots_is = refl };
         stopped = λ h. ap Refused (stopped h);
-        less = tt;
-        calm = λ h. ap (λ (st : State). st.acts) same;
+        less = λ honest. tt;
+        kept = still (g.state old) (g.state new) same;
+        calm = ap (λ (st : State). st.acts) same;
         others = λ s of other apart. refl;
         left = tt;
         causes = tt;
@@ -208,8 +228,9 @@ module _ {S : Type 0} (g : Ghosts S) (laws : Laws g) (old new : S) (follows : g.
     answers = tt;
     refused = λ fault e. absurd cc;
     stopped = λ is. absurd (true_false (sym is ∙ alive));
-    less = tt;
-    calm = λ e. absurd cc;
+    less = λ honest. tt;
+    kept = no_act (g.state old) (g.state new) (ap (λ (st : State). st.acts) h.state) (ap (λ (st : State). st.pages) h.state) (ap (λ (st : State). st.limits) h.state) (ap (λ (st : State). st.frames) h.state);
+    calm = ap (λ (st : State). st.acts) h.state;
     others = others_stay_set slots session slot;
     left = tt;
     causes = tt;
@@ -218,8 +239,9 @@ module _ {S : Type 0} (g : Ghosts S) (laws : Laws g) (old new : S) (follows : g.
     answers = tt;
     refused = λ f e. record { state_is = h.state; slots_is = ap (λ (x : Option Op). slice_set slots session x) (h.slot_is ∙ before_is) ∙ set_same slots session None free };
     stopped = λ is. absurd (true_false (sym is ∙ alive));
-    less = tt;
-    calm = λ e. ap (λ (st : State). st.acts) h.state;
+    less = λ honest. tt;
+    kept = still (g.state old) (g.state new) h.state;
+    calm = ap (λ (st : State). st.acts) h.state;
     others = others_stay_set slots session slot;
     left = tt;
     causes = subst (λ (o : Option (Option Op)). IsCaused (where_begun_at g old o) (Refused fault)) (sym free)
@@ -304,8 +326,9 @@ not_found_makes g laws store slots sets session request fault none = record {
       answers = tt;
       refused = λ f h. record { state_is = refl; slots_is = refl };
       stopped = not_found_first (g.backing store).stopped (slice_get slots session) session fault none;
-      less = tt;
-      calm = λ h. refl;
+      less = λ honest. tt;
+      kept = still (g.state store) (g.state store) refl;
+      calm = refl;
       others = λ s of other apart. refl;
       left = tt;
       causes = not_found_why g store session (g.backing store).stopped (slice_get slots session) fault refl none;

@@ -5,13 +5,13 @@ use Rattle.index_model.specs.declared.entry.Entry.{Entry}
 use Rattle.page_codec.specs.declared.page.Page.{Page}
 use Rattle.page_action.specs.Contents.{entry_on_live_leaf}
 use Rattle.page_action.specs.declared.page_store.PageStore.{Ghosts}
-use Rattle.tree_shape.specs.Tree.{IsBlinkTree}
+use Rattle.tree_acts.specs.Trees.{IsTree}
 use Rattle.schedule.specs.Snapshots.{Snapshot}
 
 -- the pages are a B-link tree whose contents are those after this history
 pub record ArePagesAfter (start : Entry → Bool) (history : List Action) (pages : List Page) : Type 0 where
   pub contents : (e : Entry) → entry_on_live_leaf pages e ≡ contents_after start history e
-  pub tree : IsBlinkTree pages
+  pub tree : IsTree pages
 
 -- nobody else wrote to the store's device; the pages after each first part of its acts are those after that part of the
 -- history; and no more acts are durable than the history has actions

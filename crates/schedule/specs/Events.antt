@@ -1,7 +1,7 @@
 -- What an event does, by what it answers.
 use Rattle.std.specs.Prelude.{◌≡◌, ◌≢◌, ◌⊎◌, ℕ, suc, ◌≤◌, Bool, true, false, Option, Some, None, Result, Ok, Err, List, [], ◌∷◌, ◌++◌, length, slice_get, slice_set}
 use Rattle.index_model.specs.Actions.{Effect, Action, contents_after}
-use Rattle.index_model.specs.Calls.{Ask, Call}
+use Rattle.index_model.specs.Calls.{Call}
 use Rattle.index_model.specs.Faults.{Circumstances, HasCause}
 use Rattle.index_model.specs.declared.entry.Entry.{Entry}
 use Rattle.index_model.specs.declared.fault.Fault.{Fault}
@@ -9,12 +9,12 @@ use Rattle.index_model.specs.declared.fault.Fault.TheVariants.{Stopped, NoSessio
 use Rattle.page_action.specs.Causes.{nothing_wrong, where_forced}
 use Rattle.page_action.specs.States.{State, IsLater}
 use Rattle.page_action.specs.declared.page_store.PageStore.{Ghosts}
-use Rattle.descent.specs.Steps.{OthersRely}
+use Rattle.descent.specs.Shared.{OthersRely, MovesFlags}
 use Rattle.session_calls.specs.Due.{IsDueIn, CountsDown, HasSteps}
 use Rattle.session_calls.specs.Ops.{DeadSets, asked_by, asked_of, where_stepped, where_asked_next, where_beginning, IsCaused, AnswersStopped}
-use Rattle.session_calls.specs.Sessions.{Told, IsAsked, acts_of, begun_call, is_busy, slot_add, LeavesLess, LeavesNoMore, GivesLess, AnswersStep, AnswersNext, AnswersEnd, RefusalChangesNothing}
+use Rattle.session_calls.specs.Sessions.{Told, IsAsked, acts_of, begun_call, is_busy, slot_add, LeavesLess, LeavesNoMore, GivesLess, AnswersStep, AnswersNext, AnswersEnd, RefusalChangesNothing, OnlyOwnAreFlagged, LeavesOwnFlagged}
 use Rattle.session_calls.specs.declared.answer.Answer.{Answer}
-use Rattle.session_calls.specs.declared.answer.Answer.TheVariants.{Begun, Going, Forced, Checkpointed, Refused}
+use Rattle.session_calls.specs.declared.answer.Answer.TheVariants.{Begun, Forced, Checkpointed, Refused}
 use Rattle.session_calls.specs.declared.op.Op.{Op}
 use Rattle.session_calls.specs.declared.request.Request.{Request}
 use Rattle.session_calls.specs.declared.request.Request.TheVariants.{Insert as ToInsert, Scan as ToScan}
@@ -64,7 +64,7 @@ AreOf session [] = Unit {0}
 AreOf session (event ∷ events) = IsOf session event × AreOf session events
 
 -- an event of a session's running call: it appends an action of this effect, or none, which the call was asked for; what is
--- told of it; no other call is changed, and other sessions may rely
+-- told of it; no other call is changed, and other sessions may rely; and which flags it moves
 pub record CallGoesOn {S : Type 0} (g : Ghosts S) (start : Entry → Bool) (session : ℕ) (answer : Answer) (old new : Snapshot S) : Type 0 where
   pub number : ℕ
   pub call : Call
@@ -76,6 +76,7 @@ pub record CallGoesOn {S : Type 0} (g : Ghosts S) (start : Entry → Bool) (sess
   pub history_is : new.history ≡ old.history ++ acts_of number effect
   pub calls_is : new.calls ≡ slice_set old.calls number after
   pub others : OthersRely session (g.state old.store) (g.state new.store)
+  pub flags : MovesFlags effect (g.state old.store) (g.state new.store)
 
 -- a call is begun: it gets the next number
 pub record CallBegins {S : Type 0} (g : Ghosts S) (session : ℕ) (request : Request) (answer : Answer) (old new : Snapshot S) : Type 0 where
@@ -146,10 +147,10 @@ session_to_begin false (Some None) session = Ok session
 session_to_begin false (Some (Some op)) session = Err SessionBusy
 
 -- the circumstances of an event of a call: of one that runs, or of none
-abbrev pub where_moved : DeadSets → Circumstances → (Ask → Circumstances) → Option (Option Op) → Circumstances
-where_moved sets idle running None = idle
-where_moved sets idle running (Some None) = idle
-where_moved sets idle running (Some (Some op)) = running (asked_of sets op)
+abbrev pub where_moved : Circumstances → (Op → Circumstances) → Option (Option Op) → Circumstances
+where_moved idle running None = idle
+where_moved idle running (Some None) = idle
+where_moved idle running (Some (Some op)) = running op
 
 -- the circumstances of a beginning
 abbrev pub where_begun_at : {S : Type 0} → Ghosts S → S → Option (Option Op) → Circumstances
@@ -157,16 +158,16 @@ where_begun_at g store None = where_no_call (g.backing store).stopped
 where_begun_at g store (Some slot) = where_beginning (g.state store) (g.backing store) (is_busy slot)
 
 -- the circumstances of a move of a session's call, with these sets, from this store to that
-abbrev pub where_moving : {S : Type 0} → Ghosts S → DeadSets → S → S → ℕ → Move → Option (Option Op) → Circumstances
-where_moving g sets old new session Steps slot =
-    where_moved sets (where_no_call (g.backing old).stopped) (λ ask. where_stepped ask (g.state old) (g.backing old) (g.backing new) session) slot
-where_moving g sets old new session Takes slot = where_moved sets (where_no_call false) where_asked_next slot
-where_moving g sets old new session GivesUp slot = where_moved sets (where_no_call false) (λ ask. nothing_wrong) slot
+abbrev pub where_moving : {S : Type 0} → Ghosts S → DeadSets → S → S → Move → Option (Option Op) → Circumstances
+where_moving g sets old new Steps slot =
+    where_moved (where_no_call (g.backing old).stopped) (λ op. where_stepped op (g.state old) (g.backing old) (g.backing new)) slot
+where_moving g sets old new Takes slot = where_moved (where_no_call false) (λ op. where_asked_next (asked_of sets op)) slot
+where_moving g sets old new GivesUp slot = where_moved (where_no_call false) (λ op. nothing_wrong) slot
 
 -- the circumstances of an event
 abbrev pub where_happening : {S : Type 0} → Ghosts S → Kind → StoreAndSlots S → StoreAndSlots S → Circumstances
 where_happening g (BeginsCall session request) old new = where_begun_at g old.store (slice_get old.slots session)
-where_happening g (MovesCall session move) old new = where_moving g old.sets old.store new.store session move (slice_get old.slots session)
+where_happening g (MovesCall session move) old new = where_moving g old.sets old.store new.store move (slice_get old.slots session)
 where_happening g (KeepsStore upkeep) old new = where_forced (g.backing old.store) (g.backing new.store)
 
 -- a beginning is told as begun, or refused
@@ -247,9 +248,17 @@ session_at (BeginsCall session request) = session
 session_at (MovesCall session move) = session
 session_at (KeepsStore upkeep) = 0
 
--- an event that answers `Going` does no act: on one leaf, an insert's one act comes with its last step
-abbrev pub GoingIsCalm : Answer → State → State → Type 0
-GoingIsCalm answer old new = answer ≡ Going → new.acts ≡ old.acts
+-- an event does one act at most, and with none the pages are as they were; so are limits and frames
+pub record DoesOneAct (old new : State) : Type 0 where
+  pub acts : (new.acts ≡ old.acts) ⊎ (new.acts ≡ suc old.acts)
+  pub quiet : new.acts ≡ old.acts → new.pages ≡ old.pages
+  pub limits : new.limits ≡ old.limits
+  pub frames : new.frames ≡ old.frames
+
+-- only a step does an act
+abbrev pub OnlyStepsAct : Kind → State → State → Type 0
+OnlyStepsAct (MovesCall session Steps) old new = Unit {0}
+OnlyStepsAct kind old new = new.acts ≡ old.acts
 
 -- a beginning that is refused has its cause
 abbrev pub BeginningIsCaused : {S : Type 0} → Ghosts S → Kind → Answer → StoreAndSlots S → Type 0
@@ -258,14 +267,16 @@ BeginningIsCaused g (BeginsCall session request) answer old =
 BeginningIsCaused g kind answer old = Unit {0}
 
 -- What holds of an event whatever the pages are: what it may answer; that a refusal changes nothing; that a stopped log
--- refuses it first; what is left to do for its call; that one that goes on does no act; that no other session's slot is
--- changed; what it leaves; and that a beginning that is refused has its cause.
+-- refuses it first; what is left to do for its call, over a device that keeps its model; that it does one act at most, and
+-- only a step does one; that no other session's slot is changed; what it leaves; and that a beginning that is refused has
+-- its cause.
 pub record EventAlways {S : Type 0} (g : Ghosts S) (kind : Kind) (answer : Answer) (old new : StoreAndSlots S) : Type 0 where
   pub answers : AnswersEvent kind answer old.slots new.slots
   pub refused : RefusalKeeps g kind answer old new
   pub stopped : StopsFirst kind (g.backing old.store).stopped answer old.slots
-  pub less : IsLessLeft kind answer (g.state old.store) (g.state new.store) (slot_of old.slots (session_at kind)) (slot_of new.slots (session_at kind))
-  pub calm : GoingIsCalm answer (g.state old.store) (g.state new.store)
+  pub less : (g.backing new.store).honest ≡ true → IsLessLeft kind answer (g.state old.store) (g.state new.store) (slot_of old.slots (session_at kind)) (slot_of new.slots (session_at kind))
+  pub kept : DoesOneAct (g.state old.store) (g.state new.store)
+  pub calm : OnlyStepsAct kind (g.state old.store) (g.state new.store)
   pub others : (session : ℕ) → IsOfSession session kind → OthersStay session old.slots new.slots
   pub left : IsLeft g kind old new
   pub causes : BeginningIsCaused g kind answer old
@@ -289,6 +300,12 @@ CountsSteps (MovesCall session Takes) answer old new before after = StaysAsDue o
 CountsSteps (MovesCall session GivesUp) answer old new before after = Unit {0}
 CountsSteps (KeepsStore upkeep) answer old new before after = Unit {0}
 
+-- behind a step only those pages are flagged whose splits its insert is to finish yet, where that was so before; and none
+-- behind its end, unless that tells of a fault
+abbrev pub KeepsFlags : Kind → Answer → State → State → Option Op → Option Op → Type 0
+KeepsFlags (MovesCall session Steps) answer old new before after = OnlyOwnAreFlagged old before → LeavesOwnFlagged new before after answer
+KeepsFlags kind answer old new before after = Unit {0}
+
 -- What an event leaves as it was: the limits and the number of frames; and where it appends no action, the pages. So an event
 -- of others that appends no action costs a call that is due no step.
 pub record LeavesBe {S : Type 0} (g : Ghosts S) (kind : Kind) (old new : Snapshot S) : Type 0 where
@@ -310,15 +327,16 @@ pub record GrowsByOne (old new : List Action) : Type 0 where
   pub is : new ≡ old ++ acts
   pub few : length acts ≤ 1
 
--- One event of this kind, of what is fitted: what happens, why it is refused, how many steps its call takes, what it leaves
--- as it was, the sets among it, and what fits then. The store follows the one before, so no count goes back, and each crash
--- in between is told of.
+-- One event of this kind, of what is fitted: what happens, why it is refused, how many steps its call takes, which pages it
+-- leaves flagged, what it leaves as it was, the sets among it, and what fits then. The store follows the one before, so no
+-- count goes back, and each crash in between is told of.
 pub record EventDoes {S : Type 0} (g : Ghosts S) (start : Entry → Bool) (kind : Kind) (answer : Answer) (old new : Snapshot S) : Type 0 where
   pub always : EventAlways g kind answer (here_at old) (here_at new)
   pub happens : Happens g start kind answer old new
   pub grows : GrowsByOne old.history new.history
   pub caused : IsCaused (where_happening g kind (here_at old) (here_at new)) answer
   pub counts : CountsSteps kind answer (g.state old.store) (g.state new.store) (slot_of old.slots (session_at kind)) (slot_of new.slots (session_at kind))
+  pub flagged : KeepsFlags kind answer (g.state old.store) (g.state new.store) (slot_of old.slots (session_at kind)) (slot_of new.slots (session_at kind))
   pub quiet : LeavesBe g kind old new
   pub durable : IsDurable (g.backing new.store).durable answer
   pub sets : new.sets ≡ old.sets

@@ -5,7 +5,7 @@ use Rattle.index_model.specs.Calls.{Running, Call, Meets, ActionsAreOwned}
 use Rattle.index_model.specs.declared.entry.Entry.{Entry}
 use Rattle.page_action.specs.States.{State}
 use Rattle.page_action.specs.declared.page_store.PageStore.{Ghosts}
-use Rattle.descent.specs.Steps.{IsInOrder}
+use Rattle.descent.specs.Shared.{IsInOrder}
 use Rattle.session_calls.specs.Ops.{DeadSets}
 use Rattle.session_calls.specs.Sessions.{Matches, OpRuns, IsIdle, is_busy}
 use Rattle.session_calls.specs.declared.op.Op.{Op}

@@ -6,3 +6,6 @@ mod happening;
 
 pub use event::Event;
 pub use happening::{checkpoint, force, is_running, one, run};
+
+#[cfg(test)]
+mod tests;

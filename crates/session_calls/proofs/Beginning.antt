@@ -1,5 +1,5 @@
 -- Beginnings over histories.
-use Rattle.std.proofs.Common.{◌≡◌, ℕ, ◌+◌, ◌<◌, Bool, true, false, not, Option, Some, None, List, [], ◌∷◌, length, refl, sym, ap, subst, ◌∙◌, arith, length-set}
+use Rattle.std.proofs.Common.{◌≡◌, ◌+◌, ◌≤◌, ℕ, slice_get, ◌<◌, Bool, true, false, not, Option, Some, None, List, [], ◌∷◌, length, refl, sym, ap, subst, ◌∙◌, arith, length-set}
 use Rattle.std.specs.Prelude.{unwrap_or}
 use Rattle.index_model.specs.Actions.{Action}
 use Rattle.index_model.specs.Calls.{Running, GivesOnly, Meets}
@@ -10,9 +10,12 @@ use Rattle.index_model.specs.declared.range.Range.{Range}
 use Rattle.index_model.proofs.Order.{from_key}
 use Rattle.page_action.specs.States.{State, after_begin}
 use Rattle.page_codec.specs.declared.page.Page.{Page}
-use Rattle.descent.specs.Steps.{IsInOrder, OthersRely}
+use Rattle.descent.specs.Shared.{NumbersStay, IsInOrder, OthersRely}
+use Rattle.insert_split.proofs.Lasting.{bounded as insert_bounded}
+use Rattle.scan.proofs.Lasting.{bounded as scan_bounded}
 use Rattle.descent.specs.Ways.{root_level, NoneIsFlagged}
 use Rattle.session_calls.specs.Due.{IsServable, IsDueIn, steps_for, HasSteps}
+use Rattle.session_calls.proofs.Counting.{due_still}
 use Rattle.session_calls.specs.Ops.{DeadSets, asked_by, op_before}
 use Rattle.session_calls.specs.Sessions.{Matches, IsIdle, HasStarted, OpRuns, begun_call, work_left, SessionBegins}
 use Rattle.session_calls.specs.declared.request.Request.{Request}
@@ -23,7 +26,7 @@ use Rattle.std.proofs.lemmas.Bool.{and_parts}
 
 begun_order : (st : State) (session : ℕ) → IsInOrder st → IsInOrder (after_begin session st)
 begun_order st session order = record {
-  tree = order.tree;
+  tree = record { tree = order.tree.tree; stored = order.tree.stored; counted = order.tree.counted };
   apart = order.apart;
   holdings = order.holdings;
   calls = length-set {A = Option ℕ} st.running session (Some st.begun) ∙ order.calls;
@@ -32,11 +35,18 @@ begun_order st session order = record {
 begun_matches : (st : State) (session : ℕ) (start : Entry → Bool) (history : List Action) → Matches st start history → Matches (after_begin session st) start history
 begun_matches st session start history m = record { contents = m.contents; count = m.count; order = begun_order st session m.order }
 
+begun_numbers : (st : State) (session start : ℕ) → NumbersStay start st (after_begin session st)
+begun_numbers st session start = record {
+  places = λ level aim clear block aims place. record { tree = place.tree; in_tree = place.in_tree; place = place.place };
+  trails = λ level block moves trail. record { tree = trail.tree; in_tree = trail.in_tree; passed = trail.passed; count = trail.count; distinct = trail.distinct; steps = trail.steps; trail = trail.trail };
+}
+
 begun_others : (st : State) (session : ℕ) → OthersRely session st (after_begin session st)
 begun_others st session other differ = record {
   held = refl;
   number = get_set_other st.running session other (Some st.begun) differ;
   pages = λ block alone. refl;
+  numbers = λ start runs. begun_numbers st session start;
 }
 
 -- an entry lies beyond the start of a range exactly if its key isn't before the range
@@ -64,9 +74,11 @@ module _ (old : State) (sets : DeadSets) (start : Entry → Bool) (history : Lis
   abbrev then_state : State
   then_state = after_begin session old
 
+  starts : slice_get then_state.running session ≡ Some (Some old.begun)
+  starts = (let many : length old.running ≡ 64 = m.order.calls in get_set_same old.running session (Some old.begun) (omega arith))
+
   has_started : HasStarted then_state session
-  has_started = (let many : length old.running ≡ 64 = m.order.calls in
-      record { number = old.begun; is = ap (λ (o : Option (Option ℕ)). unwrap_or o None) (get_set_same old.running session (Some old.begun) (omega arith)) })
+  has_started = record { number = old.begun; is = ap (λ (o : Option (Option ℕ)). unwrap_or o None) starts }
 
   begun_meets : (request : Request) → Meets start history number (begun_call session (asked_by sets request) (length history))
   begun_meets (ToInsert e) = record { began = omega arith; until = omega arith; right = record { add = tt; end = tt } }
@@ -77,13 +89,13 @@ module _ (old : State) (sets : DeadSets) (start : Entry → Bool) (history : Lis
   }
 
   begun_runs : (request : Request) → OpRuns then_state sets start history (begun_call session (asked_by sets request) (length history)) (op_before session request)
-  begun_runs (ToInsert e) = record { ask = refl; session = refl; added = refl; started = has_started; fits = record { session = low; stands = idle.holds }; knows = tt }
+  begun_runs (ToInsert e) = record { ask = refl; session = refl; added = refl; started = has_started; fits = record { session = low; start = old.begun; running = starts; stands = idle.holds; to_come = refl }; knows = tt }
   begun_runs (ToScan range) = record {
     ask = refl;
     session = refl;
     added = refl;
     started = has_started;
-    fits = record { session = low; stands = idle.holds; started = λ e past. sym (past_start range e) ∙ past };
+    fits = record { session = low; start = old.begun; running = starts; held = idle.holds; stands = refl; started = λ e past. sym (past_start range e) ∙ past };
     knows = record {
       ascending = tt;
       matched = λ e h. absurd cc;
@@ -107,17 +119,21 @@ module _ (old : State) (sets : DeadSets) (start : Entry → Bool) (history : Lis
         holds = (refl, begun_runs request);
       }))
 
+few_from : (most : ℕ) (pages : List Page) (session : ℕ) (request : Request) → most ≤ 65536 → length pages ≤ 65536 → work_left most pages (Some (op_before session request)) < 281474976710656
+few_from most pages session (ToInsert e) low few = insert_bounded most pages low
+few_from most pages session (ToScan range) low few = scan_bounded most pages session range low few
+
 -- a request that its leaf can serve is due after so many steps
 due_from : (old : State) (session : ℕ) (request : Request) → NoneIsFlagged old.pages → IsServable old request
-    → IsDueIn (after_begin session old) (Some (op_before session request)) (root_level old.pages + steps_for request)
+    → IsDueIn old (Some (op_before session request)) (root_level old.pages + steps_for request)
 due_from old session (ToInsert e) whole servable = record { steps_are = refl; whole = whole; way = tt; absent = servable.0; room = servable.1 }
 due_from old session (ToScan range) whole servable = record { steps_are = refl; whole = whole; way = tt; none = refl }
 
-few_from : (pages : List Page) (session : ℕ) (request : Request) → work_left pages (Some (op_before session request)) < 281474976710656
-few_from pages session (ToInsert e) = omega arith
-few_from pages session (ToScan range) = omega arith
-
-pub has_steps : (old new : State) (session : ℕ) (request : Request) (slot : Option Op) → new ≡ after_begin session old → slot ≡ Some (op_before session request) → HasSteps old new request slot
-has_steps old new session request slot is slot_is =
+pub has_steps : (old new : State) (session : ℕ) (request : Request) (slot : Option Op) → new ≡ after_begin session old → slot ≡ Some (op_before session request)
+    → old.limits.pages ≤ 65536 → length old.pages ≤ 65536 → HasSteps old new request slot
+has_steps old new session request slot is slot_is low few =
     subst (λ (st : State). HasSteps old st request slot) (sym is) (subst (λ (x : Option Op). HasSteps old (after_begin session old) request x) (sym slot_is)
-    (record { due = due_from old session request; bounded = few_from old.pages session request }))
+    (record {
+      due = λ whole servable. due_still old (after_begin session old) (Some (op_before session request)) (root_level old.pages + steps_for request) refl refl (due_from old session request whole servable);
+      bounded = few_from old.limits.pages old.pages session request low few;
+    }))

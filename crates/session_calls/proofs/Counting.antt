@@ -1,140 +1,148 @@
 -- The steps of a call that is due, counted down.
-use Rattle.std.proofs.lemmas.Bool.{lt-leb}
-use Rattle.std.proofs.Common.{◌≡◌, ℕ, suc, ◌<◌, Bool, true, false, if◌then◌else◌, Option, Some, None, List, length, slice_get, refl, sym, ap, subst, ◌∙◌, arith}
-use Rattle.index_model.specs.Faults.{Circumstances, HasCause}
-use Rattle.index_model.specs.Order.{IsUpTo}
+use Rattle.std.proofs.Common.{◌≡◌, ℕ, suc, ◌<◌, Bool, true, false, Option, Some, None, List, length, slice_get, refl, sym, ap, subst, ◌∙◌, arith}
+use Rattle.index_model.specs.Actions.{Effect, Add, Remove, Shape}
 use Rattle.index_model.specs.declared.bound.Bound.{Bound}
 use Rattle.index_model.specs.declared.entry.Entry.{Entry}
-use Rattle.index_model.specs.declared.fault.Fault.{Fault}
-use Rattle.index_model.specs.declared.fault.Fault.TheVariants.{NoMemory, Io, Stopped, Blocked, Exists, KeyTooLong, BadRow, IndexFull, LogFull, NoFrame, VacuumRunning, NoSession, SessionBusy, BadSuper, BadVersion, LogDamaged, PageDamaged, BadLimits, TooTall, DeviceTooSmall}
-use Rattle.page_codec.specs.Edits.{entries_of, HasEntries}
-use Rattle.page_codec.specs.declared.page.Items.{Items}
-use Rattle.page_codec.specs.declared.page.Items.TheVariants.{Meta, Entries, Downlinks}
+use Rattle.index_model.specs.declared.limits.Limits.{Limits}
+use Rattle.page_codec.specs.Edits.{entries_of}
 use Rattle.page_codec.specs.declared.page.Page.{Page}
-use Rattle.page_action.specs.States.{State, Backing}
-use Rattle.tree_shape.specs.Tree.{IsBlinkTree}
-use Rattle.descent.specs.Steps.{IsInOrder}
-use Rattle.descent.specs.Ways.{level_with, level_at, root_level, Covers, CoversEntry}
-use Rattle.descent.proofs.Contents.{leaf_is}
-use Rattle.descent.proofs.Quiet.{pages_stay}
-use Rattle.insert_split.specs.Inserts.{InsertStands, InsertFits, IsNextAt, InsertGoesOn, is_full_page, where_inserting}
+use Rattle.tree_shape.specs.Walks.{entry_aim, frontier_aim}
+use Rattle.page_action.specs.Contents.{entry_on_live_leaf}
+use Rattle.page_action.specs.States.{State}
+use Rattle.tree_shape.specs.Nodes.{nodes_of, node_from}
+use Rattle.tree_acts.specs.Trees.{HasCover}
+use Rattle.descent.specs.Steps.{Changes}
+use Rattle.descent.specs.Shared.{MovesFlags}
+use Rattle.descent.specs.Ways.{NoneIsFlagged}
+use Rattle.insert_split.specs.Inserts.{IsNoted, IsToCome, InsertGoesOn}
+use Rattle.insert_split.specs.Straight.{straight_steps as insert_steps, IsStraight as IsOnEntryWay, HasRoomFor}
 use Rattle.insert_split.specs.declared.insert.InsertAt.{InsertAt}
-use Rattle.insert_split.specs.declared.insert.InsertAt.TheVariants.{Start as InsertStart, At as InsertReads, Holding}
+use Rattle.insert_split.specs.declared.insert.InsertAt.TheVariants.{Start as InsertStart, At as InsertReads, Holding, Finishing}
 use Rattle.insert_split.specs.declared.insert.InsertOp.{InsertOp}
-use Rattle.session_calls.specs.Ops.{ends_call}
-use Rattle.session_calls.specs.Sessions.{slot_after}
-use Rattle.session_calls.specs.Due.{insert_steps, IsOnEntryWay, InsertIsDue, IsDueIn, StaysDue, IsHindered, CountsDown}
-use Rattle.session_calls.specs.declared.answer.Answer.TheVariants.{Going, Refused}
+use Rattle.scan.specs.Scans.{waiting, IsMoving}
+use Rattle.scan.specs.Straight.{straight_steps as scan_steps, IsStraight as IsOnFrontierWay}
+use Rattle.scan.specs.declared.steps.ScanAt.{ScanAt}
+use Rattle.scan.specs.declared.steps.ScanAt.TheVariants.{Start as ScanStart, At as ScanReads, Last}
+use Rattle.scan.specs.declared.steps.ScanOp.{ScanOp}
+use Rattle.session_calls.specs.Due.{InsertIsDue, ScanIsDue, IsDueIn, CountsDown}
+use Rattle.session_calls.specs.declared.answer.Answer.TheVariants.{Going}
 use Rattle.session_calls.specs.declared.op.Op.{Op}
-use Rattle.session_calls.specs.declared.op.Op.TheVariants.{Insert}
+use Rattle.session_calls.specs.declared.op.Op.TheVariants.{Insert, Scan}
 
-leaf_level : (items : Items) (level : ℕ) → HasEntries items → level_with items level ≡ 0
-leaf_level Meta level has = absurd has
-leaf_level (Entries v) level has = refl
-leaf_level (Downlinks v) level has = absurd has
+abbrev paged : State → List Page → State
+paged st pages = record st { pages = pages }
 
--- in a tree of one leaf
-module _ (pages : List Page) (tree : IsBlinkTree pages) where
-  root_is_low : root_level pages ≡ 0
-  root_is_low = ap (λ (ps : List Page). root_level ps) tree.pages_are ∙ ap (λ (items : Items). level_with items tree.meta.level) tree.names_root.kind ∙ tree.names_root.level_is
+-- what covers a place, covers it in each state with these pages
+cover_still : (old new : State) (level : ℕ) (aim : Bound → Bool) (block : ℕ) → new.pages ≡ old.pages → HasCover old level aim block → HasCover new level aim block
+cover_still old new level aim block same c =
+    let at_old : HasCover (paged old old.pages) level aim block = record { tree = c.tree; in_tree = c.in_tree; covers = c.covers } in
+    let at_new : HasCover (paged old new.pages) level aim block = subst (λ (ps : List Page). HasCover (paged old ps) level aim block) (sym same) at_old in
+    record { tree = at_new.tree; in_tree = at_new.in_tree; covers = at_new.covers }
 
-  leaf_is_low : level_at pages 1 ≡ 0
-  leaf_is_low = ap (λ (ps : List Page). level_at ps 1) tree.pages_are ∙ leaf_level tree.leaf.items tree.leaf.level tree.is_only.kind
+room_still : (old new : State) (e : Entry) → new.limits ≡ old.limits → new.pages ≡ old.pages → HasRoomFor old e → HasRoomFor new e
+room_still old new e limits same room page found cover =
+    subst (λ (l : Limits). length (entries_of page.items) < l.items) (sym limits)
+    (room page (sym (ap (λ (ps : List Page). slice_get ps page.block) same) ∙ found) (cover_still new old 0 (entry_aim e) page.block (sym same) cover))
 
-  -- the leaf is the one of its level for every place
-  covers_leaf : (has_below : Option Bound → Type 0) → has_below None → Covers pages has_below 1
-  covers_leaf has_below h = record {
-    page = tree.leaf;
-    found = ap (λ (ps : List Page). slice_get ps 1) tree.pages_are;
-    alive = tree.is_only.alive;
-    within = subst has_below (sym tree.is_only.unbounded) h;
-    first = λ left other is found below. (let none : None ≡ Some left = sym tree.is_only.leftmost ∙ is in absurd cc);
-  }
+insert_way_still : (old new : State) (e : Entry) (at : InsertAt) → new.pages ≡ old.pages → IsOnEntryWay old e at → IsOnEntryWay new e at
+insert_way_still old new e InsertStart same h = tt
+insert_way_still old new e (InsertReads way) same h = cover_still old new way.level (entry_aim e) way.block same h
+insert_way_still old new e (Holding block) same h = tt
+insert_way_still old new e (Finishing op) same h = absurd h
 
-  insert_next : (session : ℕ) (e : Entry) (st : State) (left : ℕ) (at after : InsertAt) → InsertStands st session at → IsNextAt at after → suc left ≡ insert_steps pages at → IsOnEntryWay pages e at
-      → (0 < left) × (left ≡ insert_steps pages after) × IsOnEntryWay pages e after
-  insert_next session e st left InsertStart after stands next steps way =
-      subst (λ (a : InsertAt). (0 < left) × (left ≡ insert_steps pages a) × IsOnEntryWay pages e a) (sym next)
-      (omega (arith, root_is_low), omega (arith, root_is_low, leaf_is_low), covers_leaf (λ high. IsUpTo high e) tt)
-  insert_next session e st left (InsertReads block) after stands next steps way =
-      let low : level_at pages block ≡ 0 = ap (λ (b : ℕ). level_at pages b) stands.1 ∙ leaf_is_low in
-      subst (λ (a : InsertAt). (0 < left) × (left ≡ insert_steps pages a) × IsOnEntryWay pages e a) (sym next)
-      (omega arith, omega arith, way)
-  insert_next session e st left (Holding block) after stands next steps way = absurd next
+scan_way_still : (old new : State) (frontier : Bound) (at : ScanAt) → new.pages ≡ old.pages → IsOnFrontierWay old frontier at → IsOnFrontierWay new frontier at
+scan_way_still old new frontier ScanStart same h = tt
+scan_way_still old new frontier (ScanReads way) same h = cover_still old new way.level (frontier_aim frontier) way.block same h
+scan_way_still old new frontier Last same h = absurd h
 
--- an insert that goes on is due one step sooner
-pub insert_counts : (old new : State) (before after : InsertOp) (left : ℕ) → IsInOrder old → InsertFits old before → InsertIsDue old.limits.items old.pages before (suc left)
-    → after.entry ≡ before.entry → InsertGoesOn old new before after → CountsDown old new (Some (Insert before)) (Some (Insert after)) left Going
-insert_counts old new before after left order fits due same step =
-    let pages = pages_stay before.session old new step.does in
-    let next = insert_next old.pages order.tree before.session before.entry old left before.at after.at fits.stands step.next due.steps_are due.way in
-    let then_due : InsertIsDue old.limits.items old.pages after left = record {
-      steps_are = next.1;
-      whole = due.whole;
-      way = rw same next.2;
-      absent = rw same due.absent;
-      room = rw same due.room;
-    } in (
-      next.0,
-      record { pages = pages; limits = step.does.limits; due = rw (pages, step.does.limits) then_due },
-    )
-
--- the pages give no cause for a refusal
-record NoneOnPages (at : Circumstances) : Type 0 where
-  grown : at.growth_refused ≡ false
-  new : at.entry_was_there ≡ false
-  free : at.no_block_is_free ≡ false
-  no_vacuum : at.vacuum_runs ≡ false
-  session : at.no_such_session ≡ false
-  idle : at.session_has_a_call ≡ false
-  sound : (block : ℕ) → at.page_is_damaged block ≡ false
-  low : at.root_is_at_31 ≡ false
+-- a call that is due stays so while pages and limits are as they were
+pub due_still : (old new : State) (slot : Option Op) (steps : ℕ) → new.limits ≡ old.limits → new.pages ≡ old.pages → IsDueIn old slot steps → IsDueIn new slot steps
+due_still old new None steps limits same due = absurd due
+due_still old new (Some (Insert op)) steps limits same due = record {
+  steps_are = due.steps_are ∙ sym (ap (λ (ps : List Page). insert_steps ps op.at) same);
+  whole = subst NoneIsFlagged (sym same) due.whole;
+  way = insert_way_still old new op.entry op.at same due.way;
+  absent = ap (λ (ps : List Page). entry_on_live_leaf ps op.entry) same ∙ due.absent;
+  room = room_still old new op.entry limits same due.room;
+}
+due_still old new (Some (Scan op)) steps limits same due = record {
+  steps_are = due.steps_are ∙ sym (ap (λ (ps : List Page). scan_steps ps op.at) same);
+  whole = subst NoneIsFlagged (sym same) due.whole;
+  way = scan_way_still old new op.frontier op.at same due.way;
+  none = due.none;
+}
 
 true_false : {b : Bool} → b ≡ false → b ≡ true → ⊥
 true_false falls holds = cc
 
--- a refused step of a call that is due
-module _ (at : Circumstances) (old new : State) (op : Op) (left : ℕ) (none : NoneOnPages at) (due : IsDueIn old (Some op) (suc left)) (same : new ≡ old) where
-  hindered : (fault : Fault) → HasCause at fault → IsHindered old new (if ends_call fault then None else Some op) (suc left) fault
-  hindered NoMemory h = absurd (true_false none.grown h)
-  hindered Io h = tt
-  hindered Stopped h = tt
-  hindered (Blocked b) h = subst (λ (st : State). StaysDue old st (Some op) (suc left)) (sym same) (record { pages = refl; limits = refl; due = due })
-  hindered Exists h = absurd (true_false none.new h)
-  hindered KeyTooLong h = absurd h
-  hindered BadRow h = absurd h
-  hindered IndexFull h = absurd (true_false none.free h)
-  hindered LogFull h = tt
-  hindered NoFrame h = tt
-  hindered VacuumRunning h = absurd (true_false none.no_vacuum h)
-  hindered NoSession h = absurd (true_false none.session h)
-  hindered SessionBusy h = absurd (true_false none.idle h)
-  hindered BadSuper h = absurd h
-  hindered BadVersion h = absurd h
-  hindered LogDamaged h = absurd h
-  hindered (PageDamaged b) h = absurd (true_false (none.sound b) h)
-  hindered BadLimits h = absurd h
-  hindered TooTall h = absurd (true_false none.low h)
-  hindered DeviceTooSmall h = absurd h
+none_flagged : (pages : List Page) (block : ℕ) → NoneIsFlagged pages → (nodes_of pages block).split ≡ false
+none_flagged pages block whole = by (slice_get pages block) refl
+  where
+    by : (found : Option Page) → slice_get pages block ≡ found → (node_from found).split ≡ false
+    by None is = refl
+    by (Some page) is = whole block page is
 
-not_full : (items : ℕ) (page : Option Page) (leaf : Page) → page ≡ Some leaf → length (entries_of leaf.items) < items → is_full_page items page ≡ false
-not_full items page leaf found room = rw found (lt-leb items (length (entries_of leaf.items)) room)
+-- an insert on its way to its leaf isn't logged yet
+not_logged : (st : State) (e : Entry) (at : InsertAt) (added : Option ℕ) → IsOnEntryWay st e at → IsToCome at added → added ≡ None
+not_logged st e InsertStart added way h = h
+not_logged st e (InsertReads w) added way h = h
+not_logged st e (Holding block) added way h = h
+not_logged st e (Finishing op) added way h = absurd way
 
--- a refused step of an insert that is due
-pub insert_hindered : (old new : State) (first second : Backing) (before after : InsertOp) (left : ℕ) (fault : Fault) → IsInOrder old → InsertIsDue old.limits.items old.pages before (suc left)
-    → after ≡ before → new ≡ old → HasCause (where_inserting old first second before.session before.entry) fault
-    → CountsDown old new (Some (Insert before)) (slot_after (Refused fault) (Insert after)) left (Refused fault)
-insert_hindered old new first second before after left fault order due same_op same cause =
-    let leaf : CoversEntry old.pages before.entry 1 = covers_leaf old.pages order.tree (λ high. IsUpTo high before.entry) tt in
-    let kind : HasEntries leaf.page.items = subst (λ (p : Page). HasEntries p.items) (leaf_is old.pages order.tree leaf.page leaf.found) order.tree.is_only.kind in
-    let none : NoneOnPages (where_inserting old first second before.session before.entry) = record {
-      grown = refl;
-      new = due.absent;
-      free = not_full old.limits.items (slice_get old.pages 1) leaf.page leaf.found (due.room 1 leaf kind);
-      no_vacuum = refl;
-      session = refl;
-      idle = refl;
-      sound = λ block. refl;
-      low = refl;
-    } in
-    rw same_op (hindered (where_inserting old first second before.session before.entry) old new (Insert before) left none due same fault cause)
+-- so a step on that way does no act, where no page is flagged
+quiet_on_way : (old new : State) (e : Entry) (was now : Option ℕ) (effect : Option Effect) → Changes effect old new → MovesFlags effect old new
+    → IsNoted effect old.acts e was now → now ≡ None → NoneIsFlagged old.pages → new.pages ≡ old.pages
+quiet_on_way old new e was now None changes flags noted none whole = ap (λ (st : State). st.pages) changes
+quiet_on_way old new e was now (Some (Add x)) changes flags noted none whole = absurd (let is : Some (suc old.acts) ≡ None = sym noted.2 ∙ none in cc)
+quiet_on_way old new e was now (Some (Remove es)) changes flags noted none whole = absurd noted
+quiet_on_way old new e was now (Some Shape) changes flags noted none whole = absurd (true_false (none_flagged old.pages flags.cleared whole) flags.was)
+
+some_steps : (st : State) (e : Entry) (at : InsertAt) → IsOnEntryWay st e at → 0 < insert_steps st.pages at
+some_steps st e InsertStart way = omega arith
+some_steps st e (InsertReads w) way = omega arith
+some_steps st e (Holding block) way = omega arith
+some_steps st e (Finishing op) way = absurd way
+
+-- an insert that goes on is due one step sooner
+pub insert_counts : (old new : State) (before after : InsertOp) (left : ℕ) → InsertIsDue old before (suc left) → after.entry ≡ before.entry → InsertGoesOn old new before after
+    → IsOnEntryWay new after.entry after.at → suc (insert_steps new.pages after.at) ≡ insert_steps old.pages before.at
+    → CountsDown old new (Some (Insert before)) (Some (Insert after)) left Going
+insert_counts old new before after left due same step way fewer =
+    let none = not_logged new after.entry after.at after.added way step.fits.to_come in
+    let pages = quiet_on_way old new before.entry before.added after.added step.effect step.does.changes step.does.flags step.noted none due.whole in
+    let left_is : left ≡ insert_steps new.pages after.at = (let is : suc left ≡ suc (insert_steps new.pages after.at) = due.steps_are ∙ sym fewer in omega arith) in (
+      subst (λ (n : ℕ). 0 < n) (sym left_is) (some_steps new after.entry after.at way),
+      record {
+        pages = pages;
+        limits = step.does.limits;
+        due = record {
+          steps_are = left_is;
+          whole = subst NoneIsFlagged (sym pages) due.whole;
+          way = way;
+          absent = ap (λ (ps : List Page). entry_on_live_leaf ps after.entry) pages ∙ ap (entry_on_live_leaf old.pages) same ∙ due.absent;
+          room = room_still old new after.entry step.does.limits pages (subst (λ (e : Entry). HasRoomFor old e) (sym same) due.room);
+        };
+      },
+    )
+
+some_reads : (st : State) (frontier : Bound) (at : ScanAt) → IsOnFrontierWay st frontier at → 0 < scan_steps st.pages at
+some_reads st frontier ScanStart way = omega arith
+some_reads st frontier (ScanReads w) way = omega arith
+some_reads st frontier Last way = absurd way
+
+-- a scan that goes on is due one step sooner
+pub scan_counts : (old new : State) (before after : ScanOp) (left : ℕ) → ScanIsDue old before (suc left) → IsMoving old new before after
+    → IsOnFrontierWay old after.frontier after.at → suc (scan_steps old.pages after.at) ≡ scan_steps old.pages before.at
+    → CountsDown old new (Some (Scan before)) (Some (Scan after)) left Going
+scan_counts old new before after left due step way fewer =
+    let pages : new.pages ≡ old.pages = ap (λ (st : State). st.pages) step.does.changes in
+    let left_is : left ≡ scan_steps old.pages after.at = (let is : suc left ≡ suc (scan_steps old.pages after.at) = due.steps_are ∙ sym fewer in omega arith) in
+    let then_due : ScanIsDue old after left = record {
+      steps_are = left_is;
+      whole = due.whole;
+      way = way;
+      none = ap (λ (op : ScanOp). waiting op) step.op ∙ step.none;
+    } in (
+      subst (λ (n : ℕ). 0 < n) (sym left_is) (some_reads old after.frontier after.at way),
+      record { pages = pages; limits = step.does.limits; due = due_still old new (Some (Scan after)) left step.does.limits pages then_due },
+    )

@@ -2,14 +2,14 @@
 use Rattle.std.proofs.Common.{◌≡◌, ℕ, suc, ◌<◌, Bool, Option, Some, None, List, [], ◌∷◌, ◌++◌, length, refl, sym, ap, subst, ◌∙◌, arith, length-append, length-set}
 use Rattle.std.specs.Prelude.{unwrap_or}
 use Rattle.std.proofs.lemmas.List.{append-nil}
-use Rattle.index_model.specs.Actions.{Effect, Action, said_of}
+use Rattle.index_model.specs.Actions.{Effect, Add, Remove, Shape, Action, said_of}
 use Rattle.index_model.specs.declared.entry.Entry.{Entry}
 use Rattle.index_model.proofs.Histories.{contents_after-append}
 use Rattle.latch_table.specs.Holdings.{Holding, nothing_held, latches_exclude}
 use Rattle.latch_table.specs.declared.mode.Mode.TheVariants.{Shared}
 use Rattle.latch_table.proofs.Tables.{length-with_holding, holding_of-with_holding, holding_of-with_holding_other}
 use Rattle.page_action.specs.States.{State, after_end}
-use Rattle.descent.specs.Steps.{IsInOrder, MayRely, OthersRely, Does}
+use Rattle.descent.specs.Shared.{IsRaised, NumbersStay, IsInOrder, MayRely, OthersRely, MovesFlags, level_in, Does}
 use Rattle.descent.proofs.Tables.{apart_nothing}
 use Rattle.session_calls.specs.Sessions.{Matches, IsIdle, HasStarted, acts_of}
 use Rattle.session_calls.proofs.Lists.{get_set_same, get_set_other}
@@ -41,14 +41,44 @@ rely_trans session a b c one two = record {
   held = two.held ∙ one.held;
   number = two.number ∙ one.number;
   pages = λ block alone. two.pages block (ap (λ (h : Holding). latches_exclude h.latches block Shared) one.held ∙ alone) ∙ one.pages block alone;
+  numbers = λ start runs.
+      let first = one.numbers start runs in
+      let then = two.numbers start (one.number ∙ runs) in
+      record {
+        places = λ level aim clear block aims place. then.places level aim clear block aims (first.places level aim clear block aims place);
+        trails = λ level block moves trail. then.trails level block moves (first.trails level block moves trail);
+      };
 }
+
+-- a step with no effect leaves the pages
+pub pages_stay : (session : ℕ) (old new : State) → Does session None old new → new.pages ≡ old.pages
+pages_stay session old new does = ap (λ (st : State). st.pages) does.changes
+
+-- the numbers that calls keep depend on the pages alone
+ended_numbers : (st : State) (session start : ℕ) → NumbersStay start st (after_end session st)
+ended_numbers st session start = record {
+  places = λ level aim clear block aims place. record { tree = place.tree; in_tree = place.in_tree; place = place.place };
+  trails = λ level block moves trail. record { tree = trail.tree; in_tree = trail.in_tree; passed = trail.passed; count = trail.count; distinct = trail.distinct; steps = trail.steps; trail = trail.trail };
+}
+
+ended_raised : (old new : State) (session level : ℕ) (raised : Option ℕ) → IsRaised old new level raised → IsRaised old (after_end session new) level raised
+ended_raised old new session level None h = tt
+ended_raised old new session level (Some b) h = h
+
+-- flags are of the pages alone
+pub ended_flags : (old new : State) (session : ℕ) (effect : Option Effect) → MovesFlags effect old new → MovesFlags effect old (after_end session new)
+ended_flags old new session None h = tt
+ended_flags old new session (Some (Add e)) h = record { raised = h.raised; leaf = ended_raised old new session 0 h.raised h.leaf; moves = h.moves; most = h.most }
+ended_flags old new session (Some (Remove es)) h = h
+ended_flags old new session (Some Shape) h =
+    record { cleared = h.cleared; was = h.was; raised = h.raised; higher = ended_raised old new session (suc (level_in new h.cleared)) h.raised h.higher; moves = h.moves; less = h.less }
 
 pub ended_order : (st : State) (session : ℕ) → session < 64 → IsInOrder st → IsInOrder (after_end session st)
 ended_order st session low order =
     let many : length st.table ≡ 64 = order.holdings in
     let calls : length st.running ≡ 64 = order.calls in
     record {
-      tree = order.tree;
+      tree = record { tree = order.tree.tree; stored = order.tree.stored; counted = order.tree.counted };
       apart = apart_nothing st.table session (omega arith) order.apart;
       holdings = length-with_holding st.table session nothing_held ∙ many;
       calls = length-set {A = Option ℕ} st.running session None ∙ calls;
@@ -62,6 +92,7 @@ ended_others old st session rely other differ = rely_trans other old st (after_e
   held = holding_of-with_holding_other st.table session other nothing_held differ;
   number = get_set_other st.running session other None differ;
   pages = λ block alone. refl;
+  numbers = λ start runs. ended_numbers st session start;
 })
 
 -- a session whose call has ended is idle

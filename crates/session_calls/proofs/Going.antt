@@ -8,8 +8,8 @@ use Rattle.index_model.specs.declared.entry.Entry.{Entry}
 use Rattle.index_model.specs.declared.fault.Fault.{Fault}
 use Rattle.page_action.specs.Contents.{entry_on_live_leaf}
 use Rattle.page_action.specs.States.{State, after_end}
-use Rattle.descent.specs.Steps.{Does}
-use Rattle.descent.proofs.Quiet.{does_nothing, pages_stay}
+use Rattle.descent.specs.Shared.{Does}
+use Rattle.descent.proofs.Acting.{nothing_else}
 use Rattle.session_calls.specs.Ops.{DeadSets, session_of, asked_of, add_of, OpFits, OpKnows, IsCaused, IsFaultCaused, is_last, ends_call}
 use Rattle.session_calls.specs.Sessions.{Matches, OpRuns, CallFits, acts_of, act_count, IsAsked, add_after, noted, ended, Told, SessionGoes, OpGoes, HoldsOn}
 use Rattle.session_calls.specs.declared.answer.Answer.{Answer}
@@ -18,7 +18,7 @@ use Rattle.session_calls.specs.declared.op.Op.{Op}
 use Rattle.session_calls.specs.declared.op.Op.TheVariants.{Insert, Scan}
 use Rattle.page_action.specs.Causes.{nothing_wrong}
 use Rattle.session_calls.proofs.Telling.{told_same}
-use Rattle.session_calls.proofs.Effects.{matches_after, started_after, ended_matches, ended_others, ended_idle}
+use Rattle.session_calls.proofs.Effects.{matches_after, started_after, pages_stay, ended_flags, ended_matches, ended_others, ended_idle}
 use Rattle.session_calls.proofs.Meeting.{grown, began_before, meets_noted, meets_failed, meets_given_up, meets_ended_added, there_at_present}
 
 -- a step of an operation is an event of its session; where its answer is the last, what the session held is let go
@@ -39,6 +39,7 @@ module _ {sets : DeadSets} (at : Circumstances) (old mid new : State) (start : E
     told = goes.told;
     caused = goes.caused;
     world = ended_matches mid call.session start (history ++ acts_of number goes.effect) low mid_matches;
+    flags = ended_flags old mid call.session goes.effect goes.does.flags;
     limits = goes.does.limits;
     frames = goes.does.frames;
     pages = mid_pages;
@@ -53,6 +54,7 @@ module _ {sets : DeadSets} (at : Circumstances) (old mid new : State) (start : E
     told = goes.told;
     caused = goes.caused;
     world = mid_matches;
+    flags = goes.does.flags;
     limits = goes.does.limits;
     frames = goes.does.frames;
     pages = mid_pages;
@@ -89,11 +91,12 @@ event_of_end {sets} old new start history number call op fits is =
       asked = tt;
       told = record { none = refl; after_is = refl };
       caused = tt;
+      flags = tt;
       world = subst (λ (l : List Action). Matches (after_end call.session old) start l) (sym (append-nil history)) (ended_matches old call.session start history low fits.world);
       limits = refl;
       frames = refl;
       pages = λ none. refl;
-      others = ended_others old old call.session (does_nothing call.session old old refl fits.world.order).others;
+      others = ended_others old old call.session (nothing_else call.session old old refl fits.world.order).others;
       meets = subst (λ (l : List Action). Meets start l number (ended call GivenUp (length history))) (sym (append-nil history)) (meets_given_up start history number call fits.meets fits.running);
       holds = (λ h. cc, ended_idle call.session old low fits.world.order);
     })
@@ -108,11 +111,12 @@ event_of_nothing {sets} at old new start history number call after op answer m s
   asked = tt;
   told = told;
   caused = caused;
-  world = matches_after call.session None old new start history number m (does_nothing call.session old new same m.order);
+  flags = tt;
+  world = matches_after call.session None old new start history number m (nothing_else call.session old new same m.order);
   limits = ap (λ (st : State). st.limits) same;
   frames = ap (λ (st : State). st.frames) same;
   pages = λ none. ap (λ (st : State). st.pages) same;
-  others = (does_nothing call.session old new same m.order).others;
+  others = (nothing_else call.session old new same m.order).others;
   meets = subst (λ (l : List Action). Meets start l number after) (sym (append-nil history)) meets;
   holds = (running, subst (λ (l : List Action). OpRuns new sets start l after op) (sym (append-nil history)) runs);
 }
@@ -194,20 +198,20 @@ module _ {sets : DeadSets} (at : Circumstances) (old new : State) (start : Entry
       }
 
   -- one that is refused
-  pub step_is_refused : (fault : Fault) → new ≡ old → after ≡ before → HasCause at fault → add_of before ≡ None
+  pub step_is_refused : (fault : Fault) → new ≡ old → after ≡ before → HasCause at fault → (ends_call fault ≡ true → add_of before ≡ None)
       → ((e : Entry) → asked_of sets before ≡ AskInsert e → at.entry_was_there ≡ true → entry_on_live_leaf old.pages e ≡ true)
       → OpGoes at old new sets start history number call after (Refused fault)
   step_is_refused fault same same_op cause none there = by_end (ends_call fault) refl
     where
-      may : (e : Entry) → call.ask ≡ AskInsert e → (call.added ≡ None) × InsertMayFail start history call.began (length history) e fault
-      may e asked = (
-        fits.runs.added ∙ none,
+      may : ends_call fault ≡ true → (e : Entry) → call.ask ≡ AskInsert e → (call.added ≡ None) × InsertMayFail start history call.began (length history) e fault
+      may ends e asked = (
+        fits.runs.added ∙ none ends,
         λ is. there_at_present old start history call.began e fits.world (began_before start history number call fits.meets fits.running)
             (there e (sym fits.runs.ask ∙ asked) (subst (λ (f : Fault). HasCause at f) is cause)),
       )
 
       does : Does call.session None old new
-      does = does_nothing call.session old new same fits.world.order
+      does = nothing_else call.session old new same fits.world.order
 
       by_end : (b : Bool) → ends_call fault ≡ b → OpGoes at old new sets start history number call after (Refused fault)
       by_end true ends = record {
@@ -218,7 +222,7 @@ module _ {sets : DeadSets} (at : Circumstances) (old new : State) (start : Entry
         told = (refl, rw ends refl);
         caused = cause;
         meets = subst (λ (l : List Action). Meets start l number (ended call (Failed fault) (length history))) (sym (append-nil history))
-            (meets_failed start history number call fits.meets fits.running fault may);
+            (meets_failed start history number call fits.meets fits.running fault (may ends));
         holds = subst (λ (b : Bool). HoldsOn b new sets start (history ++ []) (ended call (Failed fault) (length history)) after) (sym ends) (λ h. cc);
       }
       by_end false ends = record {

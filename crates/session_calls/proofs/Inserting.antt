@@ -1,42 +1,94 @@
 -- The steps of an insert over histories.
-use Rattle.std.proofs.Common.{◌≡◌, ℕ, suc, Bool, true, Option, Some, None, List, refl, sym, ap, subst, ◌∙◌}
-use Rattle.index_model.specs.Actions.{Add, Action, contents_after}
+use Rattle.std.proofs.Common.{◌≡◌, ℕ, suc, Bool, true, Option, Some, None, Err, List, length, refl, sym, ap, subst, ◌∙◌}
+use Rattle.index_model.specs.Actions.{Effect, Add, Remove, Shape, Action, contents_after}
 use Rattle.index_model.specs.Calls.{Ask, AskInsert, Call}
 use Rattle.index_model.specs.Faults.{Circumstances, HasCause}
 use Rattle.index_model.specs.declared.entry.Entry.{Entry}
 use Rattle.index_model.specs.declared.fault.Fault.{Fault}
+use Rattle.index_model.specs.declared.fault.Fault.TheVariants.{NoMemory, Io, Stopped, Blocked, Exists, KeyTooLong, BadRow, IndexFull, LogFull, NoFrame, VacuumRunning, NoSession, SessionBusy, BadSuper, BadVersion, LogDamaged, PageDamaged, BadLimits, TooTall, DeviceTooSmall}
 use Rattle.page_action.specs.Contents.{entry_on_live_leaf}
 use Rattle.page_action.specs.States.{State, Backing}
-use Rattle.insert_split.specs.Inserts.{where_inserting, InsertGoesOn, InsertAdds, InsertStays}
+use Rattle.descent.specs.Steps.{Changes}
+use Rattle.insert_split.specs.Inserts.{IsNoted, IsLeft, InsertGoesOn, InsertEnds, InsertStays, where_inserting}
+use Rattle.insert_split.specs.Turns.{is_blocked, IsRefusedRightly}
 use Rattle.insert_split.specs.declared.insert.InsertOp.{InsertOp}
-use Rattle.session_calls.specs.Ops.{DeadSets, where_stepped, IsFaultCaused}
-use Rattle.session_calls.specs.Sessions.{CallFits, IsAsked, OpGoes}
+use Rattle.session_calls.specs.Ops.{DeadSets, ends_call, where_stepped, IsFaultCaused}
+use Rattle.session_calls.specs.Sessions.{CallFits, IsAsked, add_after, OpGoes}
 use Rattle.session_calls.specs.declared.answer.Answer.TheVariants.{Going, Added, Refused}
 use Rattle.session_calls.specs.declared.op.Op.TheVariants.{Insert}
 use Rattle.session_calls.proofs.Going.{step_goes_on, step_adds, step_is_refused}
 
+-- a page that is blocked ends no call
+blocked_goes_on : (fault : Fault) → is_blocked fault ≡ true → ends_call fault ≡ true → ⊥
+blocked_goes_on (Blocked b) h ends = cc
+blocked_goes_on NoMemory h ends = cc
+blocked_goes_on Io h ends = cc
+blocked_goes_on Stopped h ends = cc
+blocked_goes_on Exists h ends = cc
+blocked_goes_on KeyTooLong h ends = cc
+blocked_goes_on BadRow h ends = cc
+blocked_goes_on IndexFull h ends = cc
+blocked_goes_on LogFull h ends = cc
+blocked_goes_on NoFrame h ends = cc
+blocked_goes_on VacuumRunning h ends = cc
+blocked_goes_on NoSession h ends = cc
+blocked_goes_on SessionBusy h ends = cc
+blocked_goes_on BadSuper h ends = cc
+blocked_goes_on BadVersion h ends = cc
+blocked_goes_on LogDamaged h ends = cc
+blocked_goes_on (PageDamaged b) h ends = cc
+blocked_goes_on BadLimits h ends = cc
+blocked_goes_on TooTall h ends = cc
+blocked_goes_on DeviceTooSmall h ends = cc
+
+-- an insert whose entry is logged isn't ended by a refusal
+pub none_logged : (added : Option ℕ) (fault : Fault) → IsRefusedRightly added (Err fault) → ends_call fault ≡ true → added ≡ None
+none_logged None fault h ends = refl
+none_logged (Some action) fault h ends = absurd (blocked_goes_on fault h ends)
+
 module _ {sets : DeadSets} (old new : State) (first second : Backing) (start : Entry → Bool) (history : List Action) (number : ℕ) (call : Call) (before after : InsertOp)
     (fits : CallFits old sets start history number call (Insert before)) (session : after.session ≡ before.session) (entry : after.entry ≡ before.entry) where
-  abbrev at_call : Circumstances
-  at_call = where_stepped call.ask old first second call.session
+  abbrev at_op : Circumstances
+  at_op = where_stepped (Insert before) old first second
 
-  at_is : where_inserting old first second before.session before.entry ≡ at_call
-  at_is = ap (λ (t : ℕ). where_inserting old first second t before.entry) fits.runs.session ∙ ap (λ (a : Ask). where_stepped a old first second call.session) (sym fits.runs.ask)
+  -- what is noted of a step is the number of its Add
+  noted_is : (effect : Option Effect) (now : Option ℕ) → IsNoted effect old.acts before.entry before.added now → now ≡ add_after before.added (suc (length history)) effect
+  noted_is None now h = h
+  noted_is (Some (Add x)) now h = h.2 ∙ ap (λ (n : ℕ). Some (suc n)) fits.world.count
+  noted_is (Some (Remove es)) now h = absurd h
+  noted_is (Some Shape) now h = h
 
-  pub insert_goes_on : InsertGoesOn old new before after → OpGoes at_call old new sets start history number call (Insert after) Going
-  insert_goes_on step = step_goes_on at_call old new start history number call (Insert before) (Insert after) fits session (ap AskInsert entry) None step.does tt refl step.fits tt
+  asked_of_entry : (effect : Option Effect) (now : Option ℕ) → Changes effect old new → IsNoted effect old.acts before.entry before.added now
+      → IsAsked (contents_after start history) (AskInsert before.entry) before.added effect
+  asked_of_entry None now changes h = tt
+  asked_of_entry (Some (Add x)) now changes h = ((sym h.0, h.1), sym (fits.world.contents x) ∙ changes.apt)
+  asked_of_entry (Some (Remove es)) now changes h = absurd h
+  asked_of_entry (Some Shape) now changes h = (tt, tt)
 
-  pub insert_adds : (action : ℕ) (unfinished : Option Fault) → InsertAdds old new before action unfinished → OpGoes at_call old new sets start history number call (Insert after) (Added action unfinished)
-  insert_adds action unfinished step =
-      let absent = sym (fits.world.contents before.entry) ∙ step.does.changes.apt in
-      let asked : IsAsked (contents_after start history) (AskInsert before.entry) None (Some (Add before.entry)) = ((refl, refl), absent) in
-      let mine = subst (λ (a : Ask). IsAsked (contents_after start history) a call.added (Some (Add before.entry))) (sym fits.runs.ask)
-      (subst (λ (o : Option ℕ). IsAsked (contents_after start history) (AskInsert before.entry) o (Some (Add before.entry))) (sym fits.runs.added) asked) in
-      step_adds at_call old new start history number call (Insert before) (Insert after) fits session (ap AskInsert entry) before.entry action unfinished (Some (Add before.entry)) refl step.does mine
-      (ap (λ (n : ℕ). Some n) (sym (step.number ∙ ap suc fits.world.count))) (subst (λ (u : Option Fault). IsFaultCaused at_call u) (sym step.finished) tt)
+  asked : (effect : Option Effect) (now : Option ℕ) → Changes effect old new → IsNoted effect old.acts before.entry before.added now
+      → IsAsked (contents_after start history) call.ask call.added effect
+  asked effect now changes h =
+      subst (λ (a : Ask). IsAsked (contents_after start history) a call.added effect) (sym fits.runs.ask)
+      (subst (λ (o : Option ℕ). IsAsked (contents_after start history) (AskInsert before.entry) o effect) (sym fits.runs.added) (asked_of_entry effect now changes h))
 
-  pub insert_is_refused : (fault : Fault) → InsertStays old new before after → HasCause (where_inserting old first second before.session before.entry) fault
-      → OpGoes at_call old new sets start history number call (Insert after) (Refused fault)
-  insert_is_refused fault stays cause = subst (λ (x : Circumstances). OpGoes x old new sets start history number call (Insert after) (Refused fault)) at_is
-      (step_is_refused (where_inserting old first second before.session before.entry) old new start history number call (Insert before) (Insert after) fits session (ap AskInsert entry) fault stays.state
-      (ap Insert stays.op) cause refl (λ e asks there. (let same : before.entry ≡ e = cc in subst (λ (x : Entry). entry_on_live_leaf old.pages x ≡ true) same there)))
+  pub insert_goes_on : InsertGoesOn old new before after → OpGoes at_op old new sets start history number call (Insert after) Going
+  insert_goes_on step =
+      step_goes_on at_op old new start history number call (Insert before) (Insert after) fits session (ap AskInsert entry) step.effect step.does
+      (asked step.effect after.added step.does.changes step.noted) (noted_is step.effect after.added step.noted) step.fits tt
+
+  left_caused : (effect : Option Effect) (unfinished : Option Fault) → IsLeft old first new second before effect unfinished → IsFaultCaused at_op unfinished
+  left_caused effect None h = tt
+  left_caused effect (Some fault) h = h.1
+
+  pub insert_ends : (action : ℕ) (unfinished : Option Fault) → InsertEnds old first new second before action unfinished
+      → OpGoes at_op old new sets start history number call (Insert after) (Added action unfinished)
+  insert_ends action unfinished step =
+      step_adds at_op old new start history number call (Insert before) (Insert after) fits session (ap AskInsert entry) before.entry action unfinished step.effect refl step.does
+      (asked step.effect (Some action) step.does.changes step.noted) (sym (noted_is step.effect (Some action) step.noted)) (left_caused step.effect unfinished step.left)
+
+  pub insert_is_refused : (fault : Fault) → InsertStays old new before after → IsRefusedRightly before.added (Err fault)
+      → HasCause (where_inserting old first second before.session before.entry before.at) fault → OpGoes at_op old new sets start history number call (Insert after) (Refused fault)
+  insert_is_refused fault stays rightly cause =
+      step_is_refused at_op old new start history number call (Insert before) (Insert after) fits session (ap AskInsert entry) fault stays.state
+      (ap Insert stays.op) cause (none_logged before.added fault rightly)
+      (λ e asks there. (let same : before.entry ≡ e = cc in subst (λ (x : Entry). entry_on_live_leaf old.pages x ≡ true) same there))

@@ -1,7 +1,7 @@
 -- Events of scans over histories.
-use Rattle.std.proofs.Common.{◌≡◌, ◌⊎◌, ℕ, ◌≤◌, Bool, true, false, ◌||◌, Option, Some, None, List, [], ◌∷◌, ◌++◌, length, refl, sym, ap, subst, inl, inr, ◌∙◌, arith, append_assoc}
+use Rattle.std.proofs.Common.{◌≡◌, ◌⊎◌, ℕ, suc, ◌≤◌, Bool, true, false, ◌||◌, Option, Some, None, List, [], ◌∷◌, ◌++◌, length, refl, sym, ap, subst, inl, inr, ◌∙◌, arith, append_assoc}
 use Rattle.std.proofs.lemmas.List.{append-nil}
-use Rattle.std.proofs.lemmas.Bool.{or_cases}
+use Rattle.std.proofs.lemmas.Bool.{or_cases, cases_Bool}
 use Rattle.std.specs.List.{AllByRecursion}
 use Rattle.index_model.specs.Actions.{Action}
 use Rattle.index_model.specs.Calls.{Ask, AskScan, Ending, Running, Finished as EndsFinished, Call, IsReached, IsUpToLast, IsScanAnswer, IsScanAnswerSoFar, AnswersRight, end_of, Meets}
@@ -15,7 +15,8 @@ use Rattle.index_model.proofs.Ascending.{is_past-falls, same_entry-is, same_entr
 use Rattle.index_model.proofs.Histories.{there_now}
 use Rattle.page_action.specs.Contents.{entry_on_live_leaf}
 use Rattle.page_action.specs.States.{State}
-use Rattle.scan.specs.Scans.{waiting, ScanFits, IsNext, IsBehind, LeafIsRead, IsMoving, IsReading, IsWaiting, IsDone}
+use Rattle.descent.specs.declared.way.Way.{Way}
+use Rattle.scan.specs.Scans.{waiting, gone_to, ScanFits, IsNext, IsBehind, LeafIsRead, IsUnderway, IsMoving, IsReading, IsWaiting, IsDone}
 use Rattle.scan.specs.declared.steps.ScanAt.{ScanAt}
 use Rattle.scan.specs.declared.steps.ScanAt.TheVariants.{Start, At, Last}
 use Rattle.scan.specs.declared.steps.ScanOp.{ScanOp}
@@ -23,7 +24,7 @@ use Rattle.session_calls.specs.Ops.{DeadSets, IsScanSoFar}
 use Rattle.session_calls.specs.Sessions.{Matches, OpRuns, CallFits, ended, given_one, SessionGoes, OpGoes}
 use Rattle.session_calls.specs.declared.answer.Answer.TheVariants.{Going, Ready, Done, Gave}
 use Rattle.session_calls.specs.declared.op.Op.TheVariants.{Scan}
-use Rattle.descent.proofs.Quiet.{does_nothing}
+use Rattle.descent.proofs.Acting.{nothing_else}
 use Rattle.session_calls.proofs.Going.{event_of_nothing, step_goes_on, step_is_ready}
 use Rattle.session_calls.proofs.Meeting.{began_before, there_at_present}
 
@@ -50,47 +51,6 @@ all_by : (P Q : Entry → Type 0) (xs : List Entry) → ((x : Entry) → P x →
 all_by P Q [] f h = tt
 all_by P Q (x ∷ xs) f h = (f x h.0, all_by P Q xs f h.1)
 
--- the last leaf brings a scan on
-module _ (st : State) (start : Entry → Bool) (history : List Action) (began : ℕ) (given : List Entry) (before after : ScanOp) (m : Matches st start history) (le : began ≤ length history)
-    (range : after.range ≡ before.range) (none : waiting before ≡ []) (from : (block : ℕ) × (before.at ≡ At block)) (last : after.at ≡ Last) (read : LeafIsRead st before after)
-    (far : IsScanSoFar start history began given before) where
-  was_given : given ++ waiting before ≡ given
-  was_given = ap (λ (xs : List Entry). given ++ xs) none ∙ append-nil given
-
-  -- what lies beyond the frontier lies beyond the last that was given
-  beyond_last : (e : Entry) → is_past before.frontier e ≡ true → IsPast (last_or None given) e
-  beyond_last e past = subst (λ (xs : List Entry). IsPast (last_or None xs) e) was_given
-      (far.onward e (λ behind. true_false (sym past ∙ subst (λ (a : ScanAt). IsBehind before.frontier a e) from.1 behind)))
-
-  fresh_ascend : AscendsPast (last_or None given) (waiting after)
-  fresh_ascend = AscendsPast-from (Some before.frontier) (last_or None given) (waiting after) read.ascends
-      (all_by (IsPast (Some before.frontier)) (IsPast (last_or None given)) (waiting after) beyond_last (all_past (Some before.frontier) (waiting after) read.ascends))
-
-  given_before : (e : Entry) → is_among given e ≡ true → is_among (given ++ waiting before) e ≡ true
-  given_before e h = subst (λ (xs : List Entry). is_among xs e ≡ true) (sym was_given) h
-
-  all_behind : (e : Entry) → IsBehind after.frontier after.at e
-  all_behind e = subst (λ (a : ScanAt). IsBehind after.frontier a e) (sym last) tt
-
-  old_or_fresh : (e : Entry) → is_among (given ++ waiting after) e ≡ true → (is_among given e ≡ true) ⊎ (is_among (waiting after) e ≡ true)
-  old_or_fresh e h = or_cases (is_among given e) (is_among (waiting after) e) (sym (is_among-append given (waiting after) e) ∙ h)
-
-  pub so_far_read : IsScanSoFar start history began given after
-  so_far_read = record {
-    ascending = AscendsPast-append None given (waiting after) (subst IsAscending was_given far.ascending) fresh_ascend;
-    matched = λ e h. rw range (elim (old_or_fresh e h) [ inl a ↦ far.matched e (given_before e a) | inr b ↦ read.matched e b ]);
-    was_there = λ e h. elim (old_or_fresh e h) [ inl a ↦ far.was_there e (given_before e a) | inr b ↦ there_at_present st start history began e m le (read.there e b) ];
-    complete = λ e within match through.
-        let match_before : matches before.range e ≡ true = subst (λ (r : Range). matches r e ≡ true) range match in
-        let now : entry_on_live_leaf st.pages e ≡ true = m.contents e ∙ sym (there_now start history e) ∙ through (length history) le (omega arith) in
-        is_among-append given (waiting after) e ∙ elim (read.complete e within match_before now) [
-          | inl behind ↦ or_left (is_among given e) (is_among (waiting after) e) (subst (λ (xs : List Entry). is_among xs e ≡ true) was_given (far.complete e behind match_before through))
-          | inr fresh ↦ or_right (is_among given e) (is_among (waiting after) e) fresh
-        ];
-    reached = λ e h. all_behind e;
-    onward = λ e not. absurd (not (all_behind e));
-  }
-
 -- what isn't beyond an entry that isn't beyond a bound isn't beyond the bound
 at_or_before : (b : Bound) (x e : Entry) → is_past (bound_of e) x ≡ false → is_past b e ≡ false → is_past b x ≡ false
 at_or_before b x e up h =
@@ -105,6 +65,61 @@ behind_falls : (frontier : Bound) (at : ScanAt) (x e : Entry) → is_past (bound
 behind_falls frontier Start x e up h = at_or_before frontier x e up h
 behind_falls frontier (At block) x e up h = at_or_before frontier x e up h
 behind_falls frontier Last x e up h = tt
+
+-- what lies beyond each of these entries lies beyond the last
+last_past : (low : Option Bound) (xs : List Entry) (e : Entry) → IsPast low e → ((x : Entry) → is_among xs x ≡ true → is_past (bound_of x) e ≡ true) → IsPast (last_or low xs) e
+last_past low [] e h all = h
+last_past low (x ∷ xs) e h all =
+    last_past (Some (bound_of x)) xs e (all x (or_left (same_entry x x) (is_among xs x) (same_entry-self x))) (λ y among. all y (or_right (same_entry x y) (is_among xs y) among))
+
+-- a leaf brings a scan on
+module _ (st : State) (start : Entry → Bool) (history : List Action) (began : ℕ) (given : List Entry) (before after : ScanOp) (m : Matches st start history) (le : began ≤ length history)
+    (range : after.range ≡ before.range) (none : waiting before ≡ []) (way : Way) (from : before.at ≡ At way) (read : LeafIsRead st before after)
+    (far : IsScanSoFar start history began given before) where
+  was_given : given ++ waiting before ≡ given
+  was_given = ap (λ (xs : List Entry). given ++ xs) none ∙ append-nil given
+
+  -- what lies beyond the frontier lies beyond the last that was given
+  beyond_last : (e : Entry) → is_past before.frontier e ≡ true → IsPast (last_or None given) e
+  beyond_last e past = subst (λ (xs : List Entry). IsPast (last_or None xs) e) was_given
+      (far.onward e (λ behind. true_false (sym past ∙ subst (λ (a : ScanAt). IsBehind before.frontier a e) from behind)))
+
+  fresh_ascend : AscendsPast (last_or None given) (waiting after)
+  fresh_ascend = AscendsPast-from (Some before.frontier) (last_or None given) (waiting after) read.ascends
+      (all_by (IsPast (Some before.frontier)) (IsPast (last_or None given)) (waiting after) beyond_last (all_past (Some before.frontier) (waiting after) read.ascends))
+
+  given_before : (e : Entry) → is_among given e ≡ true → is_among (given ++ waiting before) e ≡ true
+  given_before e h = subst (λ (xs : List Entry). is_among xs e ≡ true) (sym was_given) h
+
+  old_or_fresh : (e : Entry) → is_among (given ++ waiting after) e ≡ true → (is_among given e ≡ true) ⊎ (is_among (waiting after) e ≡ true)
+  old_or_fresh e h = or_cases (is_among given e) (is_among (waiting after) e) (sym (is_among-append given (waiting after) e) ∙ h)
+
+  -- it has read beyond all that it has given or holds ready
+  all_reached : (e : Entry) → is_among (given ++ waiting after) e ≡ true → IsBehind after.frontier after.at e
+  all_reached e h = elim (old_or_fresh e h) [ inl a ↦ read.forward e (far.reached e (given_before e a)) | inr b ↦ read.onward e b ]
+
+  -- so what it hasn't read beyond lies beyond each of that
+  beyond_all : (e : Entry) → (IsBehind after.frontier after.at e → ⊥) → (x : Entry) → is_among (given ++ waiting after) x ≡ true → is_past (bound_of x) e ≡ true
+  beyond_all e not x h = elim (cases_Bool (is_past (bound_of x) e)) [
+    | inl past ↦ past
+    | inr up ↦ absurd (not (behind_falls after.frontier after.at e x up (all_reached x h)))
+  ]
+
+  pub so_far_read : IsScanSoFar start history began given after
+  so_far_read = record {
+    ascending = AscendsPast-append None given (waiting after) (subst IsAscending was_given far.ascending) fresh_ascend;
+    matched = λ e h. rw range (elim (old_or_fresh e h) [ inl a ↦ far.matched e (given_before e a) | inr b ↦ read.matched e b ]);
+    was_there = λ e h. elim (old_or_fresh e h) [ inl a ↦ far.was_there e (given_before e a) | inr b ↦ there_at_present st start history began e m le (read.there e b) ];
+    complete = λ e within match through.
+        let match_before : matches before.range e ≡ true = subst (λ (r : Range). matches r e ≡ true) range match in
+        let now : entry_on_live_leaf st.pages e ≡ true = m.contents e ∙ sym (there_now start history e) ∙ through (length history) le (omega arith) in
+        is_among-append given (waiting after) e ∙ elim (read.complete e within match_before now) [
+          | inl behind ↦ or_left (is_among given e) (is_among (waiting after) e) (subst (λ (xs : List Entry). is_among xs e ≡ true) was_given (far.complete e behind match_before through))
+          | inr fresh ↦ or_right (is_among given e) (is_among (waiting after) e) fresh
+        ];
+    reached = all_reached;
+    onward = λ e not. last_past None (given ++ waiting after) e tt (beyond_all e not);
+  }
 
 -- one entry more is given
 module _ (start : Entry → Bool) (history : List Action) (began : ℕ) (given rest : List Entry) (e : Entry) (op : ScanOp) (far : IsScanSoFar start history began given op) (is : waiting op ≡ e ∷ rest) where
@@ -146,6 +161,10 @@ module _ (start : Entry → Bool) (history : List Action) (began : ℕ) (given r
         ];
   }
 
+-- a scan that has given an entry knows the same of the pages
+given_fits : (st : State) (op : ScanOp) → ScanFits st op → ScanFits st (record op { given = suc op.given })
+given_fits st op f = record { session = f.session; start = f.start; running = f.running; held = f.held; stands = f.stands; started = f.started }
+
 -- an entry is given
 pub gave_goes : {sets : DeadSets} (at : Circumstances) (st : State) (start : Entry → Bool) (history : List Action) (number : ℕ) (call : Call) (before after : ScanOp) (e : Entry)
     → CallFits st sets start history number call (Scan before) → IsNext before (Some e) after → SessionGoes at st st sets start history number call (Some (Scan after)) (Gave (Some e))
@@ -168,7 +187,7 @@ gave_goes {sets} at st start history number call before after e fits next =
       session = session ∙ fits.runs.session;
       added = fits.runs.added;
       started = fits.runs.started;
-      fits = record { session = rw session fits.runs.fits.session; stands = rw (session, where_at) fits.runs.fits.stands; started = rw (frontier, range) fits.runs.fits.started };
+      fits = subst (λ (op : ScanOp). ScanFits st op) (sym next.1) (given_fits st before fits.runs.fits);
       knows = record {
         ascending = rw same far.ascending;
         matched = rw (same, range) far.matched;
@@ -187,16 +206,27 @@ next_goes {sets} at st start history number call before after None fits next =
     (subst (λ (op : ScanOp). OpRuns st sets start history call (Scan op)) (sym next.1) fits.runs)
 next_goes {sets} at st start history number call before after (Some e) fits next = gave_goes at st start history number call before after e fits next
 
--- a scan that has read the metapage has read nothing of the leaves
-starts_on : (start : Entry → Bool) (history : List Action) (began : ℕ) (given : List Entry) (op : ScanOp) → op.at ≡ Start
-    → IsScanSoFar start history began given op → IsScanSoFar start history began given (record op { at = At 1 })
-starts_on start history began given op is far = record {
+-- on a way a scan has read beyond what isn't beyond its frontier
+behind_on : (frontier : Bound) (at : ScanAt) (e : Entry) → IsUnderway at → IsBehind frontier at e → is_past frontier e ≡ false
+behind_on frontier Start e under h = h
+behind_on frontier (At way) e under h = h
+behind_on frontier Last e under h = absurd under
+
+on_behind : (frontier : Bound) (at : ScanAt) (e : Entry) → IsUnderway at → is_past frontier e ≡ false → IsBehind frontier at e
+on_behind frontier Start e under h = h
+on_behind frontier (At way) e under h = h
+on_behind frontier Last e under h = absurd under
+
+-- a scan that goes on to another page has read nothing more
+goes_to : (start : Entry → Bool) (history : List Action) (began : ℕ) (given : List Entry) (op : ScanOp) (way : Way) → IsUnderway op.at
+    → IsScanSoFar start history began given op → IsScanSoFar start history began given (gone_to op way)
+goes_to start history began given op way under far = record {
   ascending = far.ascending;
   matched = far.matched;
   was_there = far.was_there;
-  complete = λ e behind. far.complete e (subst (λ (a : ScanAt). IsBehind op.frontier a e) (sym is) behind);
-  reached = λ e h. subst (λ (a : ScanAt). IsBehind op.frontier a e) is (far.reached e h);
-  onward = λ e not. far.onward e (λ behind. not (subst (λ (a : ScanAt). IsBehind op.frontier a e) is behind));
+  complete = λ e behind. far.complete e (on_behind op.frontier op.at e under behind);
+  reached = λ e h. behind_on op.frontier op.at e under (far.reached e h);
+  onward = λ e not. far.onward e (λ behind. not (behind_on op.frontier op.at e under behind));
 }
 
 -- the steps of a scan
@@ -204,12 +234,12 @@ module _ {sets : DeadSets} (at : Circumstances) (old new : State) (start : Entry
     (fits : CallFits old sets start history number call (Scan before)) (session : after.session ≡ before.session) (range : after.range ≡ before.range) where
   pub reading_goes : (count : ℕ) → IsReading old new before after count → OpGoes at old new sets start history number call (Scan after) (Ready count)
   reading_goes count step = step_is_ready at old new start history number call (Scan before) (Scan after) fits session (ap AskScan range) count step.does refl step.fits
-      (so_far_read old start history call.began call.given before after fits.world (began_before start history number call fits.meets fits.running) range step.none step.from step.last step.read fits.runs.knows)
+      (so_far_read old start history call.began call.given before after fits.world (began_before start history number call fits.meets fits.running) range step.none step.way step.from step.read fits.runs.knows)
 
   pub ready_goes : (count : ℕ) → IsWaiting old new before after count ⊎ IsReading old new before after count → OpGoes at old new sets start history number call (Scan after) (Ready count)
   ready_goes count (inr step) = reading_goes count step
   ready_goes count (inl step) = step_is_ready at old new start history number call (Scan before) (Scan after) fits session (ap AskScan range) count
-      (does_nothing before.session old new step.state fits.world.order) refl
+      (nothing_else before.session old new step.state fits.world.order) refl
       (subst (λ (st : State). ScanFits st after) (sym step.state) (subst (λ (op : ScanOp). ScanFits old op) (sym step.op) fits.runs.fits))
       (subst (λ (op : ScanOp). IsScanSoFar start history call.began call.given op) (sym step.op) fits.runs.knows)
 
@@ -229,7 +259,7 @@ module _ {sets : DeadSets} (at : Circumstances) (old new : State) (start : Entry
       record {
         effect = None;
         then_call = ended call EndsFinished (length history);
-        does = does_nothing call.session old new step.state fits.world.order;
+        does = nothing_else call.session old new step.state fits.world.order;
         asked = tt;
         told = record { none = refl; after_is = refl };
         caused = tt;
@@ -241,8 +271,8 @@ module _ {sets : DeadSets} (at : Circumstances) (old new : State) (start : Entry
         holds = λ h. cc;
       }
 
-  -- the step that reads the metapage
+  -- a step that goes on to another page
   pub moving_goes : IsMoving old new before after → OpGoes at old new sets start history number call (Scan after) Going
   moving_goes step = step_goes_on at old new start history number call (Scan before) (Scan after) fits session (ap AskScan range) None step.does tt refl step.fits
       (subst (λ (l : List Action). IsScanSoFar start l call.began call.given after) (sym (append-nil history))
-      (subst (λ (op : ScanOp). IsScanSoFar start history call.began call.given op) (sym step.op) (starts_on start history call.began call.given before step.from fits.runs.knows)))
+      (subst (λ (op : ScanOp). IsScanSoFar start history call.began call.given op) (sym step.op) (goes_to start history call.began call.given before step.way step.from fits.runs.knows)))

@@ -5,29 +5,16 @@ use Rattle.index_model.specs.Actions.{Action}
 use Rattle.index_model.specs.declared.entry.Entry.{Entry}
 use Rattle.index_model.proofs.Histories.{at_some_moment_later, gives_all_later}
 use Rattle.page_action.specs.States.{State}
-use Rattle.descent.specs.Steps.{MayRely}
-use Rattle.insert_split.specs.Inserts.{InsertStands}
-use Rattle.insert_split.specs.declared.insert.InsertAt.{InsertAt}
-use Rattle.insert_split.specs.declared.insert.InsertAt.TheVariants.{Start, At, Holding}
-use Rattle.scan.specs.Scans.{ScanStands, IsBehind, waiting}
-use Rattle.scan.specs.declared.steps.ScanAt.{ScanAt}
-use Rattle.scan.specs.declared.steps.ScanAt.TheVariants.{Start as Before, At as Reads, Last}
+use Rattle.descent.specs.Shared.{MayRely}
+use Rattle.insert_split.proofs.Lasting.{undisturbed as insert_undisturbed}
+use Rattle.scan.specs.Scans.{IsBehind, waiting}
 use Rattle.scan.specs.declared.steps.ScanOp.{ScanOp}
+use Rattle.scan.proofs.Lasting.{undisturbed as scan_undisturbed}
 use Rattle.session_calls.specs.Ops.{session_of, OpFits, OpKnows, IsScanSoFar}
 use Rattle.session_calls.specs.Sessions.{start_number, IsIdle}
 use Rattle.session_calls.specs.Undisturbed.{CallsAreUndisturbed}
 use Rattle.session_calls.specs.declared.op.Op.{Op}
 use Rattle.session_calls.specs.declared.op.Op.TheVariants.{Insert, Scan}
-
-insert_stands : (old new : State) (session : ℕ) (at : InsertAt) → MayRely session old new → InsertStands old session at → InsertStands new session at
-insert_stands old new session Start rely h = rely.held ∙ h
-insert_stands old new session (At block) rely h = (rely.held ∙ h.0, h.1)
-insert_stands old new session (Holding block) rely h = (rely.held ∙ h.0, h.1)
-
-scan_stands : (old new : State) (session : ℕ) (at : ScanAt) → MayRely session old new → ScanStands old session at → ScanStands new session at
-scan_stands old new session Before rely h = rely.held ∙ h
-scan_stands old new session (Reads block) rely h = (rely.held ∙ h.0, h.1)
-scan_stands old new session Last rely h = rely.held ∙ h
 
 so_far_later : (start : Entry → Bool) (history acts : List Action) (began : ℕ) (given : List Entry) (op : ScanOp)
     → IsScanSoFar start history began given op → IsScanSoFar start (history ++ acts) began given op
@@ -44,12 +31,8 @@ so_far_later start history acts began given op h =
 
 -- a call goes on standing on what it stood on, whatever other sessions do
 fits_still : (old new : State) (session : ℕ) (op : Op) → session_of op ≡ session → MayRely session old new → OpFits old op → OpFits new op
-fits_still old new session (Insert op) is rely h =
-    let mine : MayRely op.session old new = subst (λ (t : ℕ). MayRely t old new) (sym is) rely in
-    record { session = h.session; stands = insert_stands old new op.session op.at mine h.stands }
-fits_still old new session (Scan op) is rely h =
-    let mine : MayRely op.session old new = subst (λ (t : ℕ). MayRely t old new) (sym is) rely in
-    record { session = h.session; stands = scan_stands old new op.session op.at mine h.stands; started = h.started }
+fits_still old new session (Insert op) is rely h = insert_undisturbed old new op (subst (λ (t : ℕ). MayRely t old new) (sym is) rely) h
+fits_still old new session (Scan op) is rely h = scan_undisturbed old new op (subst (λ (t : ℕ). MayRely t old new) (sym is) rely) h
 
 knows_still : (start : Entry → Bool) (history acts : List Action) (began : ℕ) (given : List Entry) (op : Op) → OpKnows start history began given op → OpKnows start (history ++ acts) began given op
 knows_still start history acts began given (Insert op) h = tt

@@ -13,9 +13,11 @@ use Rattle.index_model.specs.declared.fault.Fault.TheVariants.{Stopped, Blocked,
 use Rattle.page_action.specs.Causes.{nothing_wrong, is_at_end}
 use Rattle.page_action.specs.States.{State, Backing}
 use Rattle.page_codec.specs.declared.page.Page.{Page}
-use Rattle.insert_split.specs.Inserts.{InsertFits, where_inserting, steps_left}
+use Rattle.split_finish.specs.declared.finish.Target.{Target}
+use Rattle.insert_split.specs.Inserts.{InsertFits, targets_at, insert_left, where_inserting}
 use Rattle.insert_split.specs.declared.insert.InsertAt.TheVariants.{Start}
-use Rattle.scan.specs.Scans.{ScanFits, IsBehind, waiting, fresh_scan, where_scanning, scan_work}
+use Rattle.scan.specs.Scans.{ScanFits, IsBehind, waiting, fresh_scan, where_scanning}
+use Rattle.scan.specs.Work.{scan_left}
 use Rattle.scan.specs.declared.steps.ScanOp.{ScanOp}
 use Rattle.session_calls.specs.declared.answer.Answer.{Answer}
 use Rattle.session_calls.specs.declared.answer.Answer.TheVariants.{Begun, Going, Added, Ready, Done, Finished, Gave, Ended, Forced, Flushed, Checkpointed, Refused}
@@ -35,7 +37,7 @@ asked_by sets (ToScan range) = AskScan range
 
 -- the operation of a session's request, before its first step
 abbrev pub op_before : ℕ → Request → Op
-op_before session (ToInsert e) = Insert (record { session = session; entry = e; at = Start })
+op_before session (ToInsert e) = Insert (record { session = session; entry = e; at = Start; added = None })
 op_before session (ToScan range) = Scan (fresh_scan session range)
 
 -- the session whose call it is
@@ -48,9 +50,9 @@ abbrev pub asked_of : DeadSets → Op → Ask
 asked_of sets (Insert op) = AskInsert op.entry
 asked_of sets (Scan op) = AskScan op.range
 
--- the number of its Add, if it has one: an insert of one leaf ends with it
+-- the number of its Add, if it has one
 abbrev pub add_of : Op → Option ℕ
-add_of (Insert op) = None
+add_of (Insert op) = op.added
 add_of (Scan op) = None
 
 -- the entries that it has ready to be given
@@ -77,12 +79,15 @@ abbrev pub OpKnows : (Entry → Bool) → List Action → ℕ → List Entry →
 OpKnows start history began given (Insert op) = Unit {0}
 OpKnows start history began given (Scan op) = IsScanSoFar start history began given op
 
--- the circumstances of a step
-abbrev pub where_stepped : Ask → State → Backing → Backing → ℕ → Circumstances
-where_stepped (AskInsert e) st old new session = where_inserting st old new session e
-where_stepped (AskScan range) st old new session = where_scanning st old new session
-where_stepped (AskBulkDelete dead) st old new session = nothing_wrong
-where_stepped AskCleanup st old new session = nothing_wrong
+-- the circumstances of a step, by where the operation stands
+abbrev pub where_stepped : Op → State → Backing → Backing → Circumstances
+where_stepped (Insert op) st old new = where_inserting st old new op.session op.entry op.at
+where_stepped (Scan op) st old new = where_scanning st old new op.session
+
+-- ... of what a session runs, if anything
+abbrev pub where_slot_stepped : Option Op → State → Backing → Backing → Circumstances
+where_slot_stepped None st old new = nothing_wrong
+where_slot_stepped (Some op) st old new = where_stepped op st old new
 
 -- the circumstances of a `next`: only a scan has entries to give
 abbrev pub where_asked_next : Ask → Circumstances
@@ -143,7 +148,12 @@ abbrev pub AnswersStopped : Option ℕ → Answer → Type 0
 AnswersStopped None answer = answer ≡ Refused Stopped
 AnswersStopped (Some action) answer = answer ≡ Added action (Some Stopped)
 
--- what is left to do for a call on these pages: steps, and entries to give
-abbrev pub op_work : List Page → Op → ℕ
-op_work pages (Insert op) = steps_left op.at
-op_work pages (Scan op) = scan_work op
+-- what is left to do for a call on these pages, of which there are at most so many: steps, and entries to give
+abbrev pub op_work : ℕ → List Page → Op → ℕ
+op_work most pages (Insert op) = insert_left most pages op.at
+op_work most pages (Scan op) = scan_left most pages op
+
+-- the pages whose splits it is to finish
+abbrev pub op_targets : Op → List Target
+op_targets (Insert op) = targets_at op.at
+op_targets (Scan op) = []

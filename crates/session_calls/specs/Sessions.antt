@@ -1,5 +1,5 @@
 -- One session's call over the history of all actions: what stands between its events, and what an event does.
-use Rattle.std.specs.Prelude.{◌≡◌, ◌≢◌, ℕ, suc, ◌+◌, ◌<◌, ◌≤◌, Bool, true, false, if◌then◌else◌, Option, Some, None, List, [], ◌∷◌, ◌++◌, length, slice_get, unwrap_or}
+use Rattle.std.specs.Prelude.{◌≡◌, ◌≢◌, ◌⊎◌, ℕ, suc, ◌+◌, ◌<◌, ◌≤◌, Bool, true, false, if◌then◌else◌, Option, Some, None, List, [], ◌∷◌, ◌++◌, length, slice_get, unwrap_or}
 use Rattle.index_model.specs.Actions.{Effect, Add, Remove, Shape, Action, contents_after}
 use Rattle.index_model.specs.Calls.{Ask, AskInsert, AskBulkDelete, AskCleanup, Ending, Running, Added as EndsAdded, Finished as EndsFinished, Vacuumed, GivenUp, Failed, Call, Meets}
 use Rattle.index_model.specs.Faults.{Circumstances, HasCause}
@@ -9,11 +9,13 @@ use Rattle.index_model.specs.declared.fault.Fault.{Fault}
 use Rattle.index_model.specs.declared.fault.Fault.TheVariants.{Stopped, NoSession}
 use Rattle.latch_table.specs.Holdings.{holding_of, nothing_held}
 use Rattle.page_action.specs.Contents.{entry_on_live_leaf}
-use Rattle.page_action.specs.States.{State, Backing, Continues, after_begin, after_end, with_table}
+use Rattle.page_action.specs.States.{State, Backing, Continues, after_begin, after_end}
 use Rattle.page_action.specs.declared.page_store.PageStore.{Ghosts}
 use Rattle.page_codec.specs.declared.page.Page.{Page}
-use Rattle.descent.specs.Steps.{IsInOrder, IsApt, Does, OthersRely}
-use Rattle.session_calls.specs.Ops.{DeadSets, asked_by, op_before, session_of, asked_of, add_of, ready_of, OpFits, OpKnows, where_beginning, IsCaused, ends_call, is_last, OpAnswers, AnswersStopped, op_work}
+use Rattle.split_finish.specs.Targets.{OnlyTargetsAreFlagged}
+use Rattle.descent.specs.Steps.{IsApt}
+use Rattle.descent.specs.Shared.{IsInOrder, Does, OthersRely, MovesFlags, IsOneStep}
+use Rattle.session_calls.specs.Ops.{DeadSets, asked_by, op_before, session_of, asked_of, add_of, ready_of, OpFits, OpKnows, where_beginning, IsCaused, ends_call, is_last, OpAnswers, AnswersStopped, op_work, op_targets}
 use Rattle.session_calls.specs.declared.answer.Answer.{Answer}
 use Rattle.session_calls.specs.declared.answer.Answer.TheVariants.{Begun, Going, Added, Ready, Done, Finished, Gave, Ended, Forced, Flushed, Checkpointed, Refused}
 use Rattle.session_calls.specs.declared.op.Op.{Op}
@@ -139,10 +141,14 @@ Told (Flushed block) count effect call after = ⊥
 Told (Checkpointed count') count effect call after = ⊥
 Told (Refused fault) count effect call after = (effect ≡ None) × Refuses fault count call after
 
--- what is left to do for a call on these pages: steps, and entries to give
-abbrev pub work_left : List Page → Option Op → ℕ
-work_left pages None = 0
-work_left pages (Some op) = op_work pages op
+-- what is left to do for a call on these pages, of which there are at most so many: steps, and entries to give
+abbrev pub work_left : ℕ → List Page → Option Op → ℕ
+work_left most pages None = 0
+work_left most pages (Some op) = op_work most pages op
+
+-- ... on the pages of this state, within its limits
+abbrev pub work_in : State → Option Op → ℕ
+work_in st slot = work_left st.limits.pages st.pages slot
 
 -- no entry is ready
 abbrev pub IsDrained : Option Op → Type 0
@@ -152,17 +158,17 @@ IsDrained (Some op) = ready_of op ≡ []
 -- while no act is done, a step that ends no call leaves less to do: each `Going`, and each `Ready` where all that was ready
 -- had been given
 abbrev pub LeavesLess : State → State → Option Op → Option Op → Answer → Type 0
-LeavesLess old new before after Going = new.acts ≡ old.acts → work_left new.pages after < work_left old.pages before
-LeavesLess old new before after (Ready count) = IsDrained before → work_left new.pages after < work_left old.pages before
+LeavesLess old new before after Going = new.acts ≡ old.acts → work_in new after < work_in old before
+LeavesLess old new before after (Ready count) = IsDrained before → work_in new after < work_in old before
 LeavesLess old new before after answer = Unit {0}
 
 -- while no act is done, no step leaves more to do
 abbrev pub LeavesNoMore : State → State → Option Op → Option Op → Type 0
-LeavesNoMore old new before after = new.acts ≡ old.acts → work_left new.pages after ≤ work_left old.pages before
+LeavesNoMore old new before after = new.acts ≡ old.acts → work_in new after ≤ work_in old before
 
 -- an entry that was given leaves less to do; where none is given, none is ready, and nothing is changed
 abbrev pub GivesLess : Option Op → Option Op → Answer → Type 0
-GivesLess before after (Gave (Some e)) = (pages : List Page) → work_left pages after < work_left pages before
+GivesLess before after (Gave (Some e)) = (most : ℕ) (pages : List Page) → work_left most pages after < work_left most pages before
 GivesLess before after answer = (after ≡ before) × IsDrained before
 
 -- what is ready, where the slot runs a call
@@ -212,9 +218,31 @@ RefusalChangesNothing old new (Some op) after (Refused fault) = StepIsRefused ol
 RefusalChangesNothing old new None after answer = (new ≡ old) × (after ≡ None)
 RefusalChangesNothing old new (Some op) after answer = Unit {0}
 
+-- On any pages an event does one act at most, and with none the pages are as they were; so are limits, frames and the
+-- count of calls.
+pub record KeepsPages (old new : State) : Type 0 where
+  pub acts : (new.acts ≡ old.acts) ⊎ (new.acts ≡ suc old.acts)
+  pub quiet : new.acts ≡ old.acts → new.pages ≡ old.pages
+  pub limits : new.limits ≡ old.limits
+  pub frames : new.frames ≡ old.frames
+  pub begun : new.begun ≡ old.begun
+
+-- only those pages are flagged whose splits the session's insert is to finish
+abbrev pub OnlyOwnAreFlagged : State → Option Op → Type 0
+OnlyOwnAreFlagged st None = OnlyTargetsAreFlagged st []
+OnlyOwnAreFlagged st (Some op) = OnlyTargetsAreFlagged st (op_targets op)
+
+-- Which pages are flagged behind a step, by what it answers: those alone whose splits the insert is to finish yet; none
+-- where its entry is added and nothing is left unfinished; where a fault ends it, those whose splits it was to finish.
+abbrev pub LeavesOwnFlagged : State → Option Op → Option Op → Answer → Type 0
+LeavesOwnFlagged new before after (Added action (Some fault)) = OnlyOwnAreFlagged new before
+LeavesOwnFlagged new before after (Added action None) = OnlyOwnAreFlagged new None
+LeavesOwnFlagged new before after (Refused fault) = OnlyOwnAreFlagged new before
+LeavesOwnFlagged new before after answer = OnlyOwnAreFlagged new after
+
 -- One event of a running call: it appends at most one action, which the call was asked for; what is told of it; its cause;
--- the pages match the longer history; the limits stay, and where no action is logged, the pages; others may rely; the call
--- goes on meeting its definition; and what the slot holds then.
+-- the pages match the longer history; which flags move; the limits stay, and where no action is logged, the pages; others may
+-- rely; the call goes on meeting its definition; and what the slot holds then.
 pub record SessionGoes (at : Circumstances) (old new : State) (sets : DeadSets) (start : Entry → Bool) (history : List Action) (number : ℕ) (call : Call) (slot : Option Op) (answer : Answer) : Type 0 where
   pub effect : Option Effect
   pub after : Call
@@ -222,6 +250,7 @@ pub record SessionGoes (at : Circumstances) (old new : State) (sets : DeadSets) 
   pub told : Told answer (length history) effect call after
   pub caused : IsCaused at answer
   pub world : Matches new start (history ++ acts_of number effect)
+  pub flags : MovesFlags effect old new
   pub limits : new.limits ≡ old.limits
   pub frames : new.frames ≡ old.frames
   pub pages : effect ≡ None → new.pages ≡ old.pages
@@ -263,21 +292,21 @@ pub record SessionBegins (old new : State) (sets : DeadSets) (start : Entry → 
   pub meets : Meets start history number (begun_call session (asked_by sets request) (length history))
   pub holds : SlotIs new sets start history (begun_call session (asked_by sets request) (length history)) slot
 
--- A step of an operation, before what it holds is let go at its end. On any pages: what it may answer; a refusal changes
--- nothing; a stopped log refuses it; what is left to do; and one that goes on changes nothing but latches and pins.
+-- what an operation runs after a step: nothing, where its answer is the last
+abbrev pub slot_after : Answer → Op → Option Op
+slot_after answer op = if is_last answer then None else Some op
+
+-- A step of an operation, before what it holds is let go at its end. On any pages: what it may answer; it does one act at
+-- most; a refusal changes nothing; a stopped log refuses it; and over a device that keeps its model, what is left to do.
 pub record OpSteps {S : Type 0} (g : Ghosts S) (before after : Op) (old new : S) (answer : Answer) : Type 0 where
   pub steps : Continues g.follows old new
   pub session : session_of after ≡ session_of before
   pub kind : OpAnswers before after answer
   pub refused : (fault : Fault) → answer ≡ Refused fault → (g.state new ≡ g.state old) × (after ≡ before)
   pub stopped : (g.backing old).stopped ≡ true → AnswersStopped (add_of before) answer
-  pub quiet : answer ≡ Going → g.state new ≡ with_table (g.state old) (g.state new).table
-  pub less : LeavesLess (g.state old) (g.state new) (Some before) (Some after) answer
-  pub no_more : LeavesNoMore (g.state old) (g.state new) (Some before) (Some after)
-
--- what an operation runs after a step: nothing, where its answer is the last
-abbrev pub slot_after : Answer → Op → Option Op
-slot_after answer op = if is_last answer then None else Some op
+  pub kept : IsOneStep (g.state old) (g.state new)
+  pub less : (g.backing new).honest ≡ true → LeavesLess (g.state old) (g.state new) (Some before) (Some after) answer
+  pub no_more : (g.backing new).honest ≡ true → LeavesNoMore (g.state old) (g.state new) (Some before) (slot_after answer after)
 
 -- what the operation and its call are behind a step: the call is over, or the operation runs it on
 abbrev pub HoldsOn : Bool → State → DeadSets → (Entry → Bool) → List Action → Call → Op → Type 0

@@ -4,7 +4,7 @@ use Rattle.index_model.specs.Actions.{Action}
 use Rattle.index_model.specs.Calls.{Call}
 use Rattle.index_model.specs.declared.entry.Entry.{Entry}
 use Rattle.page_action.specs.States.{State}
-use Rattle.descent.specs.Steps.{MayRely}
+use Rattle.descent.specs.Shared.{MayRely}
 use Rattle.session_calls.specs.Ops.{DeadSets}
 use Rattle.session_calls.specs.Sessions.{OpRuns}
 use Rattle.session_calls.specs.declared.op.Op.{Op}

@@ -1,6 +1,6 @@
 //! Beginnings.
 
-ghost use Rattle.std.specs.Prelude.{◌≡◌, ◌<◌, true, false, Bool, List, ℕ, OnOk, OnErr, IfErr, Err};
+ghost use Rattle.std.specs.Prelude.{◌≡◌, ◌<◌, ◌≤◌, true, false, Bool, List, ℕ, OnOk, OnErr, IfErr, Err, length};
 ghost use Rattle.index_model.specs.Actions.{Action};
 ghost use Rattle.index_model.specs.Faults.{HasCause};
 ghost use Rattle.index_model.specs.declared.entry.Entry.{Entry};
@@ -53,12 +53,15 @@ fn start<S: PageStore>(store: &mut S, session: Session, busy: bool) -> Result<()
     ensures free { OnOk result (busy ≡ false) }
     ensures done { OnOk result (S.state store.new ≡ after_begin session (S.state store.old)) }
     ensures low { session < 64 }
+    ensures limits { (S.state store.old).limits.pages ≤ 65536 }
+    ensures few { length (S.state store.old).pages ≤ 65536 }
     ensures stopped { (S.backing store.old).stopped ≡ true → result ≡ Err Fault.Stopped }
     ensures refused { OnErr result (S.state store.new ≡ S.state store.old) }
     ensures cause { IfErr result
         (HasCause (where_beginning (S.state store.old) (S.backing store.old) busy)) }
 {
     let _number = session.number();
+    let _limits = store.limits();
     if store.is_stopped() {
         return Err(Fault::Stopped);
     }

@@ -5,11 +5,10 @@ ghost use Rattle.index_model.specs.Actions.{Action};
 ghost use Rattle.index_model.specs.Calls.{Call};
 ghost use Rattle.index_model.specs.declared.entry.Entry.{Entry};
 ghost use Rattle.page_action.specs.Causes.{nothing_wrong};
-ghost use Rattle.page_action.specs.States.{State, Continues, after_end, with_table};
-ghost use Rattle.page_codec.specs.declared.page.Page.{Page};
-ghost use Rattle.session_calls.specs.Due.{IsDue, IsDueIn, CountsDown};
-ghost use Rattle.session_calls.specs.Ops.{DeadSets, session_of, where_stepped, where_asked_next, is_last, AnswersStopped};
-ghost use Rattle.session_calls.specs.Sessions.{SlotFits, SessionGoes, LeavesLess, LeavesNoMore, GivesLess, AnswersStep, AnswersNext, AnswersEnd, RefusalChangesNothing, no_call, slot_add};
+ghost use Rattle.page_action.specs.States.{State, Continues, after_end};
+ghost use Rattle.session_calls.specs.Due.{IsDueIn, CountsDown};
+ghost use Rattle.session_calls.specs.Ops.{DeadSets, session_of, where_slot_stepped, where_asked_next, is_last, AnswersStopped};
+ghost use Rattle.session_calls.specs.Sessions.{SlotFits, SessionGoes, KeepsPages, OnlyOwnAreFlagged, LeavesOwnFlagged, LeavesLess, LeavesNoMore, GivesLess, AnswersStep, AnswersNext, AnswersEnd, RefusalChangesNothing, no_call, slot_add};
 ghost use Rattle.session_calls.specs.declared.op.Op.{Op};
 
 use crate::answer::Answer;
@@ -31,17 +30,23 @@ pub fn step<S: PageStore, T: DeadRows>(store: &mut S, slot: &mut Option<Op>, set
     ensures stopped { (S.backing store.old).stopped ≡ true
         → AnswersStopped (slot_add slot.old) result }
     ensures kind { AnswersStep slot.old slot.new result }
-    ensures quiet { result ≡ Answer.Going → S.state store.new
-        ≡ with_table (S.state store.old) (S.state store.new).table }
-    ensures less { LeavesLess (S.state store.old) (S.state store.new) slot.old slot.new result }
-    ensures no_more { LeavesNoMore (S.state store.old) (S.state store.new) slot.old slot.new }
+    ensures kept { KeepsPages (S.state store.old) (S.state store.new) }
+    ensures less { (S.backing store.new).honest ≡ true
+        → LeavesLess (S.state store.old) (S.state store.new) slot.old slot.new result }
+    ensures no_more { (S.backing store.new).honest ≡ true
+        → LeavesNoMore (S.state store.old) (S.state store.new) slot.old slot.new }
     ensures goes { (S.backing store.new).honest ≡ true
         → (start : Entry → Bool) (history : List Action) (number : ℕ) (call : Call)
         → SlotFits (S.state store.old) (map T.is_in sets.now) start history number call slot.old
-        → SessionGoes (where_stepped call.ask (S.state store.old) (S.backing store.old)
-        (S.backing store.new) call.session)
+        → SessionGoes (where_slot_stepped slot.old (S.state store.old) (S.backing store.old)
+        (S.backing store.new))
         (S.state store.old) (S.state store.new) (map T.is_in sets.now) start history number call
         slot.new result }
+    ensures flagged { (S.backing store.new).honest ≡ true
+        → (start : Entry → Bool) (history : List Action) (number : ℕ) (call : Call)
+        → SlotFits (S.state store.old) (map T.is_in sets.now) start history number call slot.old
+        → OnlyOwnAreFlagged (S.state store.old) slot.old
+        → LeavesOwnFlagged (S.state store.new) slot.old slot.new result }
     ensures due { (S.backing store.new).honest ≡ true
         → (start : Entry → Bool) (history : List Action) (number : ℕ) (call : Call)
         → SlotFits (S.state store.old) (map T.is_in sets.now) start history number call slot.old
@@ -93,8 +98,8 @@ pub fn next(slot: &mut Option<Op>) -> Answer
         → SlotFits st sets start history number call slot.old
         → SessionGoes (where_asked_next call.ask) st st sets start history number call slot.new
         result }
-    ensures due { (items : ℕ) (pages : List Page) (steps : ℕ) → IsDue items pages slot.old steps
-        → IsDue items pages slot.new steps }
+    ensures due { (st : State) (steps : ℕ) → IsDueIn st slot.old steps
+        → IsDueIn st slot.new steps }
 {
     match slot {
         Some(Op::Scan(op)) => Answer::Gave(op.next()),

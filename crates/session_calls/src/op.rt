@@ -4,13 +4,13 @@ ghost use Rattle.std.specs.Prelude.{◌≡◌, true, false, Bool, List, ℕ, Som
 ghost use Rattle.index_model.specs.Actions.{Action};
 ghost use Rattle.index_model.specs.Calls.{Call};
 ghost use Rattle.index_model.specs.declared.entry.Entry.{Entry};
-ghost use Rattle.descent.specs.Steps.{IsInOrder};
+ghost use Rattle.descent.specs.Shared.{IsInOrder};
 
 use crate::answer::Answer;
 use crate::request::Request;
 use index_model::{DeadRows, Fault, Session};
-use insert_split::{InsertOp, InsertStep};
 use page_action::PageStore;
+use insert_split::{InsertOp, InsertStep};
 use scan::{ScanOp, ScanStep};
 
 /// A running call of a session.
@@ -23,7 +23,7 @@ pub enum Op {
 impl Op {
     ghost use Rattle.session_calls.specs.Due.{IsDueIn, CountsDown};
     ghost use Rattle.session_calls.specs.Ops.{op_before, session_of, OpFits, where_stepped};
-    ghost use Rattle.session_calls.specs.Sessions.{CallFits, OpSteps, OpGoes, slot_after};
+    ghost use Rattle.session_calls.specs.Sessions.{CallFits, OpSteps, OpGoes, OnlyOwnAreFlagged, LeavesOwnFlagged, slot_after};
 
     /// The call that a session asks for, before its first step.
     pub fn new(session: Session, request: Request) -> Op
@@ -51,10 +51,15 @@ impl Op {
         ensures goes { (S.backing store.new).honest ≡ true
             → (start : Entry → Bool) (history : List Action) (number : ℕ) (call : Call)
             → CallFits (S.state store.old) (map T.is_in sets.now) start history number call self.old
-            → OpGoes (where_stepped call.ask (S.state store.old) (S.backing store.old)
-            (S.backing store.new) call.session)
+            → OpGoes (where_stepped self.old (S.state store.old) (S.backing store.old)
+            (S.backing store.new))
             (S.state store.old) (S.state store.new) (map T.is_in sets.now) start history number
             call self.new result }
+        ensures flagged { (S.backing store.new).honest ≡ true → IsInOrder (S.state store.old)
+            → OpFits (S.state store.old) self.old
+            → OnlyOwnAreFlagged (S.state store.old) (Some self.old)
+            → LeavesOwnFlagged (S.state store.new) (Some self.old) (slot_after result self.new)
+            result }
         ensures due { (S.backing store.new).honest ≡ true → IsInOrder (S.state store.old)
             → OpFits (S.state store.old) self.old
             → (left : ℕ) → IsDueIn (S.state store.old) (Some self.old) (suc left)

@@ -1,7 +1,7 @@
 use super::*;
 use arrayvec::ArrayVec;
 use index_model::{DeadRows, Entry, Fault, Key, Limits, Range, RowAddr, Session};
-use page_action::MapStore;
+use page_action::{MapStore, PageStore};
 use page_codec::{Items, Page, PageState};
 use std::alloc::Global;
 use std::test::*;
@@ -128,4 +128,62 @@ fn a_call_is_given_up(rt: HostRuntime) {
             Answer::Refused(Fault::NoSession)
         )
     );
+}
+
+// The answer to the first of the next steps that isn't `Going`, and how many acts were done at each step that was.
+fn run(store: &mut MapStore, slot: &mut Option<Op>) -> (Answer, ArrayVec<u64, 20>) {
+    let mut acts = ArrayVec::new();
+    let mut answer = step(store, slot, &NO_SETS);
+    for _ in 0..20 {
+        if matches!(answer, Answer::Going) {
+            let _ = acts.try_push(store.acts());
+            answer = step(store, slot, &NO_SETS);
+        }
+    }
+    (answer, acts)
+}
+
+// The next entry of a scan, behind as many steps as it takes.
+fn give(store: &mut MapStore, slot: &mut Option<Op>) -> Option<Entry> {
+    for _ in 0..3 {
+        if let Answer::Gave(Some(entry)) = next(slot) {
+            return Some(entry);
+        }
+        let _answer = run(store, slot);
+    }
+    None
+}
+
+#[test]
+fn a_leaf_and_the_root_are_split(rt: HostRuntime) {
+    let full = [entry(1, 7), entry(2, 7), entry(3, 7), entry(4, 7)];
+    let (Ok(mut store), Ok(session)) = (tree(rt.alloc(), &full), Session::new(5)) else {
+        assert!(rt; false);
+        return;
+    };
+    let mut slot = None;
+    let begun = begin(&mut store, session, Request::Insert(entry(5, 7)), &mut slot);
+    assert!(rt; matches!(begun, Answer::Begun));
+    let (added, acts) = run(&mut store, &mut slot);
+    assert!(rt;
+        matches!(
+            added,
+            Answer::Added {
+                action: 1,
+                unfinished: None
+            }
+        )
+    );
+    assert_eq!(rt; acts.as_slice(), [0, 0, 1, 1].as_slice());
+    assert_eq!(rt; store.acts(), 2);
+    assert!(rt; slot.is_none());
+
+    let begun = begin(&mut store, session, Request::Scan(ALL), &mut slot);
+    assert!(rt; matches!(begun, Answer::Begun));
+    for number in 1..=5 {
+        assert!(rt; give(&mut store, &mut slot) == Some(entry(number, 7)));
+    }
+    assert!(rt; matches!(next(&mut slot), Answer::Gave(None)));
+    let (done, _) = run(&mut store, &mut slot);
+    assert!(rt; matches!(done, Answer::Done));
 }

@@ -1,5 +1,4 @@
-use Rattle.std.proofs.Common.{sym, ap, ◌∙◌}
-use Rattle.page_action.specs.States.{State}
+use Rattle.std.proofs.Common.{sym, ◌∙◌}
 use Rattle.schedule.proofs.Events.{slot_of_call, slot_read}
 use Rattle.schedule.proofs.Making.{end_makes}
 use Rattle.schedule.proofs.happening.end.Goals as goal
@@ -12,4 +11,4 @@ returns-clause-makes g c sets =
     let at = slot_of_call slots c.args.session c.index-slots-session.result within c.index-slots-session.is (sym c.is_running.ensures.value ∙ c.if-not-is_running.false) in
     end_makes g.S.PageStore laws c.args.store.now c.end.new.store (c.end.ensures.steps _ (laws.follows_same _)) slots sets c.args.session _ c.end.new.slot at.0 c.end.result at.1
     (slot_read slots c.args.session c.index-slots-session.result within c.index-slots-session.is)
-    c.end.ensures.kind c.end.ensures.over c.end.ensures.backing (ap (λ (st : State). st.begun) (c.end.ensures.given_up at.0 at.1)) (c.end.ensures.goes sets)
+    c.end.ensures.kind c.end.ensures.over c.end.ensures.backing (c.end.ensures.given_up at.0 at.1) (c.end.ensures.goes sets)

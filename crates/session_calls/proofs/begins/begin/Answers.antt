@@ -11,3 +11,4 @@ returns-clause-begins g c begun sets start history number matches idle =
 pub returns-clause-counts : goal.returns-clause-counts
 returns-clause-counts g c begun =
     has_steps (g.S.PageStore.state c.args.store.now) (g.S.PageStore.state c.start.new.store) c.args.session c.args.request (Some c.new.result) c.in_default.ensures.done (ap (λ (op : Op). Some op) c.new.ensures)
+    c.start.ensures.limits c.start.ensures.few

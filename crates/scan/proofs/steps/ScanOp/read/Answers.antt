@@ -1,51 +1,206 @@
-use Rattle.std.proofs.Common.{rules, ◌≡◌, ℕ, Some, List, slice_get, refl, sym, ap, subst, inr, ◌∙◌}
+use Rattle.std.proofs.Common.{rules, ◌≡◌, suc, Ok, ℕ, ◌<◌, ◌≤◌, false, true, Some, List, length, slice_get, inr, refl, sym, ap, subst, ◌∙◌, arith}
+use Rattle.std.specs.Prelude.{IfErr}
+use Rattle.index_model.specs.Faults.{HasCause}
 use Rattle.index_model.specs.Order.{IsAscending}
 use Rattle.index_model.specs.declared.entry.Entry.{Entry}
+use Rattle.index_model.specs.declared.limits.Limits.{Limits}
 use Rattle.latch_table.specs.Holdings.{pinned}
 use Rattle.page_codec.specs.Edits.{entries_of}
 use Rattle.page_codec.specs.declared.page.Page.{Page}
 use Rattle.page_action.specs.States.{State, IsLater, with_table}
 use Rattle.tree_shape.specs.Leaf.{IsCopiedFrom}
-use Rattle.scan.specs.Scans.{ScanStands}
+use Rattle.tree_shape.specs.Walks.{frontier_aim}
+use Rattle.tree_acts.specs.Trees.{HasPlace, HasCover}
+use Rattle.descent.proofs.Looking.{if_err}
+use Rattle.descent.specs.Onward.{IsOnWay, LeadsOnward, LeadsStraight, LeavesLess, IsShorter, IsArrived}
+use Rattle.descent.specs.declared.way.Way.{Way}
+use Rattle.descent.specs.declared.way.Onward.TheVariants.{Going, Here}
 use Rattle.scan.specs.declared.steps.ScanAt.{ScanAt}
-use Rattle.scan.proofs.Reading.{leaf_ascends, pins_leaf, reads_leaf}
+use Rattle.scan.specs.Scans.{behind, without_leaf, where_scanning, ScanStands, ScanFits, IsUnderway, LeafIsRead}
+use Rattle.scan.specs.Straight.{straight_steps, IsStraight, CountsDown}
+use Rattle.scan.specs.Work.{scan_left}
+use Rattle.scan.specs.declared.steps.ScanStep.TheVariants.{Going as Goes}
+use Rattle.scan.specs.declared.steps.ScanOp.{ScanOp}
+use Rattle.scan.proofs.Arriving.{leaf_has_entries, other_items, live_leaf, scan_has_room}
+use Rattle.scan.proofs.Causes.{scanning_cause}
+use Rattle.scan.proofs.Leaf.{reads_leaf}
+use Rattle.scan.proofs.Moving.{going_does, going_fits, going_less, reading_does, reading_fits, reading_less}
+use Rattle.scan.proofs.Refusing.{refuses, scan_led}
+use Rattle.scan.proofs.Resting.{quiet_by, rests}
+use Rattle.scan.proofs.Rooting.{place_in_use}
 use Rattle.scan.proofs.steps.ScanOp.read.Goals as goal
 
-pub returns : goal.returns
-returns g c = record {
+pub returns-in_err-page : goal.returns-in_err-page
+returns-in_err-page g c = record {
   steps = search rules;
   session = refl;
   range = refl;
   quiet = search rules;
-  refused = tt;
+  kept = search rules;
+  refused = search rules;
   stopped = search rules;
   ready = search rules;
   less = search rules;
   no_more = search rules;
   stepped = λ honest order fits.
       let old : State = g.S.PageStore.state c.args.store.now in
-      let new : State = g.S.PageStore.state c.pin.new.self in
-      let before = c.args.self.now in
-      let page : Page = c.in_ok-page.page in
-      let stands = subst (λ (a : ScanAt). ScanStands old before.session a) c.requires.at fits.stands in
-      let later : IsLater (g.S.PageStore.backing c.look.new.store) (g.S.PageStore.backing c.pin.new.self) = g.met.S.PageStore.laws.follows_later _ _ (c.pin.ensures.steps _ (g.met.S.PageStore.laws.follows_same _)) in
-      let found : slice_get old.pages 1 ≡ Some page = subst (λ (b : ℕ). slice_get old.pages b ≡ Some page) stands.1 (c.in_ok-page.ensures.page (later.honest honest)) in
-      let only = c.is_only_leaf.ensures.0 c.if-not-is_only_leaf.false in
-      let entries = c.as_slice.ensures.value ∙ ap entries_of (sym c.in-Entries.is) in
-      let copied : IsCopiedFrom (entries_of page.items) before.frontier before.range.below c.matches_beyond-self.result.items =
-      subst (λ (es : List Entry). IsCopiedFrom es before.frontier before.range.below c.matches_beyond-self.result.items) entries
-      (c.matches_beyond-self.ensures (subst IsAscending (sym entries) (leaf_ascends page only.kind only.alive c.in_ok-page.ensures.stored.storable.admitted))) in
-      let is : new ≡ with_table old (pinned old.table before.session 1) =
-      c.pin.ensures.state ∙ ap (λ (st : State). with_table st (pinned st.table before.session c.args.block)) c.look.ensures.state
-      ∙ ap (λ (b : ℕ). with_table old (pinned old.table before.session b)) stands.1 in
-      let pins = pins_leaf old new before.session fits.session order stands.0 is in
-      inr (record {
-        does = pins.0;
-        fits = record { session = fits.session; stands = pins.1; started = fits.started };
-        none = c.requires.none;
-        from = (c.args.block, c.requires.at);
-        last = refl;
-        read = reads_leaf old new before _ c.args.block page order fits c.requires.at c.requires.none found refl copied;
-        count_is = c.ready.ensures;
-      });
+      let before : ScanOp = c.args.self.now in
+      let way : Way = c.args.way in
+      let on_way : IsOnWay old fits.start (frontier_aim before.frontier) false 0 way = subst (ScanStands old fits.start before.leaf before.frontier) c.requires.at fits.stands in
+      let used = place_in_use old fits.start way.level (frontier_aim before.frontier) false way.block order.tree on_way.place in
+      let cause : IfErr c.look.result (HasCause (where_scanning old (g.S.PageStore.backing c.args.store.now) (g.S.PageStore.backing c.look.new.store) before.session)) =
+      if_err c.look.result _ _ (λ f h. scanning_cause old (g.S.PageStore.backing c.args.store.now) (g.S.PageStore.backing c.look.new.store) before.session way.block f honest used h)
+      (c.look.ensures.cause (scan_has_room old before fits)) in
+      search rules;
+  straight = λ honest order whole none starts. search rules;
 }
+
+pub returns-in_default : goal.returns-in_default
+returns-in_default g c =
+    let old : State = g.S.PageStore.state c.args.store.now in
+    let before : ScanOp = c.args.self.now in
+    let way : Way = c.args.way in
+    let page : Page = c.in_ok-page.page in
+    refuses g.S.PageStore before c.args.store.now c.look.new.store _ c.look.ensures.steps c.look.ensures.state
+    (λ h. (let k = sym c.in_ok-page.was ∙ c.look.ensures.stopped h in cc))
+    (λ honest order fits.
+    let found = c.in_ok-page.ensures.page honest in
+    let led = scan_led old before way page c.limits-most.result c.lead.result c.requires.at order fits found
+    (c.limits-most.ensures.value ∙ ap (λ (st : State). st.limits) c.look.ensures.state) c.in_ok-page.ensures.inside c.lead.ensures.goes in
+    let here = subst (LeadsOnward old fits.start (frontier_aim before.frontier) false 0 way) (c.in-Some-Here.is ∙ ap Some c.in-Some-Here.field-0-is) led in
+    let block_is : page.block ≡ way.block = c.in_ok-page.ensures.stored.block_is in
+    absurd (other_items page.items c.in_default.not-Entries (leaf_has_entries old (frontier_aim before.frontier) page order.tree
+    (subst (λ (b : ℕ). slice_get old.pages b ≡ Some page) (sym block_is) found) c.in_ok-page.ensures.stored.storable.admitted
+    (subst (HasCover old 0 (frontier_aim before.frontier)) (sym block_is) here.1))))
+
+pub returns-in-None : goal.returns-in-None
+returns-in-None g c =
+    let old : State = g.S.PageStore.state c.args.store.now in
+    refuses g.S.PageStore c.args.self.now c.args.store.now c.look.new.store _ c.look.ensures.steps c.look.ensures.state
+    (λ h. (let k = sym c.in_ok-page.was ∙ c.look.ensures.stopped h in cc))
+    (λ honest order fits.
+    absurd (subst (LeadsOnward old fits.start (frontier_aim c.args.self.now.frontier) false 0 c.args.way) c.in-None.is
+    (scan_led old c.args.self.now c.args.way c.in_ok-page.page c.limits-most.result c.lead.result c.requires.at order fits (c.in_ok-page.ensures.page honest)
+    (c.limits-most.ensures.value ∙ ap (λ (st : State). st.limits) c.look.ensures.state) c.in_ok-page.ensures.inside c.lead.ensures.goes)))
+
+pub returns-in-Some-Going : goal.returns-in-Some-Going
+returns-in-Some-Going g c =
+    let old : State = g.S.PageStore.state c.args.store.now in
+    let new : State = g.S.PageStore.state c.go_on.new.store in
+    let before : ScanOp = c.args.self.now in
+    let after : ScanOp = c.go_on.new.self in
+    let on : Way = c.in-Some-Going.on in
+    let is : new ≡ with_table old (without_leaf old.table before.session before.leaf) =
+    c.go_on.ensures.state ∙ ap (λ (st : State). with_table st (without_leaf st.table before.session before.leaf)) c.look.ensures.state in
+    let answer : c.lead.result ≡ Some (Going on) = c.in-Some-Going.is ∙ ap Some c.in-Some-Going.field-0-is in
+    let most : c.limits-most.result.pages ≡ old.limits.pages = ap (λ (l : Limits). l.pages) (c.limits-most.ensures.value ∙ ap (λ (st : State). st.limits) c.look.ensures.state) in
+    let shorter : IsShorter 0 old.limits.pages c.args.way on =
+    subst (λ (n : ℕ). IsShorter 0 n c.args.way on) most (subst (LeavesLess 0 c.limits-most.result.pages c.args.way) answer c.lead.ensures.less) in
+    let less : scan_left old.limits.pages old.pages after < scan_left old.limits.pages old.pages before =
+    subst (λ (op : ScanOp). scan_left old.limits.pages old.pages op < scan_left old.limits.pages old.pages before) (sym c.go_on.ensures.op)
+    (going_less old.limits.pages old.pages before c.args.way on c.requires.at shorter) in
+    record {
+      steps = search rules;
+      session = ap (λ (op : ScanOp). op.session) c.go_on.ensures.op;
+      range = ap (λ (op : ScanOp). op.range) c.go_on.ensures.op;
+      quiet = quiet_by old new _ is;
+      kept = rests old new _ is;
+      refused = tt;
+      stopped = search rules;
+      ready = tt;
+      less = λ honest. less;
+      no_more = λ honest. omega arith;
+      stepped = λ honest order fits.
+          let later : IsLater (g.S.PageStore.backing c.look.new.store) (g.S.PageStore.backing c.go_on.new.store) = g.met.S.PageStore.laws.follows_later _ _ (c.go_on.ensures.steps _ (g.met.S.PageStore.laws.follows_same _)) in
+          let way : Way = c.args.way in
+          let led = scan_led old before way c.in_ok-page.page c.limits-most.result c.lead.result c.requires.at order fits (c.in_ok-page.ensures.page (later.honest honest))
+          (c.limits-most.ensures.value ∙ ap (λ (st : State). st.limits) c.look.ensures.state) c.in_ok-page.ensures.inside c.lead.ensures.goes in
+          record {
+            does = going_does old new before order fits is;
+            fits = subst (ScanFits new) (sym c.go_on.ensures.op)
+                (going_fits old new before order fits is on (subst (LeadsOnward old fits.start (frontier_aim before.frontier) false 0 way) answer led));
+            none = c.requires.none;
+            from = subst IsUnderway (sym c.requires.at) tt;
+            way = on;
+            op = c.go_on.ensures.op;
+          };
+      straight = λ honest order whole none starts.
+          let later : IsLater (g.S.PageStore.backing c.look.new.store) (g.S.PageStore.backing c.go_on.new.store) = g.met.S.PageStore.laws.follows_later _ _ (c.go_on.ensures.steps _ (g.met.S.PageStore.laws.follows_same _)) in
+          let found : slice_get old.pages c.args.way.block ≡ Some c.in_ok-page.page = c.in_ok-page.ensures.page (later.honest honest) in
+          let cover : HasCover old c.args.way.level (frontier_aim before.frontier) c.args.way.block = subst (IsStraight old before.frontier) c.requires.at starts in
+          let led : LeadsStraight old (frontier_aim before.frontier) 0 c.args.way (Some (Going on)) =
+          subst (LeadsStraight old (frontier_aim before.frontier) 0 c.args.way) answer (c.lead.ensures.straight old order.tree whole found cover) in
+          subst (λ (op : ScanOp). CountsDown old before op (Ok Goes)) (sym c.go_on.ensures.op)
+          (led.1, subst (λ (a : ScanAt). suc (suc on.level) ≡ straight_steps old.pages a) (sym c.requires.at) (ap suc led.0));
+    }
+
+pub returns-in-Entries : goal.returns-in-Entries
+returns-in-Entries g c =
+    let old : State = g.S.PageStore.state c.args.store.now in
+    let new : State = g.S.PageStore.state c.stand_on.new.store in
+    let before : ScanOp = c.args.self.now in
+    let after : ScanOp = c.take.new.self in
+    let way : Way = c.args.way in
+    let page : Page = c.in_ok-page.page in
+    let es : List Entry = c.take.new.self.copied.items in
+    let is : new ≡ with_table old (pinned (without_leaf old.table before.session before.leaf) before.session way.block) =
+    c.stand_on.ensures.state ∙ ap (λ (st : State). with_table st (pinned (without_leaf st.table before.session before.leaf) before.session way.block)) c.look.ensures.state in
+    let op_is : after ≡ behind (record before { leaf = Some way.block }) page.high page.right es =
+    c.take.ensures.op ∙ ap (λ (op : ScanOp). behind op page.high page.right es) c.stand_on.ensures.op in
+    let arrived : IsArrived page (frontier_aim before.frontier) = c.lead.ensures.here (c.in-Some-Here.is ∙ ap Some c.in-Some-Here.field-0-is) in
+    let many : length es ≤ 50 = c.take.ensures.many in
+    let later : IsLater (g.S.PageStore.backing c.look.new.store) (g.S.PageStore.backing c.stand_on.new.store) = g.met.S.PageStore.laws.follows_later _ _ (c.stand_on.ensures.steps _ (g.met.S.PageStore.laws.follows_same _)) in
+    let less : (g.S.PageStore.backing c.stand_on.new.store).honest ≡ true → scan_left old.limits.pages old.pages after < scan_left old.limits.pages old.pages before =
+    λ honest. subst (λ (op : ScanOp). scan_left old.limits.pages old.pages op < scan_left old.limits.pages old.pages before) (sym op_is)
+    (reading_less old.limits.pages old.pages before (Some way.block) way way.block page es c.requires.at (c.in_ok-page.ensures.page (later.honest honest)) arrived many) in
+    record {
+      steps = search rules;
+      session = ap (λ (op : ScanOp). op.session) op_is;
+      range = ap (λ (op : ScanOp). op.range) op_is;
+      quiet = quiet_by old new _ is;
+      kept = rests old new _ is;
+      refused = tt;
+      stopped = search rules;
+      ready = c.ready.ensures;
+      less = λ honest none. less honest;
+      no_more = λ honest. (let l = less honest in omega arith);
+      stepped = λ honest order fits.
+          let on_way : IsOnWay old fits.start (frontier_aim before.frontier) false 0 way = subst (ScanStands old fits.start before.leaf before.frontier) c.requires.at fits.stands in
+          let found : slice_get old.pages way.block ≡ Some page = c.in_ok-page.ensures.page (later.honest honest) in
+          let led = scan_led old before way page c.limits-most.result c.lead.result c.requires.at order fits found
+          (c.limits-most.ensures.value ∙ ap (λ (st : State). st.limits) c.look.ensures.state) c.in_ok-page.ensures.inside c.lead.ensures.goes in
+          let here : (way.level ≡ 0) × HasCover old 0 (frontier_aim before.frontier) way.block =
+          subst (LeadsOnward old fits.start (frontier_aim before.frontier) false 0 way) (c.in-Some-Here.is ∙ ap Some c.in-Some-Here.field-0-is) led in
+          let admitted = c.in_ok-page.ensures.stored.storable.admitted in
+          let block_is : page.block ≡ way.block = c.in_ok-page.ensures.stored.block_is in
+          let there : slice_get old.pages page.block ≡ Some page = subst (λ (b : ℕ). slice_get old.pages b ≡ Some page) (sym block_is) found in
+          let cover : HasCover old 0 (frontier_aim before.frontier) page.block = subst (HasCover old 0 (frontier_aim before.frontier)) (sym block_is) here.1 in
+          let has = leaf_has_entries old (frontier_aim before.frontier) page order.tree there admitted cover in
+          let live = live_leaf page has arrived.alive admitted in
+          let place : HasPlace old fits.start 0 (frontier_aim before.frontier) false page.block =
+          subst (λ (b : ℕ). HasPlace old fits.start 0 (frontier_aim before.frontier) false b) (sym block_is)
+          (subst (λ (k : ℕ). HasPlace old fits.start k (frontier_aim before.frontier) false way.block) here.0 on_way.place) in
+          let entries = c.as_slice.ensures.value ∙ ap entries_of (sym c.in-Entries.is) in
+          let copied_by : IsCopiedFrom c.as_slice.result.now before.frontier before.range.below es =
+          subst (λ (op : ScanOp). IsCopiedFrom c.as_slice.result.now op.frontier op.range.below es) c.stand_on.ensures.op
+          (c.take.ensures.copied (subst IsAscending (sym entries) live.entries.ascends)) in
+          let copied : IsCopiedFrom (entries_of page.items) before.frontier before.range.below es =
+          subst (λ (xs : List Entry). IsCopiedFrom xs before.frontier before.range.below es) entries copied_by in
+          inr (record {
+            does = reading_does old new before way.block order fits is;
+            fits = subst (ScanFits new) (sym op_is) (reading_fits old new before way.block order fits is page es there place);
+            none = c.requires.none;
+            way = way;
+            from = c.requires.at;
+            leaf = ap (λ (op : ScanOp). op.leaf) op_is;
+            read = subst (LeafIsRead old before) (sym op_is)
+                (reads_leaf old before (Some way.block) way page es order.tree c.requires.at fits.started there cover live copied);
+            count_is = c.ready.ensures;
+          });
+      straight = λ honest order whole none starts.
+          let found : slice_get old.pages way.block ≡ Some page = c.in_ok-page.ensures.page (later.honest honest) in
+          let cover : HasCover old way.level (frontier_aim before.frontier) way.block = subst (IsStraight old before.frontier) c.requires.at starts in
+          let led : LeadsStraight old (frontier_aim before.frontier) 0 way (Some Here) =
+          subst (LeadsStraight old (frontier_aim before.frontier) 0 way) (c.in-Some-Here.is ∙ ap Some c.in-Some-Here.field-0-is) (c.lead.ensures.straight old order.tree whole found cover) in
+          subst (λ (a : ScanAt). straight_steps old.pages a ≡ 1) (sym c.requires.at) (ap suc led);
+    }

@@ -1,0 +1,185 @@
+-- An insert that finishes splits.
+use Rattle.std.proofs.Common.{◌≡◌, ℕ, ◌<◌, Bool, true, false, Option, Some, None, Result, Ok, Err, List, slice_get, refl, sym, ap, subst, inl, inr, ◌∙◌, arith}
+use Rattle.index_model.specs.Actions.{Effect}
+use Rattle.index_model.specs.Faults.{HasCause}
+use Rattle.index_model.specs.declared.entry.Entry.{Entry}
+use Rattle.index_model.specs.declared.fault.Fault.{Fault}
+use Rattle.latch_table.specs.Holdings.{Table, holding_of, nothing_held}
+use Rattle.index_model.specs.declared.limits.Limits.{Limits}
+use Rattle.page_action.specs.States.{State, Backing}
+use Rattle.page_action.specs.declared.page_store.PageStore.{Ghosts}
+use Rattle.descent.specs.Shared.{IsInOrder, Does, is_flagged, where_working}
+use Rattle.descent.proofs.Acting.{nothing_else}
+use Rattle.split_finish.specs.Finishes.{FinishSteps, OnlyShapes, images_of, frames_of}
+use Rattle.split_finish.specs.Targets.{OnlyTargetsAreFlagged, FinishFits, finish_left}
+use Rattle.split_finish.specs.declared.finish.FinishOp.{FinishOp}
+use Rattle.split_finish.specs.declared.finish.FinishStep.TheVariants.{Going as FinishGoing, Done}
+use Rattle.insert_split.specs.Inserts.{InsertFits, InsertStands, InsertSteps, IsNoted, insert_left, targets_at, where_inserting}
+use Rattle.insert_split.specs.Straight.{IsStraight}
+use Rattle.insert_split.specs.Turns.{GoesOn, GoesOnFrom, Leaves, LeavesBy, IsRefusedRightly, is_blocked}
+use Rattle.insert_split.specs.declared.insert.InsertAt.{InsertAt}
+use Rattle.insert_split.specs.declared.insert.InsertAt.TheVariants.{Start, Finishing}
+use Rattle.insert_split.specs.declared.insert.InsertOp.{InsertOp}
+use Rattle.insert_split.specs.declared.insert.InsertStep.{InsertStep}
+use Rattle.insert_split.specs.declared.insert.InsertStep.TheVariants.{Going, Added}
+use Rattle.insert_split.proofs.Steps.{refuses, runs_no_more}
+use Rattle.insert_split.proofs.Walking.{as_inserting}
+
+-- what an insert knows of the splits that it finishes
+pub finishing_there : (st : State) (op : InsertOp) (splits : FinishOp) → op.at ≡ Finishing splits → (fits : InsertFits st op) → (splits.session ≡ op.session) × FinishFits st splits
+finishing_there st op splits at_is fits = subst (InsertStands st op.session fits.start op.entry) at_is fits.stands
+
+-- a step that finishes splits notes nothing
+pub notes_nothing : (effect : Option Effect) (acts : ℕ) (e : Entry) (added : Option ℕ) → OnlyShapes effect → IsNoted effect acts e added added
+notes_nothing effect acts e added (inl none) = subst (λ (x : Option Effect). IsNoted x acts e added added) (sym none) refl
+notes_nothing effect acts e added (inr shape) = subst (λ (x : Option Effect). IsNoted x acts e added added) (sym shape) refl
+
+-- the causes of a finishing step are those of an insert there
+pub finishing_cause : (st : State) (old new : Backing) (op : InsertOp) (splits : FinishOp) (fault : Fault) → op.at ≡ Finishing splits → splits.session ≡ op.session
+    → HasCause (where_working st old new splits.session (images_of splits.at) (frames_of splits.at)) fault → HasCause (where_inserting st old new op.session op.entry op.at) fault
+finishing_cause st old new op splits fault at_is session h =
+    subst (λ (a : InsertAt). HasCause (where_inserting st old new op.session op.entry a) fault) (sym at_is)
+    (as_inserting st old new op.session op.entry (Finishing splits) (images_of splits.at) (frames_of splits.at) fault refl
+    (subst (λ (s : ℕ). HasCause (where_working st old new s (images_of splits.at) (frames_of splits.at)) fault) session h))
+
+-- ... that goes on
+pub finish_goes : {S : Type 0} (g : Ghosts S) (before : InsertOp) (splits then_splits : FinishOp) (old new : S) → before.at ≡ Finishing splits → (g.backing old).stopped ≡ false
+    → FinishSteps g splits then_splits old new (Ok FinishGoing) → InsertSteps g before (record before { at = Finishing then_splits }) old new (Ok Going)
+finish_goes g before splits then_splits old new at_is alive h = record {
+  steps = h.steps;
+  session = refl;
+  entry = refl;
+  kept = h.kept;
+  refused = tt;
+  stopped = λ halted. runs_no_more (g.backing old).stopped alive halted;
+  less = λ honest is acts. subst (λ (a : InsertAt). finish_left (g.state new).limits.pages (g.state new).pages then_splits < insert_left (g.state old).limits.pages (g.state old).pages a) (sym at_is) (h.less honest refl acts);
+  stepped = λ honest order fits.
+      let there = finishing_there (g.state old) before splits at_is fits in
+      let on = h.stepped honest order there.1 in
+      record {
+        effect = on.effect;
+        does = subst (λ (s : ℕ). Does s on.effect (g.state old) (g.state new)) there.0 on.does;
+        noted = notes_nothing on.effect (g.state old).acts before.entry before.added on.shapes;
+        fits = record {
+          session = fits.session;
+          start = fits.start;
+          running = ap (λ (r : List (Option ℕ)). slice_get r before.session) on.does.running ∙ fits.running;
+          stands = (h.session ∙ there.0, on.fits);
+          to_come = tt;
+        };
+        flags = λ only. on.flags (subst (λ (a : InsertAt). OnlyTargetsAreFlagged (g.state old) (targets_at a)) at_is only);
+      };
+  straight = λ honest order fits whole on room. absurd (subst (IsStraight (g.state old) before.entry) at_is on);
+}
+
+-- ... that is the last
+pub finish_done : {S : Type 0} (g : Ghosts S) (before after : InsertOp) (splits then_splits : FinishOp) (step : InsertStep) (old new : S) → before.at ≡ Finishing splits → (g.backing old).stopped ≡ false
+    → FinishSteps g splits then_splits old new (Ok Done) → GoesOn (record before { at = Finishing then_splits }) after step → InsertSteps g before after old new (Ok step)
+finish_done g before after splits then_splits step old new at_is alive h on = by before.added refl on
+  where
+    none_flagged : IsInOrder (g.state old) → (fits : InsertFits (g.state old) before) → (g.backing new).honest ≡ true → OnlyTargetsAreFlagged (g.state old) (targets_at before.at)
+        → (b : ℕ) → is_flagged (g.state new) b ≡ false
+    none_flagged order fits honest only =
+        let there = finishing_there (g.state old) before splits at_is fits in
+        (h.stepped honest order there.1).flags (subst (λ (a : InsertAt). OnlyTargetsAreFlagged (g.state old) (targets_at a)) at_is only)
+
+    true_false : true ≡ false → ⊥
+    true_false k = cc
+
+    by : (added : Option ℕ) → before.added ≡ added → GoesOnFrom added (record before { at = Finishing then_splits }) after step → InsertSteps g before after old new (Ok step)
+    by None is on = subst (λ (s : InsertStep). InsertSteps g before after old new (Ok s)) (sym on.0) (subst (λ (o : InsertOp). InsertSteps g before o old new (Ok Going)) (sym on.1) (record {
+      steps = h.steps;
+      session = refl;
+      entry = refl;
+      kept = h.kept;
+      refused = tt;
+      stopped = λ halted. runs_no_more (g.backing old).stopped alive halted;
+      less = λ honest going acts. subst (λ (a : InsertAt). insert_left (g.state new).limits.pages (g.state new).pages Start < insert_left (g.state old).limits.pages (g.state old).pages a) (sym at_is)
+          (let over = h.over honest refl acts in let l = ap (λ (x : Limits). x.pages) h.kept.limits in rw l (omega (arith, over)));
+      stepped = λ honest order fits.
+          let there = finishing_there (g.state old) before splits at_is fits in
+          let last = h.stepped honest order there.1 in
+          record {
+            effect = last.effect;
+            does = subst (λ (s : ℕ). Does s last.effect (g.state old) (g.state new)) there.0 last.does;
+            noted = notes_nothing last.effect (g.state old).acts before.entry before.added last.shapes;
+            fits = record {
+              session = fits.session;
+              start = fits.start;
+              running = ap (λ (r : List (Option ℕ)). slice_get r before.session) last.does.running ∙ fits.running;
+              stands = ap (λ (t : Table). holding_of t before.session) last.table ∙ subst (λ (s : ℕ). holding_of (g.state old).table s ≡ nothing_held) there.0 there.1.free;
+              to_come = is;
+            };
+            flags = λ only b flagged. absurd (true_false (sym flagged ∙ none_flagged order fits honest only b));
+          };
+      straight = λ honest order fits whole on room. absurd (subst (IsStraight (g.state old) before.entry) at_is on);
+    }))
+    by (Some action) is on = subst (λ (s : InsertStep). InsertSteps g before after old new (Ok s)) (sym on.0) (subst (λ (o : InsertOp). InsertSteps g before o old new (Ok (Added action None))) (sym on.1) (record {
+      steps = h.steps;
+      session = refl;
+      entry = refl;
+      kept = h.kept;
+      refused = tt;
+      stopped = λ halted. runs_no_more (g.backing old).stopped alive halted;
+      less = λ honest going. absurd cc;
+      stepped = λ honest order fits.
+          let there = finishing_there (g.state old) before splits at_is fits in
+          let last = h.stepped honest order there.1 in
+          record {
+            effect = last.effect;
+            does = subst (λ (s : ℕ). Does s last.effect (g.state old) (g.state new)) there.0 last.does;
+            noted = subst (λ (a : Option ℕ). IsNoted last.effect (g.state old).acts before.entry before.added a) is (notes_nothing last.effect (g.state old).acts before.entry before.added last.shapes);
+            left = none_flagged order fits honest;
+          };
+      straight = λ honest order fits whole on room. absurd (subst (IsStraight (g.state old) before.entry) at_is on);
+    }))
+
+-- ... that is refused
+pub finish_refused : {S : Type 0} (g : Ghosts S) (before : InsertOp) (splits then_splits : FinishOp) (fault : Fault) (result : Result InsertStep Fault) (old new : S) → before.at ≡ Finishing splits
+    → (g.backing old).stopped ≡ false → FinishSteps g splits then_splits old new (Err fault) → Leaves before.added fault result
+    → InsertSteps g before (record before { at = Finishing then_splits }) old new result
+finish_refused g before splits then_splits fault result old new at_is alive h leaves = by (is_blocked fault) before.added refl leaves
+  where
+    same : (let o : InsertOp = record before { at = Finishing then_splits } in o) ≡ before
+    same = ap (λ (a : InsertAt). let o : InsertOp = record before { at = a } in o) (ap Finishing h.refused.op ∙ sym at_is)
+
+    cause : (g.backing new).honest ≡ true → IsInOrder (g.state old) → InsertFits (g.state old) before
+        → HasCause (where_inserting (g.state old) (g.backing old) (g.backing new) before.session before.entry before.at) fault
+    cause honest order fits =
+        let there = finishing_there (g.state old) before splits at_is fits in
+        finishing_cause (g.state old) (g.backing old) (g.backing new) before splits fault at_is there.0 (h.stepped honest order there.1)
+
+    refusal : InsertSteps g before (record before { at = Finishing then_splits }) old new (Err fault)
+    refusal = subst (λ (o : InsertOp). InsertSteps g before o old new (Err fault)) (sym same) (refuses g before old new fault h.steps h.refused.state alive cause)
+
+    over : (action : ℕ) → before.added ≡ Some action → InsertSteps g before (record before { at = Finishing then_splits }) old new (Ok (Added action (Some fault)))
+    over action is = subst (λ (o : InsertOp). InsertSteps g before o old new (Ok (Added action (Some fault)))) (sym same) (record {
+      steps = h.steps;
+      session = refl;
+      entry = refl;
+      kept = h.kept;
+      refused = tt;
+      stopped = λ halted. runs_no_more (g.backing old).stopped alive halted;
+      less = λ honest going. absurd cc;
+      stepped = λ honest order fits. record {
+        effect = None;
+        does = nothing_else before.session (g.state old) (g.state new) h.refused.state order;
+        noted = sym is;
+        left = (refl, cause honest order fits);
+      };
+      straight = λ honest order fits whole on room. absurd (subst (IsStraight (g.state old) before.entry) at_is on);
+    })
+
+    by : (blocked : Bool) (added : Option ℕ) → before.added ≡ added → LeavesBy blocked added fault result → InsertSteps g before (record before { at = Finishing then_splits }) old new result
+    by blocked None is leaves = subst (λ (r : Result InsertStep Fault). InsertSteps g before (record before { at = Finishing then_splits }) old new r) (sym leaves) refusal
+    by true (Some action) is leaves = subst (λ (r : Result InsertStep Fault). InsertSteps g before (record before { at = Finishing then_splits }) old new r) (sym leaves) refusal
+    by false (Some action) is leaves = subst (λ (r : Result InsertStep Fault). InsertSteps g before (record before { at = Finishing then_splits }) old new r) (sym leaves) (over action is)
+
+-- an insert whose entry is logged is refused for a blocked page alone
+pub refused_rightly : (added : Option ℕ) (fault : Fault) (result : Result InsertStep Fault) → Leaves added fault result → IsRefusedRightly added result
+refused_rightly None fault result leaves = tt
+refused_rightly (Some action) fault result leaves = by (is_blocked fault) refl leaves
+  where
+    by : (blocked : Bool) → is_blocked fault ≡ blocked → LeavesBy blocked (Some action) fault result → IsRefusedRightly (Some action) result
+    by true is h = subst (λ (r : Result InsertStep Fault). IsRefusedRightly (Some action) r) (sym h) is
+    by false is h = subst (λ (r : Result InsertStep Fault). IsRefusedRightly (Some action) r) (sym h) tt

@@ -1,0 +1,85 @@
+-- The pages of an act that splits a leaf may be written.
+use Rattle.std.proofs.Common.{◌≡◌, ◌≢◌, ℕ, ◌+◌, ◌<◌, ◌≤◌, true, Option, Some, None, [], ◌∷◌, ◌++◌, map, length, refl, sym, subst, ◌∙◌, arith}
+use Rattle.index_model.specs.declared.entry.Entry.{Entry}
+use Rattle.index_model.specs.declared.limits.Limits.{Limits}
+use Rattle.page_codec.specs.Edits.{entries_of, HasEntries}
+use Rattle.page_codec.specs.Grammar.{IsBlock, IsPage}
+use Rattle.page_codec.specs.Spelling.{count_of}
+use Rattle.page_codec.specs.declared.page.Items.{Items}
+use Rattle.page_codec.specs.declared.page.Items.TheVariants.{Meta, Entries, Downlinks}
+use Rattle.page_codec.specs.declared.page.Page.{Page}
+use Rattle.page_codec.specs.declared.page.PageState.TheVariants.{Live, Deleted}
+use Rattle.page_action.specs.Reuse.{IsFresh}
+use Rattle.page_action.specs.States.{State}
+use Rattle.page_action.specs.Stored.{IsStored, IsApartFrom, AreActable}
+use Rattle.tree_shape.specs.Halves.{left_count}
+use Rattle.tree_shape.specs.Leaf.{MayHold}
+use Rattle.latch_table.specs.Holdings.{Table, has_pin}
+use Rattle.page_action.specs.Causes.{pinned_blocks, count_apart}
+use Rattle.descent.proofs.Mended.{fresh_apart, RightMay, right_may}
+use Rattle.descent.proofs.Working.{apart_pinned}
+use Rattle.tree_acts.proofs.Overlays.{inside}
+use Rattle.descent.specs.Splitting.{RightIsStored, mended_to}
+use Rattle.insert_split.specs.Turns.{IsSplittable}
+
+-- a leaf has as many items as entries
+pub leaf_count : (items : Items) → HasEntries items → count_of items ≡ length (entries_of items)
+leaf_count Meta h = absurd h
+leaf_count (Entries v) h = refl
+leaf_count (Downlinks v) h = absurd h
+
+-- the halves of a leaf, and the page to the right of them
+pub halves_may : (st : State) (session : ℕ) (e : Entry) (page left half : Page) (right : Option Page)
+    → IsSplittable st page → MayHold page e → 2 ≤ length (entries_of page.items)
+    → IsPage left → IsPage half → HasEntries left.items → HasEntries half.items
+    → length (entries_of left.items) ≡ left_count (length (entries_of page.items))
+    → length (entries_of left.items) + length (entries_of half.items) ≡ length (entries_of page.items) + 1
+    → left.block ≡ page.block → IsFresh st half.block → IsBlock half.block → RightIsStored st session page.right right
+    → AreActable st.limits (length st.pages) (left ∷ half ∷ mended_to half.block right)
+halves_may st session e page left half right fits may some left_page half_page left_leaf half_leaf kept moved left_block fresh block stored = (
+  record { admitted = left_page; few = few_left },
+  (omega (arith, used, left_block), subst (λ (b : ℕ). b < st.limits.pages) (sym left_block) (omega (arith, used, fits.few))),
+  (λ same. apart_new (sym left_block ∙ sym same), subst (λ (b : ℕ). IsApartFrom b (mended_to half.block right)) (sym left_block) beside.apart),
+  (record { admitted = half_page; few = few_half }, (fresh.within, fresh.inside), beside.apart_new, beside.may),
+)
+  where
+    used : page.block < length st.pages
+    used = inside st.pages page.block page fits.found
+
+    apart_new : page.block ≢ half.block
+    apart_new = fresh_apart st half.block page.block page fresh fits.found (λ gone. live_not_deleted (sym may.alive ∙ gone))
+      where
+        live_not_deleted : Live ≡ Deleted → ⊥
+        live_not_deleted h = cc
+
+    all : length (entries_of page.items) ≤ st.limits.items
+    all = subst (λ (n : ℕ). n ≤ st.limits.items) (leaf_count page.items may.leaf) fits.stored.storable.few
+
+    few_left : count_of left.items ≤ st.limits.items
+    few_left = subst (λ (n : ℕ). n ≤ st.limits.items) (sym (leaf_count left.items left_leaf)) (omega (arith, kept, all, some))
+
+    few_half : count_of half.items ≤ st.limits.items
+    few_half = subst (λ (n : ℕ). n ≤ st.limits.items) (sym (leaf_count half.items half_leaf)) (omega (arith, kept, moved, all, some))
+
+    beside : RightMay st page.block half.block right
+    beside = right_may st session page.block half.block page.right right fits.few fresh block fits.mendable fits.apart stored
+
+-- such an act has three images at most, and needs two frames where the leaf is pinned
+pub few_changed : (left half : Page) (new : ℕ) (right : Option Page) → length (left ∷ half ∷ mended_to new right) ≤ 3
+few_changed left half new None = omega arith
+few_changed left half new (Some page) = omega arith
+
+pub frames_for : (table : Table) (left half : Page) (new : ℕ) (right : Option Page) → has_pin (pinned_blocks table) left.block ≡ true
+    → count_apart (map (λ (page : Page). page.block) (left ∷ half ∷ mended_to new right) ++ pinned_blocks table) ≤ 2 + count_apart (pinned_blocks table)
+frames_for table left half new None pin = (let k = apart_pinned left.block (half.block ∷ []) (pinned_blocks table) pin in omega (arith, k))
+frames_for table left half new (Some page) pin = apart_pinned left.block (half.block ∷ page.block ∷ []) (pinned_blocks table) pin
+
+-- a leaf with one entry more
+pub put_may : (limits : Limits) (used : ℕ) (page after : Page) → IsStored limits page.block page → page.block < used → used ≤ limits.pages → IsPage after → HasEntries after.items
+    → length (entries_of after.items) ≤ limits.items → after.block ≡ page.block → AreActable limits used (after ∷ [])
+put_may limits used page after stored in_use inside admitted leaf few block_is = (
+  record { admitted = admitted; few = subst (λ (n : ℕ). n ≤ limits.items) (sym (leaf_count after.items leaf)) few },
+  (omega (arith, block_is, in_use), omega (arith, block_is, in_use, inside)),
+  tt,
+  tt,
+)

@@ -1,0 +1,81 @@
+-- What an insert knows lasts while others act, and what it has to do has a bound.
+use Rattle.std.proofs.Common.{ℕ, suc, length, true, sym, subst, ◌∙◌, arith}
+use Rattle.index_model.specs.declared.entry.Entry.{Entry}
+use Rattle.index_model.specs.Order.{bound_of}
+use Rattle.index_model.specs.declared.bound.Bound.{Bound}
+use Rattle.page_action.specs.States.{State}
+use Rattle.tree_shape.specs.Walks.{entry_aim, bound_aim}
+use Rattle.tree_shape.proofs.Fits.{bound_falls}
+use Rattle.descent.specs.Onward.{IsOnWay}
+use Rattle.descent.specs.Shared.{MayRely, NumbersStay}
+use Rattle.descent.specs.declared.way.Way.{Way}
+use Rattle.split_finish.specs.Targets.{IsTarget, FinishStands, FinishFits}
+use Rattle.split_finish.specs.declared.finish.FinishAt.{FinishAt}
+use Rattle.split_finish.specs.declared.finish.FinishAt.TheVariants.{Start as FinishStart, Down, Link, Root}
+use Rattle.split_finish.specs.declared.finish.FinishOp.{FinishOp}
+use Rattle.split_finish.specs.declared.finish.Target.{Target}
+use Rattle.insert_split.specs.Inserts.{InsertStands}
+use Rattle.insert_split.specs.Laws.{InsertsAreUndisturbed, FreshInsertsAreBounded}
+use Rattle.insert_split.specs.declared.insert.InsertAt.{InsertAt}
+use Rattle.insert_split.specs.declared.insert.InsertAt.TheVariants.{Start, At, Holding as Holds, Finishing}
+use Rattle.insert_split.proofs.Adding.{holds_leaf}
+
+way_still : (old new : State) (start to : ℕ) (e : Bound) (way : Way) → NumbersStay start old new → IsOnWay old start (bound_aim e) true to way → IsOnWay new start (bound_aim e) true to way
+way_still old new start to e way stay on = record {
+  not_below = on.not_below;
+  place = stay.places way.level (bound_aim e) true way.block (bound_falls e) on.place;
+  trail = stay.trails way.level way.block way.moves on.trail;
+}
+
+target_still : (old new : State) (start least : ℕ) (target : Target) → NumbersStay start old new → IsTarget old start least target → IsTarget new start least target
+target_still old new start least target stay h =
+    record { high_enough = h.high_enough; place = stay.places target.level (bound_aim target.separator) true target.block (bound_falls target.separator) h.place }
+
+finish_stands : (old new : State) (start : ℕ) (target : Target) (at : FinishAt) → NumbersStay start old new → FinishStands old start target at → FinishStands new start target at
+finish_stands old new start target FinishStart stay h = h
+finish_stands old new start target (Down way) stay h = way_still old new start (suc target.level) target.separator way stay h
+finish_stands old new start target (Link way) stay h = (h.0, way_still old new start (suc target.level) target.separator way stay h.1)
+finish_stands old new start target Root stay h = h
+
+-- a call that finishes splits
+pub finish_still : (old new : State) (op : FinishOp) → MayRely op.session old new → FinishFits old op → FinishFits new op
+finish_still old new op rely fits =
+    let stay = rely.numbers fits.start fits.running in
+    record {
+      session = fits.session;
+      free = rely.held ∙ fits.free;
+      start = fits.start;
+      running = rely.number ∙ fits.running;
+      newest = target_still old new fits.start (length op.below.items) op.target stay fits.newest;
+      below = λ i target is. target_still old new fits.start i target stay (fits.below i target is);
+      stands = finish_stands old new fits.start op.target op.at stay fits.stands;
+    }
+
+stands_still : (old new : State) (session start : ℕ) (e : Entry) (at : InsertAt) → MayRely session old new → NumbersStay start old new → InsertStands old session start e at → InsertStands new session start e at
+stands_still old new session start e Start rely stay h = rely.held ∙ h
+stands_still old new session start e (At way) rely stay h = (rely.held ∙ h.0, way_still old new start 0 (bound_of e) way stay h.1)
+stands_still old new session start e (Holds block) rely stay h = (
+  rely.held ∙ h.0,
+  record {
+    page = h.1.page;
+    found = rely.pages block (holds_leaf old session block h.0) ∙ h.1.found;
+    alive = h.1.alive;
+    leaf = h.1.leaf;
+    whole = h.1.whole;
+    place = stay.places 0 (entry_aim e) true block (bound_falls (bound_of e)) h.1.place;
+    within = h.1.within;
+  },
+)
+stands_still old new session start e (Finishing op) rely stay h = (h.0, finish_still old new op (subst (λ (s : ℕ). MayRely s old new) (sym h.0) rely) h.1)
+
+pub undisturbed : InsertsAreUndisturbed
+undisturbed old new op rely fits = record {
+  session = fits.session;
+  start = fits.start;
+  running = rely.number ∙ fits.running;
+  stands = stands_still old new op.session fits.start op.entry op.at rely (rely.numbers fits.start fits.running) fits.stands;
+  to_come = fits.to_come;
+}
+
+pub bounded : FreshInsertsAreBounded
+bounded most pages few = omega arith

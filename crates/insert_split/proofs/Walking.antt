@@ -1,0 +1,134 @@
+-- An insert on its way to its leaf.
+use Rattle.std.proofs.Common.{◌≡◌, ℕ, ◌<◌, ◌≤◌, Bool, true, false, not, Option, Some, None, List, length, slice_get, refl, sym, subst, inl, inr, ◌∙◌, arith}
+use Rattle.index_model.specs.Faults.{HasCause}
+use Rattle.index_model.specs.Order.{IsUpTo, bound_of}
+use Rattle.index_model.specs.declared.bound.Bound.{Bound}
+use Rattle.index_model.specs.declared.entry.Entry.{Entry}
+use Rattle.index_model.specs.declared.fault.Fault.{Fault}
+use Rattle.index_model.specs.declared.fault.Fault.TheVariants.{Blocked, PageDamaged, Exists, Io, Stopped, IndexFull, LogFull, NoFrame, TooTall}
+use Rattle.latch_table.specs.Holdings.{Holding, HasRoom, holding_of, nothing_held}
+use Rattle.page_codec.specs.Edits.{HasEntries}
+use Rattle.std.specs.Prelude.{IsSome}
+use Rattle.page_codec.specs.Grammar.{IsPage, IsOfKind, IsLeafIn}
+use Rattle.page_codec.specs.declared.page.Items.{Items}
+use Rattle.page_codec.specs.declared.page.Items.TheVariants.{Meta, Entries, Downlinks}
+use Rattle.page_codec.specs.declared.page.Page.{Page}
+use Rattle.page_codec.specs.declared.page.PageState.{PageState}
+use Rattle.page_codec.specs.declared.page.PageState.TheVariants.{Live, HalfDead, Deleted}
+use Rattle.page_action.specs.States.{State, Backing}
+use Rattle.tree_shape.specs.Nodes.{nodes_of}
+use Rattle.tree_shape.specs.Walks.{entry_aim, bound_aim, is_within, is_fit}
+use Rattle.tree_shape.proofs.Told.{places_keep_their_level}
+use Rattle.tree_acts.specs.Trees.{HasTree, HasPlace}
+use Rattle.tree_acts.proofs.Lasting.{deleted_in_use}
+use Rattle.tree_acts.proofs.Words.{place_in}
+use Rattle.descent.specs.Onward.{IsOnWay, LeadsOnward}
+use Rattle.descent.specs.declared.way.Onward.{Onward}
+use Rattle.descent.specs.Shared.{IsInOrder, where_working}
+use Rattle.descent.specs.declared.way.Way.{Way}
+use Rattle.insert_split.specs.Inserts.{InsertFits, InsertStands, IsToCome, where_inserting}
+use Rattle.insert_split.specs.declared.insert.InsertAt.{InsertAt}
+use Rattle.insert_split.specs.declared.insert.InsertAt.TheVariants.{At}
+use Rattle.insert_split.specs.declared.insert.InsertOp.{InsertOp}
+
+-- a place is a block in use
+pub place_in_use : (st : State) (tree : HasTree st) (start level : ℕ) (aim : Bound → Bool) (clear : Bool) (block : ℕ) → HasPlace st start level aim clear block
+    → (0 < block) × (block < length st.pages)
+place_in_use st tree start level aim clear block place =
+    let p = place_in st tree.tree start level aim clear block place in
+    elim (places_keep_their_level (nodes_of st.pages) (_) (length st.pages) tree.tree.root tree.tree.meta.level tree.tree.chain level start (is_fit aim clear) block tree.tree.is p.in_tree p.place) [
+      | inl gone ↦ deleted_in_use st tree block gone
+      | inr on ↦ tree.tree.is.in_use level block p.in_tree on.1
+    ]
+
+pub room_free : (st : State) (session : ℕ) → holding_of st.table session ≡ nothing_held → HasRoom st.table session
+room_free st session free = subst (λ (h : Holding). length h.latches < 8) (sym free) (omega arith)
+
+-- the causes of a step that only reads are those of an insert there
+pub as_inserting : (st : State) (old new : Backing) (session : ℕ) (e : Entry) (at : InsertAt) (images frames : ℕ) (fault : Fault)
+    → where_inserting st old new session e at ≡ record (where_working st old new session images frames) { entry_was_there = (where_inserting st old new session e at).entry_was_there }
+    → HasCause (where_working st old new session images frames) fault → HasCause (where_inserting st old new session e at) fault
+as_inserting st old new session e at images frames fault same h = rw same (by fault h)
+  where
+    by : (f : Fault) → HasCause (where_working st old new session images frames) f
+        → HasCause (record (where_working st old new session images frames) { entry_was_there = (where_inserting st old new session e at).entry_was_there }) f
+    by Exists h = absurd cc
+    by Io h = h
+    by Stopped h = h
+    by (Blocked b) h = h
+    by IndexFull h = h
+    by LogFull h = h
+    by NoFrame h = h
+    by (PageDamaged b) h = h
+    by TooTall h = h
+    by f h = h
+
+-- a page on level 0 that is no metapage is a leaf
+pub leaf_items : (page : Page) → IsPage page → page.level ≡ 0 → 0 < page.block → HasEntries page.items
+leaf_items page admitted ground above = by page.items admitted.kind
+  where
+    by : (items : Items) → IsOfKind page items → HasEntries items
+    by Meta h = absurd (let z : page.block ≡ 0 = h.block in omega arith)
+    by (Entries v) h = tt
+    by (Downlinks v) h = absurd (let k : 0 < page.level = h.level.0 in omega arith)
+
+not_true : (b : Bool) → not b ≡ true → b ≡ false
+not_true true h = absurd cc
+not_true false h = refl
+
+pub up_to_within : (high : Option Bound) (e : Entry) → is_within (entry_aim e) high ≡ true → IsUpTo high e
+up_to_within None e h = tt
+up_to_within (Some high) e h = not_true (entry_aim e high) h
+
+-- where an insert on its way stands
+pub on_way : (st : State) (op : InsertOp) (way : Way) → op.at ≡ At way → (fits : InsertFits st op)
+    → (holding_of st.table op.session ≡ nothing_held) × IsOnWay st fits.start (entry_aim op.entry) true 0 way
+on_way st op way at_is fits = subst (InsertStands st op.session fits.start op.entry) at_is fits.stands
+
+pub to_come_there : (op : InsertOp) (way : Way) → op.at ≡ At way → IsToCome op.at op.added → op.added ≡ None
+to_come_there op way at_is h = subst (λ (a : InsertAt). IsToCome a op.added) at_is h
+
+pub reading_cause : (st : State) (old new : Backing) (op : InsertOp) (way : Way) (fault : Fault) → op.at ≡ At way
+    → HasCause (where_working st old new op.session 0 1) fault → HasCause (where_inserting st old new op.session op.entry op.at) fault
+reading_cause st old new op way fault at_is h = rw at_is (as_inserting st old new op.session op.entry (At way) 0 1 fault refl h)
+
+true_false : true ≡ false → ⊥
+true_false h = cc
+
+some_none : {A : Type 0} (x : Option A) → x ≡ None → IsSome x → ⊥
+some_none None h s = cc
+some_none (Some x) h s = cc
+
+-- a live page that is flagged has a high key
+pub flagged_ends : (page : Page) → IsPage page → page.state ≡ Live → page.split ≡ true → page.high ≡ None → ⊥
+flagged_ends page admitted alive flagged none = by page.items admitted.kind
+  where
+    by : (items : Items) → IsOfKind page items → ⊥
+    by Meta h = true_false (sym flagged ∙ h.split)
+    by (Entries v) h = (let rest = subst (λ (s : PageState). IsLeafIn s page v.items) alive h.rest in some_none page.high none (rest.high.1 (rest.split flagged)))
+    by (Downlinks v) h = some_none page.high none (h.high.1 (h.split flagged))
+
+-- a page that isn't live isn't flagged
+pub whole_page : (page : Page) → IsPage page → (page.state ≡ Live → page.split ≡ false) → page.split ≡ false
+whole_page page admitted whole = by page.items admitted.kind
+  where
+    leaf : (s : PageState) → page.state ≡ s → (es : List Entry) → IsLeafIn s page es → page.split ≡ false
+    leaf Live is es h = whole is
+    leaf HalfDead is es h = h.split
+    leaf Deleted is es h = h.split
+
+    by : (items : Items) → IsOfKind page items → page.split ≡ false
+    by Meta h = h.split
+    by (Entries v) h = leaf page.state refl v.items h.rest
+    by (Downlinks v) h = whole h.state
+
+-- where a page leads an insert on its way
+pub led : (st : State) (op : InsertOp) (way : Way) (page : Page) (bound : Bound) (most : ℕ) (result : Option Onward) → op.at ≡ At way → IsInOrder st → (fits : InsertFits st op)
+    → slice_get st.pages way.block ≡ Some page → IsPage page → (page.state ≡ Live → page.split ≡ false) → bound ≡ bound_of op.entry → length st.pages ≤ most
+    → ((s : State) (start : ℕ) (clear : Bool) → HasTree s → slice_get s.pages way.block ≡ Some page → IsOnWay s start (bound_aim bound) clear 0 way → (clear ≡ true → page.split ≡ false)
+    → length s.pages ≤ most → LeadsOnward s start (bound_aim bound) clear 0 way result)
+    → LeadsOnward st fits.start (entry_aim op.entry) true 0 way result
+led st op way page bound most result at_is order fits found admitted whole is few goes =
+    let stands = on_way st op way at_is fits in
+    subst (λ (b : Bound). LeadsOnward st fits.start (bound_aim b) true 0 way result) is
+    (goes st fits.start true order.tree found (subst (λ (b : Bound). IsOnWay st fits.start (bound_aim b) true 0 way) (sym is) stands.1) (λ clear. whole_page page admitted whole) few)

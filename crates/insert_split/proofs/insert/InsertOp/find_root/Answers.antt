@@ -1,0 +1,43 @@
+use Rattle.std.proofs.Common.{arith, ◌≡◌, ℕ, suc, ◌≤◌, ◌+◌, true, refl, sym, subst, ◌∙◌}
+use Rattle.page_action.specs.States.{State}
+use Rattle.tree_shape.specs.Walks.{entry_aim}
+use Rattle.split_finish.specs.Targets.{OnlyTargetsAreFlagged}
+use Rattle.insert_split.specs.Inserts.{InsertStands, IsToCome, targets_at}
+use Rattle.insert_split.specs.Straight.{straight_steps}
+use Rattle.insert_split.specs.declared.insert.InsertAt.{InsertAt}
+use Rattle.insert_split.proofs.Left.{way_short}
+use Rattle.insert_split.proofs.Steps.{goes_on}
+use Rattle.insert_split.proofs.Ways.{on_way_from_root, level_low, root_covers_there}
+use Rattle.insert_split.proofs.insert.InsertOp.find_root.Goals as goal
+
+pub returns : goal.returns
+returns g c =
+    let old : State = g.S.PageStore.state c.args.store.now in
+    let most : ℕ = old.limits.pages in
+    let low : c.in-Some.way.level ≤ 255 = (let l = level_low c.in-Ok.meta c.in-Ok.ensures.stored.storable.admitted in let e = c.in-Some.ensures.level in omega arith) in
+    let shorter = way_short most c.in-Some.way low in
+    goes_on g.S.PageStore c.args.self.now _ c.args.store.now c.look.new.store c.look.ensures.steps c.look.ensures.state refl refl c.requires.alive
+    (λ honest. rw c.requires.at (omega (arith, shorter)))
+    (λ honest order fits.
+    let session = c.args.self.now.session in
+    let free = subst (InsertStands old session fits.start c.args.self.now.entry) c.requires.at fits.stands in
+    record {
+      fits = record {
+        session = fits.session;
+        start = fits.start;
+        running = fits.running;
+        stands = (
+          free,
+          on_way_from_root old fits.start (entry_aim c.args.self.now.entry) true 0 c.in-Ok.meta c.in-Some.way order.tree (c.in-Ok.ensures.page honest) (omega arith)
+              (λ root names. sym c.in-Some.is ∙ c.way_down.ensures.named root names),
+        );
+        to_come = subst (λ (a : InsertAt). IsToCome a c.args.self.now.added) c.requires.at fits.to_come;
+      };
+      added = refl;
+      flags = λ only. subst (λ (a : InsertAt). OnlyTargetsAreFlagged old (targets_at a)) c.requires.at only;
+    })
+    (λ honest order whole on.
+    let there = root_covers_there old (entry_aim c.args.self.now.entry) c.in-Ok.meta c.in-Some.way order.tree whole (c.in-Ok.ensures.page honest) (λ root names. sym c.in-Some.is ∙ c.way_down.ensures.named root names) in (
+      there.0,
+      subst (λ (a : InsertAt). suc (c.in-Some.way.level + 2) ≡ straight_steps old.pages a) (sym c.requires.at) (let z = there.1 in omega (arith, z)),
+    ))

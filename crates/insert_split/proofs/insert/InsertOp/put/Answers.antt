@@ -1,0 +1,25 @@
+use Rattle.std.proofs.Common.{arith, List, length, refl, ap, sym, subst, ◌∙◌}
+use Rattle.page_codec.specs.Edits.{HasEntries}
+use Rattle.page_codec.specs.declared.page.Page.{Page}
+use Rattle.page_action.specs.States.{after_act}
+use Rattle.insert_split.proofs.Halving.{put_may}
+use Rattle.insert_split.proofs.insert.InsertOp.put.Goals as goal
+
+pub returns-in-Ok-clause-puts : goal.returns-in-Ok-clause-puts
+returns-in-Ok-clause-puts g c =
+    let st = g.S.PageStore.state c.args.store.now in
+    let after : Page = c.put.new.page in
+    let block_is = ap (λ (p : Page). p.block) c.put.ensures.put in (
+      refl,
+      record {
+        after = after;
+        put = c.put.ensures.put_in c.requires.place;
+        node_is = c.put.ensures.node;
+        block_is = block_is;
+        may = put_may st.limits (length st.pages) c.args.page after c.requires.stored c.requires.used c.requires.inside
+            (c.put.ensures.page c.requires.stored.storable.admitted c.requires.may c.requires.place) (subst (λ (p : Page). HasEntries p.items) (sym c.put.ensures.put) tt)
+            (let n = c.put.ensures.count in let r = c.requires.room in omega (arith, n, r)) block_is;
+        state = c.in-Ok.ensures.done ∙ ap (λ (ps : List Page). after_act ps st) c.from_ref.ensures.value;
+        number = c.in-Ok.ensures.number;
+      },
+    )

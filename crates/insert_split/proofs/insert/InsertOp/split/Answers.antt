@@ -1,0 +1,112 @@
+use Rattle.std.proofs.Common.{arith, ◌≡◌, ◌<◌, true, false, Option, ℕ, Some, List, ◌∷◌, length, suc, ap, sym, subst, ◌∙◌}
+use Rattle.index_model.specs.Faults.{HasCause}
+use Rattle.latch_table.specs.Holdings.{HasRoom, released, unpinned, is_held_by_another}
+use Rattle.page_codec.specs.declared.page.Page.{Page}
+use Rattle.page_action.specs.Causes.{where_acted, pinned_blocks}
+use Rattle.page_action.specs.States.{State, Backing, IsLater, with_table, after_act}
+use Rattle.page_action.specs.Stored.{AreActable}
+use Rattle.page_action.specs.Reuse.{IsFresh}
+use Rattle.page_codec.specs.Grammar.{IsBlock}
+use Rattle.latch_table.specs.Holdings.{has_pin}
+use Rattle.latch_table.specs.declared.mode.Mode.TheVariants.{Exclusive}
+use Rattle.tree_shape.specs.Edits.{LeafHalves}
+use Rattle.tree_shape.specs.Nodes.{node_of}
+use Rattle.insert_split.specs.declared.insert.InsertAt.TheVariants.{Finishing}
+use Rattle.insert_split.specs.declared.insert.InsertOp.{InsertOp}
+use Rattle.descent.specs.Shared.{where_working}
+use Rattle.descent.specs.Splitting.{mended_to}
+use Rattle.descent.proofs.Working.{working_later, act_cause}
+use Rattle.insert_split.proofs.Halving.{halves_may, few_changed, frames_for}
+use Rattle.insert_split.proofs.insert.InsertOp.split.Goals as goal
+
+pub returns-in-Err-clause-cause : goal.returns-in-Err-clause-cause
+returns-in-Err-clause-cause g c honest room fits pinned = c.in-Err.ensures.cause honest room fits.mendable 3 2 (omega arith)
+
+pub returns-in-Err-take_block-clause-cause : goal.returns-in-Err-take_block-clause-cause
+returns-in-Err-take_block-clause-cause g c honest room fits pinned =
+    let st : State = g.S.PageStore.state c.args.store.now in
+    let session = c.args.self.now.session in
+    let first : Backing = g.S.PageStore.backing c.args.store.now in
+    let second : Backing = g.S.PageStore.backing c.read_right.new.store in
+    let third : Backing = g.S.PageStore.backing c.take_block.new.store in
+    let same = c.read_right.ensures.state in
+    let later : IsLater first second = g.met.S.PageStore.laws.follows_later _ _ (c.read_right.ensures.steps _ (g.met.S.PageStore.laws.follows_same _)) in
+    working_later st first second third session 3 2 c.in-Err-take_block.fault later.failures c.in-Ok.ensures.alive c.read_right.ensures.room.promised
+    (subst (λ (s : State). HasCause (where_working s second third session 3 2) c.in-Err-take_block.fault) same
+    (c.in-Err-take_block.ensures.cause (subst (λ (s : State). HasRoom s.table session) (sym same) room) 3 2))
+
+pub returns-in-Ok-act_on_halves-clause-splits : goal.returns-in-Ok-act_on_halves-clause-splits
+returns-in-Ok-act_on_halves-clause-splits g c =
+    let st : State = g.S.PageStore.state c.args.store.now in
+    let session = c.args.self.now.session in
+    let left : Page = c.split_leaf-half.new.page in
+    let half : Page = c.split_leaf-half.result in
+    let right : Option Page = c.in-Ok.right in
+    let changed : List Page = left ∷ half ∷ mended_to half.block right in
+    let read = c.read_right.ensures.state in
+    let same = c.take_block.ensures.state ∙ read in
+    let is_new = c.split_leaf-half.ensures.right_block in
+    let block : c.in-Some.target.block ≡ c.args.page.block = c.in-Some.ensures.target.0 ∙ c.split_leaf-half.ensures.left_block in
+    let later : IsLater (g.S.PageStore.backing c.read_right.new.store) (g.S.PageStore.backing c.unpin.new.self) =
+    g.met.S.PageStore.laws.follows_later _ _ (c.unpin.ensures.steps _ (c.release.ensures.steps _ (c.act_on_halves.ensures.steps _ (c.take_block.ensures.steps _ (g.met.S.PageStore.laws.follows_same _))))) in
+    record {
+      left = left;
+      half = half;
+      right = right;
+      halves = subst (λ (b : ℕ). LeafHalves (node_of c.args.page) c.args.page.block b c.args.self.now.entry (node_of left) (node_of half)) (sym is_new) c.split_leaf-half.ensures.halves;
+      left_block = c.split_leaf-half.ensures.left_block;
+      fresh = subst (λ (b : ℕ). IsFresh st b) (sym is_new) (subst (λ (s : State). IsFresh s c.in-Ok-take_block.new) read c.in-Ok-take_block.ensures.fresh);
+      free = subst (λ (b : ℕ). is_held_by_another st.table session b Exclusive ≡ false) (sym is_new)
+          (subst (λ (s : State). is_held_by_another s.table session c.in-Ok-take_block.new Exclusive ≡ false) read c.in-Ok-take_block.ensures.free);
+      right_stored = c.in-Ok.ensures.stored;
+      right_found = λ honest. c.in-Ok.ensures.found (later.honest honest);
+      may = subst (λ (s : State). AreActable s.limits (length s.pages) changed) same c.in-Ok-act_on_halves.ensures.may;
+      state = c.unpin.ensures.state
+          ∙ ap (λ (s : State). with_table s (unpinned s.table session c.in-Some.target.block)) (c.release.ensures.state
+          ∙ ap (λ (s : State). with_table s (released s.table session c.in-Some.target.block)) (c.in-Ok-act_on_halves.ensures.done ∙ ap (after_act changed) same))
+          ∙ ap (λ (b : ℕ). with_table (after_act changed st) (unpinned (released st.table session b) session b)) block;
+      target = c.in-Some.target;
+      block_is = block;
+      level_is = c.in-Some.ensures.target.1;
+      high_is = c.in-Some.ensures.target.2;
+      finishes = record {
+        op = c.new.result;
+        after_is = ap (λ (n : ℕ). let o : InsertOp = record { session = session; entry = c.args.self.now.entry; at = Finishing c.new.result; added = Some n } in o)
+            (c.in-Ok-act_on_halves.ensures.number ∙ ap (λ (s : State). suc s.acts) same);
+        session = c.new.ensures.session;
+        target_is = c.new.ensures.target;
+        below = c.new.ensures.below;
+        at = c.new.ensures.at;
+      };
+    }
+
+pub returns-in-Err-act_on_halves-clause-cause : goal.returns-in-Err-act_on_halves-clause-cause
+returns-in-Err-act_on_halves-clause-cause g c honest room fits pinned =
+    let st : State = g.S.PageStore.state c.args.store.now in
+    let session = c.args.self.now.session in
+    let left : Page = c.split_leaf-half.new.page in
+    let half : Page = c.split_leaf-half.result in
+    let right : Option Page = c.in-Ok.right in
+    let first : Backing = g.S.PageStore.backing c.args.store.now in
+    let second : Backing = g.S.PageStore.backing c.read_right.new.store in
+    let third : Backing = g.S.PageStore.backing c.act_on_halves.new.store in
+    let changed : List Page = left ∷ half ∷ mended_to half.block right in
+    let read = c.read_right.ensures.state in
+    let same = c.take_block.ensures.state ∙ read in
+    let is_new = c.split_leaf-half.ensures.right_block in
+    let left_block = c.split_leaf-half.ensures.left_block in
+    let fresh : IsFresh st half.block = subst (λ (b : ℕ). IsFresh st b) (sym is_new) (subst (λ (s : State). IsFresh s c.in-Ok-take_block.new) read c.in-Ok-take_block.ensures.fresh) in
+    let block : IsBlock half.block = subst IsBlock (sym is_new)
+    (c.in-Ok-take_block.ensures.block (subst (λ (s : State). 0 < length s.pages) (sym read) (let u : c.args.page.block < length st.pages = c.requires.used in omega arith))) in
+    let may : AreActable st.limits (length st.pages) changed = halves_may st session c.args.self.now.entry c.args.page left half right fits c.requires.may c.requires.some
+    c.split_leaf-half.ensures.left_page c.split_leaf-half.ensures.right_page c.split_leaf-half.ensures.left_leaf c.split_leaf-half.ensures.right_leaf
+    c.split_leaf-half.ensures.kept c.split_leaf-half.ensures.moved left_block fresh block c.in-Ok.ensures.stored in
+    let why : HasCause (where_acted st second third changed) c.in-Err-act_on_halves.fault =
+    subst (λ (b : Backing). HasCause (where_acted st b third changed) c.in-Err-act_on_halves.fault) c.take_block.ensures.backing
+    (subst (λ (s : State). HasCause (where_acted s (g.S.PageStore.backing c.take_block.new.store) third changed) c.in-Err-act_on_halves.fault) same
+    (c.in-Err-act_on_halves.ensures.cause (subst (λ (s : State). AreActable s.limits (length s.pages) changed) (sym same) may))) in
+    let later : IsLater first second = g.met.S.PageStore.laws.follows_later _ _ (c.read_right.ensures.steps _ (g.met.S.PageStore.laws.follows_same _)) in
+    act_cause st first second third session 3 2 changed c.in-Err-act_on_halves.fault later.failures c.in-Ok.ensures.alive c.read_right.ensures.room.promised
+    (few_changed left half half.block right)
+    (frames_for st.table left half half.block right (subst (λ (b : ℕ). has_pin (pinned_blocks st.table) b ≡ true) (sym left_block) pinned))
+    why

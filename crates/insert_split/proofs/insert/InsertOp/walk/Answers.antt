@@ -1,0 +1,108 @@
+use Rattle.std.proofs.Common.{arith, ◌≡◌, ℕ, suc, ◌+◌, ◌≤◌, ◌<◌, Some, Ok, true, refl, sym, ap, subst, ◌∙◌, length}
+use Rattle.page_action.specs.States.{State, IsLater}
+use Rattle.descent.specs.Onward.{LeadsOnward, LeavesLess}
+use Rattle.tree_shape.specs.Walks.{entry_aim, bound_aim, is_within}
+use Rattle.index_model.specs.declared.bound.Bound.{Bound}
+use Rattle.index_model.specs.declared.limits.Limits.{Limits}
+use Rattle.latch_table.specs.Holdings.{HasRoom}
+use Rattle.descent.specs.Onward.{IsShorter, LeadsStraight}
+use Rattle.tree_acts.specs.Trees.{HasCover}
+use Rattle.insert_split.specs.Straight.{IsStraight, straight_steps}
+use Rattle.descent.specs.declared.way.Way.{Way}
+use Rattle.descent.specs.declared.way.Onward.TheVariants.{Going, Here}
+use Rattle.split_finish.specs.Targets.{way_left, OnlyTargetsAreFlagged}
+use Rattle.insert_split.specs.declared.insert.InsertOp.{InsertOp}
+use Rattle.insert_split.specs.declared.insert.InsertStep.TheVariants.{Going as InsertGoing}
+use Rattle.insert_split.specs.Inserts.{InsertSteps, insert_left, targets_at}
+use Rattle.insert_split.specs.declared.insert.InsertAt.{InsertAt}
+use Rattle.insert_split.specs.declared.insert.InsertAt.TheVariants.{At}
+use Rattle.insert_split.proofs.Left.{way_shortens}
+use Rattle.insert_split.proofs.Steps.{refuses, goes_on, on_ok, on_err, only_going}
+use Rattle.insert_split.proofs.Walking.{led, on_way, to_come_there, reading_cause, room_free, place_in_use}
+use Rattle.insert_split.proofs.Meeting.{meets}
+use Rattle.insert_split.proofs.Taking.{takes}
+use Rattle.insert_split.proofs.insert.InsertOp.walk.Goals as goal
+
+pub returns-in-Err : goal.returns-in-Err
+returns-in-Err g c =
+    refuses g.S.PageStore c.args.self.now c.args.store.now c.look.new.store c.in-Err.fault c.look.ensures.steps c.look.ensures.state c.requires.alive
+    (λ honest order fits.
+    let st : State = g.S.PageStore.state c.args.store.now in
+    let stands = on_way st c.args.self.now c.args.way c.requires.at fits in
+    let used = place_in_use st order.tree fits.start c.args.way.level (entry_aim c.args.self.now.entry) true c.args.way.block stands.1.place in
+    reading_cause st (g.S.PageStore.backing c.args.store.now) (g.S.PageStore.backing c.look.new.store) c.args.self.now c.args.way c.in-Err.fault c.requires.at
+    (c.in-Err.ensures.works honest (room_free st c.args.self.now.session stands.0) used.1 0 1 (omega arith)))
+
+pub returns-then-is_unfinished : goal.returns-then-is_unfinished
+returns-then-is_unfinished g c =
+    meets g.S.PageStore c.args.self.now c.meet.new.self c.args.store.now c.look.new.store c.in-Ok.page c.args.way c.meet.result c.look.ensures.steps c.look.ensures.state c.requires.alive c.requires.at
+    c.meet.ensures (c.if-is_unfinished.ensures.live refl) (c.if-is_unfinished.ensures.flagged refl) c.in-Ok.ensures.stored.storable.admitted c.in-Ok.ensures.stored.block_is c.in-Ok.ensures.page
+
+pub returns-in-Some-Going : goal.returns-in-Some-Going
+returns-in-Some-Going g c =
+    let st : State = g.S.PageStore.state c.args.store.now in
+    let on : Way = c.in-Some-Going.on in
+    let result : c.lead.result ≡ Some (Going on) = c.in-Some-Going.is ∙ ap Some c.in-Some-Going.field-0-is in
+    let op : InsertOp = c.args.self.now in
+    let most : c.limits.result.pages ≡ st.limits.pages = ap (λ (l : Limits). l.pages) (c.limits.ensures.value ∙ ap (λ (s : State). s.limits) c.look.ensures.state) in
+    let shorter : IsShorter 0 c.limits.result.pages c.args.way on = subst (LeavesLess 0 c.limits.result.pages c.args.way) result c.lead.ensures.less in
+    let less : way_left st.limits.pages on < way_left st.limits.pages c.args.way = way_shortens 0 st.limits.pages c.args.way on (subst (λ (n : ℕ). IsShorter 0 n c.args.way on) most shorter) in
+    subst (λ (w : Way). InsertSteps g.S.PageStore op (record { session = op.session; entry = op.entry; at = At w; added = op.added }) c.args.store.now c.look.new.store (Ok InsertGoing)) (sym c.in-Some-Going.on-is)
+    (goes_on g.S.PageStore op (record { session = op.session; entry = op.entry; at = At on; added = op.added }) c.args.store.now c.look.new.store c.look.ensures.steps c.look.ensures.state refl refl c.requires.alive
+    (λ honest. subst (λ (a : InsertAt). insert_left st.limits.pages st.pages (At on) < insert_left st.limits.pages st.pages a) (sym c.requires.at) (omega (arith, less)))
+    (λ honest order fits.
+    let led_on = led st op c.args.way c.in-Ok.page c.bound.result c.limits.result.pages c.lead.result c.requires.at order fits (c.in-Ok.ensures.page honest) c.in-Ok.ensures.stored.storable.admitted
+    (c.if-is_unfinished.ensures.whole refl) c.bound.ensures (subst (λ (n : ℕ). length st.pages ≤ n) (sym most) c.in-Ok.ensures.inside) c.lead.ensures.goes in
+    let stands = on_way st op c.args.way c.requires.at fits in
+    record {
+      fits = record {
+        session = fits.session;
+        start = fits.start;
+        running = fits.running;
+        stands = (stands.0, subst (LeadsOnward st fits.start (entry_aim op.entry) true 0 c.args.way) result led_on);
+        to_come = to_come_there op c.args.way c.requires.at fits.to_come;
+      };
+      added = refl;
+      flags = λ only. subst (λ (a : InsertAt). OnlyTargetsAreFlagged st (targets_at a)) c.requires.at only;
+    })
+    (λ honest order whole on_way_there.
+    let covers : HasCover st c.args.way.level (bound_aim c.bound.result) c.args.way.block =
+    subst (λ (b : Bound). HasCover st c.args.way.level (bound_aim b) c.args.way.block) (sym c.bound.ensures) (subst (IsStraight st op.entry) c.requires.at on_way_there) in
+    let led_straight : LeadsStraight st (bound_aim c.bound.result) 0 c.args.way (Some (Going on)) =
+    subst (LeadsStraight st (bound_aim c.bound.result) 0 c.args.way) result (c.lead.ensures.straight st order.tree whole (c.in-Ok.ensures.page honest) covers) in (
+      subst (λ (b : Bound). HasCover st on.level (bound_aim b) on.block) c.bound.ensures led_straight.1,
+      subst (λ (a : InsertAt). suc (on.level + 2) ≡ straight_steps st.pages a) (sym c.requires.at) (let z = led_straight.0 in omega (arith, z)),
+    )))
+
+pub returns-in-Some-Here : goal.returns-in-Some-Here
+returns-in-Some-Here g c =
+    let st : State = g.S.PageStore.state c.args.store.now in
+    let op : InsertOp = c.args.self.now in
+    let result : c.lead.result ≡ Some Here = c.in-Some-Here.is ∙ ap Some c.in-Some-Here.field-0-is in
+    let arrived = c.lead.ensures.here result in
+    let most : c.limits.result.pages ≡ st.limits.pages = ap (λ (l : Limits). l.pages) (c.limits.ensures.value ∙ ap (λ (s : State). s.limits) c.look.ensures.state) in
+    let later : IsLater (g.S.PageStore.backing c.look.new.store) (g.S.PageStore.backing c.take.new.store) = g.met.S.PageStore.laws.follows_later _ _ (c.take.ensures.steps _ (g.met.S.PageStore.laws.follows_same _)) in
+    takes g.S.PageStore op c.take.new.self c.args.store.now c.look.new.store c.take.new.store c.in-Ok.page c.args.way c.take.result
+    (λ first h. c.take.ensures.steps first (c.look.ensures.steps first h)) c.look.ensures.state c.take.ensures.backing c.requires.alive c.requires.at
+    (λ fits. c.take.ensures.takes (subst (λ (s : State). HasRoom s.table op.session) (sym c.look.ensures.state) (room_free st op.session (on_way st op c.args.way c.requires.at fits).0)))
+    (λ going. on_ok c.take.result InsertGoing _ c.take.ensures.taken going)
+    (λ fault failed. (on_err c.take.result fault _ c.take.ensures.state failed, on_err c.take.result fault _ c.take.ensures.op failed))
+    (λ action unfinished added. only_going c.take.result action unfinished c.take.ensures.going added)
+    c.in-Ok.ensures.stored.block_is c.in-Ok.ensures.stored.storable.admitted arrived.alive (c.if-is_unfinished.ensures.whole refl arrived.alive)
+    (subst (λ (b : Bound). is_within (bound_aim b) c.in-Ok.page.high ≡ true) c.bound.ensures arrived.within)
+    (λ honest. c.in-Ok.ensures.page (later.honest honest))
+    (λ honest order fits.
+    let led_on = led st op c.args.way c.in-Ok.page c.bound.result c.limits.result.pages c.lead.result c.requires.at order fits (c.in-Ok.ensures.page (later.honest honest)) c.in-Ok.ensures.stored.storable.admitted
+    (c.if-is_unfinished.ensures.whole refl) c.bound.ensures (subst (λ (n : ℕ). length st.pages ≤ n) (sym most) c.in-Ok.ensures.inside) c.lead.ensures.goes in
+    (subst (LeadsOnward st fits.start (entry_aim op.entry) true 0 c.args.way) result led_on).0)
+
+pub returns-in-None : goal.returns-in-None
+returns-in-None g c =
+    let st : State = g.S.PageStore.state c.args.store.now in
+    let op : InsertOp = c.args.self.now in
+    let most : c.limits.result.pages ≡ st.limits.pages = ap (λ (l : Limits). l.pages) (c.limits.ensures.value ∙ ap (λ (s : State). s.limits) c.look.ensures.state) in
+    refuses g.S.PageStore op c.args.store.now c.look.new.store _ c.look.ensures.steps c.look.ensures.state c.requires.alive
+    (λ honest order fits.
+    let led_on = led st op c.args.way c.in-Ok.page c.bound.result c.limits.result.pages c.lead.result c.requires.at order fits (c.in-Ok.ensures.page honest) c.in-Ok.ensures.stored.storable.admitted
+    (c.if-is_unfinished.ensures.whole refl) c.bound.ensures (subst (λ (n : ℕ). length st.pages ≤ n) (sym most) c.in-Ok.ensures.inside) c.lead.ensures.goes in
+    absurd (subst (LeadsOnward st fits.start (entry_aim op.entry) true 0 c.args.way) c.in-None.is led_on))

@@ -1,0 +1,20 @@
+-- What holds of inserts beside their steps.
+use Rattle.std.specs.Prelude.{ℕ, ◌<◌, ◌≤◌, List}
+use Rattle.page_codec.specs.declared.page.Page.{Page}
+use Rattle.page_action.specs.States.{State}
+use Rattle.descent.specs.Shared.{MayRely}
+use Rattle.insert_split.specs.Inserts.{InsertFits, insert_left}
+use Rattle.insert_split.specs.declared.insert.InsertAt.TheVariants.{Start}
+use Rattle.insert_split.specs.declared.insert.InsertOp.{InsertOp}
+
+-- what an insert knows it still knows after others have acted
+abbrev pub InsertsAreUndisturbed : Type 0
+InsertsAreUndisturbed =
+    (old new : State) (op : InsertOp) → MayRely op.session old new → InsertFits old op
+    → InsertFits new op
+
+-- what is left to do for an insert that hasn't begun, within the limits
+abbrev pub FreshInsertsAreBounded : Type 0
+FreshInsertsAreBounded =
+    (most : ℕ) (pages : List Page) → most ≤ 65536
+    → insert_left most pages Start < 281474976710656

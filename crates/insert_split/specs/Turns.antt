@@ -1,0 +1,163 @@
+-- What the parts of a step of an insert do.
+use Rattle.std.specs.Prelude.{◌≡◌, ◌≢◌, ◌⊎◌, ◌≤◌, ℕ, suc, Bool, true, false, Option, Some, None, Result, Ok, Err, [], ◌∷◌, length, slice_get}
+use Rattle.index_model.specs.Order.{is_among}
+use Rattle.index_model.specs.declared.entry.Entry.{Entry}
+use Rattle.index_model.specs.declared.fault.Fault.{Fault}
+use Rattle.index_model.specs.declared.fault.Fault.TheVariants.{Blocked, Exists, PageDamaged}
+use Rattle.latch_table.specs.Holdings.{latched, pinned, released, unpinned, is_held_by_another}
+use Rattle.latch_table.specs.declared.mode.Mode.TheVariants.{Exclusive}
+use Rattle.page_codec.specs.declared.page.Page.{Page}
+use Rattle.page_codec.specs.Edits.{entries_of}
+use Rattle.page_action.specs.Reuse.{IsFresh}
+use Rattle.page_action.specs.States.{State, with_table, after_act}
+use Rattle.page_action.specs.Stored.{IsStored, AreActable}
+use Rattle.tree_shape.specs.Edits.{LeafHalves, IsPutIn, with_leaf}
+use Rattle.tree_shape.specs.Nodes.{node_of}
+use Rattle.descent.specs.Splitting.{RightIsMendable, RightIsStored, RightIsFound, mended_to}
+use Rattle.tree_shape.specs.Leaf.{MayHold}
+use Rattle.descent.specs.declared.way.Way.{Way}
+use Rattle.split_finish.specs.declared.finish.FinishAt.TheVariants.{Start as FinishStart}
+use Rattle.split_finish.specs.declared.finish.FinishOp.{FinishOp}
+use Rattle.split_finish.specs.declared.finish.Target.{Target}
+use Rattle.insert_split.specs.declared.insert.InsertAt.{InsertAt}
+use Rattle.insert_split.specs.declared.insert.InsertAt.TheVariants.{Start, At, Holding as Holds, Finishing}
+use Rattle.insert_split.specs.declared.insert.InsertOp.{InsertOp}
+use Rattle.insert_split.specs.declared.insert.InsertStep.{InsertStep}
+use Rattle.insert_split.specs.declared.insert.InsertStep.TheVariants.{Going, Added}
+
+-- an insert with one split to finish
+pub record FinishesOne (target : Target) (before after : InsertOp) : Type 0 where
+  pub op : FinishOp
+  pub after_is : after ≡ record before { at = Finishing op }
+  pub session : op.session ≡ before.session
+  pub target_is : op.target ≡ target
+  pub below : op.below.items ≡ []
+  pub at : op.at ≡ FinishStart
+
+-- the split of a page that it met on this way is to be finished
+pub record MeetsSplit (page : Page) (way : Way) (before after : InsertOp) : Type 0 where
+  pub target : Target
+  pub block_is : target.block ≡ way.block
+  pub level_is : target.level ≡ way.level
+  pub page_level : page.level ≡ way.level
+  pub high_is : page.high ≡ Some target.separator
+  pub finishes : FinishesOne target before after
+
+-- ... or isn't: the page is on another level, or has no high key
+pub record MeetsNone (page : Page) (way : Way) (before after : InsertOp) (fault : Fault)
+    : Type 0 where
+  pub fault_is : fault ≡ PageDamaged way.block
+  pub stays : after ≡ before
+  pub astray : page.level ≡ way.level → page.high ≡ None
+
+abbrev pub Meets : Page → Way → InsertOp → InsertOp → Result InsertStep Fault → Type 0
+Meets page way before after (Ok Going) = MeetsSplit page way before after
+Meets page way before after (Ok (Added action unfinished)) = ⊥
+Meets page way before after (Err fault) = MeetsNone page way before after fault
+
+-- the leaf is taken: latched, and pinned
+pub record TakesLeaf (page : Page) (before after : InsertOp) (old new : State) : Type 0 where
+  pub after_is : after ≡ record before { at = Holds page.block }
+  pub may : MayHold page before.entry
+  pub free : is_held_by_another old.table before.session page.block Exclusive ≡ false
+  pub state : new ≡ with_table old
+      (pinned (latched old.table before.session page.block Exclusive) before.session page.block)
+
+-- the page isn't the leaf of the entry, or another session holds it
+abbrev pub IsNotTaken : Page → InsertOp → State → Fault → Type 0
+IsNotTaken page before old fault =
+    ((fault ≡ PageDamaged page.block) × (MayHold page before.entry → ⊥))
+    ⊎ ((fault ≡ Blocked page.block)
+    × (is_held_by_another old.table before.session page.block Exclusive ≡ true))
+
+abbrev pub Takes : Page → InsertOp → InsertOp → State → State → Result InsertStep Fault → Type 0
+Takes page before after old new (Ok Going) = TakesLeaf page before after old new
+Takes page before after old new (Ok (Added action unfinished)) = ⊥
+Takes page before after old new (Err fault) =
+    (new ≡ old) × (after ≡ before) × IsNotTaken page before old fault
+
+-- why a page gives no place for an entry
+abbrev pub PlaceRefused : Page → Entry → Fault → Type 0
+PlaceRefused page e fault =
+    ((fault ≡ PageDamaged page.block) × (MayHold page e → ⊥))
+    ⊎ ((fault ≡ Exists) × (is_among (entries_of page.items) e ≡ true))
+
+-- the page stands at its block, with no more entries than the limits allow, and the page to its right may be mended
+pub record IsSplittable (st : State) (page : Page) : Type 0 where
+  pub found : slice_get st.pages page.block ≡ Some page
+  pub stored : IsStored st.limits page.block page
+  pub few : length st.pages ≤ st.limits.pages
+  pub mendable : RightIsMendable st page.right
+  pub apart : page.right ≢ Some page.block
+
+-- The leaf is split with the entry, on a block that was free, and let go; its split is to be finished.
+pub record SplitsLeaf (honest : Bool) (page : Page) (before after : InsertOp) (old new : State)
+    : Type 0 where
+  pub left : Page
+  pub half : Page
+  pub right : Option Page
+  pub halves : LeafHalves (node_of page) page.block half.block before.entry
+      (node_of left) (node_of half)
+  pub left_block : left.block ≡ page.block
+  pub fresh : IsFresh old half.block
+  pub free : is_held_by_another old.table before.session half.block Exclusive ≡ false
+  pub right_stored : RightIsStored old before.session page.right right
+  pub right_found : honest ≡ true → RightIsFound old page.right right
+  pub may : AreActable old.limits (length old.pages) (left ∷ half ∷ mended_to half.block right)
+  pub state : new ≡ with_table (after_act (left ∷ half ∷ mended_to half.block right) old)
+      (unpinned (released old.table before.session page.block) before.session page.block)
+  pub target : Target
+  pub block_is : target.block ≡ page.block
+  pub level_is : target.level ≡ left.level
+  pub high_is : left.high ≡ Some target.separator
+  pub finishes : FinishesOne target (record before { added = Some (suc old.acts) }) after
+
+-- the entry is put on the leaf, by the action of this number
+pub record EntryPut (page : Page) (e : Entry) (old new : State) (action : ℕ) : Type 0 where
+  pub after : Page
+  pub put : IsPutIn e (entries_of page.items) (entries_of after.items)
+  pub node_is : node_of after ≡ with_leaf (node_of page) (entries_of after.items)
+  pub block_is : after.block ≡ page.block
+  pub may : AreActable old.limits (length old.pages) (after ∷ [])
+  pub state : new ≡ after_act (after ∷ []) old
+  pub number : action ≡ suc old.acts
+
+abbrev pub PutsEntry : Page → Entry → State → State → InsertStep → Type 0
+PutsEntry page e old new Going = ⊥
+PutsEntry page e old new (Added action unfinished) =
+    (unfinished ≡ None) × EntryPut page e old new action
+
+-- it finishes splits
+abbrev pub IsFinishing : InsertAt → Type 0
+IsFinishing Start = ⊥
+IsFinishing (At way) = ⊥
+IsFinishing (Holds block) = ⊥
+IsFinishing (Finishing op) = Unit {0}
+
+-- an insert whose entry is logged is over; one whose entry isn't starts again
+abbrev pub GoesOnFrom : Option ℕ → InsertOp → InsertOp → InsertStep → Type 0
+GoesOnFrom None before after step =
+    (step ≡ Going) × (after ≡ record before { at = Start })
+GoesOnFrom (Some action) before after step = (step ≡ Added action None) × (after ≡ before)
+
+abbrev pub GoesOn : InsertOp → InsertOp → InsertStep → Type 0
+GoesOn before after step = GoesOnFrom before.added before after step
+
+abbrev pub is_blocked : Fault → Bool
+is_blocked (Blocked b) = true
+is_blocked fault = false
+
+-- an insert whose entry is logged is over with the fault, but where a page is blocked; any other is refused
+abbrev pub LeavesBy : Bool → Option ℕ → Fault → Result InsertStep Fault → Type 0
+LeavesBy blocked None fault result = result ≡ Err fault
+LeavesBy true (Some action) fault result = result ≡ Err fault
+LeavesBy false (Some action) fault result = result ≡ Ok (Added action (Some fault))
+
+abbrev pub Leaves : Option ℕ → Fault → Result InsertStep Fault → Type 0
+Leaves added fault result = LeavesBy (is_blocked fault) added fault result
+
+-- once the entry is logged, only a page that is blocked refuses a step
+abbrev pub IsRefusedRightly : Option ℕ → Result InsertStep Fault → Type 0
+IsRefusedRightly None result = Unit {0}
+IsRefusedRightly (Some action) (Ok step) = Unit {0}
+IsRefusedRightly (Some action) (Err fault) = is_blocked fault ≡ true

@@ -1,0 +1,13 @@
+//! The laws.
+
+ghost use Rattle.insert_split.specs.Laws.{InsertsAreUndisturbed, FreshInsertsAreBounded};
+
+/// Does nothing: its clause says that what others do leaves an insert what it knows.
+pub fn inserts_are_undisturbed()
+    ensures { InsertsAreUndisturbed }
+{}
+
+/// Does nothing: its clause says that an insert makes a bounded number of steps, while the pages stay as they are.
+pub fn fresh_inserts_are_bounded()
+    ensures { FreshInsertsAreBounded }
+{}

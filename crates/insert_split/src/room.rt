@@ -1,0 +1,160 @@
+//! Room on a leaf: a place on it, or two halves of it.
+
+ghost use Rattle.std.specs.Prelude.{◌≡◌, ◌≤◌, ◌<◌, ◌+◌, ◌∷◌, true, false, suc, ℕ, Some, None, IfSome, IfNone, IfOk, IfErr, OnOk, OnErr, length, slice_get};
+ghost use Rattle.index_model.specs.Faults.{HasCause};
+ghost use Rattle.index_model.specs.Order.{is_among};
+ghost use Rattle.latch_table.specs.Holdings.{HasRoom, has_pin};
+ghost use Rattle.page_codec.specs.Edits.{entries_of};
+ghost use Rattle.page_codec.specs.Grammar.{IsPage};
+ghost use Rattle.page_codec.specs.Spelling.{count_of};
+ghost use Rattle.page_action.specs.Causes.{where_acted, pinned_blocks};
+ghost use Rattle.page_action.specs.States.{Continues, after_act};
+ghost use Rattle.page_action.specs.Stored.{AreActable, IsStored};
+ghost use Rattle.tree_shape.specs.Leaf.{IsPlaceOf, MayHold};
+ghost use Rattle.descent.specs.Shared.{where_working};
+ghost use Rattle.descent.specs.Splitting.{mended_to};
+ghost use Rattle.insert_split.specs.Turns.{PlaceRefused, PutsEntry, SplitsLeaf, IsSplittable};
+
+use crate::insert::{InsertAt, InsertOp, InsertStep};
+use descent::{act_on, read_right, take_block};
+use index_model::{Entry, Fault};
+use page_action::PageStore;
+use page_codec::Page;
+use split_finish::{FinishOp, half_to_finish};
+use std::slice;
+use tree_shape::{entries_on, find, may_hold, mend_left, put, split_leaf};
+
+// The place of the entry on the page, which is to be its leaf.
+pub fn place_in(page: &Page, entry: &Entry) -> Result<usize, Fault>
+    ensures may { OnOk result (MayHold page.now entry.now) }
+    ensures absent { IsPage page.now → OnOk result
+        (is_among (entries_of page.now.items) entry.now ≡ false) }
+    ensures place { IsPage page.now → IfOk result
+        (IsPlaceOf entry.now (entries_of page.now.items)) }
+    ensures within { IfOk result (λ at. at ≤ length (entries_of page.now.items)) }
+    ensures cause { IfErr result (PlaceRefused page.now entry.now) }
+{
+    if !may_hold(page, entry) {
+        return Err(Fault::PageDamaged(page.block));
+    }
+    match find(entries_on(page), entry) {
+        Ok(_) => Err(Fault::Exists),
+        Err(at) => Ok(at),
+    }
+}
+
+// Acts on the halves of a leaf and the page to the right of them, if there is one, whose left link is mended.
+fn act_on_halves<S: PageStore>(
+    store: &mut S,
+    left: Page,
+    half: Page,
+    right: Option<Page>,
+) -> Result<u64, Fault>
+    ensures steps { Continues S.follows store.old store.new }
+    ensures may { OnOk result
+        (AreActable (S.state store.old).limits (length (S.state store.old).pages)
+        (left ∷ half ∷ mended_to half.block right)) }
+    ensures done { OnOk result (S.state store.new
+        ≡ after_act (left ∷ half ∷ mended_to half.block right) (S.state store.old)) }
+    ensures number { IfOk result (λ n. n ≡ suc (S.state store.old).acts) }
+    ensures refused { OnErr result (S.state store.new ≡ S.state store.old) }
+    ensures cause { AreActable (S.state store.old).limits (length (S.state store.old).pages)
+        (left ∷ half ∷ mended_to half.block right)
+        → IfErr result (HasCause (where_acted (S.state store.old) (S.backing store.old)
+        (S.backing store.new) (left ∷ half ∷ mended_to half.block right))) }
+{
+    match right {
+        None => act_on(store, &[left, half]),
+        Some(page) => {
+            let mut page = page;
+            mend_left(&mut page, half.block);
+            act_on(store, &[left, half, page])
+        }
+    }
+}
+
+impl InsertOp {
+    // Puts the entry on the leaf that it holds, at this place.
+    pub fn put<S: PageStore>(
+        &self,
+        store: &mut S,
+        page: Page,
+        at: usize,
+    ) -> Result<InsertStep, Fault>
+        requires stored { IsStored (S.state store.old).limits page.block page }
+        requires used { page.block < length (S.state store.old).pages }
+        requires inside { length (S.state store.old).pages ≤ (S.state store.old).limits.pages }
+        requires may { MayHold page self.now.entry }
+        requires place { IsPlaceOf self.now.entry (entries_of page.items) at }
+        requires room { length (entries_of page.items) < (S.state store.old).limits.items }
+        requires few { (S.state store.old).limits.items ≤ 50 }
+        ensures steps { Continues S.follows store.old store.new }
+        ensures puts { IfOk result (PutsEntry page self.now.entry
+            (S.state store.old) (S.state store.new)) }
+        ensures refused { OnErr result (S.state store.new ≡ S.state store.old) }
+        ensures cause { has_pin (pinned_blocks (S.state store.old).table) page.block ≡ true
+            → IfErr result (HasCause (where_working (S.state store.old) (S.backing store.old)
+            (S.backing store.new) self.now.session 1 0)) }
+    {
+        let mut page = page;
+        put(&mut page, at, self.entry);
+        match store.act(slice::from_ref(&page)) {
+            Ok(action) => Ok(InsertStep::Added {
+                action,
+                unfinished: None,
+            }),
+            Err(fault) => Err(fault),
+        }
+    }
+
+    // Splits the leaf that it holds, with the entry put at this place, and lets it go.
+    pub fn split<S: PageStore>(
+        &mut self,
+        store: &mut S,
+        page: Page,
+        at: usize,
+    ) -> Result<InsertStep, Fault>
+        requires admitted { IsPage page }
+        requires may { MayHold page self.old.entry }
+        requires place { IsPlaceOf self.old.entry (entries_of page.items) at }
+        requires some { 2 ≤ length (entries_of page.items) }
+        requires used { page.block < length (S.state store.old).pages }
+        ensures steps { Continues S.follows store.old store.new }
+        ensures going { IfOk result (λ step. step ≡ InsertStep.Going) }
+        ensures splits { OnOk result (SplitsLeaf (S.backing store.new).honest page
+            self.old self.new (S.state store.old) (S.state store.new)) }
+        ensures state { OnErr result (S.state store.new ≡ S.state store.old) }
+        ensures op { OnErr result (self.new ≡ self.old) }
+        ensures cause { (S.backing store.new).honest ≡ true
+            → HasRoom (S.state store.old).table self.old.session
+            → IsSplittable (S.state store.old) page
+            → has_pin (pinned_blocks (S.state store.old).table) page.block ≡ true
+            → IfErr result (HasCause (where_working (S.state store.old) (S.backing store.old)
+            (S.backing store.new) self.old.session 3 2)) }
+    {
+        let right = match read_right(store, self.session, page.right) {
+            Ok(right) => right,
+            Err(fault) => return Err(fault),
+        };
+        let new = match take_block(store, self.session) {
+            Ok(new) => new,
+            Err(fault) => return Err(fault),
+        };
+        let mut left = page;
+        let half = split_leaf(&mut left, at, self.entry, new, store.cycle());
+        let target = match half_to_finish(&left) {
+            Some(target) => target,
+            None => return Err(Fault::PageDamaged(left.block)),
+        };
+        match act_on_halves(store, left, half, right) {
+            Ok(action) => {
+                store.release(self.session, target.block);
+                store.unpin(self.session, target.block);
+                self.added = Some(action);
+                self.at = InsertAt::Finishing(FinishOp::new(self.session, target));
+                Ok(InsertStep::Going)
+            }
+            Err(fault) => Err(fault),
+        }
+    }
+}

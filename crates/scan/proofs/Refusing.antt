@@ -1,0 +1,49 @@
+-- Steps of a scan that are refused, and where a page leads one that isn't.
+use Rattle.std.proofs.Common.{◌≡◌, ℕ, ◌≤◌, Bool, true, false, Option, Some, Err, length, slice_get, refl, sym, ap, subst, arith}
+use Rattle.index_model.specs.Faults.{HasCause}
+use Rattle.index_model.specs.declared.fault.Fault.{Fault}
+use Rattle.index_model.specs.declared.fault.Fault.TheVariants.{Stopped}
+use Rattle.index_model.specs.declared.limits.Limits.{Limits}
+use Rattle.page_codec.specs.declared.page.Page.{Page}
+use Rattle.page_action.specs.States.{State, Continues}
+use Rattle.page_action.specs.declared.page_store.PageStore.{Ghosts}
+use Rattle.tree_shape.specs.Walks.{frontier_aim}
+use Rattle.tree_acts.specs.Trees.{HasTree}
+use Rattle.descent.specs.Onward.{IsOnWay, LeadsOnward}
+use Rattle.descent.specs.Shared.{IsInOrder}
+use Rattle.descent.specs.declared.way.Way.{Way}
+use Rattle.descent.specs.declared.way.Onward.{Onward}
+use Rattle.descent.proofs.Acting.{one_nothing}
+use Rattle.scan.specs.Scans.{ScanStands, ScanFits, ScanSteps, where_scanning}
+use Rattle.scan.specs.declared.steps.ScanAt.TheVariants.{At}
+use Rattle.scan.specs.declared.steps.ScanOp.{ScanOp}
+
+-- a step that is refused before anything is changed
+pub refuses : {S : Type 0} (g : Ghosts S) (op : ScanOp) (old new : S) (fault : Fault) → Continues g.follows old new → g.state new ≡ g.state old
+    → ((g.backing old).stopped ≡ true → fault ≡ Stopped)
+    → ((g.backing new).honest ≡ true → IsInOrder (g.state old) → ScanFits (g.state old) op → HasCause (where_scanning (g.state old) (g.backing old) (g.backing new) op.session) fault)
+    → ScanSteps g op op old new (Err fault)
+refuses g op old new fault steps same stops cause = record {
+  steps = steps;
+  session = refl;
+  range = refl;
+  quiet = subst (λ (st : State). st ≡ record (g.state old) { table = st.table }) (sym same) refl;
+  kept = one_nothing (g.state old) (g.state new) same;
+  refused = record { state = same; op = refl };
+  stopped = λ h. ap Err (stops h);
+  ready = tt;
+  less = λ honest. tt;
+  no_more = λ honest. omega arith;
+  stepped = cause;
+  straight = λ honest order whole none starts. tt;
+}
+
+-- where a page leads a scan on its way
+pub scan_led : (st : State) (op : ScanOp) (way : Way) (page : Page) (most : Limits) (result : Option Onward) → op.at ≡ At way → IsInOrder st → (fits : ScanFits st op)
+    → slice_get st.pages way.block ≡ Some page → most ≡ st.limits → length st.pages ≤ st.limits.pages
+    → ((s : State) (start : ℕ) (clear : Bool) → HasTree s → slice_get s.pages way.block ≡ Some page → IsOnWay s start (frontier_aim op.frontier) clear 0 way → (clear ≡ true → page.split ≡ false)
+    → length s.pages ≤ most.pages → LeadsOnward s start (frontier_aim op.frontier) clear 0 way result)
+    → LeadsOnward st fits.start (frontier_aim op.frontier) false 0 way result
+scan_led st op way page most result at_is order fits found is few goes =
+    goes st fits.start false order.tree found (subst (ScanStands st fits.start op.leaf op.frontier) at_is fits.stands) (λ e. cc)
+    (subst (λ (l : Limits). length st.pages ≤ l.pages) (sym is) few)

@@ -1,0 +1,22 @@
+-- What holds of scans beside their steps.
+use Rattle.std.specs.Prelude.{ℕ, ◌<◌, ◌≤◌, List, length}
+use Rattle.index_model.specs.declared.range.Range.{Range}
+use Rattle.page_codec.specs.declared.page.Page.{Page}
+use Rattle.page_action.specs.States.{State}
+use Rattle.descent.specs.Shared.{MayRely}
+use Rattle.scan.specs.Scans.{ScanFits, fresh_scan}
+use Rattle.scan.specs.Work.{scan_left}
+use Rattle.scan.specs.declared.steps.ScanOp.{ScanOp}
+
+-- what a scan knows it still knows after others have acted
+abbrev pub ScansAreUndisturbed : Type 0
+ScansAreUndisturbed =
+    (old new : State) (op : ScanOp) → MayRely op.session old new → ScanFits old op
+    → ScanFits new op
+
+-- what is left to do for a scan that hasn't begun, within the limits
+abbrev pub FreshScansAreBounded : Type 0
+FreshScansAreBounded =
+    (most : ℕ) (pages : List Page) (session : ℕ) (range : Range)
+    → most ≤ 65536 → length pages ≤ 65536
+    → scan_left most pages (fresh_scan session range) < 281474976710656

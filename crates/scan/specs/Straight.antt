@@ -1,0 +1,34 @@
+-- How many steps bring a scan its first entries, where no split is unfinished.
+use Rattle.std.specs.Prelude.{◌≡◌, ℕ, suc, ◌+◌, Result, Ok, Err, List}
+use Rattle.index_model.specs.declared.bound.Bound.{Bound}
+use Rattle.index_model.specs.declared.fault.Fault.{Fault}
+use Rattle.page_codec.specs.declared.page.Page.{Page}
+use Rattle.page_action.specs.States.{State}
+use Rattle.tree_shape.specs.Walks.{frontier_aim}
+use Rattle.tree_acts.specs.Trees.{HasCover}
+use Rattle.descent.specs.Ways.{root_level}
+use Rattle.scan.specs.declared.steps.ScanAt.{ScanAt}
+use Rattle.scan.specs.declared.steps.ScanAt.TheVariants.{Start, At, Last}
+use Rattle.scan.specs.declared.steps.ScanOp.{ScanOp}
+use Rattle.scan.specs.declared.steps.ScanStep.{ScanStep}
+use Rattle.scan.specs.declared.steps.ScanStep.TheVariants.{Going, Ready, Done}
+
+-- the metapage, and a page of each level
+abbrev pub straight_steps : List Page → ScanAt → ℕ
+straight_steps pages Start = root_level pages + 2
+straight_steps pages (At way) = suc way.level
+straight_steps pages Last = 0
+
+-- a scan that hasn't begun, or whose next page covers what lies behind the frontier
+abbrev pub IsStraight : State → Bound → ScanAt → Type 0
+IsStraight st frontier Start = Unit {0}
+IsStraight st frontier (At way) = HasCover st way.level (frontier_aim frontier) way.block
+IsStraight st frontier Last = ⊥
+
+-- the last of these steps makes entries ready, and each before it leaves one fewer
+abbrev pub CountsDown : State → ScanOp → ScanOp → Result ScanStep Fault → Type 0
+CountsDown st before after (Ok Going) = IsStraight st after.frontier after.at
+    × (suc (straight_steps st.pages after.at) ≡ straight_steps st.pages before.at)
+CountsDown st before after (Ok (Ready count)) = straight_steps st.pages before.at ≡ 1
+CountsDown st before after (Ok Done) = ⊥
+CountsDown st before after (Err fault) = Unit {0}

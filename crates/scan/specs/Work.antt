@@ -1,0 +1,54 @@
+-- How much is left to do for a scan, while the pages are as they are.
+use Rattle.std.specs.Prelude.{ℕ, suc, ◌+◌, ◌-◌, ◌*◌, ◌&&◌, if◌then◌else◌, Bool, true, false, List, [], ◌∷◌, length}
+use Rattle.index_model.specs.declared.bound.Bound.{Bound}
+use Rattle.page_codec.specs.declared.page.Page.{Page}
+use Rattle.page_codec.specs.declared.page.PageState.{PageState}
+use Rattle.page_codec.specs.declared.page.PageState.TheVariants.{Live, HalfDead, Deleted}
+use Rattle.tree_shape.specs.Walks.{frontier_aim, is_within}
+use Rattle.descent.specs.declared.way.Way.{Way}
+use Rattle.scan.specs.Ready.{waiting}
+use Rattle.scan.specs.declared.steps.ScanAt.{ScanAt}
+use Rattle.scan.specs.declared.steps.ScanAt.TheVariants.{Start, At, Last}
+use Rattle.scan.specs.declared.steps.ScanOp.{ScanOp}
+
+abbrev pub is_live : PageState → Bool
+is_live Live = true
+is_live HalfDead = false
+is_live Deleted = false
+
+-- a live page that isn't all behind the frontier: it has no high key, or one beyond that
+abbrev pub is_ahead : Bound → Page → Bool
+is_ahead frontier page = is_live page.state && is_within (frontier_aim frontier) page.high
+
+-- how many of these pages are
+abbrev pub count_ahead : Bound → List Page → ℕ
+count_ahead frontier [] = 0
+count_ahead frontier (page ∷ pages) =
+    if is_ahead frontier page then suc (count_ahead frontier pages) else count_ahead frontier pages
+
+-- how many leaves a scan reads still, at most
+abbrev pub leaves_left : Bound → List Page → ScanAt → ℕ
+leaves_left frontier pages Start = count_ahead frontier pages
+leaves_left frontier pages (At way) = count_ahead frontier pages
+leaves_left frontier pages Last = 0
+
+-- how many more pages a way leads over, at most, with so many moves on each level
+abbrev pub way_left : ℕ → Way → ℕ
+way_left most way = way.level * (most + 4) + suc ((most + 2) - way.moves)
+
+-- ... and a whole walk
+abbrev pub walk_length : ℕ → ℕ
+walk_length most = 256 * (most + 4)
+
+-- how many more pages it reads until it has read a leaf, at most
+abbrev pub walk_left : ℕ → ScanAt → ℕ
+walk_left most Start = walk_length most
+walk_left most (At way) = way_left most way
+walk_left most Last = 0
+
+-- what is left to do for a scan, while the pages are as they are and there are at most so many: a
+-- leaf brings a walk and 50 entries at most
+abbrev pub scan_left : ℕ → List Page → ScanOp → ℕ
+scan_left most pages op =
+    leaves_left op.frontier pages op.at * (walk_length most + 52) + walk_left most op.at
+    + length (waiting op)

@@ -1,4 +1,0 @@
-pub mod Ops
-pub mod Sessions
-pub mod Due
-pub mod Undisturbed

@@ -1,4 +1,0 @@
-pub mod Straight
-pub mod Inserts
-pub mod Turns
-pub mod Laws

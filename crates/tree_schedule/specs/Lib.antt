@@ -1,4 +1,0 @@
-pub mod Snapshots
-pub mod Crashes
-pub mod Events
-pub mod Runs
