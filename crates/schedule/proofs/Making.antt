@@ -12,7 +12,7 @@ use Rattle.page_action.specs.States.{State, after_end}
 use Rattle.page_action.specs.declared.page_store.PageStore.{Ghosts}
 use Rattle.session_calls.specs.Due.{IsDueIn, CountsDown, HasSteps}
 use Rattle.session_calls.specs.Ops.{DeadSets, IsCaused, session_of, asked_of, where_slot_stepped, where_asked_next, where_beginning, AnswersStopped}
-use Rattle.session_calls.specs.Sessions.{Matches, IsIdle, SlotFits, KeepsPages, SessionGoes, SessionBegins, IsBegun, BeginsBy, is_busy, slot_add, LeavesLess, LeavesNoMore, GivesLess, AnswersStep, AnswersNext, AnswersEnd, RefusalChangesNothing, OnlyOwnAreFlagged, LeavesOwnFlagged}
+use Rattle.session_calls.specs.Sessions.{Matches, IsIdle, SlotFits, KeepsPages, SessionGoes, SessionBegins, IsBegun, BeginsBy, is_busy, slot_add, LeavesLess, LeavesNoMore, GivesLess, AnswersStep, AnswersNext, AnswersEnd, RefusalChangesNothing, OnlyInsertsAct, OnlyOwnAreFlagged, LeavesOwnFlagged}
 use Rattle.session_calls.specs.declared.answer.Answer.{Answer}
 use Rattle.session_calls.specs.declared.answer.Answer.TheVariants.{Begun, Going, Added, Ready, Done, Finished, Gave, Ended, Forced, Flushed, Checkpointed, Refused}
 use Rattle.session_calls.specs.declared.op.Op.{Op}
@@ -42,7 +42,7 @@ module _ {S : Type 0} (g : Ghosts S) (laws : Laws g) (old new : S) (follows : g.
   found_op = found_at ∙ ap (λ (o : Option Op). Some o) is
 
   pub step_makes : AnswersStep before slot answer → RefusalChangesNothing (g.state old) (g.state new) before slot answer → ((g.backing old).stopped ≡ true → AnswersStopped (slot_add before) answer)
-      → ((g.backing new).honest ≡ true → LeavesLess (g.state old) (g.state new) before slot answer) → KeepsPages (g.state old) (g.state new)
+      → ((g.backing new).honest ≡ true → LeavesLess (g.state old) (g.state new) before slot answer) → KeepsPages (g.state old) (g.state new) → OnlyInsertsAct before (g.state old) (g.state new)
       → ((g.backing new).honest ≡ true → LeavesNoMore (g.state old) (g.state new) before slot)
       → ((g.backing new).honest ≡ true → (start : Entry → Bool) (history : List Action) (number : ℕ) (call : Call) → SlotFits (g.state old) sets start history number call before
       → SessionGoes (where_slot_stepped before (g.state old) (g.backing old) (g.backing new)) (g.state old) (g.state new) sets start history number call slot answer)
@@ -51,7 +51,7 @@ module _ {S : Type 0} (g : Ghosts S) (laws : Laws g) (old new : S) (follows : g.
       → ((g.backing new).honest ≡ true → (start : Entry → Bool) (history : List Action) (number : ℕ) (call : Call) → SlotFits (g.state old) sets start history number call before
       → OnlyOwnAreFlagged (g.state old) before → LeavesOwnFlagged (g.state new) before slot answer)
       → Makes g (MovesCall session Steps) answer (here_with old slots sets) (here_with new (slice_set slots session slot) sets)
-  step_makes kind refused stopped less kept no_more goes due flagged = record {
+  step_makes kind refused stopped less kept calm no_more goes due flagged = record {
     sessions = length_set slots session slot;
     always = always;
     does = λ honest start history calls fits.
@@ -74,7 +74,7 @@ module _ {S : Type 0} (g : Ghosts S) (laws : Laws g) (old new : S) (follows : g.
         stopped = λ h. subst (λ (x : Option Op). AnswersStopped (slot_add x) answer) (sym slot_was) (stopped h);
         less = λ honest. at_slots slots session before slot (λ x y. LeavesLess (g.state old) (g.state new) x y answer) found_at (less honest);
         kept = record { acts = kept.acts; quiet = kept.quiet; limits = kept.limits; frames = kept.frames };
-        calm = tt;
+        calm = subst (λ (x : Option Op). OnlyInsertsAct x (g.state old) (g.state new)) (sym slot_was) calm;
         others = others_stay_set slots session slot;
         left = tt;
         causes = tt;

@@ -12,7 +12,7 @@ use Rattle.page_action.specs.declared.page_store.PageStore.{Ghosts}
 use Rattle.descent.specs.Shared.{OthersRely, MovesFlags}
 use Rattle.session_calls.specs.Due.{IsDueIn, CountsDown, HasSteps}
 use Rattle.session_calls.specs.Ops.{DeadSets, asked_by, asked_of, where_stepped, where_asked_next, where_beginning, IsCaused, AnswersStopped}
-use Rattle.session_calls.specs.Sessions.{Told, IsAsked, acts_of, begun_call, is_busy, slot_add, LeavesLess, LeavesNoMore, GivesLess, AnswersStep, AnswersNext, AnswersEnd, RefusalChangesNothing, OnlyOwnAreFlagged, LeavesOwnFlagged}
+use Rattle.session_calls.specs.Sessions.{Told, IsAsked, acts_of, begun_call, is_busy, slot_add, LeavesLess, LeavesNoMore, GivesLess, AnswersStep, AnswersNext, AnswersEnd, RefusalChangesNothing, OnlyInsertsAct, OnlyOwnAreFlagged, LeavesOwnFlagged}
 use Rattle.session_calls.specs.declared.answer.Answer.{Answer}
 use Rattle.session_calls.specs.declared.answer.Answer.TheVariants.{Begun, Forced, Checkpointed, Refused}
 use Rattle.session_calls.specs.declared.op.Op.{Op}
@@ -255,10 +255,10 @@ pub record DoesOneAct (old new : State) : Type 0 where
   pub limits : new.limits ≡ old.limits
   pub frames : new.frames ≡ old.frames
 
--- only a step does an act
-abbrev pub OnlyStepsAct : Kind → State → State → Type 0
-OnlyStepsAct (MovesCall session Steps) old new = Unit {0}
-OnlyStepsAct kind old new = new.acts ≡ old.acts
+-- only a step of an insert does an act
+abbrev pub OnlyStepsAct : Kind → Option Op → State → State → Type 0
+OnlyStepsAct (MovesCall session Steps) slot old new = OnlyInsertsAct slot old new
+OnlyStepsAct kind slot old new = new.acts ≡ old.acts
 
 -- a beginning that is refused has its cause
 abbrev pub BeginningIsCaused : {S : Type 0} → Ghosts S → Kind → Answer → StoreAndSlots S → Type 0
@@ -268,7 +268,7 @@ BeginningIsCaused g kind answer old = Unit {0}
 
 -- What holds of an event whatever the pages are: what it may answer; that a refusal changes nothing; that a stopped log
 -- refuses it first; what is left to do for its call, over a device that keeps its model; that it does one act at most, and
--- only a step does one; that no other session's slot is changed; what it leaves; and that a beginning that is refused has
+-- only a step of an insert does one; that no other session's slot is changed; what it leaves; and that a beginning that is refused has
 -- its cause.
 pub record EventAlways {S : Type 0} (g : Ghosts S) (kind : Kind) (answer : Answer) (old new : StoreAndSlots S) : Type 0 where
   pub answers : AnswersEvent kind answer old.slots new.slots
@@ -276,7 +276,7 @@ pub record EventAlways {S : Type 0} (g : Ghosts S) (kind : Kind) (answer : Answe
   pub stopped : StopsFirst kind (g.backing old.store).stopped answer old.slots
   pub less : (g.backing new.store).honest ≡ true → IsLessLeft kind answer (g.state old.store) (g.state new.store) (slot_of old.slots (session_at kind)) (slot_of new.slots (session_at kind))
   pub kept : DoesOneAct (g.state old.store) (g.state new.store)
-  pub calm : OnlyStepsAct kind (g.state old.store) (g.state new.store)
+  pub calm : OnlyStepsAct kind (slot_of old.slots (session_at kind)) (g.state old.store) (g.state new.store)
   pub others : (session : ℕ) → IsOfSession session kind → OthersStay session old.slots new.slots
   pub left : IsLeft g kind old new
   pub causes : BeginningIsCaused g kind answer old

@@ -227,6 +227,11 @@ pub record KeepsPages (old new : State) : Type 0 where
   pub frames : new.frames ≡ old.frames
   pub begun : new.begun ≡ old.begun
 
+-- only an insert does an act
+abbrev pub OnlyInsertsAct : Option Op → State → State → Type 0
+OnlyInsertsAct (Some (Insert op)) old new = Unit {0}
+OnlyInsertsAct slot old new = new.acts ≡ old.acts
+
 -- only those pages are flagged whose splits the session's insert is to finish
 abbrev pub OnlyOwnAreFlagged : State → Option Op → Type 0
 OnlyOwnAreFlagged st None = OnlyTargetsAreFlagged st []
@@ -305,6 +310,7 @@ pub record OpSteps {S : Type 0} (g : Ghosts S) (before after : Op) (old new : S)
   pub refused : (fault : Fault) → answer ≡ Refused fault → (g.state new ≡ g.state old) × (after ≡ before)
   pub stopped : (g.backing old).stopped ≡ true → AnswersStopped (add_of before) answer
   pub kept : IsOneStep (g.state old) (g.state new)
+  pub calm : OnlyInsertsAct (Some before) (g.state old) (g.state new)
   pub less : (g.backing new).honest ≡ true → LeavesLess (g.state old) (g.state new) (Some before) (Some after) answer
   pub no_more : (g.backing new).honest ≡ true → LeavesNoMore (g.state old) (g.state new) (Some before) (slot_after answer after)
 

@@ -8,7 +8,7 @@ ghost use Rattle.page_action.specs.Causes.{nothing_wrong};
 ghost use Rattle.page_action.specs.States.{State, Continues, after_end};
 ghost use Rattle.session_calls.specs.Due.{IsDueIn, CountsDown};
 ghost use Rattle.session_calls.specs.Ops.{DeadSets, session_of, where_slot_stepped, where_asked_next, is_last, AnswersStopped};
-ghost use Rattle.session_calls.specs.Sessions.{SlotFits, SessionGoes, KeepsPages, OnlyOwnAreFlagged, LeavesOwnFlagged, LeavesLess, LeavesNoMore, GivesLess, AnswersStep, AnswersNext, AnswersEnd, RefusalChangesNothing, no_call, slot_add};
+ghost use Rattle.session_calls.specs.Sessions.{SlotFits, SessionGoes, KeepsPages, OnlyInsertsAct, OnlyOwnAreFlagged, LeavesOwnFlagged, LeavesLess, LeavesNoMore, GivesLess, AnswersStep, AnswersNext, AnswersEnd, RefusalChangesNothing, no_call, slot_add};
 ghost use Rattle.session_calls.specs.declared.op.Op.{Op};
 
 use crate::answer::Answer;
@@ -31,6 +31,7 @@ pub fn step<S: PageStore, T: DeadRows>(store: &mut S, slot: &mut Option<Op>, set
         → AnswersStopped (slot_add slot.old) result }
     ensures kind { AnswersStep slot.old slot.new result }
     ensures kept { KeepsPages (S.state store.old) (S.state store.new) }
+    ensures calm { OnlyInsertsAct slot.old (S.state store.old) (S.state store.new) }
     ensures less { (S.backing store.new).honest ≡ true
         → LeavesLess (S.state store.old) (S.state store.new) slot.old slot.new result }
     ensures no_more { (S.backing store.new).honest ≡ true

@@ -22,7 +22,7 @@ pub enum Op {
 
 impl Op {
     ghost use Rattle.session_calls.specs.Due.{IsDueIn, CountsDown};
-    ghost use Rattle.session_calls.specs.Ops.{op_before, session_of, OpFits, where_stepped};
+    ghost use Rattle.session_calls.specs.Ops.{op_before, session_of, add_of, OpFits, where_stepped};
     ghost use Rattle.session_calls.specs.Sessions.{CallFits, OpSteps, OpGoes, OnlyOwnAreFlagged, LeavesOwnFlagged, slot_after};
 
     /// The call that a session asks for, before its first step.
@@ -42,6 +42,16 @@ impl Op {
         match self {
             Op::Insert(op) => op.session,
             Op::Scan(op) => op.session,
+        }
+    }
+
+    /// The number of the action that added its entry, where it is an insert whose entry is added.
+    pub fn added(&self) -> Option<u64>
+        ensures { result ≡ add_of self.now }
+    {
+        match self {
+            Op::Insert(op) => op.added,
+            Op::Scan(_) => None,
         }
     }
 
