@@ -1,9 +1,12 @@
 -- Runs of one session's events, one behind the other.
 use Rattle.std.proofs.Common.{◌≡◌, ℕ, Bool, Option, Some, None, List, [], ◌∷◌, ◌++◌, refl, subst, inl, inr}
+use Rattle.index_model.specs.Actions.{Action}
+use Rattle.index_model.specs.Calls.{Call}
 use Rattle.index_model.specs.declared.entry.Entry.{Entry}
 use Rattle.page_action.specs.States.{IsLater, Continues}
 use Rattle.page_action.specs.declared.page_store.PageStore.{Ghosts}
 use Rattle.session_calls.specs.declared.answer.Answer.{Answer}
+use Rattle.session_calls.specs.declared.answer.Answer.TheVariants.{Refused}
 use Rattle.schedule.specs.Snapshots.{StoreAndSlots, Snapshot, snapshot_of, here_at, Fits}
 use Rattle.schedule.specs.Events.{kind_of, IsOf, EventDoes}
 use Rattle.schedule.specs.Runs.{EventGoes, Carries, Runs}
@@ -24,11 +27,21 @@ among_right (x ∷ xs) ys answer h = inr (among_right xs ys answer h)
 
 came_left : (xs ys : List Answer) (came : Option Answer) → CameBy xs came → CameBy (xs ++ ys) came
 came_left xs ys None h = tt
-came_left xs ys (Some answer) h = among_left xs ys answer h
+came_left xs ys (Some answer) (inl h) = inl (among_left xs ys answer h)
+came_left xs ys (Some answer) (inr h) = inr (record { action = h.action; fault = h.fault; is = h.is; among = among_left xs ys (Refused h.fault) h.among })
 
 came_right : (xs ys : List Answer) (came : Option Answer) → CameBy ys came → CameBy (xs ++ ys) came
 came_right xs ys None h = tt
-came_right xs ys (Some answer) h = among_right xs ys answer h
+came_right xs ys (Some answer) (inl h) = inl (among_right xs ys answer h)
+came_right xs ys (Some answer) (inr h) = inr (record { action = h.action; fault = h.fault; is = h.is; among = among_right xs ys (Refused h.fault) h.among })
+
+-- the one event of a run
+pub event_of : {S : Type 0} (g : Ghosts S) (event : Event) (answer : Answer) (a b : StoreAndSlots S) (start : Entry → Bool) (history : List Action) (calls : List Call) → Runs g a b (event ∷ []) (answer ∷ []) start history calls
+    → (then_history : List Action) × (then_calls : List Call) × EventDoes g start (kind_of event) answer (snapshot_of a history calls) (snapshot_of b then_history then_calls)
+event_of {S} g event answer a b start history calls r =
+    let goes : EventGoes g start event answer (snapshot_of a history calls) (snapshot_of b r.then_history r.then_calls) =
+    subst (λ (m : Snapshot S). EventGoes g start event answer (snapshot_of a history calls) m) r.ran.run.1.2 r.ran.run.1.1 in
+    (r.then_history, r.then_calls, goes.does)
 
 -- the same run, told otherwise
 pub goes_told : {S : Type 0} (g : Ghosts S) (session : ℕ) (Tells Also : Snapshot S → Snapshot S → Type 0) (came also : Option Answer) (a b : StoreAndSlots S)
@@ -53,7 +66,7 @@ module _ {S : Type 0} (g : Ghosts S) (laws : Laws g) (session : ℕ) where
       → Continues g.follows a.store b.store → Continues g.follows b.store c.store
       → CallGoes g session One first a b → CallGoes g session Two second b c
       → ((xs ys : List Answer) → CameBy xs first → CameBy ys second → CameBy (xs ++ ys) came)
-      → ((start : Entry → Bool) (x y z : Snapshot S) → x.slots ≡ a.slots → Fits g start x → Fits g start y → Fits g start z → One x y → Two y z → Both x z)
+      → ((start : Entry → Bool) (x y z : Snapshot S) → x.slots ≡ a.slots → y.slots ≡ b.slots → Fits g start x → Fits g start y → Fits g start z → One x y → Two y z → Both x z)
       → CallGoes g session Both came a c
   joined One Two Both first second came a b c step then_step one two comes joins honest start history calls fits =
       let later : IsLater (g.backing b.store) (g.backing c.store) = laws.follows_later b.store c.store (then_step b.store (laws.follows_same b.store)) in
@@ -68,20 +81,20 @@ module _ {S : Type 0} (g : Ghosts S) (laws : Laws g) (session : ℕ) where
         ran = ran_then g laws start r.events t.events r.answers t.answers (snapshot_of a history calls) (snapshot_of b r.then_history r.then_calls) (snapshot_of c t.then_history t.then_calls)
             (then_step a.store (step a.store (laws.follows_same a.store))) r.ran t.ran;
         came_by = comes r.answers t.answers r.came_by t.came_by;
-        tells = joins start (snapshot_of a history calls) (snapshot_of b r.then_history r.then_calls) (snapshot_of c t.then_history t.then_calls) refl fits r.ran.fits t.ran.fits r.tells t.tells;
+        tells = joins start (snapshot_of a history calls) (snapshot_of b r.then_history r.then_calls) (snapshot_of c t.then_history t.then_calls) refl refl fits r.ran.fits t.ran.fits r.tells t.tells;
       }
 
   -- ... to what the second came to
   pub goes_then : (One Two Both : Snapshot S → Snapshot S → Type 0) (first came : Option Answer) (a b c : StoreAndSlots S)
       → Continues g.follows a.store b.store → Continues g.follows b.store c.store → CallGoes g session One first a b → CallGoes g session Two came b c
-      → ((start : Entry → Bool) (x y z : Snapshot S) → x.slots ≡ a.slots → Fits g start x → Fits g start y → Fits g start z → One x y → Two y z → Both x z)
+      → ((start : Entry → Bool) (x y z : Snapshot S) → x.slots ≡ a.slots → y.slots ≡ b.slots → Fits g start x → Fits g start y → Fits g start z → One x y → Two y z → Both x z)
       → CallGoes g session Both came a c
   goes_then One Two Both first came a b c step then_step one two joins = joined One Two Both first came came a b c step then_step one two (λ xs ys h k. came_right xs ys came k) joins
 
   -- ... to what the first came to
   pub goes_first : (One Two Both : Snapshot S → Snapshot S → Type 0) (came second : Option Answer) (a b c : StoreAndSlots S)
       → Continues g.follows a.store b.store → Continues g.follows b.store c.store → CallGoes g session One came a b → CallGoes g session Two second b c
-      → ((start : Entry → Bool) (x y z : Snapshot S) → x.slots ≡ a.slots → Fits g start x → Fits g start y → Fits g start z → One x y → Two y z → Both x z)
+      → ((start : Entry → Bool) (x y z : Snapshot S) → x.slots ≡ a.slots → y.slots ≡ b.slots → Fits g start x → Fits g start y → Fits g start z → One x y → Two y z → Both x z)
       → CallGoes g session Both came a c
   goes_first One Two Both came second a b c step then_step one two joins = joined One Two Both came second came a b c step then_step one two (λ xs ys h k. came_left xs ys came h) joins
 
@@ -115,6 +128,6 @@ module _ {S : Type 0} (g : Ghosts S) (laws : Laws g) (session : ℕ) where
         answers = answer ∷ [];
         own = (of, tt);
         ran = r.ran;
-        came_by = inl refl;
+        came_by = inl (inl refl);
         tells = tells start first last refl refl fits goes.does;
       }

@@ -1,13 +1,16 @@
 -- What a scan gives tells.
-use Rattle.std.proofs.Common.{◌≡◌, ℕ, ◌<◌, ◌≤◌, arith, Bool, Option, Some, None, Result, Ok, Err, List, length, slice_get, slice_set, refl, sym, ap, subst, inl, inr, ◌∙◌}
+use Rattle.std.proofs.Common.{◌≡◌, ℕ, ◌<◌, ◌≤◌, arith, Bool, Option, Some, None, Result, Ok, Err, List, [], ◌∷◌, ◌++◌, length, slice_get, slice_set, refl, sym, ap, subst, inl, inr, ◌∙◌}
 use Rattle.std.specs.Prelude.{IfOk}
+use Rattle.std.proofs.lemmas.List.{append-nil}
 use Rattle.std.proofs.lemmas.Bool.{cases_eq}
-use Rattle.index_model.specs.Calls.{Running, Finished as EndsFinished, Call}
+use Rattle.index_model.specs.Actions.{Effect, Add, Remove, Shape, Action}
+use Rattle.index_model.specs.Calls.{AskScan, Running, Finished as EndsFinished, Call}
 use Rattle.index_model.specs.declared.entry.Entry.{Entry}
 use Rattle.index_model.specs.declared.fault.Fault.{Fault}
+use Rattle.index_model.specs.declared.range.Range.{Range}
 use Rattle.page_action.specs.States.{State}
 use Rattle.page_action.specs.declared.page_store.PageStore.{Ghosts}
-use Rattle.session_calls.specs.Sessions.{IsDrained, GivesLess, AnswersStep, AnswersNext, work_left, given_one, ended}
+use Rattle.session_calls.specs.Sessions.{IsDrained, LeavesLess, GivesLess, OnlyInsertsAct, AnswersStep, AnswersNext, work_in, noted, given_one, ended}
 use Rattle.session_calls.specs.declared.answer.Answer.{Answer}
 use Rattle.session_calls.specs.declared.answer.Answer.TheVariants.{Begun, Going, Added, Ready, Done, Finished, Gave, Ended, Forced, Flushed, Checkpointed, Refused}
 use Rattle.session_calls.specs.declared.op.Op.{Op}
@@ -15,9 +18,10 @@ use Rattle.session_calls.specs.declared.op.Op.TheVariants.{Insert as Inserts, Sc
 use Rattle.schedule.specs.Snapshots.{Snapshot, IsRunningCall, Fits}
 use Rattle.schedule.proofs.Lists.{get_set_same, get_set_other, get_within}
 use Rattle.whole_calls.specs.Going.{CameBy}
-use Rattle.whole_calls.specs.Giving.{GoesDown, GoesDownBy, AnswerLeavesLess, StepLeavesLess, AnswersAdvance, AnswersSeek, given_of, give_came, Becomes, GivenTold, TellsGiven}
-use Rattle.whole_calls.specs.Telling.{StepTold, TellsStep, HasNone, TellsEnd, step_came}
-use Rattle.whole_calls.proofs.Tellings.{one_runs, same_history}
+use Rattle.whole_calls.specs.Giving.{GoesDown, GoesDownBy, StepLeavesLess, AnswersAdvance, AnswersSeek, given_of, give_came, Becomes, GivenTold, TellsScan, ScanStays, TellsGiven}
+use Rattle.whole_calls.specs.Telling.{IsSilent, acts_by, noted_behind, AreOwnEffects, IsOwnEffect, IsTold, StepTold, TellsStep, HasNone, TellsEnd, step_came}
+use Rattle.whole_calls.proofs.Gone.{set_same, same_ask, gone_nowhere, gone_runs, gone_then, whole_told}
+use Rattle.whole_calls.proofs.Tellings.{one_runs}
 
 -- behind a `next` that gave none, a step leaves less to do
 no_gave : (mid after : Option Op) (entry : Option Entry) → AnswersStep mid after (Gave entry) → ⊥
@@ -25,15 +29,24 @@ no_gave None after entry h = h
 no_gave (Some (Inserts op)) after entry h = h
 no_gave (Some (Scans op)) after entry h = h
 
-pub step_down : (old new : State) (before mid after : Option Op) (result : Result Answer Fault) → GivesLess before mid (Gave None) → StepLeavesLess old new mid after result → IfOk result (AnswersStep mid after) → GoesDownBy old new before after result
-step_down old new before mid after (Err fault) gives less kind = tt
-step_down old new before mid after (Ok answer) gives less kind = of answer less kind
+-- only a scan gives none, so the step behind it does no act
+pub calm_scan : (old new : State) (before mid : Option Op) → AnswersNext before (Gave None) → mid ≡ before → OnlyInsertsAct mid old new → new.acts ≡ old.acts
+calm_scan old new before mid gave same calm = of before gave (subst (λ (o : Option Op). OnlyInsertsAct o old new) same calm)
   where
-    of : (a : Answer) → AnswerLeavesLess old new mid after a → AnswersStep mid after a → GoesDown old new before after a
+    of : (b : Option Op) → AnswersNext b (Gave None) → OnlyInsertsAct b old new → new.acts ≡ old.acts
+    of None gave h = h
+    of (Some (Inserts op)) gave h = absurd gave
+    of (Some (Scans op)) gave h = h
+
+pub step_down : (old new : State) (before mid after : Option Op) (result : Result Answer Fault) → GivesLess before mid (Gave None) → new.acts ≡ old.acts → StepLeavesLess old new mid after result → IfOk result (AnswersStep mid after) → GoesDownBy old new before after result
+step_down old new before mid after (Err fault) gives calm less kind = tt
+step_down old new before mid after (Ok answer) gives calm less kind = of answer less kind
+  where
+    of : (a : Answer) → LeavesLess old new mid after a → AnswersStep mid after a → GoesDown old new before after a
     of Begun h k = tt
-    of Going h k = subst (λ (o : Option Op). work_left new.pages after < work_left old.pages o) gives.0 h
+    of Going h k = subst (λ (o : Option Op). work_in new after < work_in old o) gives.0 (h calm)
     of (Added a u) h k = tt
-    of (Ready r) h k = subst (λ (o : Option Op). work_left new.pages after < work_left old.pages o) gives.0 (h (subst IsDrained (sym gives.0) gives.1))
+    of (Ready r) h k = subst (λ (o : Option Op). work_in new after < work_in old o) gives.0 (h (subst IsDrained (sym gives.0) gives.1))
     of Done h k = tt
     of (Finished s) h k = tt
     of (Gave None) h k = tt
@@ -71,7 +84,7 @@ next_down old new (Some (Inserts op)) after (Forced n) h less same = absurd h
 next_down old new (Some (Inserts op)) after (Flushed b) h less same = absurd h
 next_down old new (Some (Inserts op)) after (Checkpointed n) h less same = absurd h
 next_down old new (Some (Scans op)) after (Gave None) h less same = tt
-next_down old new (Some (Scans op)) after (Gave (Some e)) h less same = subst (λ (st : State). work_left st.pages after < work_left old.pages (Some (Scans op))) (sym same) (less old.pages)
+next_down old new (Some (Scans op)) after (Gave (Some e)) h less same = subst (λ (st : State). work_left st.pages after < work_left old.pages (Some (Scans op))) (sym same) (less old.limits.pages old.pages)
 next_down old new (Some (Scans op)) after Begun h less same = absurd h
 next_down old new (Some (Scans op)) after Going h less same = absurd h
 next_down old new (Some (Scans op)) after (Added a u) h less same = absurd h
@@ -183,16 +196,82 @@ give_comes (Ok (Flushed b)) answers kind h = absurd kind
 give_comes (Ok (Checkpointed n)) answers kind h = absurd kind
 give_comes (Err f) answers kind h = h
 
+-- a scan does nothing to the pages
+scan_own : (call : Call) (range : Range) (count : ℕ) (effects : List Effect) → call.ask ≡ AskScan range → AreOwnEffects call count effects → effects ≡ []
+scan_own call range count [] ask own = refl
+scan_own call range count (Add x ∷ effects) ask own = absurd (rw ask at own.0)
+scan_own call range count (Remove es ∷ effects) ask own = absurd (rw ask at own.0)
+scan_own call range count (Shape ∷ effects) ask own = absurd (rw ask at own.0)
+
+-- ... so its history is as it was, and so is its call before the last step
+scan_silent : {S : Type 0} (number : ℕ) (call : Call) (range : Range) (answer : Answer) (x y : Snapshot S) → call.ask ≡ AskScan range → (t : IsTold number call answer x y)
+    → (y.history ≡ x.history) × (noted_behind call (length x.history) t.before ≡ call) × (length (x.history ++ acts_by number t.before) ≡ length x.history)
+scan_silent number call range answer x y ask t =
+    let w = whole_told number call answer x y t in
+    let all : w.effects ≡ [] = scan_own call range (length x.history) w.effects ask w.own in
+    let front : t.before ≡ [] = scan_own call range (length x.history) t.before ask t.own in
+    (w.history_is ∙ ap (λ (l : List Effect). x.history ++ acts_by number l) all ∙ append-nil x.history,
+    ap (λ (l : List Effect). noted_behind call (length x.history) l) front,
+    ap (λ (l : List Effect). length (x.history ++ acts_by number l)) front ∙ ap (λ (l : List Action). length l) (append-nil x.history))
+
+-- what is told of a session's running call is told of its scan
+pub scan_told : {S : Type 0} (session : ℕ) (result : Result Answer Fault) (x y : Snapshot S) → TellsStep session result x y → TellsScan session result x y
+scan_told session result x y tells number call range is ask = tells number call is
+
+-- a scan of which nothing is told, and then this
+pub scan_then : {S : Type 0} (session : ℕ) (result : Result Answer Fault) (x y z : Snapshot S) → ScanStays session x y → TellsScan session result y z → TellsScan session result x z
+scan_then session result x y z stays tells number call range is ask =
+    let gone = gone_nowhere session number call x y is (stays number call range is ask) in
+    gone_then number call [] x y z gone result (tells number call range (gone_runs number call [] x y z gone session is) ask)
+
+-- nothing is told, and then again
+pub stays_then : {S : Type 0} (session : ℕ) (x y z : Snapshot S) → ScanStays session x y → ScanStays session y z → ScanStays session x z
+stays_then session x y z one two number call range is ask =
+    let s : IsSilent x y = one number call range is ask in
+    let gone = gone_nowhere session number call x y is s in
+    let t : IsSilent y z = two number call range (gone_runs number call [] x y z gone session is) ask in
+    record { history_is = t.history_is ∙ s.history_is; calls_is = t.calls_is ∙ s.calls_is }
+
+-- what leaves a scan's call as it was
+unchanged : {S : Type 0} (session number : ℕ) (call : Call) (range : Range) (answer : Answer) (x y : Snapshot S) → IsRunningCall x.calls session number call → call.ask ≡ AskScan range → (t : IsTold number call answer x y)
+    → t.after ≡ noted_behind call (length x.history) t.before → IsSilent x y
+unchanged session number call range answer x y is ask t after =
+    let s = scan_silent number call range answer x y ask t in
+    record { history_is = s.0; calls_is = t.calls_is ∙ ap (λ (c : Call). slice_set x.calls number c) (after ∙ s.1) ∙ set_same x.calls number call is.found }
+
+-- a scan that goes on
+pub going_stays : {S : Type 0} (session : ℕ) (x y : Snapshot S) → TellsScan session (Ok Going) x y → ScanStays session x y
+going_stays session x y tells number call range is ask =
+    let t : IsTold number call Going x y = tells number call range is ask in
+    let last : t.last ≡ None = no_last (noted_behind call (length x.history) t.before) t.last (same_ask call (length x.history) t.before ∙ ask) t.own_last in
+    unchanged session number call range Going x y is ask t (t.told ∙ ap (λ (o : Option Effect). noted (noted_behind call (length x.history) t.before) (length (x.history ++ acts_by number t.before)) o) last)
+  where
+    no_last : (c : Call) (o : Option Effect) → c.ask ≡ AskScan range → IsOwnEffect c o → o ≡ None
+    no_last c None ask h = refl
+    no_last c (Some (Add e)) ask h = absurd (rw ask at h)
+    no_last c (Some (Remove es)) ask h = absurd (rw ask at h)
+    no_last c (Some Shape) ask h = absurd (rw ask at h)
+
+-- one that has entries ready
+pub ready_stays : {S : Type 0} (session count : ℕ) (x y : Snapshot S) → TellsScan session (Ok (Ready count)) x y → ScanStays session x y
+ready_stays session count x y tells number call range is ask =
+    let t : IsTold number call (Ready count) x y = tells number call range is ask in unchanged session number call range (Ready count) x y is ask t t.told.after_is
+
+-- a `next` that gives none
+pub none_stays : {S : Type 0} (session : ℕ) (x y : Snapshot S) → TellsScan session (Ok (Gave None)) x y → ScanStays session x y
+none_stays session x y tells number call range is ask =
+    let t : IsTold number call (Gave None) x y = tells number call range is ask in unchanged session number call range (Gave None) x y is ask t t.told.after_is
+
 -- an entry that is given
-pub some_given : {S : Type 0} (session : ℕ) (came : Result Answer Fault) (entry : Entry) (x y : Snapshot S) → AnswersSeek came → given_of came ≡ Ok (Some entry) → TellsStep session came x y → TellsGiven session (Ok (Some entry)) x y
-some_given {S} session came entry x y kind is tells number call range running ask = of came kind is (tells number call running)
+pub some_given : {S : Type 0} (session : ℕ) (came : Result Answer Fault) (entry : Entry) (x y : Snapshot S) → AnswersSeek came → given_of came ≡ Ok (Some entry) → TellsScan session came x y → TellsGiven session (Ok (Some entry)) x y
+some_given {S} session came entry x y kind is tells number call range running ask = of came kind is (tells number call range running ask)
   where
     of : (r : Result Answer Fault) → AnswersSeek r → given_of r ≡ Ok (Some entry) → StepTold number call r x y → Becomes number (given_one call entry) x y
     of (Ok (Gave (Some e))) kind is t =
         let same : e ≡ entry = cc in
         record {
-          history_is = same_history number call (Gave (Some e)) x y t t.told.none;
-          calls_is = t.calls_is ∙ ap (λ (c : Call). slice_set x.calls number c) (t.told.after_is ∙ ap (λ (g : Entry). given_one call g) same);
+          history_is = (scan_silent number call range (Gave (Some e)) x y ask t).0;
+          calls_is = t.calls_is ∙ ap (λ (c : Call). slice_set x.calls number c) (t.told.after_is ∙ ap (λ (k : Call). given_one k e) ((scan_silent number call range (Gave (Some e)) x y ask t).1) ∙ ap (λ (g : Entry). given_one call g) same);
         }
     of (Ok (Gave None)) kind is t = absurd kind
     of (Ok Begun) kind is t = absurd kind
@@ -225,18 +304,19 @@ none_after g start x y session number call after fits running calls over other c
 
 -- what is given at the end, and then an end
 pub end_given : {S : Type 0} (g : Ghosts S) (start : Entry → Bool) (session : ℕ) (came : Result Answer Fault) (x y z : Snapshot S) → Fits g start x → AnswersSeek came → ((entry : Entry) → given_of came ≡ Ok (Some entry) → ⊥)
-    → TellsStep session came x y → TellsEnd session y z → TellsGiven session (given_of came) x z
-end_given {S} g start session came x y z fits kind no_entry tells end number call range running ask = of came kind no_entry (tells number call running)
+    → TellsScan session came x y → TellsEnd session y z → TellsGiven session (given_of came) x z
+end_given {S} g start session came x y z fits kind no_entry tells end number call range running ask = of came kind no_entry (tells number call range running ask)
   where
     of : (r : Result Answer Fault) → AnswersSeek r → ((entry : Entry) → given_of r ≡ Ok (Some entry) → ⊥) → StepTold number call r x y → GivenTold number call (given_of r) x z
     of (Ok (Gave (Some e))) kind some t = absurd (some e refl)
     of (Ok Done) kind some t =
-        let calls : y.calls ≡ slice_set x.calls number (ended call EndsFinished (length x.history)) = t.calls_is ∙ ap (λ (c : Call). slice_set x.calls number c) t.told.after_is in
+        let s = scan_silent number call range Done x y ask t in
+        let calls : y.calls ≡ slice_set x.calls number (ended call EndsFinished (length x.history)) = t.calls_is ∙ ap (λ (c : Call). slice_set x.calls number c) (t.told.after_is ∙ ap (λ (c : Call). ended c EndsFinished (length (x.history ++ acts_by number t.before))) s.1 ∙ ap (λ (n : ℕ). ended call EndsFinished n) s.2) in
         record {
-          history_is = end.history_is ∙ same_history number call Done x y t t.told.none;
+          history_is = end.history_is ∙ s.0;
           calls_is = end.calls_is (none_after g start x y session number call (ended call EndsFinished (length x.history)) fits running calls (λ e. cc)) ∙ calls;
         }
-    of (Ok (Refused f)) kind some t = end.history_is ∙ same_history number call (Refused f) x y t t.told.0
+    of (Ok (Refused f)) kind some t = end.history_is ∙ (scan_silent number call range (Refused f) x y ask t).0
     of (Ok (Gave None)) kind some t = absurd kind
     of (Ok Begun) kind some t = absurd kind
     of (Ok Going) kind some t = absurd kind
@@ -247,10 +327,10 @@ end_given {S} g start session came x y z fits kind no_entry tells end number cal
     of (Ok (Forced n)) kind some t = absurd kind
     of (Ok (Flushed b)) kind some t = absurd kind
     of (Ok (Checkpointed n)) kind some t = absurd kind
-    of (Err f) kind some t = end.history_is ∙ t.silent.history_is
+    of (Err f) kind some t = end.history_is ∙ t.gone.history_is ∙ ap (λ (l : List Effect). x.history ++ acts_by number l) (scan_own call range (length x.history) t.before ask t.gone.own) ∙ append-nil x.history
 
 -- behind steps that left no more to do, what leaves less than then leaves less than before them
-pub down_after : (old mid new : State) (before between after : Option Op) (result : Result Answer Fault) → work_left mid.pages between ≤ work_left old.pages before → GoesDownBy mid new between after result → GoesDownBy old new before after result
+pub down_after : (old mid new : State) (before between after : Option Op) (result : Result Answer Fault) → work_in mid between ≤ work_in old before → GoesDownBy mid new between after result → GoesDownBy old new before after result
 down_after old mid new before between after (Err fault) most down = tt
 down_after old mid new before between after (Ok Going) most down = omega (arith, most, down)
 down_after old mid new before between after (Ok (Ready r)) most down = omega (arith, most, down)
@@ -267,7 +347,7 @@ down_after old mid new before between after (Ok (Checkpointed n)) most down = tt
 down_after old mid new before between after (Ok (Refused f)) most down = tt
 
 -- ... and so does an entry that is given
-pub given_down : (old new : State) (before after : Option Op) (came : Result Answer Fault) (entry : Entry) → AnswersSeek came → given_of came ≡ Ok (Some entry) → GoesDownBy old new before after came → work_left new.pages after < work_left old.pages before
+pub given_down : (old new : State) (before after : Option Op) (came : Result Answer Fault) (entry : Entry) → AnswersSeek came → given_of came ≡ Ok (Some entry) → GoesDownBy old new before after came → work_in new after < work_in old before
 given_down old new before after (Ok (Gave (Some e))) entry kind is down = down
 given_down old new before after (Ok Done) entry kind is down = absurd cc
 given_down old new before after (Ok (Refused f)) entry kind is down = absurd cc

@@ -6,17 +6,18 @@ use Rattle.index_model.specs.declared.fault.Fault.{Fault}
 use Rattle.index_model.specs.declared.range.Range.{Range}
 use Rattle.index_model.specs.declared.fault.Fault.TheVariants.{NoSession}
 use Rattle.page_action.specs.States.{State}
-use Rattle.session_calls.specs.Sessions.{work_left, IsDrained, given_one, ended}
+use Rattle.session_calls.specs.Sessions.{work_in, LeavesLess, given_one, ended}
 use Rattle.session_calls.specs.declared.answer.Answer.{Answer}
 use Rattle.session_calls.specs.declared.answer.Answer.TheVariants.{Going, Ready, Done, Gave, Refused}
 use Rattle.session_calls.specs.declared.op.Op.{Op}
 use Rattle.schedule.specs.Snapshots.{Snapshot, IsRunningCall}
+use Rattle.whole_calls.specs.Telling.{IsSilent, StepTold}
 
 -- where the scan is to go on, or has given an entry, less is left to do
 abbrev pub GoesDown : State → State → Option Op → Option Op → Answer → Type 0
-GoesDown old new before after Going = work_left new.pages after < work_left old.pages before
-GoesDown old new before after (Ready count) = work_left new.pages after < work_left old.pages before
-GoesDown old new before after (Gave (Some entry)) = work_left new.pages after < work_left old.pages before
+GoesDown old new before after Going = work_in new after < work_in old before
+GoesDown old new before after (Ready count) = work_in new after < work_in old before
+GoesDown old new before after (Gave (Some entry)) = work_in new after < work_in old before
 GoesDown old new before after answer = Unit {0}
 
 -- ... by whether it was refused before its step
@@ -24,15 +25,18 @@ abbrev pub GoesDownBy : State → State → Option Op → Option Op → Result A
 GoesDownBy old new before after (Ok answer) = GoesDown old new before after answer
 GoesDownBy old new before after (Err fault) = Unit {0}
 
--- a step that was made leaves less to do, where it goes on, or finds entries where none was ready
-abbrev pub AnswerLeavesLess : State → State → Option Op → Option Op → Answer → Type 0
-AnswerLeavesLess old new before after Going = work_left new.pages after < work_left old.pages before
-AnswerLeavesLess old new before after (Ready count) = IsDrained before → work_left new.pages after < work_left old.pages before
-AnswerLeavesLess old new before after answer = Unit {0}
-
+-- a step that was made leaves less to do, while no act is done, where it goes on, or finds entries where none was ready
 abbrev pub StepLeavesLess : State → State → Option Op → Option Op → Result Answer Fault → Type 0
-StepLeavesLess old new before after (Ok answer) = AnswerLeavesLess old new before after answer
+StepLeavesLess old new before after (Ok answer) = LeavesLess old new before after answer
 StepLeavesLess old new before after (Err fault) = Unit {0}
+
+-- a step, or what was asked for, is told of the session's scan, if it runs one
+abbrev pub TellsScan : {S : Type 0} → ℕ → Result Answer Fault → Snapshot S → Snapshot S → Type 0
+TellsScan session result old new = (number : ℕ) (call : Call) (range : Range) → IsRunningCall old.calls session number call → call.ask ≡ AskScan range → StepTold number call result old new
+
+-- nothing is told of the session's scan
+abbrev pub ScanStays : {S : Type 0} → ℕ → Snapshot S → Snapshot S → Type 0
+ScanStays session old new = (number : ℕ) (call : Call) (range : Range) → IsRunningCall old.calls session number call → call.ask ≡ AskScan range → IsSilent old new
 
 -- what asking a scan for its next entry, or else a step of it, may answer
 abbrev pub AnswersAdvance : Result Answer Fault → Type 0
@@ -68,7 +72,7 @@ give_came (Err fault) = Some (Refused fault)
 
 -- each entry that a scan gives leaves less to do
 abbrev pub GiveLeavesLess : State → State → Option Op → Option Op → Result (Option Entry) Fault → Type 0
-GiveLeavesLess old new before after (Ok (Some entry)) = work_left new.pages after < work_left old.pages before
+GiveLeavesLess old new before after (Ok (Some entry)) = work_in new after < work_in old before
 GiveLeavesLess old new before after result = Unit {0}
 
 -- a session that gives no entry runs nothing then

@@ -1,3 +1,4 @@
 pub mod Going
 pub mod Telling
 pub mod Giving
+pub mod Spending

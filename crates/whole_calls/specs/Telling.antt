@@ -1,7 +1,7 @@
 -- What is told of one session's call, by the history and the calls before and after.
-use Rattle.std.specs.Prelude.{◌⊎◌, ◌≤◌, ◌≡◌, ◌≢◌, ℕ, suc, Option, Some, None, Result, Ok, Err, [], ◌∷◌, ◌++◌, length, slice_set}
-use Rattle.index_model.specs.Actions.{Effect, Add}
-use Rattle.index_model.specs.Calls.{Ask, AskInsert, AskScan, Added as EndsAdded, Failed, Call}
+use Rattle.std.specs.Prelude.{◌⊎◌, ◌≤◌, ◌+◌, ◌≡◌, ◌≢◌, ℕ, suc, Option, Some, None, Result, Ok, Err, List, [], ◌∷◌, ◌++◌, length, replicate, slice_set}
+use Rattle.index_model.specs.Actions.{Effect, Add, Shape, Action}
+use Rattle.index_model.specs.Calls.{Ask, AskInsert, AskScan, Ending, Added as EndsAdded, GivenUp, Failed, Call}
 use Rattle.index_model.specs.declared.fault.Fault.{Fault}
 use Rattle.index_model.specs.declared.fault.Fault.TheVariants.{NoSession, Exists}
 use Rattle.index_model.specs.declared.entry.Entry.{Entry}
@@ -9,10 +9,11 @@ use Rattle.index_model.specs.declared.limits.Limits.{Limits}
 use Rattle.page_action.specs.Room.{HasWholeRoom}
 use Rattle.page_action.specs.States.{Backing}
 use Rattle.session_calls.specs.Ops.{asked_by}
-use Rattle.session_calls.specs.Sessions.{Told, MayDo, acts_of, begun_call, ended}
+use Rattle.session_calls.specs.Sessions.{Told, MayDo, acts_of, noted, begun_call, ended}
 use Rattle.session_calls.specs.declared.answer.Answer.{Answer}
 use Rattle.session_calls.specs.declared.answer.Answer.TheVariants.{Begun, Going, Added, Ready, Done, Gave, Refused}
 use Rattle.session_calls.specs.declared.request.Request.{Request}
+use Rattle.session_calls.specs.declared.request.Request.TheVariants.{Insert as ToInsert}
 use Rattle.schedule.specs.Snapshots.{Snapshot, IsRunningCall}
 use Rattle.whole_calls.specs.declared.inserted.Inserted.{Inserted}
 
@@ -31,20 +32,43 @@ MayAnswer (AskScan range) (Gave entry) = Unit {0}
 MayAnswer (AskScan range) Done = Unit {0}
 MayAnswer ask answer = ⊥
 
--- an action of this effect is one that the call was asked for
-abbrev pub IsOwnEffect : Ask → Option ℕ → Option Effect → Type 0
-IsOwnEffect ask added None = Unit {0}
-IsOwnEffect ask added (Some effect) = MayDo ask added effect
+-- the actions of these effects, by the call of this number
+abbrev pub acts_by : ℕ → List Effect → List Action
+acts_by number [] = []
+acts_by number (effect ∷ effects) = (record { by = number; effect = effect }) ∷ acts_by number effects
 
--- the call of this number is told so, and no other is changed; where it goes on, no action is appended, on one leaf
+-- the call after events of these effects, with so many actions before the first: its Add is noted
+abbrev pub noted_behind : Call → ℕ → List Effect → Call
+noted_behind call count [] = call
+noted_behind call count (effect ∷ effects) = noted_behind (noted call count (Some effect)) (suc count) effects
+
+-- each of these effects, one behind the other, is one that the call was asked for
+abbrev pub AreOwnEffects : Call → ℕ → List Effect → Type 0
+AreOwnEffects call count [] = Unit {0}
+AreOwnEffects call count (effect ∷ effects) =
+    MayDo call.ask call.added effect × AreOwnEffects (noted call count (Some effect)) (suc count) effects
+
+-- an action of this effect, if there is one, is one that the call was asked for
+abbrev pub IsOwnEffect : Call → Option Effect → Type 0
+IsOwnEffect call None = Unit {0}
+IsOwnEffect call (Some effect) = MayDo call.ask call.added effect
+
+-- the call of this number has done these effects, which it was asked for, and still runs; no other call is changed
+pub record HasGoneOn {S : Type 0} (number : ℕ) (call : Call) (effects : List Effect) (old new : Snapshot S) : Type 0 where
+  pub own : AreOwnEffects call (length old.history) effects
+  pub history_is : new.history ≡ old.history ++ acts_by number effects
+  pub calls_is : new.calls ≡ slice_set old.calls number (noted_behind call (length old.history) effects)
+
+-- the call of this number has done these effects, and then a step with this one, if any, is told so; no other call is changed
 pub record IsTold {S : Type 0} (number : ℕ) (call : Call) (answer : Answer) (old new : Snapshot S) : Type 0 where
-  pub effect : Option Effect
+  pub before : List Effect
+  pub last : Option Effect
   pub after : Call
   pub may : MayAnswer call.ask answer
-  pub own : IsOwnEffect call.ask call.added effect
-  pub told : Told answer (length old.history) effect call after
-  pub calm : answer ≡ Going → new.history ≡ old.history
-  pub history_is : new.history ≡ old.history ++ acts_of number effect
+  pub own : AreOwnEffects call (length old.history) before
+  pub own_last : IsOwnEffect (noted_behind call (length old.history) before) last
+  pub told : Told answer (length (old.history ++ acts_by number before)) last (noted_behind call (length old.history) before) after
+  pub history_is : new.history ≡ (old.history ++ acts_by number before) ++ acts_of number last
   pub calls_is : new.calls ≡ slice_set old.calls number after
 
 -- nothing is told, and what was refused was not refused because the entry was there
@@ -52,10 +76,16 @@ pub record NothingTold {S : Type 0} (fault : Fault) (old new : Snapshot S) : Typ
   pub silent : IsSilent old new
   pub not_exists : fault ≢ Exists
 
--- a step was made with this answer; or the room for it could not be made
+-- the call of this number has gone on so far, and still runs; what was refused was not refused because the entry was there
+pub record IsHeldUp {S : Type 0} (number : ℕ) (call : Call) (fault : Fault) (old new : Snapshot S) : Type 0 where
+  pub before : List Effect
+  pub gone : HasGoneOn number call before old new
+  pub not_exists : fault ≢ Exists
+
+-- steps were made, the last with this answer; or the room for a further one could not be made
 abbrev pub StepTold : {S : Type 0} → ℕ → Call → Result Answer Fault → Snapshot S → Snapshot S → Type 0
 StepTold number call (Ok answer) old new = IsTold number call answer old new
-StepTold number call (Err fault) old new = NothingTold fault old new
+StepTold number call (Err fault) old new = IsHeldUp number call fault old new
 
 -- ... of the session's running call
 abbrev pub TellsStep : {S : Type 0} → ℕ → Result Answer Fault → Snapshot S → Snapshot S → Type 0
@@ -65,10 +95,6 @@ TellsStep session result old new = (number : ℕ) (call : Call) → IsRunningCal
 abbrev pub step_came : Result Answer Fault → Option Answer
 step_came (Ok answer) = Some answer
 step_came (Err fault) = Some (Refused fault)
-
--- nothing is told of the session's running call
-abbrev pub StaysRunning : {S : Type 0} → ℕ → Snapshot S → Snapshot S → Type 0
-StaysRunning session old new = (number : ℕ) (call : Call) → IsRunningCall old.calls session number call → IsSilent old new
 
 -- the session has no running call
 abbrev pub HasNone : {S : Type 0} → ℕ → Snapshot S → Type 0
@@ -95,54 +121,78 @@ abbrev pub begin_came : Result (Unit {0}) Fault → Option Answer
 begin_came (Ok begun) = Some Begun
 begin_came (Err fault) = Some (Refused fault)
 
--- the session's call is given up, if it still runs: no action is appended, and else no call is changed
+-- the session's call is given up, if it still runs: no action is appended, and no other call is changed
 pub record TellsEnd {S : Type 0} (session : ℕ) (old new : Snapshot S) : Type 0 where
   pub history_is : new.history ≡ old.history
   pub calls_is : HasNone session old → new.calls ≡ old.calls
+  pub ended_is : (number : ℕ) (call : Call) → IsRunningCall old.calls session number call → new.calls ≡ slice_set old.calls number (ended call GivenUp (length old.history))
 
--- a call was begun and then stepped, to this answer; or its beginning or a step was refused, and no action is appended
-pub record CameTo {S : Type 0} (session : ℕ) (request : Request) (answer : Answer) (old new : Snapshot S) : Type 0 where
-  pub effect : Option Effect
-  pub after : Call
-  pub may : MayAnswer (asked_by old.sets request) answer
-  pub own : IsOwnEffect (asked_by old.sets request) None effect
-  pub told : Told answer (length old.history) effect (begun_call session (asked_by old.sets request) (length old.history)) after
-  pub history_is : new.history ≡ old.history ++ acts_of (length old.calls) effect
-  pub calls_is : new.calls ≡ old.calls ++ after ∷ []
+-- the moment, with one call more
+abbrev pub with_call : {S : Type 0} → Snapshot S → Call → Snapshot S
+with_call now call = record now { calls = now.calls ++ call ∷ [] }
 
+-- the call that a request begins now
+abbrev pub first_call : {S : Type 0} → ℕ → Request → Snapshot S → Call
+first_call session request now = begun_call session (asked_by now.sets request) (length now.history)
+
+-- the call that is begun now comes to this
+abbrev pub NextTold : {S : Type 0} → ℕ → Request → Result Answer Fault → Snapshot S → Snapshot S → Type 0
+NextTold session request result old new =
+    StepTold (length old.calls) (first_call session request old) result (with_call old (first_call session request old)) new
+
+-- a call was begun and then stepped, to this answer or until it was refused; or its beginning was refused, and nothing is told
 abbrev pub HasCome : {S : Type 0} → ℕ → Request → Result Answer Fault → Snapshot S → Snapshot S → Type 0
-HasCome session request (Ok answer) old new = CameTo session request answer old new
-HasCome session request (Err fault) old new = (new.history ≡ old.history) × (fault ≢ Exists)
+HasCome session request (Ok answer) old new = NextTold session request (Ok answer) old new
+HasCome session request (Err fault) old new = NothingTold fault old new ⊎ NextTold session request (Err fault) old new
 
--- what an insert answers that came to this
-abbrev pub outcome_of : Result Answer Fault → Result Inserted Fault
-outcome_of (Ok (Added action unfinished)) = Ok (record { action = action; unfinished = unfinished })
-outcome_of (Ok (Refused fault)) = Err fault
-outcome_of (Ok answer) = Err NoSession
-outcome_of (Err fault) = Err fault
+-- an insert that is refused: where its entry is added, that fault is left behind
+abbrev pub left_behind : Option ℕ → Fault → Result Inserted Fault
+left_behind (Some action) fault = Ok (record { action = action; unfinished = Some fault })
+left_behind None fault = Err fault
+
+-- what an insert answers that came to this, by the number of its Add, where it still runs and has one
+abbrev pub outcome_of : Result Answer Fault → Option ℕ → Result Inserted Fault
+outcome_of (Ok (Added action unfinished)) added = Ok (record { action = action; unfinished = unfinished })
+outcome_of (Ok (Refused fault)) added = left_behind added fault
+outcome_of (Ok answer) added = Err NoSession
+outcome_of (Err fault) added = left_behind added fault
 
 -- ... and what it came to
 abbrev pub insert_came : Result Inserted Fault → Option Answer
 insert_came (Ok inserted) = Some (Added inserted.action inserted.unfinished)
 insert_came (Err fault) = Some (Refused fault)
 
--- the insert's call, ended with this Add
-abbrev pub inserted_call : ℕ → Entry → ℕ → Inserted → Call
-inserted_call session entry count inserted =
-    ended (record (begun_call session (AskInsert entry) count) { added = Some inserted.action }) (EndsAdded inserted.action inserted.unfinished) (suc count)
+-- so many changes of the pages' shape, by the call of this number
+abbrev pub shapes : ℕ → ℕ → List Action
+shapes number count = replicate count (record { by = number; effect = Shape })
 
--- the history has one action more, which adds the entry; it is that of this insert, whose call is over
+-- the insert's call with this Add, ended so with so many actions
+abbrev pub inserted_call : ℕ → Entry → ℕ → ℕ → Ending → ℕ → Call
+inserted_call session entry count action ending until =
+    ended (record (begun_call session (AskInsert entry) count) { added = Some action }) ending until
+
+-- how the call of an insert has ended: with its answer; or given up, because of the fault that is left behind
+abbrev pub IsEndOf : Inserted → Ending → Type 0
+IsEndOf inserted ending = (ending ≡ EndsAdded inserted.action inserted.unfinished) ⊎ ((ending ≡ GivenUp) × (inserted.unfinished ≢ None))
+
+-- One action of the history adds the entry; it is that of this insert, whose call is over. Before and behind it the insert
+-- has changed the shape of the pages only.
 pub record IsAddedNow {S : Type 0} (session : ℕ) (entry : Entry) (inserted : Inserted) (old new : Snapshot S) : Type 0 where
-  pub history_is : new.history ≡ old.history ++ (record { by = length old.calls; effect = Add entry }) ∷ []
-  pub action_is : inserted.action ≡ suc (length old.history)
-  pub calls_is : new.calls ≡ old.calls ++ inserted_call session entry (length old.history) inserted ∷ []
+  pub before : ℕ
+  pub behind : ℕ
+  pub ending : Ending
+  pub history_is : new.history ≡ old.history ++ shapes (length old.calls) before ++ (record { by = length old.calls; effect = Add entry }) ∷ shapes (length old.calls) behind
+  pub action_is : inserted.action ≡ suc (before + length old.history)
+  pub end_is : IsEndOf inserted ending
+  pub calls_is : new.calls ≡ old.calls ++ inserted_call session entry (length old.history) inserted.action ending (length new.history) ∷ []
 
--- no action is appended; where the entry was there, the call has ended with this
+-- the insert has changed the shape of the pages only; where the entry was there, the call has ended with this
 pub record IsNotAdded {S : Type 0} (session : ℕ) (entry : Entry) (fault : Fault) (old new : Snapshot S) : Type 0 where
-  pub history_is : new.history ≡ old.history
-  pub exists_is : fault ≡ Exists → new.calls ≡ old.calls ++ ended (begun_call session (AskInsert entry) (length old.history)) (Failed Exists) (length old.history) ∷ []
+  pub shaped : ℕ
+  pub history_is : new.history ≡ old.history ++ shapes (length old.calls) shaped
+  pub exists_is : fault ≡ Exists → new.calls ≡ old.calls ++ ended (begun_call session (AskInsert entry) (length old.history)) (Failed Exists) (length new.history) ∷ []
 
--- the entry is added, or no action is appended
+-- the entry is added, or no entry is
 abbrev pub InsertTold : {S : Type 0} → ℕ → Entry → Result Inserted Fault → Snapshot S → Snapshot S → Type 0
 InsertTold session entry (Ok inserted) old new = IsAddedNow session entry inserted old new
 InsertTold session entry (Err fault) old new = IsNotAdded session entry fault old new

@@ -1,13 +1,13 @@
 //! Scans that give one entry after the other.
 
-ghost use Rattle.std.specs.Prelude.{◌≡◌, ◌≤◌, length, map, slice_get, OnErr, IfErr, None};
+ghost use Rattle.std.specs.Prelude.{◌≡◌, ◌≤◌, true, length, map, slice_get, OnErr, IfErr, None};
 ghost use Rattle.index_model.specs.Faults.{HasCause};
 ghost use Rattle.page_action.specs.States.{Continues};
 ghost use Rattle.session_calls.specs.declared.request.Request.TheVariants.{Scan as ToScan};
 ghost use Rattle.schedule.specs.Snapshots.{here_with, slot_of};
 ghost use Rattle.schedule.specs.Events.{OthersStay, IsUnchanged, where_begun_at};
-ghost use Rattle.whole_calls.specs.Telling.{TellsStep, BeginTold, step_came, begin_came};
-ghost use Rattle.whole_calls.specs.Giving.{GoesDownBy, AnswersAdvance, AnswersSeek, EndsUnlessGiven, GiveLeavesLess, TellsGiven, given_of, give_came};
+ghost use Rattle.whole_calls.specs.Telling.{BeginTold, step_came, begin_came};
+ghost use Rattle.whole_calls.specs.Giving.{GoesDownBy, AnswersAdvance, AnswersSeek, EndsUnlessGiven, GiveLeavesLess, TellsScan, TellsGiven, given_of, give_came};
 ghost use Rattle.whole_calls.specs.Going.{CallGoes};
 
 use crate::running::{begun, give_up, step};
@@ -28,10 +28,11 @@ fn advance<S: PageStore, T: DeadRows>(
     ensures steps { Continues S.follows store.old store.new }
     ensures sessions { length slots.new ≡ length slots.old }
     ensures others { OthersStay session slots.old slots.new }
-    ensures goes { CallGoes S.PageStore session (TellsStep session result) (step_came result)
+    ensures goes { CallGoes S.PageStore session (TellsScan session result) (step_came result)
         (here_with store.old slots.old (map T.is_in sets.now))
         (here_with store.new slots.new (map T.is_in sets.now)) }
-    ensures less { GoesDownBy (S.state store.old) (S.state store.new) (slot_of slots.old session)
+    ensures less { (S.backing store.new).honest ≡ true
+        → GoesDownBy (S.state store.old) (S.state store.new) (slot_of slots.old session)
         (slot_of slots.new session) result }
     ensures kind { AnswersAdvance result }
 {
@@ -54,14 +55,18 @@ fn seek<S: PageStore, T: DeadRows>(
     ensures steps { Continues S.follows store.old store.new }
     ensures sessions { length slots.new ≡ length slots.old }
     ensures others { OthersStay session slots.old slots.new }
-    ensures goes { CallGoes S.PageStore session (TellsStep session result) (step_came result)
+    ensures goes { CallGoes S.PageStore session (TellsScan session result) (step_came result)
         (here_with store.old slots.old (map T.is_in sets.now))
         (here_with store.new slots.new (map T.is_in sets.now)) }
     ensures kind { AnswersSeek result }
-    ensures less { GoesDownBy (S.state store.old) (S.state store.new) (slot_of slots.old session)
+    ensures less { (S.backing store.new).honest ≡ true
+        → GoesDownBy (S.state store.old) (S.state store.new) (slot_of slots.old session)
         (slot_of slots.new session) result }
 {
-    loop {
+    let _limits = store.limits();
+    // As many steps as `finish` makes, at most.
+    let mut left = u64::MAX;
+    while left > 0 {
         match advance(store, slots, sets, session, least_room) {
             Ok(answer) => match answer {
                 Answer::Going | Answer::Ready(_) => {}
@@ -69,7 +74,9 @@ fn seek<S: PageStore, T: DeadRows>(
             },
             Err(fault) => return Err(fault),
         }
+        left -= 1;
     }
+    Err(Fault::PageDamaged(0))
 }
 
 // What a scan gives that came to this.
@@ -85,7 +92,8 @@ fn given(came: Result<Answer, Fault>) -> Result<Option<Entry>, Fault>
 }
 
 /// The next entry of the session's scan, or None where it has given all; it is over then, and where it is refused: as a step of
-/// it is, and with `Io` (2) or `Stopped` (3) where a checkpoint before a step is. There are 64 slots at most.
+/// it is, and with `Io` (2) or `Stopped` (3) where a checkpoint before a step is; over a device that breaks its model also with
+/// `PageDamaged(0)` (17), after 2^64 - 1 steps. There are 64 slots at most.
 pub fn give<S: PageStore, T: DeadRows>(
     store: &mut S,
     slots: &mut [Option<Op>],
@@ -98,7 +106,8 @@ pub fn give<S: PageStore, T: DeadRows>(
     ensures sessions { length slots.new ≡ length slots.old }
     ensures others { OthersStay session slots.old slots.new }
     ensures over { EndsUnlessGiven result (slot_of slots.new session) }
-    ensures less { GiveLeavesLess (S.state store.old) (S.state store.new)
+    ensures less { (S.backing store.new).honest ≡ true
+        → GiveLeavesLess (S.state store.old) (S.state store.new)
         (slot_of slots.old session) (slot_of slots.new session) result }
     ensures goes { CallGoes S.PageStore session (TellsGiven session result) (give_came result)
         (here_with store.old slots.old (map T.is_in sets.now))

@@ -2,18 +2,20 @@
 //! made; one that is refused counts as the refusal of the step. With 0 none is made. Each step is given the sets of dead rows
 //! that calls name by their places.
 
-ghost use Rattle.std.specs.Prelude.{◌≡◌, ◌≢◌, ◌≤◌, length, map, ℕ, Ok, IfOk, OnOk, IfErr, None};
+ghost use Rattle.std.specs.Prelude.{◌≡◌, ◌≢◌, ◌≤◌, true, length, map, ℕ, Ok, IfOk, OnOk, OnErr, IfErr, None};
 ghost use Rattle.index_model.specs.Faults.{HasCause};
 ghost use Rattle.page_action.specs.Causes.{where_forced};
 ghost use Rattle.page_action.specs.States.{Continues};
 ghost use Rattle.session_calls.specs.Ops.{DeadSets};
-ghost use Rattle.session_calls.specs.Sessions.{AnswersStep};
+ghost use Rattle.session_calls.specs.Sessions.{AnswersStep, OnlyInsertsAct, slot_add};
 ghost use Rattle.session_calls.specs.declared.request.Request.TheVariants.{Insert as ToInsert};
 ghost use Rattle.schedule.specs.Snapshots.{here_with, slot_of};
-ghost use Rattle.schedule.specs.Events.{OthersStay};
+ghost use Rattle.schedule.specs.Events.{OthersStay, IsUnchanged};
+ghost use Rattle.schedule.specs.Runs.{Carries};
 ghost use Rattle.whole_calls.specs.Going.{CallGoes};
 ghost use Rattle.whole_calls.specs.Giving.{StepLeavesLess};
-ghost use Rattle.whole_calls.specs.Telling.{RoomIsMade, IsSilent, TellsStep, TellsEnd, HasCome, InsertTold, outcome_of, BeginTold, begun_of, step_came, begin_came, insert_came, room_came};
+ghost use Rattle.whole_calls.specs.Spending.{TakesFewer};
+ghost use Rattle.whole_calls.specs.Telling.{RoomIsMade, IsSilent, TellsStep, TellsEnd, HasCome, InsertTold, left_behind, outcome_of, BeginTold, begun_of, step_came, begin_came, insert_came, room_came};
 
 use crate::inserted::Inserted;
 use index_model::{DeadRows, Entry, Fault};
@@ -62,7 +64,15 @@ pub(crate) fn step<S: PageStore, T: DeadRows>(
     ensures goes { CallGoes S.PageStore session (TellsStep session result) (step_came result)
         (here_with store.old slots.old (map T.is_in sets.now))
         (here_with store.new slots.new (map T.is_in sets.now)) }
-    ensures less { StepLeavesLess (S.state store.old) (S.state store.new)
+    ensures fewer { Carries S.PageStore (here_with store.old slots.old (map T.is_in sets.now))
+        (here_with store.new slots.new (map T.is_in sets.now)) (λ start history calls.
+        TakesFewer (S.state store.old) (S.state store.new) (slot_of slots.old session)
+        (slot_of slots.new session) result) }
+    ensures limits { (S.state store.new).limits ≡ (S.state store.old).limits }
+    ensures calm { OnlyInsertsAct (slot_of slots.old session) (S.state store.old)
+        (S.state store.new) }
+    ensures less { (S.backing store.new).honest ≡ true
+        → StepLeavesLess (S.state store.old) (S.state store.new)
         (slot_of slots.old session) (slot_of slots.new session) result }
     ensures kind { IfOk result (AnswersStep (slot_of slots.old session)
         (slot_of slots.new session)) }
@@ -74,7 +84,8 @@ pub(crate) fn step<S: PageStore, T: DeadRows>(
 }
 
 /// Steps of the session's call until one doesn't answer `Going`, and that answer. Refused, with the call as it is then, where
-/// a checkpoint before a step is refused: with `Io` (2) or `Stopped` (3). There are 64 slots at most.
+/// a checkpoint before a step is refused: with `Io` (2) or `Stopped` (3). Over a device that breaks its model also with
+/// `PageDamaged(0)` (17), after 2^64 - 1 steps. There are 64 slots at most.
 pub fn finish<S: PageStore, T: DeadRows>(
     store: &mut S,
     slots: &mut [Option<Op>],
@@ -91,13 +102,18 @@ pub fn finish<S: PageStore, T: DeadRows>(
         (here_with store.new slots.new (map T.is_in sets.now)) }
     ensures over { result ≢ Ok Answer.Going }
 {
-    loop {
+    let _limits = store.limits();
+    // Over a device that breaks its model nothing else bounds the steps; over one that keeps it this many are never made.
+    let mut left = u64::MAX;
+    while left > 0 {
         match step(store, slots, sets, session, least_room) {
             Ok(Answer::Going) => {}
             Ok(answer) => return Ok(answer),
             Err(fault) => return Err(fault),
         }
+        left -= 1;
     }
+    Err(Fault::PageDamaged(0))
 }
 
 // Whether a call has begun.
@@ -127,6 +143,9 @@ fn begin<S: PageStore, T: DeadRows>(
         (begin_came result)
         (here_with store.old slots.old (map T.is_in sets.now))
         (here_with store.new slots.new (map T.is_in sets.now)) }
+    ensures refused { OnErr result (IsUnchanged S.PageStore
+        (here_with store.old slots.old (map T.is_in sets.now))
+        (here_with store.new slots.new (map T.is_in sets.now))) }
 {
     begun(one(store, slots, sets, Event::Insert(session, entry)))
 }
@@ -157,13 +176,40 @@ pub fn put<S: PageStore, T: DeadRows>(
     }
 }
 
+// The number of the action that added the entry of the session's insert, where it runs one.
+fn added(slots: &[Option<Op>], session: u32) -> Option<u64>
+    ensures { result ≡ slot_add (slot_of slots.now session) }
+{
+    let at = session as usize;
+    if at >= slots.len() {
+        return None;
+    }
+    match &slots[at] {
+        Some(op) => op.added(),
+        None => None,
+    }
+}
+
+// What an insert answers that is refused: where its entry is added, the fault is what it leaves behind.
+fn refused(added: Option<u64>, fault: Fault) -> Result<Inserted, Fault>
+    ensures { result ≡ left_behind added fault }
+{
+    match added {
+        Some(action) => Ok(Inserted {
+            action,
+            unfinished: Some(fault),
+        }),
+        None => Err(fault),
+    }
+}
+
 // What an insert answers that came to this.
-fn outcome(came: Result<Answer, Fault>) -> Result<Inserted, Fault>
-    ensures { result ≡ outcome_of came }
+fn outcome(came: Result<Answer, Fault>, added: Option<u64>) -> Result<Inserted, Fault>
+    ensures { result ≡ outcome_of came added }
 {
     match came {
         Ok(Answer::Added { action, unfinished }) => Ok(Inserted { action, unfinished }),
-        Ok(Answer::Refused(fault)) | Err(fault) => Err(fault),
+        Ok(Answer::Refused(fault)) | Err(fault) => refused(added, fault),
         Ok(_) => Err(Fault::NoSession),
     }
 }
@@ -189,7 +235,9 @@ pub fn give_up<S: PageStore, T: DeadRows>(
     let _answer = one(store, slots, sets, Event::End(session));
 }
 
-/// An insert, run to its end in a session; where a step of it is refused, it is given up. There are 64 slots at most.
+/// An insert, run to its end in a session. Refused as the beginning of a call is: with `Stopped` (3), `NoSession` (12),
+/// `SessionBusy` (13), in this order; nothing is changed then. Where a step of it is refused, it is given up: refused then
+/// too, unless its entry is added, when the fault stands in `unfinished`. There are 64 slots at most.
 pub fn insert<S: PageStore, T: DeadRows>(
     store: &mut S,
     slots: &mut [Option<Op>],
@@ -202,13 +250,18 @@ pub fn insert<S: PageStore, T: DeadRows>(
     ensures steps { Continues S.follows store.old store.new }
     ensures sessions { length slots.new ≡ length slots.old }
     ensures others { OthersStay session slots.old slots.new }
-    ensures over { slot_of slots.new session ≡ None }
-    ensures goes { slot_of slots.old session ≡ None
-        → CallGoes S.PageStore session (InsertTold session entry result) (insert_came result)
+    ensures over { slot_of slots.old session ≡ None → slot_of slots.new session ≡ None }
+    ensures goes { CallGoes S.PageStore session (InsertTold session entry result)
+        (insert_came result)
         (here_with store.old slots.old (map T.is_in sets.now))
         (here_with store.new slots.new (map T.is_in sets.now)) }
 {
-    let came = put(store, slots, sets, session, entry, least_room);
+    match begin(store, slots, sets, session, entry) {
+        Ok(()) => {}
+        Err(fault) => return Err(fault),
+    }
+    let came = finish(store, slots, sets, session, least_room);
+    let added = added(slots, session);
     give_up(store, slots, sets, session);
-    outcome(came)
+    outcome(came, added)
 }

@@ -1,96 +1,103 @@
 use Rattle.std.specs.Prelude.{map}
-use Rattle.std.proofs.Common.{◌≡◌, ◌<◌, arith, Result, Ok, Err, None, refl, subst, ap, ◌∙◌}
+use Rattle.std.proofs.Common.{◌≡◌, ◌+◌, ◌<◌, ◌≤◌, arith, Result, Ok, Err, None, refl, sym, subst, ap, inl, inr, ◌∙◌, rules}
 use Rattle.index_model.specs.declared.fault.Fault.{Fault}
-use Rattle.session_calls.specs.Sessions.{work_left}
+use Rattle.session_calls.specs.Sessions.{work_in}
 use Rattle.session_calls.specs.declared.answer.Answer.{Answer}
-use Rattle.schedule.specs.Snapshots.{here_with, slot_of}
-use Rattle.whole_calls.specs.Telling.{TellsStep, StaysRunning, step_came}
-use Rattle.whole_calls.proofs.Composing.{goes_then, goes_nowhere, goes_told}
-use Rattle.whole_calls.proofs.Tellings.{silent_then, going_stays, ready_stays, stays_then}
-use Rattle.std.proofs.Common.{inl, inr, rules}
-use Rattle.whole_calls.proofs.Given.{sought, down_after}
-use Rattle.whole_calls.specs.Giving.{AnswersAdvance, GoesDownBy}
-use Rattle.whole_calls.proofs.giving.seek.Goals as goal
+use Rattle.schedule.specs.Snapshots.{here_with, slot_of, snapshot_of}
+use Rattle.schedule.proofs.Bounds.{work_bounded}
 use Rattle.whole_calls.specs.Going.{CallGoes}
+use Rattle.whole_calls.specs.Giving.{AnswersAdvance, GoesDownBy, TellsScan, ScanStays}
+use Rattle.whole_calls.specs.Telling.{step_came}
+use Rattle.whole_calls.proofs.Composing.{goes_then, goes_nowhere, goes_told}
+use Rattle.whole_calls.proofs.Given.{sought, down_after, scan_then, stays_then, going_stays, ready_stays}
+use Rattle.whole_calls.proofs.giving.seek.Goals as goal
 use Rattle.whole_calls.proofs.giving.seek.Given.{Over}
 use Rattle.whole_calls.proofs.giving.seek.Goals.{After-advance}
 
-pub loop-answer-init : goal.loop-answer-init
-loop-answer-init g c =
-    let laws = g.met.S.PageStore.laws in
-    record {
-      steps = λ f h. h;
-      sessions = refl;
-      others = λ o ne. refl;
-      goes = goes_nowhere g.S.PageStore laws c.args.session (StaysRunning c.args.session) (here_with c.args.store.now c.args.slots.now (map g.T.DeadRows.is_in c.args.sets.now)) (λ x number call is. record { history_is = refl; calls_is = refl });
-      less = omega arith;
-    }
+pub loop-left-init : goal.loop-left-init
+loop-left-init g c = record {
+  steps = λ f h. h;
+  sessions = refl;
+  others = λ o ne. refl;
+  goes = goes_nowhere g.S.PageStore g.met.S.PageStore.laws c.args.session (ScanStays c.args.session) (here_with c.args.store.now c.args.slots.now (map g.T.DeadRows.is_in c.args.sets.now)) (λ x number call range is ask. record { history_is = refl; calls_is = refl });
+  budget = λ honest. omega arith;
+  fewer = omega arith;
+}
 
 -- behind the steps so far, what the last one tells
 last : (g : Over) (c : After-advance g)
-    → CallGoes g.S.PageStore c.args.session (TellsStep c.args.session c.advance.result) (step_came c.advance.result) (here_with c.args.store.now c.args.slots.now (map g.T.DeadRows.is_in c.args.sets.now)) (here_with c.advance.new.store c.advance.new.slots (map g.T.DeadRows.is_in c.args.sets.now))
+    → CallGoes g.S.PageStore c.args.session (TellsScan c.args.session c.advance.result) (step_came c.advance.result) (here_with c.args.store.now c.args.slots.now (map g.T.DeadRows.is_in c.args.sets.now)) (here_with c.advance.new.store c.advance.new.slots (map g.T.DeadRows.is_in c.args.sets.now))
 last g c =
     let laws = g.met.S.PageStore.laws in
     let session = c.args.session in
     let result = c.advance.result in
-    goes_then g.S.PageStore laws session (StaysRunning session) (TellsStep session result) (TellsStep session result) None (step_came result)
-    (here_with c.args.store.now c.args.slots.now (map g.T.DeadRows.is_in c.args.sets.now)) (here_with c.loop-answer.store c.loop-answer.slots (map g.T.DeadRows.is_in c.args.sets.now)) (here_with c.advance.new.store c.advance.new.slots (map g.T.DeadRows.is_in c.args.sets.now))
-    c.loop-answer.invariant.steps c.advance.ensures.steps c.loop-answer.invariant.goes c.advance.ensures.goes
-    (λ start x y z at fx fy fz one two. silent_then session result x y z one two)
+    goes_then g.S.PageStore laws session (ScanStays session) (TellsScan session result) (TellsScan session result) None (step_came result)
+    (here_with c.args.store.now c.args.slots.now (map g.T.DeadRows.is_in c.args.sets.now)) (here_with c.loop-left.store c.loop-left.slots (map g.T.DeadRows.is_in c.args.sets.now)) (here_with c.advance.new.store c.advance.new.slots (map g.T.DeadRows.is_in c.args.sets.now))
+    c.loop-left.invariant.steps c.advance.ensures.steps c.loop-left.invariant.goes c.advance.ensures.goes
+    (λ start x y z at then_at fx fy fz one two. scan_then session result x y z one two)
 
 -- ... as it is answered
 answered : (g : Over) (c : After-advance g) (r : Result Answer Fault) → c.advance.result ≡ r
-    → CallGoes g.S.PageStore c.args.session (TellsStep c.args.session r) (step_came r) (here_with c.args.store.now c.args.slots.now (map g.T.DeadRows.is_in c.args.sets.now)) (here_with c.advance.new.store c.advance.new.slots (map g.T.DeadRows.is_in c.args.sets.now))
-answered g c r is = subst (λ (s : Result Answer Fault). CallGoes g.S.PageStore c.args.session (TellsStep c.args.session s) (step_came s) (here_with c.args.store.now c.args.slots.now (map g.T.DeadRows.is_in c.args.sets.now)) (here_with c.advance.new.store c.advance.new.slots (map g.T.DeadRows.is_in c.args.sets.now))) is (last g c)
+    → CallGoes g.S.PageStore c.args.session (TellsScan c.args.session r) (step_came r) (here_with c.args.store.now c.args.slots.now (map g.T.DeadRows.is_in c.args.sets.now)) (here_with c.advance.new.store c.advance.new.slots (map g.T.DeadRows.is_in c.args.sets.now))
+answered g c r is = subst (λ (s : Result Answer Fault). CallGoes g.S.PageStore c.args.session (TellsScan c.args.session s) (step_came s) (here_with c.args.store.now c.args.slots.now (map g.T.DeadRows.is_in c.args.sets.now)) (here_with c.advance.new.store c.advance.new.slots (map g.T.DeadRows.is_in c.args.sets.now))) is (last g c)
 
 pub returns-in_default : goal.returns-in_default
-returns-in_default g c = record {
-  steps = λ f h. c.advance.ensures.steps f (c.loop-answer.invariant.steps f h);
-  sessions = c.advance.ensures.sessions ∙ c.loop-answer.invariant.sessions;
-  others = λ o ne. c.advance.ensures.others o ne ∙ c.loop-answer.invariant.others o ne;
-  goes = answered g ((goal.at.returns-in_default g c).After-advance) (Ok c.in-Ok.answer) c.in-Ok.is;
-  kind = sought c.in-Ok.answer (subst AnswersAdvance c.in-Ok.is c.advance.ensures.kind) (λ is. search rules) (λ count is. search rules);
-  less = down_after (g.S.PageStore.state c.args.store.now) (g.S.PageStore.state c.loop-answer.store) (g.S.PageStore.state c.advance.new.store) _ _ _ (Ok c.in-Ok.answer) c.loop-answer.invariant.less
-      (subst (GoesDownBy (g.S.PageStore.state c.loop-answer.store) (g.S.PageStore.state c.advance.new.store) (slot_of c.loop-answer.slots c.args.session) (slot_of c.advance.new.slots c.args.session)) c.in-Ok.is c.advance.ensures.less);
-}
+returns-in_default g c =
+    let laws = g.met.S.PageStore.laws in
+    let later = laws.follows_later c.loop-left.store c.advance.new.store (c.advance.ensures.steps _ (laws.follows_same _)) in
+    let fewer = c.loop-left.invariant.fewer in
+    record {
+      steps = λ f h. c.advance.ensures.steps f (c.loop-left.invariant.steps f h);
+      sessions = c.advance.ensures.sessions ∙ c.loop-left.invariant.sessions;
+      others = λ o ne. c.advance.ensures.others o ne ∙ c.loop-left.invariant.others o ne;
+      goes = answered g ((goal.at.returns-in_default g c).After-advance) (Ok c.in-Ok.answer) c.in-Ok.is;
+      kind = sought c.in-Ok.answer (subst AnswersAdvance c.in-Ok.is c.advance.ensures.kind) (λ is. search rules) (λ count is. search rules);
+      less = λ honest. (
+          let most = c.loop-left.invariant.budget (later.honest honest) in
+          down_after (g.S.PageStore.state c.args.store.now) (g.S.PageStore.state c.loop-left.store) (g.S.PageStore.state c.advance.new.store) _ _ _ (Ok c.in-Ok.answer) (omega (arith, most, fewer))
+          (subst (GoesDownBy (g.S.PageStore.state c.loop-left.store) (g.S.PageStore.state c.advance.new.store) (slot_of c.loop-left.slots c.args.session) (slot_of c.advance.new.slots c.args.session)) c.in-Ok.is (c.advance.ensures.less honest)));
+    }
 
 pub returns-in-Err : goal.returns-in-Err
 returns-in-Err g c = record {
-  steps = λ f h. c.advance.ensures.steps f (c.loop-answer.invariant.steps f h);
-  sessions = c.advance.ensures.sessions ∙ c.loop-answer.invariant.sessions;
-  others = λ o ne. c.advance.ensures.others o ne ∙ c.loop-answer.invariant.others o ne;
+  steps = λ f h. c.advance.ensures.steps f (c.loop-left.invariant.steps f h);
+  sessions = c.advance.ensures.sessions ∙ c.loop-left.invariant.sessions;
+  others = λ o ne. c.advance.ensures.others o ne ∙ c.loop-left.invariant.others o ne;
   goes = answered g ((goal.at.returns-in-Err g c).After-advance) (Err c.in-Err.fault) c.in-Err.is;
   kind = tt;
-  less = tt;
+  less = λ honest. tt;
 }
 
-pub loop-answer-preserved : goal.loop-answer-preserved
-loop-answer-preserved g c =
+pub loop-left-preserved : goal.loop-left-preserved
+loop-left-preserved g c =
     let laws = g.met.S.PageStore.laws in
     let session = c.args.session in
     let result = c.advance.result in
+    let later = laws.follows_later c.loop-left.store c.advance.new.store (c.advance.ensures.steps _ (laws.follows_same _)) in
+    let old_fewer = c.loop-left.invariant.fewer in
     record {
-      steps = λ f h. c.advance.ensures.steps f (c.loop-answer.invariant.steps f h);
-      sessions = c.advance.ensures.sessions ∙ c.loop-answer.invariant.sessions;
-      others = λ o ne. c.advance.ensures.others o ne ∙ c.loop-answer.invariant.others o ne;
-      goes = goes_told g.S.PageStore session (StaysRunning session) (StaysRunning session) (step_came result) None _ _ (λ start answers x y at fits came told. (tt, told))
-          (goes_then g.S.PageStore laws session (StaysRunning session) (TellsStep session result) (StaysRunning session) None (step_came result)
-          (here_with c.args.store.now c.args.slots.now (map g.T.DeadRows.is_in c.args.sets.now)) (here_with c.loop-answer.store c.loop-answer.slots (map g.T.DeadRows.is_in c.args.sets.now)) (here_with c.advance.new.store c.advance.new.slots (map g.T.DeadRows.is_in c.args.sets.now))
-          c.loop-answer.invariant.steps c.advance.ensures.steps c.loop-answer.invariant.goes c.advance.ensures.goes
-          (λ start x y z at fx fy fz one two. stays_then session x y z one (elim c.in-Going.is [
-            | inl going ↦ going_stays session y z (subst (λ (r : Result Answer Fault). TellsStep session r y z) (c.in-Ok.is ∙ ap (λ (a : Answer). Ok a) going) two)
-            | inr ready ↦ ready_stays session ready.0 y z (subst (λ (r : Result Answer Fault). TellsStep session r y z) (c.in-Ok.is ∙ ap (λ (a : Answer). Ok a) ready.1) two)
+      steps = λ f h. c.advance.ensures.steps f (c.loop-left.invariant.steps f h);
+      sessions = c.advance.ensures.sessions ∙ c.loop-left.invariant.sessions;
+      others = λ o ne. c.advance.ensures.others o ne ∙ c.loop-left.invariant.others o ne;
+      goes = goes_told g.S.PageStore session (ScanStays session) (ScanStays session) (step_came result) None _ _ (λ start answers x y at fits came told. (tt, told))
+          (goes_then g.S.PageStore laws session (ScanStays session) (TellsScan session result) (ScanStays session) None (step_came result)
+          (here_with c.args.store.now c.args.slots.now (map g.T.DeadRows.is_in c.args.sets.now)) (here_with c.loop-left.store c.loop-left.slots (map g.T.DeadRows.is_in c.args.sets.now)) (here_with c.advance.new.store c.advance.new.slots (map g.T.DeadRows.is_in c.args.sets.now))
+          c.loop-left.invariant.steps c.advance.ensures.steps c.loop-left.invariant.goes c.advance.ensures.goes
+          (λ start x y z at then_at fx fy fz one two. stays_then session x y z one (elim c.in-Going.is [
+            | inl going ↦ going_stays session y z (subst (λ (r : Result Answer Fault). TellsScan session r y z) (c.in-Ok.is ∙ ap (λ (a : Answer). Ok a) going) two)
+            | inr ready ↦ ready_stays session ready.0 y z (subst (λ (r : Result Answer Fault). TellsScan session r y z) (c.in-Ok.is ∙ ap (λ (a : Answer). Ok a) ready.1) two)
           ])));
-      less = elim (c.in-Going.is) [
+      budget = λ honest. elim (c.in-Going.is) [
         | inl going ↦ (
-            let down : work_left (g.S.PageStore.state c.advance.new.store).pages (slot_of c.advance.new.slots session) < work_left (g.S.PageStore.state c.loop-answer.store).pages (slot_of c.loop-answer.slots session) =
-            subst (GoesDownBy (g.S.PageStore.state c.loop-answer.store) (g.S.PageStore.state c.advance.new.store) (slot_of c.loop-answer.slots session) (slot_of c.advance.new.slots session)) (c.in-Ok.is ∙ ap (λ (a : Answer). Ok a) going) c.advance.ensures.less in
-            let most = c.loop-answer.invariant.less in
+            let down : work_in (g.S.PageStore.state c.advance.new.store) (slot_of c.advance.new.slots session) < work_in (g.S.PageStore.state c.loop-left.store) (slot_of c.loop-left.slots session) =
+            subst (GoesDownBy (g.S.PageStore.state c.loop-left.store) (g.S.PageStore.state c.advance.new.store) (slot_of c.loop-left.slots session) (slot_of c.advance.new.slots session)) (c.in-Ok.is ∙ ap (λ (a : Answer). Ok a) going) (c.advance.ensures.less honest) in
+            let most = c.loop-left.invariant.budget (later.honest honest) in
             omega (arith, down, most))
         | inr ready ↦ (
-            let down : work_left (g.S.PageStore.state c.advance.new.store).pages (slot_of c.advance.new.slots session) < work_left (g.S.PageStore.state c.loop-answer.store).pages (slot_of c.loop-answer.slots session) =
-            subst (GoesDownBy (g.S.PageStore.state c.loop-answer.store) (g.S.PageStore.state c.advance.new.store) (slot_of c.loop-answer.slots session) (slot_of c.advance.new.slots session)) (c.in-Ok.is ∙ ap (λ (a : Answer). Ok a) ready.1) c.advance.ensures.less in
-            let most = c.loop-answer.invariant.less in
+            let down : work_in (g.S.PageStore.state c.advance.new.store) (slot_of c.advance.new.slots session) < work_in (g.S.PageStore.state c.loop-left.store) (slot_of c.loop-left.slots session) =
+            subst (GoesDownBy (g.S.PageStore.state c.loop-left.store) (g.S.PageStore.state c.advance.new.store) (slot_of c.loop-left.slots session) (slot_of c.advance.new.slots session)) (c.in-Ok.is ∙ ap (λ (a : Answer). Ok a) ready.1) (c.advance.ensures.less honest) in
+            let most = c.loop-left.invariant.budget (later.honest honest) in
             omega (arith, down, most))
       ];
+      fewer = omega (arith, old_fewer);
     }

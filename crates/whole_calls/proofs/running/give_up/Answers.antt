@@ -13,4 +13,4 @@ returns-clause-goes g c =
     let answer = c.one-answer.result in
     goes_told g.S.PageStore session (TellsEnd session) (TellsEnd session) (Some answer) None _ _ (λ start answers x y at fits came told. (tt, told))
     (goes_by g.S.PageStore g.met.S.PageStore.laws session (TellsEnd session) (End session) answer (here_with c.args.store.now c.args.slots.now (map g.T.DeadRows.is_in c.args.sets.now)) (here_with c.one-answer.new.store c.one-answer.new.slots (map g.T.DeadRows.is_in c.args.sets.now)) refl c.one-answer.ensures.runs
-    (λ start x y from to fits does. ends_tells g.S.PageStore start x y session answer does))
+    (λ start x y from to fits does. ends_tells g.S.PageStore start x y session answer fits does))

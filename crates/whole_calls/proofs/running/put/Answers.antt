@@ -1,5 +1,5 @@
 use Rattle.std.specs.Prelude.{map}
-use Rattle.std.proofs.Common.{Result, Err, subst}
+use Rattle.std.proofs.Common.{Result, Err, inl, subst}
 use Rattle.index_model.specs.declared.fault.Fault.{Fault}
 use Rattle.session_calls.specs.declared.request.Request.TheVariants.{Insert as ToInsert}
 use Rattle.schedule.specs.Snapshots.{here_with}
@@ -14,7 +14,7 @@ returns-in-Ok-clause-goes g c =
     let request = ToInsert c.args.entry in
     goes_then g.S.PageStore g.met.S.PageStore.laws session (BeginTold session request c.begin.result) (TellsStep session c.finish.result) (HasCome session request c.finish.result) (begin_came c.begin.result) (step_came c.finish.result)
     (here_with c.args.store.now c.args.slots.now (map g.T.DeadRows.is_in c.args.sets.now)) (here_with c.begin.new.store c.begin.new.slots (map g.T.DeadRows.is_in c.args.sets.now)) (here_with c.finish.new.store c.finish.new.slots (map g.T.DeadRows.is_in c.args.sets.now)) c.begin.ensures.steps c.finish.ensures.steps c.begin.ensures.goes c.finish.ensures.goes
-    (λ start x y z at fx fy fz one two. begun_came session request x y z (subst (λ (r : Result (Unit {0}) Fault). BeginTold session request r x y) c.in-Ok.is one) c.finish.result two)
+    (λ start x y z at then_at fx fy fz one two. begun_came session request x y z (subst (λ (r : Result (Unit {0}) Fault). BeginTold session request r x y) c.in-Ok.is one) c.finish.result two)
 
 pub returns-in-Err-clause-goes : goal.returns-in-Err-clause-goes
 returns-in-Err-clause-goes g c =
@@ -23,4 +23,4 @@ returns-in-Err-clause-goes g c =
     goes_told g.S.PageStore session (BeginTold session request c.begin.result) (HasCome session request (Err c.in-Err.fault)) (begin_came c.begin.result) (step_came (Err c.in-Err.fault)) _ _
     (λ start answers x y at fits came told.
     (let t : BeginTold session request (Err c.in-Err.fault) x y = subst (λ (r : Result (Unit {0}) Fault). BeginTold session request r x y) c.in-Err.is told in
-    (rw c.in-Err.is at came, (t.silent.history_is, t.not_exists)))) c.begin.ensures.goes
+    (rw c.in-Err.is at came, inl t))) c.begin.ensures.goes

@@ -1,11 +1,15 @@
 use Rattle.std.specs.Prelude.{map}
-use Rattle.std.proofs.Common.{Some, Ok, Err, refl}
+use Rattle.std.proofs.Common.{◌≡◌, Some, Ok, Err, [], refl, sym, subst}
 use Rattle.schedule.specs.Events.{Steps}
-use Rattle.schedule.specs.Snapshots.{here_with}
+use Rattle.page_action.specs.States.{State}
+use Rattle.schedule.specs.Snapshots.{here_with, slot_of}
+use Rattle.whole_calls.specs.Spending.{TakesFewer}
 use Rattle.schedule.specs.declared.event.Event.TheVariants.{Step}
 use Rattle.whole_calls.specs.Telling.{IsSilent, TellsStep, room_came}
 use Rattle.whole_calls.proofs.Composing.{goes_then, goes_by, goes_told}
-use Rattle.whole_calls.proofs.Tellings.{moves_tells, silent_then, kept_not_exists}
+use Rattle.whole_calls.proofs.Gone.{gone_nowhere, silent_then}
+use Rattle.whole_calls.proofs.Tellings.{moves_tells, kept_not_exists}
+use Rattle.whole_calls.proofs.Spending.{run_fewer}
 use Rattle.session_calls.specs.declared.answer.Answer.TheVariants.{Refused}
 use Rattle.whole_calls.proofs.running.step.Goals as goal
 
@@ -20,7 +24,7 @@ returns-in-Ok-clause-goes g c =
     (c.make_room.ensures.goes session (map g.T.DeadRows.is_in c.args.sets.now))
     (goes_by g.S.PageStore laws session (TellsStep session (Ok answer)) (Step session) answer here there refl c.one.ensures.runs
     (λ start x y from to fits does. moves_tells g.S.PageStore start x y session Steps answer tt fits does))
-    (λ start x y z at fx fy fz one two. silent_then session (Ok answer) x y z (λ n call is. one) two)
+    (λ start x y z at then_at fx fy fz one two. silent_then session (Ok answer) x y z one two)
 
 pub returns-in-Err-clause-goes : goal.returns-in-Err-clause-goes
 returns-in-Err-clause-goes g c =
@@ -29,5 +33,19 @@ returns-in-Err-clause-goes g c =
     goes_told g.S.PageStore session IsSilent (TellsStep session (Err fault)) (room_came c.make_room.result) (Some (Refused fault)) _ _
     (λ start answers x y at fits came silent. (
       rw c.in-Err.is at came,
-      λ number call is. record { silent = silent; not_exists = kept_not_exists (g.S.PageStore.backing c.args.store.now) (g.S.PageStore.backing c.make_room.new.store) fault c.in-Err.ensures.cause },
+      λ number call is. record { before = []; gone = gone_nowhere session number call x y is silent; not_exists = kept_not_exists (g.S.PageStore.backing c.args.store.now) (g.S.PageStore.backing c.make_room.new.store) fault c.in-Err.ensures.cause },
     )) (c.make_room.ensures.goes session (map g.T.DeadRows.is_in c.args.sets.now))
+
+pub returns-in-Ok-clause-fewer : goal.returns-in-Ok-clause-fewer
+returns-in-Ok-clause-fewer g c honest start history calls fits =
+    let laws = g.met.S.PageStore.laws in
+    let session = c.args.session in
+    let here = here_with c.make_room.new.store c.args.slots.now (map g.T.DeadRows.is_in c.args.sets.now) in
+    let there = here_with c.one.new.store c.one.new.slots (map g.T.DeadRows.is_in c.args.sets.now) in
+    let later = laws.follows_later c.make_room.new.store c.one.new.store (c.one.ensures.steps _ (laws.follows_same _)) in
+    let r = c.make_room.ensures.goes session (map g.T.DeadRows.is_in c.args.sets.now) (later.honest honest) start history calls fits in
+    subst (λ (st : State). TakesFewer st (g.S.PageStore.state c.one.new.store) (slot_of c.args.slots.now session) (slot_of c.one.new.slots session) (Ok c.one.result)) c.make_room.ensures.state
+    (run_fewer g.S.PageStore session c.one.result here there c.one.ensures.runs honest start r.then_history r.then_calls r.ran.fits)
+
+pub returns-in-Err-clause-fewer : goal.returns-in-Err-clause-fewer
+returns-in-Err-clause-fewer g c honest start history calls fits low is = absurd cc

@@ -1,0 +1,301 @@
+-- What an insert tells that is run to its end.
+use Rattle.std.proofs.Common.{◌≡◌, ◌≢◌, ℕ, zero, suc, ◌+◌, ◌⊎◌, Bool, true, false, if◌then◌else◌, Option, Some, None, Result, Ok, Err, List, [], ◌∷◌, ◌++◌, length, slice_get, slice_set, refl, sym, ap, subst, arith, inl, inr, ◌∙◌, length-append}
+use Rattle.std.proofs.lemmas.List.{append-nil}
+use Rattle.std.specs.Prelude.{unwrap_or}
+use Rattle.index_model.specs.Actions.{Effect, Add, Remove, Shape, Action}
+use Rattle.index_model.specs.Calls.{Ask, AskInsert, Ending, Running, Added as EndsAdded, GivenUp, Failed, AnswersRight, end_of, Meets, Call}
+use Rattle.index_model.specs.declared.entry.Entry.{Entry}
+use Rattle.index_model.specs.declared.fault.Fault.{Fault}
+use Rattle.index_model.specs.declared.fault.Fault.TheVariants.{Exists}
+use Rattle.page_action.specs.declared.page_store.PageStore.{Ghosts}
+use Rattle.session_calls.specs.Ops.{add_of, ends_call}
+use Rattle.session_calls.specs.Sessions.{act_count, acts_of, noted, begun_call, ended, slot_add}
+use Rattle.session_calls.specs.declared.answer.Answer.{Answer}
+use Rattle.session_calls.specs.declared.answer.Answer.TheVariants.{Begun, Going, Added, Ready, Done, Finished, Gave, Ended, Forced, Flushed, Checkpointed, Refused}
+use Rattle.session_calls.specs.declared.op.Op.{Op}
+use Rattle.session_calls.specs.declared.request.Request.TheVariants.{Insert as ToInsert}
+use Rattle.schedule.specs.Snapshots.{Snapshot, slot_of, IsRunningCall, SlotRuns, SlotMatches, Fits}
+use Rattle.schedule.proofs.Lists.{get_append_new, get_append_cases}
+use Rattle.whole_calls.specs.Going.{CameBy}
+use Rattle.whole_calls.specs.Telling.{acts_by, noted_behind, AreOwnEffects, IsTold, IsHeldUp, HasNone, TellsEnd, with_call, first_call, NextTold, NothingTold, left_behind, outcome_of, step_came, insert_came, shapes, inserted_call, IsEndOf, IsAddedNow, IsNotAdded, InsertTold}
+use Rattle.whole_calls.specs.declared.inserted.Inserted.{Inserted}
+use Rattle.whole_calls.proofs.Gone.{same_ask, same_ending, same_session, many_behind, WholeTold, whole_told}
+use Rattle.whole_calls.proofs.Tellings.{runs_in_slot, one_runs, is_empty, set_new}
+
+-- an insert whose entry is added appends nothing but changes of the shape
+only_shapes : (number : ℕ) (e : Entry) (call : Call) (count action : ℕ) (effects : List Effect) → call.ask ≡ AskInsert e → call.added ≡ Some action → AreOwnEffects call count effects
+    → (acts_by number effects ≡ shapes number (length effects)) × (noted_behind call count effects ≡ call)
+only_shapes number e call count action [] ask added own = (refl, refl)
+only_shapes number e call count action (Shape ∷ effects) ask added own =
+    let r = only_shapes number e call (suc count) action effects ask added own.1 in
+    (ap (λ (l : List Action). (record { by = number; effect = Shape }) ∷ l) r.0, r.1)
+only_shapes number e call count action (Add x ∷ effects) ask added own =
+    absurd (let m = rw ask at own.0 in let none : call.added ≡ None = m.1 in cc)
+only_shapes number e call count action (Remove es ∷ effects) ask added own = absurd (rw ask at own.0)
+
+-- an insert whose entry isn't added at the end, too
+none_added : (number : ℕ) (e : Entry) (call : Call) (count : ℕ) (effects : List Effect) → call.ask ≡ AskInsert e → (noted_behind call count effects).added ≡ None → AreOwnEffects call count effects
+    → (acts_by number effects ≡ shapes number (length effects)) × (noted_behind call count effects ≡ call)
+none_added number e call count [] ask none own = (refl, refl)
+none_added number e call count (Shape ∷ effects) ask none own =
+    let r = none_added number e call (suc count) effects ask none own.1 in
+    (ap (λ (l : List Action). (record { by = number; effect = Shape }) ∷ l) r.0, r.1)
+none_added number e call count (Add x ∷ effects) ask none own =
+    absurd (let r = only_shapes number e (noted call count (Some (Add x))) (suc count) (suc count) effects ask refl own.1 in
+    let s : (noted_behind call count (Add x ∷ effects)).added ≡ Some (suc count) = ap (λ (c : Call). c.added) r.1 in cc)
+none_added number e call count (Remove es ∷ effects) ask none own = absurd (rw ask at own.0)
+
+-- what an insert has appended that has its Add at the end
+pub record OneAdd (number : ℕ) (e : Entry) (call : Call) (count : ℕ) (effects : List Effect) (action : ℕ) : Type 0 where
+  pub before : ℕ
+  pub behind : ℕ
+  pub acts_are : acts_by number effects ≡ shapes number before ++ (record { by = number; effect = Add e }) ∷ shapes number behind
+  pub action_is : action ≡ suc (before + count)
+  pub noted_is : noted_behind call count effects ≡ record call { added = Some action }
+
+one_add : (number : ℕ) (e : Entry) (call : Call) (count : ℕ) (effects : List Effect) (action : ℕ) → call.ask ≡ AskInsert e → call.added ≡ None → (noted_behind call count effects).added ≡ Some action → AreOwnEffects call count effects
+    → OneAdd number e call count effects action
+one_add number e call count [] action ask none some own = absurd cc
+one_add number e call count (Shape ∷ effects) action ask none some own =
+    let r = one_add number e call (suc count) effects action ask none some own.1 in
+    record {
+      before = suc r.before;
+      behind = r.behind;
+      acts_are = ap (λ (l : List Action). (record { by = number; effect = Shape }) ∷ l) r.acts_are;
+      action_is = (let is = r.action_is in omega (arith, is));
+      noted_is = r.noted_is;
+    }
+one_add number e call count (Add x ∷ effects) action ask none some own =
+    let m = rw ask at own.0 in
+    let same : e ≡ x = m.0 in
+    let r = only_shapes number e (noted call count (Some (Add x))) (suc count) (suc count) effects ask refl own.1 in
+    let is : action ≡ suc count = (let s : (noted_behind call count (Add x ∷ effects)).added ≡ Some (suc count) = ap (λ (c : Call). c.added) r.1 in cc) in
+    record {
+      before = 0;
+      behind = length effects;
+      acts_are = ap (λ (l : List Action). (record { by = number; effect = Add x }) ∷ l) r.0 ∙ ap (λ (y : Entry). (record { by = number; effect = Add y }) ∷ shapes number (length effects)) (sym same);
+      action_is = is;
+      noted_is = r.1 ∙ ap (λ (n : ℕ). let c : Call = record call { added = Some n } in c) (sym is);
+    }
+one_add number e call count (Remove es ∷ effects) action ask none some own = absurd (rw ask at own.0)
+
+-- a call that has come to its end, in a session that had none
+ended_none : {S : Type 0} (session : ℕ) (x y : Snapshot S) (after : Call) → HasNone session x → y.calls ≡ x.calls ++ after ∷ [] → (after.ending ≡ Running → ⊥) → HasNone session y
+ended_none session x y after none calls over number call is =
+    elim (get_append_cases x.calls after number call (ap (λ (l : List Call). slice_get l number) (sym calls) ∙ is.found)) [
+      | inl old ↦ none number call (record { found = old; session_is = is.session_is; running = is.running })
+      | inr new ↦ over (ap (λ (c : Call). c.ending) (sym new.1) ∙ is.running)
+    ]
+
+-- an insert that a fault has ended has no Add
+failed_has_none : (start : Entry → Bool) (history : List Action) (number : ℕ) (e : Entry) (fault : Fault) (call : Call) → Meets start history number call → call.ask ≡ AskInsert e → call.ending ≡ Failed fault → call.added ≡ None
+failed_has_none start history number e fault call meets ask ending =
+    let right = subst (λ (x : Ending). AnswersRight start history number call.began (end_of history x call.until) call.ask call.given call.added x) ending meets.right in
+    let mine = subst (λ (a : Ask). AnswersRight start history number call.began call.until a call.given call.added (Failed fault)) ask right in
+    mine.end.0
+
+-- an insert that was refused: where it stands then
+pub record IsLeftSo {S : Type 0} (number : ℕ) (call : Call) (fault : Fault) (x y : Snapshot S) : Type 0 where
+  pub effects : List Effect
+  pub own : AreOwnEffects call (length x.history) effects
+  pub after : Call
+  pub history_is : y.history ≡ x.history ++ acts_by number effects
+  pub calls_is : y.calls ≡ slice_set x.calls number after
+  pub after_is : (after ≡ noted_behind call (length x.history) effects) ⊎ (after ≡ ended (noted_behind call (length x.history) effects) (Failed fault) (length y.history))
+  pub exists_is : fault ≡ Exists → after ≡ ended (noted_behind call (length x.history) effects) (Failed Exists) (length y.history)
+
+held_so : {S : Type 0} (number : ℕ) (call : Call) (fault : Fault) (x y : Snapshot S) → IsHeldUp number call fault x y → IsLeftSo number call fault x y
+held_so number call fault x y h = record {
+  effects = h.before;
+  own = h.gone.own;
+  after = noted_behind call (length x.history) h.before;
+  history_is = h.gone.history_is;
+  calls_is = h.gone.calls_is;
+  after_is = inl refl;
+  exists_is = λ e. absurd (h.not_exists e);
+}
+
+refused_so : {S : Type 0} (number : ℕ) (call : Call) (fault : Fault) (x y : Snapshot S) → IsTold number call (Refused fault) x y → IsLeftSo number call fault x y
+refused_so number call fault x y t =
+    let w = whole_told number call (Refused fault) x y t in
+    let same : t.before ≡ w.effects = w.none_is t.told.0 in
+    let history : y.history ≡ x.history ++ acts_by number w.effects = w.history_is in
+    let many : length (x.history ++ acts_by number t.before) ≡ length y.history = ap (λ (l : List Effect). length (x.history ++ acts_by number l)) same ∙ ap (λ (l : List Action). length l) (sym history) in
+    let is : t.after ≡ (if ends_call fault then ended (noted_behind call (length x.history) w.effects) (Failed fault) (length y.history) else noted_behind call (length x.history) w.effects) =
+    t.told.1 ∙ ap (λ (l : List Effect). if ends_call fault then ended (noted_behind call (length x.history) l) (Failed fault) (length (x.history ++ acts_by number t.before)) else noted_behind call (length x.history) l) same
+    ∙ ap (λ (n : ℕ). if ends_call fault then ended (noted_behind call (length x.history) w.effects) (Failed fault) n else noted_behind call (length x.history) w.effects) many in
+    record {
+      effects = w.effects;
+      own = w.own;
+      after = t.after;
+      history_is = history;
+      calls_is = t.calls_is;
+      after_is = by (ends_call fault) is;
+      exists_is = λ e. subst (λ (f : Fault). t.after ≡ (if ends_call f then ended (noted_behind call (length x.history) w.effects) (Failed f) (length y.history) else noted_behind call (length x.history) w.effects)) e is;
+    }
+  where
+    by : {c : Call} {d : Call} {k : Call} (b : Bool) → k ≡ (if b then d else c) → (k ≡ c) ⊎ (k ≡ d)
+    by true h = inr h
+    by false h = inl h
+
+-- an insert that came so far, and then an end
+module _ {S : Type 0} (g : Ghosts S) (start : Entry → Bool) (session : ℕ) (entry : Entry) (x y z : Snapshot S) (free : HasNone session x) (fits : Fits g start y) (end : TellsEnd session y z) where
+  abbrev request_call : Call
+  request_call = first_call session (ToInsert entry) x
+
+  abbrev begun : Snapshot S
+  begun = with_call x request_call
+
+  abbrev insert_number : ℕ
+  insert_number = length x.calls
+
+  added_told : (action : ℕ) (unfinished : Option Fault) → IsTold insert_number request_call (Added action unfinished) begun y → IsAddedNow session entry (record { action = action; unfinished = unfinished }) x z
+  added_told action unfinished t =
+      let w = whole_told insert_number request_call (Added action unfinished) begun y t in
+      let o = one_add insert_number entry request_call (length x.history) w.effects action refl refl (ap (λ (c : Call). c.added) (sym w.noted_is) ∙ t.told.noted_is) w.own in
+      let until : act_count t.last + length (x.history ++ acts_by insert_number t.before) ≡ length z.history = more t.last (x.history ++ acts_by insert_number t.before) t.history_is ∙ ap (λ (l : List Action). length l) (sym end.history_is) in
+      let after_is : t.after ≡ inserted_call session entry (length x.history) action (EndsAdded action unfinished) (length z.history) =
+      t.told.after_is ∙ ap (λ (c : Call). ended c (EndsAdded action unfinished) (act_count t.last + length (x.history ++ acts_by insert_number t.before))) (w.noted_is ∙ o.noted_is)
+      ∙ ap (λ (n : ℕ). inserted_call session entry (length x.history) action (EndsAdded action unfinished) n) until in
+      let calls : y.calls ≡ x.calls ++ inserted_call session entry (length x.history) action (EndsAdded action unfinished) (length z.history) ∷ [] =
+      t.calls_is ∙ set_new x.calls request_call t.after ∙ ap (λ (c : Call). x.calls ++ c ∷ []) after_is in
+      record {
+        before = o.before;
+        behind = o.behind;
+        ending = EndsAdded action unfinished;
+        history_is = end.history_is ∙ w.history_is ∙ ap (λ (l : List Action). x.history ++ l) o.acts_are;
+        action_is = o.action_is;
+        end_is = inl refl;
+        calls_is = end.calls_is (ended_none session x y (inserted_call session entry (length x.history) action (EndsAdded action unfinished) (length z.history)) free calls (λ e. cc)) ∙ calls;
+      }
+    where
+      more : (last : Option Effect) (history : List Action) → y.history ≡ history ++ acts_of insert_number last → act_count last + length history ≡ length y.history
+      more last history is = by last (ap (λ (l : List Action). length l) is)
+        where
+          by : (o : Option Effect) → length y.history ≡ length (history ++ acts_of insert_number o) → act_count o + length history ≡ length y.history
+          by None h = sym (h ∙ ap (λ (l : List Action). length l) (append-nil history))
+          by (Some e) h = (let k = length-append history (acts_of insert_number (Some e)) in omega (arith, h, k))
+
+  -- behind a refusal the insert's call is the last one
+  last_call : (fault : Fault) (l : IsLeftSo insert_number request_call fault begun y) → y.calls ≡ x.calls ++ l.after ∷ []
+  last_call fault l = l.calls_is ∙ set_new x.calls request_call l.after
+
+  found_last : (fault : Fault) (l : IsLeftSo insert_number request_call fault begun y) → slice_get y.calls insert_number ≡ Some l.after
+  found_last fault l = ap (λ (cs : List Call). slice_get cs insert_number) (last_call fault l) ∙ get_append_new x.calls l.after
+
+  still_runs : (fault : Fault) (l : IsLeftSo insert_number request_call fault begun y) → l.after ≡ noted_behind request_call (length x.history) l.effects → IsRunningCall y.calls session insert_number l.after
+  still_runs fault l is = record {
+    found = found_last fault l;
+    session_is = ap (λ (c : Call). c.session) is ∙ same_session request_call (length x.history) l.effects;
+    running = ap (λ (c : Call). c.ending) is ∙ same_ending request_call (length x.history) l.effects;
+  }
+
+  -- its Add is that of what its session runs
+  same_add : (fault : Fault) (l : IsLeftSo insert_number request_call fault begun y) → l.after ≡ noted_behind request_call (length x.history) l.effects → (noted_behind request_call (length x.history) l.effects).added ≡ slot_add (slot_of y.slots session)
+  same_add fault l is =
+      let runs = still_runs fault l is in
+      let r = runs_in_slot g start y fits session insert_number l.after runs in
+      let e : r.2.call ≡ l.after = (one_runs g start y fits session insert_number r.2.number l.after r.2.call runs r.2.is).1 in
+      let slot : slot_of y.slots session ≡ Some r.0 = ap (λ (o : Option (Option Op)). unwrap_or o None) r.1 in
+      ap (λ (c : Call). c.added) (sym is) ∙ ap (λ (c : Call). c.added) (sym e) ∙ r.2.runs.added ∙ ap slot_add (sym slot)
+
+  -- where it has none, it has appended changes of the shape only
+  left_without : (fault : Fault) (l : IsLeftSo insert_number request_call fault begun y) → slot_add (slot_of y.slots session) ≡ None → IsNotAdded session entry fault x z
+  left_without fault l none =
+      let no_add : (noted_behind request_call (length x.history) l.effects).added ≡ None = elim l.after_is [
+        | inl is ↦ same_add fault l is ∙ none
+        | inr is ↦ (
+            let failed : l.after.added ≡ None = failed_has_none start y.history insert_number entry fault l.after (fits.meets insert_number l.after (found_last fault l))
+            (ap (λ (c : Call). c.ask) is ∙ same_ask request_call (length x.history) l.effects) (ap (λ (c : Call). c.ending) is) in
+            ap (λ (c : Call). c.added) (sym is) ∙ failed)
+      ] in
+      let r = none_added insert_number entry request_call (length x.history) l.effects refl no_add l.own in
+      record {
+        shaped = length l.effects;
+        history_is = end.history_is ∙ l.history_is ∙ ap (λ (h : List Action). x.history ++ h) r.0;
+        exists_is = λ e. (
+            let after : Call = ended request_call (Failed Exists) (length z.history) in
+            let after_is : l.after ≡ after = l.exists_is e ∙ ap (λ (c : Call). ended c (Failed Exists) (length y.history)) r.1 ∙ ap (λ (h : List Action). ended request_call (Failed Exists) (length h)) (sym end.history_is) in
+            let calls : y.calls ≡ x.calls ++ after ∷ [] = last_call fault l ∙ ap (λ (c : Call). x.calls ++ c ∷ []) after_is in
+            end.calls_is (ended_none session x y after free calls (λ k. cc)) ∙ calls);
+      }
+
+  -- where it has one, it still runs, and is given up
+  left_with : (fault : Fault) (l : IsLeftSo insert_number request_call fault begun y) (action : ℕ) → slot_add (slot_of y.slots session) ≡ Some action → IsAddedNow session entry (record { action = action; unfinished = Some fault }) x z
+  left_with fault l action some = elim l.after_is [
+    | inl is ↦ (
+        let o = one_add insert_number entry request_call (length x.history) l.effects action refl refl (same_add fault l is ∙ some) l.own in
+        let calls : z.calls ≡ x.calls ++ ended l.after GivenUp (length y.history) ∷ [] =
+        end.ended_is insert_number l.after (still_runs fault l is) ∙ ap (λ (cs : List Call). slice_set cs insert_number (ended l.after GivenUp (length y.history))) (last_call fault l) ∙ set_new x.calls l.after (ended l.after GivenUp (length y.history)) in
+        record {
+          before = o.before;
+          behind = o.behind;
+          ending = GivenUp;
+          history_is = end.history_is ∙ l.history_is ∙ ap (λ (h : List Action). x.history ++ h) o.acts_are;
+          action_is = o.action_is;
+          end_is = inr (refl, λ e. cc);
+          calls_is = calls ∙ ap (λ (c : Call). x.calls ++ ended c GivenUp (length y.history) ∷ []) (is ∙ o.noted_is) ∙ ap (λ (h : List Action). x.calls ++ inserted_call session entry (length x.history) action GivenUp (length h) ∷ []) (sym end.history_is);
+        })
+    | inr is ↦ absurd (
+        let calls : y.calls ≡ x.calls ++ l.after ∷ [] = last_call fault l in
+        let over : l.after.ending ≡ Running → ⊥ = λ e. (let f : l.after.ending ≡ Failed fault = ap (λ (c : Call). c.ending) is in cc) in
+        let empty : slot_of y.slots session ≡ None = is_empty g start y fits session (ended_none session x y l.after free calls over) in
+        let none : slot_add (slot_of y.slots session) ≡ None = ap slot_add empty in cc)
+  ]
+
+  left_told : (fault : Fault) (added : Option ℕ) → slot_add (slot_of y.slots session) ≡ added → IsLeftSo insert_number request_call fault begun y → InsertTold session entry (left_behind added fault) x z
+  left_told fault None is l = left_without fault l is
+  left_told fault (Some action) is l = left_with fault l action is
+
+  told_by : (answer : Answer) (added : Option ℕ) → slot_add (slot_of y.slots session) ≡ added → answer ≢ Going → IsTold insert_number request_call answer begun y → InsertTold session entry (outcome_of (Ok answer) added) x z
+  told_by (Added action unfinished) added is going t = added_told action unfinished t
+  told_by (Refused fault) added is going t = left_told fault added is (refused_so insert_number request_call fault begun y t)
+  told_by Going added is going t = absurd (going refl)
+  told_by Begun added is going t = absurd t.may
+  told_by (Ready count) added is going t = absurd t.may
+  told_by Done added is going t = absurd t.may
+  told_by (Finished stats) added is going t = absurd t.may
+  told_by (Gave e) added is going t = absurd t.may
+  told_by Ended added is going t = absurd t.may
+  told_by (Forced n) added is going t = absurd t.may
+  told_by (Flushed b) added is going t = absurd t.may
+  told_by (Checkpointed n) added is going t = absurd t.may
+
+  pub insert_told : (came : Result Answer Fault) (added : Option ℕ) → slot_add (slot_of y.slots session) ≡ added → came ≢ Ok Going → NextTold session (ToInsert entry) came x y → InsertTold session entry (outcome_of came added) x z
+  insert_told (Ok answer) added is going t = told_by answer added is (λ e. going (ap (λ (a : Answer). Ok a) e)) t
+  insert_told (Err fault) added is going t = left_told fault added is (held_so insert_number request_call fault begun y t)
+
+-- an insert that was not begun
+pub not_begun : {S : Type 0} (session : ℕ) (entry : Entry) (fault : Fault) (x y : Snapshot S) → NothingTold fault x y → IsNotAdded session entry fault x y
+not_begun session entry fault x y t = record {
+  shaped = 0;
+  history_is = t.silent.history_is ∙ sym (append-nil x.history);
+  exists_is = λ e. absurd (t.not_exists e);
+}
+
+-- what an insert that came so far comes to
+left_came : (answers : List Answer) (added : Option ℕ) (fault : Fault) → CameBy answers (Some (Refused fault)) → CameBy answers (insert_came (left_behind added fault))
+left_came answers None fault h = h
+left_came answers (Some action) fault (inl h) = inr (record { action = action; fault = fault; is = refl; among = h })
+left_came answers (Some action) fault (inr h) = absurd (let e = h.is in cc)
+
+came_of : {S : Type 0} (number : ℕ) (e : Entry) (call : Call) (answers : List Answer) (x y : Snapshot S) (answer : Answer) (added : Option ℕ) → call.ask ≡ AskInsert e → answer ≢ Going → IsTold number call answer x y → CameBy answers (Some answer)
+    → CameBy answers (insert_came (outcome_of (Ok answer) added))
+came_of number e call answers x y (Added action unfinished) added ask going t h = h
+came_of number e call answers x y (Refused fault) added ask going t h = left_came answers added fault h
+came_of number e call answers x y Going added ask going t h = absurd (going refl)
+came_of number e call answers x y Begun added ask going t h = absurd (rw ask at t.may)
+came_of number e call answers x y (Ready count) added ask going t h = absurd (rw ask at t.may)
+came_of number e call answers x y Done added ask going t h = absurd (rw ask at t.may)
+came_of number e call answers x y (Finished stats) added ask going t h = absurd (rw ask at t.may)
+came_of number e call answers x y (Gave o) added ask going t h = absurd (rw ask at t.may)
+came_of number e call answers x y Ended added ask going t h = absurd (rw ask at t.may)
+came_of number e call answers x y (Forced n) added ask going t h = absurd (rw ask at t.may)
+came_of number e call answers x y (Flushed b) added ask going t h = absurd (rw ask at t.may)
+came_of number e call answers x y (Checkpointed n) added ask going t h = absurd (rw ask at t.may)
+
+pub insert_comes : {S : Type 0} (session : ℕ) (entry : Entry) (came : Result Answer Fault) (added : Option ℕ) (x y : Snapshot S) (answers : List Answer) → came ≢ Ok Going → NextTold session (ToInsert entry) came x y → CameBy answers (step_came came)
+    → CameBy answers (insert_came (outcome_of came added))
+insert_comes session entry (Ok answer) added x y answers going t h =
+    came_of (length x.calls) entry (first_call session (ToInsert entry) x) answers (with_call x (first_call session (ToInsert entry) x)) y answer added refl (λ e. going (ap (λ (a : Answer). Ok a) e)) t h
+insert_comes session entry (Err fault) added x y answers going t h = left_came answers added fault h
