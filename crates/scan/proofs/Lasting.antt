@@ -1,5 +1,5 @@
 -- What a scan knows lasts while others act, and what it has to do has a bound.
-use Rattle.std.proofs.Common.{ℕ, ◌+◌, ◌*◌, ◌<◌, ◌≤◌, false, Option, List, length, ◌∙◌, arith, length-drop}
+use Rattle.std.proofs.Common.{ℕ, ◌+◌, ◌≤◌, false, Option, List, length, ◌∙◌, arith, length-drop}
 use Rattle.std.proofs.lemmas.Nat.{mul-le}
 use Rattle.index_model.specs.Range.{start_of}
 use Rattle.index_model.specs.declared.bound.Bound.{Bound}
