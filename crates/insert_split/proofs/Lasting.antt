@@ -1,21 +1,25 @@
 -- What an insert knows lasts while others act, and what it has to do has a bound.
-use Rattle.std.proofs.Common.{ℕ, suc, length, true, sym, subst, ◌∙◌, arith}
+use Rattle.std.proofs.Common.{ℕ, suc, ◌<◌, ◌≤◌, length, true, sym, subst, ◌∙◌, arith}
 use Rattle.index_model.specs.declared.entry.Entry.{Entry}
 use Rattle.index_model.specs.Order.{bound_of}
 use Rattle.index_model.specs.declared.bound.Bound.{Bound}
 use Rattle.page_action.specs.States.{State}
 use Rattle.tree_shape.specs.Walks.{entry_aim, bound_aim}
 use Rattle.tree_shape.proofs.Fits.{bound_falls}
+use Rattle.tree_acts.specs.Trees.{HasTree}
+use Rattle.tree_acts.proofs.Sizes.{low_level}
 use Rattle.descent.specs.Onward.{IsOnWay}
 use Rattle.descent.specs.Shared.{MayRely, NumbersStay}
 use Rattle.descent.specs.declared.way.Way.{Way}
 use Rattle.split_finish.specs.Targets.{IsTarget, FinishStands, FinishFits}
+use Rattle.split_finish.proofs.Bounds.{finish_bounded}
+use Rattle.split_finish.proofs.Counting.{walk_is_long}
 use Rattle.split_finish.specs.declared.finish.FinishAt.{FinishAt}
 use Rattle.split_finish.specs.declared.finish.FinishAt.TheVariants.{Start as FinishStart, Down, Link, Root}
 use Rattle.split_finish.specs.declared.finish.FinishOp.{FinishOp}
 use Rattle.split_finish.specs.declared.finish.Target.{Target}
-use Rattle.insert_split.specs.Inserts.{InsertStands}
-use Rattle.insert_split.specs.Laws.{InsertsAreUndisturbed, FreshInsertsAreBounded}
+use Rattle.insert_split.specs.Inserts.{InsertStands, insert_left}
+use Rattle.insert_split.specs.Laws.{InsertsAreUndisturbed, FreshInsertsAreBounded, InsertsAreBounded}
 use Rattle.insert_split.specs.declared.insert.InsertAt.{InsertAt}
 use Rattle.insert_split.specs.declared.insert.InsertAt.TheVariants.{Start, At, Holding as Holds, Finishing}
 use Rattle.insert_split.proofs.Adding.{holds_leaf}
@@ -79,3 +83,15 @@ undisturbed old new op rely fits = record {
 
 pub bounded : FreshInsertsAreBounded
 bounded most pages few = omega arith
+
+left_few : (st : State) (session start : ℕ) (e : Entry) (at : InsertAt) → HasTree st → st.limits.pages ≤ 65536 → InsertStands st session start e at → insert_left st.limits.pages st.pages at < 4398046511104
+left_few st session start e Start has few stands = omega arith
+left_few st session start e (At way) has few stands =
+    let low = low_level st start way.level (entry_aim e) true way.block has stands.1.place in
+    let short = walk_is_long st.limits.pages way (omega arith) in
+    omega arith
+left_few st session start e (Holds block) has few stands = omega arith
+left_few st session start e (Finishing op) has few stands = (let left = finish_bounded st op st.limits.pages has stands.1 in omega arith)
+
+pub bounded_at_each_moment : InsertsAreBounded
+bounded_at_each_moment st op order few fits = left_few st op.session fits.start op.entry op.at order.tree few fits.stands

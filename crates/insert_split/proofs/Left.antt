@@ -2,16 +2,12 @@
 use Rattle.std.proofs.Common.{ℕ, zero, suc, ◌+◌, ◌*◌, ◌<◌, ◌≤◌, inl, inr, arith}
 use Rattle.descent.specs.Onward.{IsShorter}
 use Rattle.descent.specs.declared.way.Way.{Way}
-use Rattle.split_finish.specs.Targets.{way_left, walk_length}
+use Rattle.split_finish.specs.Targets.{way_left}
 
 times_step : (a b k : ℕ) → a < b → a * k + k ≤ b * k
 times_step a zero k lt = absurd (omega arith)
 times_step zero (suc b) k lt = omega arith
 times_step (suc a) (suc b) k lt = (let i = times_step a b k (omega arith) in omega arith)
-
--- a way is shorter than a walk
-pub way_short : (most : ℕ) (way : Way) → way.level ≤ 255 → way_left most way < walk_length most
-way_short most way le = (let k = times_step way.level 256 (most + 4) (omega arith) in omega arith)
 
 -- a way that leads on gets shorter
 pub way_shortens : (to most : ℕ) (way on : Way) → IsShorter to most way on → way_left most on < way_left most way

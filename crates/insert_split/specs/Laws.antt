@@ -2,7 +2,7 @@
 use Rattle.std.specs.Prelude.{ℕ, ◌<◌, ◌≤◌, List}
 use Rattle.page_codec.specs.declared.page.Page.{Page}
 use Rattle.page_action.specs.States.{State}
-use Rattle.descent.specs.Shared.{MayRely}
+use Rattle.descent.specs.Shared.{IsInOrder, MayRely}
 use Rattle.insert_split.specs.Inserts.{InsertFits, insert_left}
 use Rattle.insert_split.specs.declared.insert.InsertAt.TheVariants.{Start}
 use Rattle.insert_split.specs.declared.insert.InsertOp.{InsertOp}
@@ -18,3 +18,9 @@ abbrev pub FreshInsertsAreBounded : Type 0
 FreshInsertsAreBounded =
     (most : ℕ) (pages : List Page) → most ≤ 65536
     → insert_left most pages Start < 281474976710656
+
+-- ... and for one at each moment of its steps
+abbrev pub InsertsAreBounded : Type 0
+InsertsAreBounded =
+    (st : State) (op : InsertOp) → IsInOrder st → st.limits.pages ≤ 65536 → InsertFits st op
+    → insert_left st.limits.pages st.pages op.at < 4398046511104

@@ -1,18 +1,21 @@
 -- What a scan knows lasts while others act, and what it has to do has a bound.
-use Rattle.std.proofs.Common.{ℕ, ◌+◌, false, Option, ◌∙◌, arith}
+use Rattle.std.proofs.Common.{ℕ, ◌+◌, ◌≤◌, false, Option, List, length, ◌∙◌, arith, length-drop}
 use Rattle.std.proofs.lemmas.Nat.{mul-le}
 use Rattle.index_model.specs.Range.{start_of}
 use Rattle.index_model.specs.declared.bound.Bound.{Bound}
+use Rattle.page_codec.specs.declared.page.Page.{Page}
 use Rattle.page_action.specs.States.{State}
 use Rattle.tree_shape.specs.Walks.{frontier_aim}
 use Rattle.tree_shape.proofs.Fits.{frontier_falls}
+use Rattle.tree_acts.specs.Trees.{HasTree}
+use Rattle.tree_acts.proofs.Sizes.{low_level, pages_few}
 use Rattle.descent.specs.Shared.{NumbersStay}
 use Rattle.scan.specs.Scans.{ScanStands}
-use Rattle.scan.specs.Work.{count_ahead, walk_length}
-use Rattle.scan.specs.Laws.{ScansAreUndisturbed, FreshScansAreBounded}
+use Rattle.scan.specs.Work.{count_ahead, leaves_left, walk_left, walk_length}
+use Rattle.scan.specs.Laws.{ScansAreUndisturbed, FreshScansAreBounded, ScansAreBounded}
 use Rattle.scan.specs.declared.steps.ScanAt.{ScanAt}
 use Rattle.scan.specs.declared.steps.ScanAt.TheVariants.{Start, At, Last}
-use Rattle.scan.proofs.Counting.{count_few}
+use Rattle.scan.proofs.Counting.{count_few, first_way}
 
 stands_still : (old new : State) (start : ℕ) (leaf : Option ℕ) (f : Bound) (at : ScanAt) → NumbersStay start old new → ScanStands old start leaf f at → ScanStands new start leaf f at
 stands_still old new start leaf f Start stay h = h
@@ -31,10 +34,37 @@ undisturbed old new op rely fits = record {
   held = rely.held ∙ fits.held;
   stands = stands_still old new fits.start op.leaf op.frontier op.at (rely.numbers fits.start fits.running) fits.stands;
   started = fits.started;
+  few = fits.few;
 }
 
 pub bounded : FreshScansAreBounded
 bounded most pages session range few_pages few =
     let count = count_few (start_of range) pages in
     let leaves = mul-le (count_ahead (start_of range) pages) (walk_length most + 52) 65536 16778292 (omega arith) (omega arith) in
+    omega arith
+
+-- no more leaves are left to read than there are pages
+leaves_few : (f : Bound) (pages : List Page) (at : ScanAt) → leaves_left f pages at ≤ length pages
+leaves_few f pages Start = count_few f pages
+leaves_few f pages (At way) = count_few f pages
+leaves_few f pages Last = omega arith
+
+-- what is left of the present walk is no more than a whole one
+walk_few : (st : State) (start most : ℕ) (leaf : Option ℕ) (f : Bound) (at : ScanAt) → HasTree st → ScanStands st start leaf f at → walk_left most at ≤ walk_length most
+walk_few st start most leaf f Start has stands = omega arith
+walk_few st start most leaf f (At way) has stands =
+    let low = low_level st start way.level (frontier_aim f) false way.block has stands.place in
+    let short = first_way most way (omega arith) in
+    omega arith
+walk_few st start most leaf f Last has stands = omega arith
+
+pub bounded_at_each_moment : ScansAreBounded
+bounded_at_each_moment st op order few_pages fits =
+    let most = st.limits.pages in
+    let pages = pages_few st order.tree in
+    let count = leaves_few op.frontier st.pages op.at in
+    let leaves = mul-le (leaves_left op.frontier st.pages op.at) (walk_length most + 52) 65536 16778292 (omega arith) (omega arith) in
+    let walk = walk_few st fits.start most op.leaf op.frontier op.at order.tree fits.stands in
+    let ready = length-drop op.given op.copied.items in
+    let few = fits.few in
     omega arith

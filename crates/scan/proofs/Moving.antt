@@ -42,6 +42,7 @@ module _ (old new : State) (before : ScanOp) (order : IsInOrder old) (fits : Sca
     held = without_held old.table before.session before.leaf below fits.held;
     stands = way_with old (without_leaf old.table before.session before.leaf) fits.start (frontier_aim before.frontier) false 0 way on;
     started = fits.started;
+    few = fits.few;
   })
 
 -- behind a leaf the scan goes right
@@ -101,8 +102,8 @@ module _ (old new : State) (before : ScanOp) (block : ℕ) (order : IsInOrder ol
       (stood_many old.table before.session before.leaf block low ∙ order.holdings) (λ other differ. stood_other old.table before.session before.leaf block low other differ)
 
   pub reading_fits : (page : Page) (es : List Entry) → slice_get old.pages page.block ≡ Some page → HasPlace old fits.start 0 (frontier_aim before.frontier) false page.block
-      → ScanFits new (behind (record before { leaf = Some block }) page.high page.right es)
-  reading_fits page es found place = subst (λ (st : State). ScanFits st (behind (record before { leaf = Some block }) page.high page.right es)) (sym is) (record {
+      → length es ≤ 50 → ScanFits new (behind (record before { leaf = Some block }) page.high page.right es)
+  reading_fits page es found place few = subst (λ (st : State). ScanFits st (behind (record before { leaf = Some block }) page.high page.right es)) (sym is) (record {
     session = fits.session;
     start = fits.start;
     running = fits.running;
@@ -111,6 +112,7 @@ module _ (old new : State) (before : ScanOp) (block : ℕ) (order : IsInOrder ol
         (behind_leaf page.high page.right before.range.below)
         (stands_behind old fits.start (Some block) before.frontier page before.range.below order.tree found place);
     started = λ e beyond. fits.started e (past_falls before.frontier (frontier_past before.frontier page.high) (not_back before.frontier page.high) e beyond);
+    few = few;
   })
 
 -- what is left to do

@@ -3,7 +3,7 @@ use Rattle.std.specs.Prelude.{ℕ, ◌<◌, ◌≤◌, List, length}
 use Rattle.index_model.specs.declared.range.Range.{Range}
 use Rattle.page_codec.specs.declared.page.Page.{Page}
 use Rattle.page_action.specs.States.{State}
-use Rattle.descent.specs.Shared.{MayRely}
+use Rattle.descent.specs.Shared.{IsInOrder, MayRely}
 use Rattle.scan.specs.Scans.{ScanFits, fresh_scan}
 use Rattle.scan.specs.Work.{scan_left}
 use Rattle.scan.specs.declared.steps.ScanOp.{ScanOp}
@@ -20,3 +20,9 @@ FreshScansAreBounded =
     (most : ℕ) (pages : List Page) (session : ℕ) (range : Range)
     → most ≤ 65536 → length pages ≤ 65536
     → scan_left most pages (fresh_scan session range) < 281474976710656
+
+-- ... and for one at each moment of its steps
+abbrev pub ScansAreBounded : Type 0
+ScansAreBounded =
+    (st : State) (op : ScanOp) → IsInOrder st → st.limits.pages ≤ 65536 → ScanFits st op
+    → scan_left st.limits.pages st.pages op < 4398046511104

@@ -109,6 +109,8 @@ pub record ScanFits (st : State) (op : ScanOp) : Type 0 where
   pub stands : ScanStands st start op.leaf op.frontier op.at
   -- what lies beyond the frontier isn't before the range
   pub started : (e : Entry) → is_past op.frontier e ≡ true → from_admits op.range.from e.key ≡ true
+  -- no more entries are copied than a leaf has
+  pub few : length op.copied.items ≤ 50
 
 -- a step that reads a page leaves less to do, whatever the pages are; with nothing ready, each step
 -- that isn't the last

@@ -5,7 +5,7 @@ mod laws;
 mod onward;
 mod steps;
 
-pub use laws::{fresh_scans_are_bounded, scans_are_undisturbed};
+pub use laws::{fresh_scans_are_bounded, scans_are_bounded, scans_are_undisturbed};
 pub use steps::{ScanAt, ScanOp, ScanStep};
 
 #[cfg(test)]

@@ -6,3 +6,4 @@ pub mod Events
 pub mod Making
 pub mod Running
 pub mod Joining
+pub mod Bounds

@@ -2,3 +2,4 @@ pub mod Snapshots
 pub mod Crashes
 pub mod Events
 pub mod Runs
+pub mod Bounds

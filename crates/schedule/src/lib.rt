@@ -3,9 +3,11 @@
 
 mod event;
 mod happening;
+mod laws;
 
 pub use event::Event;
 pub use happening::{checkpoint, force, is_running, one, run};
+pub use laws::work_is_bounded;
 
 #[cfg(test)]
 mod tests;

@@ -95,7 +95,7 @@ module _ (old : State) (sets : DeadSets) (start : Entry → Bool) (history : Lis
     session = refl;
     added = refl;
     started = has_started;
-    fits = record { session = low; start = old.begun; running = starts; held = idle.holds; stands = refl; started = λ e past. sym (past_start range e) ∙ past };
+    fits = record { session = low; start = old.begun; running = starts; held = idle.holds; stands = refl; started = λ e past. sym (past_start range e) ∙ past; few = omega arith };
     knows = record {
       ascending = tt;
       matched = λ e h. absurd cc;

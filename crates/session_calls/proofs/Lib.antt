@@ -6,5 +6,6 @@ pub mod Going
 pub mod Inserting
 pub mod Scanning
 pub mod Undisturbed
+pub mod Bounds
 pub mod Beginning
 pub mod Counting

@@ -2,3 +2,4 @@ pub mod Ops
 pub mod Sessions
 pub mod Due
 pub mod Undisturbed
+pub mod Bounds

@@ -3,6 +3,7 @@
 
 mod answer;
 mod begins;
+mod bounded;
 mod moves;
 mod op;
 mod request;
@@ -10,6 +11,7 @@ mod stable;
 
 pub use answer::Answer;
 pub use begins::begin;
+pub use bounded::calls_are_bounded;
 pub use moves::{end, next, step};
 pub use op::Op;
 pub use request::Request;

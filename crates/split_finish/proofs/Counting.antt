@@ -34,7 +34,8 @@ abbrev pub left : ℕ → (ℕ → Node) → List Target → Target → FinishAt
 left most at below target spot =
     ((33 + (2 * stale_count at (below ++ target ∷ []) + detour at target spot)) - length (below ++ target ∷ [])) * suc (walk_length most) + walk_left most spot
 
-walk_is_long : (most : ℕ) (way : Way) → way.level ≤ 255 → way_left most way < walk_length most
+-- a way is shorter than a walk
+pub walk_is_long : (most : ℕ) (way : Way) → way.level ≤ 255 → way_left most way < walk_length most
 walk_is_long most way low =
     let k : way.level * (most + 4) ≤ 255 * (most + 4) = mul-le-mul_right (most + 4) low in
     omega arith

@@ -1,4 +1,5 @@
 pub mod Counting
+pub mod Bounds
 pub mod Standing
 pub mod Turning
 pub mod Stepping

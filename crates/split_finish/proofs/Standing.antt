@@ -2,7 +2,7 @@
 use Rattle.std.proofs.Common.{◌≡◌, ◌⊎◌, ℕ, zero, suc, ◌<◌, ◌≤◌, Bool, true, false, Option, Some, None, List, [], ◌∷◌, ◌++◌, length, slice_get, slice_index, refl, sym, ap, subst, inl, inr, ◌∙◌, arith, length-append}
 use Rattle.index_model.specs.declared.bound.Bound.{Bound}
 use Rattle.page_codec.specs.declared.page.Page.{Page}
-use Rattle.page_codec.specs.Grammar.{IsPage, IsOfKind, IsMeta, IsLeafIn, IsBlock, IsWhole}
+use Rattle.page_codec.specs.Grammar.{IsPage, IsOfKind, IsLeafIn, IsBlock, IsWhole}
 use Rattle.page_codec.specs.declared.page.Items.{Items}
 use Rattle.page_codec.specs.declared.page.Items.TheVariants.{Meta, Entries, Downlinks}
 use Rattle.page_codec.specs.declared.page.PageState.{PageState}
@@ -120,15 +120,6 @@ rises_to st op after way page separator h fits pushed on found alive high =
       below = λ i t is. each_target st op fits i t (subst (λ (xs : List Target). slice_get xs i ≡ Some t) pushed.below_is is);
       stands = subst (FinishStands st fits.start after.target) (sym pushed.at_is) tt;
     }
-
--- a level of a tree is one that the format has
-pub low_level : (st : State) (start level : ℕ) (aim : Bound → Bool) (clear : Bool) (block : ℕ) → HasTree st → HasPlace st start level aim clear block → level ≤ 31
-low_level st start level aim clear block h place =
-    let s = stored_page st.limits 0 st.pages place.tree.meta h.stored place.tree.meta_at in
-    let kind : IsMeta place.tree.meta = subst (IsOfKind place.tree.meta) place.tree.names_root.kind s.storable.admitted.kind in
-    let a = kind.level in
-    let b = place.in_tree in
-    omega arith
 
 -- a live page that is a place is on its level
 pub live_level : (st : State) (start level : ℕ) (aim : Bound → Bool) (clear : Bool) (block : ℕ) (page : Page) → HasTree st → HasPlace st start level aim clear block → slice_get st.pages block ≡ Some page

@@ -1,3 +1,4 @@
+pub mod Sizes
 pub mod Overlays
 pub mod Words
 pub mod Lasting

@@ -1,18 +1,17 @@
 -- What the flagged pages weigh after each act that edits a tree.
 use Rattle.std.proofs.Common.{◌≡◌, ◌≢◌, ℕ, zero, suc, ◌≤◌, inl, inr, false, List, [], ◌∷◌, ◌++◌, length, Option, refl, sym, ap, subst, ◌∙◌, arith}
 use Rattle.std.proofs.lemmas.Bool.{cases_eq}
-use Rattle.page_codec.specs.Grammar.{IsOfKind}
 use Rattle.page_codec.specs.declared.page.Page.{Page}
-use Rattle.page_action.specs.States.{State, with_pages}
+use Rattle.page_action.specs.States.{with_pages}
 use Rattle.page_action.proofs.StoredPages.{stored_page}
 use Rattle.tree_shape.specs.Nodes.{Node, node_from, nodes_of}
 use Rattle.tree_shape.specs.Edits.{IsInsertion, IsLeafSplit, IsFinish, IsParentSplit, IsRootSplit}
 use Rattle.tree_shape.proofs.Links.{link_cases}
-use Rattle.tree_acts.specs.Trees.{HasTree}
 use Rattle.tree_acts.specs.Weights.{weight_of, weight_up_to, PuttingWeighs, LeafSplitWeighs, FinishWeighs, ParentSplitWeighs, RootSplitWeighs}
 use Rattle.tree_acts.proofs.Entering.{edit, used_is, split_edit, split_used, split_on, free}
 use Rattle.tree_acts.proofs.Finishing.{finish_edit, finish_used, finish_p, parent_edit, parent_used, parent_p, parent_q, parent_free, root_edit, root_used, root_p, root_free, meta_there}
 use Rattle.tree_acts.proofs.Flagging.{fresh_whole, meta_whole}
+use Rattle.tree_acts.proofs.Sizes.{top_low}
 use Rattle.tree_acts.proofs.Weighing.{weight_set, weight_clear, none_changes, one_changes, two_change}
 
 pub unused_whole : (pages : List Page) (b : ℕ) → length pages ≤ b → (nodes_of pages b).split ≡ false
@@ -58,12 +57,6 @@ leaf_split_weighs st start e page left right mended has h =
         | inr not_right ↦ ap (λ (n : Node). weight_of n.split n.level) (w.others b not_b not_new not_right)
       ]
     ]
-
--- a level of a tree is less than 32
-top_low : (st : State) (has : HasTree st) → has.tree.meta.level ≤ 31
-top_low st has =
-    let s = stored_page st.limits 0 st.pages has.tree.meta has.stored has.tree.meta_at in
-    (subst (IsOfKind has.tree.meta) has.tree.names_root.kind s.storable.admitted.kind).level
 
 pub finish_weighs : FinishWeighs
 finish_weighs st start level s p q p_after q_after new has h =

@@ -2,10 +2,10 @@ use Rattle.std.proofs.Common.{arith, ◌≡◌, ℕ, suc, ◌≤◌, ◌+◌, tr
 use Rattle.page_action.specs.States.{State}
 use Rattle.tree_shape.specs.Walks.{entry_aim}
 use Rattle.split_finish.specs.Targets.{OnlyTargetsAreFlagged}
+use Rattle.split_finish.proofs.Counting.{walk_is_long}
 use Rattle.insert_split.specs.Inserts.{InsertStands, IsToCome, targets_at}
 use Rattle.insert_split.specs.Straight.{straight_steps}
 use Rattle.insert_split.specs.declared.insert.InsertAt.{InsertAt}
-use Rattle.insert_split.proofs.Left.{way_short}
 use Rattle.insert_split.proofs.Steps.{goes_on}
 use Rattle.insert_split.proofs.Ways.{on_way_from_root, level_low, root_covers_there}
 use Rattle.insert_split.proofs.insert.InsertOp.find_root.Goals as goal
@@ -15,7 +15,7 @@ returns g c =
     let old : State = g.S.PageStore.state c.args.store.now in
     let most : ℕ = old.limits.pages in
     let low : c.in-Some.way.level ≤ 255 = (let l = level_low c.in-Ok.meta c.in-Ok.ensures.stored.storable.admitted in let e = c.in-Some.ensures.level in omega arith) in
-    let shorter = way_short most c.in-Some.way low in
+    let shorter = walk_is_long most c.in-Some.way low in
     goes_on g.S.PageStore c.args.self.now _ c.args.store.now c.look.new.store c.look.ensures.steps c.look.ensures.state refl refl c.requires.alive
     (λ honest. rw c.requires.at (omega (arith, shorter)))
     (λ honest order fits.

@@ -188,7 +188,7 @@ returns-in-Entries g c =
           subst (λ (xs : List Entry). IsCopiedFrom xs before.frontier before.range.below es) entries copied_by in
           inr (record {
             does = reading_does old new before way.block order fits is;
-            fits = subst (ScanFits new) (sym op_is) (reading_fits old new before way.block order fits is page es there place);
+            fits = subst (ScanFits new) (sym op_is) (reading_fits old new before way.block order fits is page es there place many);
             none = c.requires.none;
             way = way;
             from = c.requires.at;

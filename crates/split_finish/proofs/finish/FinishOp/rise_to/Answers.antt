@@ -2,8 +2,9 @@ use Rattle.std.proofs.Common.{◌≡◌, ◌<◌, ◌≤◌, ◌==◌, ℕ, true
 use Rattle.std.proofs.lemmas.Bool.{eqb-true}
 use Rattle.std.proofs.lemmas.Bool.Decides.{eqb_tells}
 use Rattle.std.proofs.Common.{inl, inr}
+use Rattle.tree_acts.proofs.Sizes.{low_level}
 use Rattle.split_finish.specs.Targets.{FinishStands}
-use Rattle.split_finish.proofs.Standing.{low_level, live_level, flagged_in}
+use Rattle.split_finish.proofs.Standing.{live_level, flagged_in}
 use Rattle.split_finish.proofs.Turning.{turn_risen}
 use Rattle.split_finish.proofs.finish.FinishOp.rise_to.Goals as goal
 use Rattle.split_finish.proofs.finish.FinishOp.rise_to.Goals.{then-page-way-via-then-page-way, then-page-way-via-else-page-way+then-is_full}
