@@ -100,7 +100,7 @@ module _ {S : Type 0} (g : Ghosts S) (laws : Laws g) (old new : S) (follows : g.
         answers = at_slots slots session before slot (λ x y. AnswersEnd x answer) found_at kind;
         refused = λ fault h. absurd (let a : answer ≡ Ended = ended in cc);
         stopped = tt;
-        less = λ honest. tt;
+        less = tt;
         kept = no_act (g.state old) (g.state new) (ap (λ (st : State). st.acts) given_up) (ap (λ (st : State). st.pages) given_up) (ap (λ (st : State). st.limits) given_up) (ap (λ (st : State). st.frames) given_up);
         calm = ap (λ (st : State). st.acts) given_up;
         others = others_stay_set slots session slot;
@@ -149,7 +149,7 @@ module _ {S : Type 0} (g : Ghosts S) (laws : Laws g) (store : S) (slots : List (
           slots_is = ap (λ (x : Option Op). slice_set slots session x) (refused_same answer less fault h) ∙ set_same slots session before found_at;
         };
         stopped = tt;
-        less = λ honest. at_slots slots session before slot (λ x y. GivesLess x y answer) found_at less;
+        less = at_slots slots session before slot (λ x y. GivesLess x y answer) found_at less;
         kept = still (g.state store) (g.state store) refl;
         calm = refl;
         others = others_stay_set slots session slot;
@@ -185,7 +185,7 @@ module _ {S : Type 0} (g : Ghosts S) (laws : Laws g) (old new : S) (follows : g.
         answers = told_so upkeep count;
         refused = λ fault h. absurd (not_refused upkeep count fault h);
         stopped = λ h. absurd (alive h);
-        less = λ honest. tt;
+        less = tt;
         kept = still (g.state old) (g.state new) same;
         calm = ap (λ (st : State). st.acts) same;
         others = λ s of other apart. refl;
@@ -209,7 +209,7 @@ module _ {S : Type 0} (g : Ghosts S) (laws : Laws g) (old new : S) (follows : g.
         answers = refused_so upkeep fault;
         refused = λ f h. record { state_is = same; slots_is = refl };
         stopped = λ h. ap Refused (stopped h);
-        less = λ honest. tt;
+        less = tt;
         kept = still (g.state old) (g.state new) same;
         calm = ap (λ (st : State). st.acts) same;
         others = λ s of other apart. refl;
@@ -228,7 +228,7 @@ module _ {S : Type 0} (g : Ghosts S) (laws : Laws g) (old new : S) (follows : g.
     answers = tt;
     refused = λ fault e. absurd cc;
     stopped = λ is. absurd (true_false (sym is ∙ alive));
-    less = λ honest. tt;
+    less = tt;
     kept = no_act (g.state old) (g.state new) (ap (λ (st : State). st.acts) h.state) (ap (λ (st : State). st.pages) h.state) (ap (λ (st : State). st.limits) h.state) (ap (λ (st : State). st.frames) h.state);
     calm = ap (λ (st : State). st.acts) h.state;
     others = others_stay_set slots session slot;
@@ -239,7 +239,7 @@ module _ {S : Type 0} (g : Ghosts S) (laws : Laws g) (old new : S) (follows : g.
     answers = tt;
     refused = λ f e. record { state_is = h.state; slots_is = ap (λ (x : Option Op). slice_set slots session x) (h.slot_is ∙ before_is) ∙ set_same slots session None free };
     stopped = λ is. absurd (true_false (sym is ∙ alive));
-    less = λ honest. tt;
+    less = tt;
     kept = still (g.state old) (g.state new) h.state;
     calm = ap (λ (st : State). st.acts) h.state;
     others = others_stay_set slots session slot;
@@ -326,7 +326,7 @@ not_found_makes g laws store slots sets session request fault none = record {
       answers = tt;
       refused = λ f h. record { state_is = refl; slots_is = refl };
       stopped = not_found_first (g.backing store).stopped (slice_get slots session) session fault none;
-      less = λ honest. tt;
+      less = tt;
       kept = still (g.state store) (g.state store) refl;
       calm = refl;
       others = λ s of other apart. refl;

@@ -220,10 +220,10 @@ RefusalKeeps g (MovesCall session Steps) answer old new =
 RefusalKeeps g kind answer old new = (fault : Fault) → answer ≡ Refused fault → IsUnchanged g old new
 
 -- while no act is done, a step that ends no call leaves less to do, and so does an entry that is given
-abbrev pub IsLessLeft : Kind → Answer → State → State → Option Op → Option Op → Type 0
-IsLessLeft (MovesCall session Steps) answer old new before after = LeavesLess old new before after answer
-IsLessLeft (MovesCall session Takes) answer old new before after = GivesLess before after answer
-IsLessLeft kind answer old new before after = Unit {0}
+abbrev pub IsLessLeft : Bool → Kind → Answer → State → State → Option Op → Option Op → Type 0
+IsLessLeft honest (MovesCall session Steps) answer old new before after = honest ≡ true → LeavesLess old new before after answer
+IsLessLeft honest (MovesCall session Takes) answer old new before after = GivesLess before after answer
+IsLessLeft honest kind answer old new before after = Unit {0}
 
 -- behind an `End` the session runs nothing; nothing of the log, and no count of calls, is changed
 pub record IsEnded {S : Type 0} (g : Ghosts S) (session : ℕ) (old new : StoreAndSlots S) : Type 0 where
@@ -274,7 +274,7 @@ pub record EventAlways {S : Type 0} (g : Ghosts S) (kind : Kind) (answer : Answe
   pub answers : AnswersEvent kind answer old.slots new.slots
   pub refused : RefusalKeeps g kind answer old new
   pub stopped : StopsFirst kind (g.backing old.store).stopped answer old.slots
-  pub less : (g.backing new.store).honest ≡ true → IsLessLeft kind answer (g.state old.store) (g.state new.store) (slot_of old.slots (session_at kind)) (slot_of new.slots (session_at kind))
+  pub less : IsLessLeft (g.backing new.store).honest kind answer (g.state old.store) (g.state new.store) (slot_of old.slots (session_at kind)) (slot_of new.slots (session_at kind))
   pub kept : DoesOneAct (g.state old.store) (g.state new.store)
   pub calm : OnlyStepsAct kind (slot_of old.slots (session_at kind)) (g.state old.store) (g.state new.store)
   pub others : (session : ℕ) → IsOfSession session kind → OthersStay session old.slots new.slots

@@ -39,18 +39,18 @@ acts_listed number None = refl
 acts_listed number (Some e) = refl
 
 -- how many actions there are behind these effects
-many_behind : (history : List Action) (number : ℕ) (xs : List Effect) → length (history ++ acts_by number xs) ≡ length xs + length history
+pub many_behind : (history : List Action) (number : ℕ) (xs : List Effect) → length (history ++ acts_by number xs) ≡ length xs + length history
 many_behind history number xs =
     let a : length (history ++ acts_by number xs) ≡ length history + length (acts_by number xs) = length-append history (acts_by number xs) in
     let b : length (acts_by number xs) ≡ length xs = acts_many number xs in
     omega (arith, a, b)
 
 noted_append : (call : Call) (count : ℕ) (xs ys : List Effect) (n : ℕ) → n ≡ length xs + count → noted_behind call count (xs ++ ys) ≡ noted_behind (noted_behind call count xs) n ys
-noted_append call count [] ys n is = ap (λ (k : ℕ). noted_behind call k ys) (sym is)
+noted_append call count [] ys n is = (let e : count ≡ n = omega (arith, is) in ap (λ (k : ℕ). noted_behind call k ys) e)
 noted_append call count (x ∷ xs) ys n is = noted_append (noted call count (Some x)) (suc count) xs ys n (omega (arith, is))
 
 own_append : (call : Call) (count : ℕ) (xs ys : List Effect) (n : ℕ) → n ≡ length xs + count → AreOwnEffects call count xs → AreOwnEffects (noted_behind call count xs) n ys → AreOwnEffects call count (xs ++ ys)
-own_append call count [] ys n is own also = subst (λ (k : ℕ). AreOwnEffects call k ys) is also
+own_append call count [] ys n is own also = (let e : n ≡ count = omega (arith, is) in subst (λ (k : ℕ). AreOwnEffects call k ys) e also)
 own_append call count (x ∷ xs) ys n is own also = (own.0, own_append (noted call count (Some x)) (suc count) xs ys n (omega (arith, is)) own.1 also)
 
 noted_listed : (call : Call) (count : ℕ) (o : Option Effect) → noted_behind call count (listed o) ≡ noted call count o
@@ -66,11 +66,11 @@ pub same_ask : (call : Call) (count : ℕ) (xs : List Effect) → (noted_behind 
 same_ask call count [] = refl
 same_ask call count (x ∷ xs) = same_ask (noted call count (Some x)) (suc count) xs
 
-same_session : (call : Call) (count : ℕ) (xs : List Effect) → (noted_behind call count xs).session ≡ call.session
+pub same_session : (call : Call) (count : ℕ) (xs : List Effect) → (noted_behind call count xs).session ≡ call.session
 same_session call count [] = refl
 same_session call count (x ∷ xs) = same_session (noted call count (Some x)) (suc count) xs
 
-same_ending : (call : Call) (count : ℕ) (xs : List Effect) → (noted_behind call count xs).ending ≡ call.ending
+pub same_ending : (call : Call) (count : ℕ) (xs : List Effect) → (noted_behind call count xs).ending ≡ call.ending
 same_ending call count [] = refl
 same_ending call count (x ∷ xs) = same_ending (noted call count (Some x)) (suc count) xs
 
@@ -146,24 +146,25 @@ pub record WholeTold {S : Type 0} (number : ℕ) (call : Call) (answer : Answer)
   pub noted_is : noted (noted_behind call (length x.history) t.before) (length (x.history ++ acts_by number t.before)) t.last ≡ noted_behind call (length x.history) effects
   pub none_is : t.last ≡ None → t.before ≡ effects
 
-pub whole_told : {S : Type 0} (number : ℕ) (call : Call) (answer : Answer) (x y : Snapshot S) (t : IsTold number call answer x y) → WholeTold number call answer x y t
-whole_told {S} number call answer x y t = record {
-  effects = t.before ++ listed t.last;
-  own = own_append call (length x.history) t.before (listed t.last) count many t.own (own_listed running count t.last t.own_last);
-  history_is = t.history_is ∙ ap (λ (l : List Action). (x.history ++ acts_by number t.before) ++ l) (sym (acts_listed number t.last))
-      ∙ append_assoc x.history (acts_by number t.before) (acts_by number (listed t.last)) ∙ ap (λ (l : List Action). x.history ++ l) (sym (acts_append number t.before (listed t.last)));
-  noted_is = sym (noted_append call (length x.history) t.before (listed t.last) count many ∙ noted_listed running count t.last);
-  none_is = λ none. sym (ap (λ (o : Option Effect). t.before ++ listed o) none ∙ append-nil t.before);
-}
-  where
-    abbrev count : ℕ
-    count = length (x.history ++ acts_by number t.before)
+module _ {S : Type 0} (number : ℕ) (call : Call) (answer : Answer) (x y : Snapshot S) (t : IsTold number call answer x y) where
+  abbrev count : ℕ
+  count = length (x.history ++ acts_by number t.before)
 
-    abbrev running : Call
-    running = noted_behind call (length x.history) t.before
+  abbrev running : Call
+  running = noted_behind call (length x.history) t.before
 
-    many : count ≡ length t.before + length x.history
-    many = many_behind x.history number t.before
+  many_told : count ≡ length t.before + length x.history
+  many_told = many_behind x.history number t.before
+
+  pub whole_told : WholeTold number call answer x y t
+  whole_told = record {
+    effects = t.before ++ listed t.last;
+    own = own_append call (length x.history) t.before (listed t.last) count many_told t.own (own_listed running count t.last t.own_last);
+    history_is = t.history_is ∙ ap (λ (l : List Action). (x.history ++ acts_by number t.before) ++ l) (sym (acts_listed number t.last))
+        ∙ append_assoc x.history (acts_by number t.before) (acts_by number (listed t.last)) ∙ ap (λ (l : List Action). x.history ++ l) (sym (acts_append number t.before (listed t.last)));
+    noted_is = sym (noted_append call (length x.history) t.before (listed t.last) count many_told ∙ noted_listed running count t.last);
+    none_is = λ none. sym (ap (λ (o : Option Effect). t.before ++ listed o) none ∙ append-nil t.before);
+  }
 
 -- a call that is told to go on has gone on
 pub told_gone : {S : Type 0} (number : ℕ) (call : Call) (x y : Snapshot S) → IsTold number call Going x y → (effects : List Effect) × HasGoneOn number call effects x y

@@ -1,5 +1,5 @@
 -- What an insert tells that is run to its end.
-use Rattle.std.proofs.Common.{◌≡◌, ◌≢◌, ℕ, zero, suc, ◌+◌, ◌⊎◌, Bool, true, false, if◌then◌else◌, Option, Some, None, Result, Ok, Err, List, [], ◌∷◌, ◌++◌, length, slice_get, slice_set, refl, sym, ap, subst, arith, inl, inr, ◌∙◌, length-append}
+use Rattle.std.proofs.Common.{◌≡◌, ◌≢◌, ℕ, zero, suc, ◌+◌, ◌⊎◌, Bool, true, false, if◌then◌else◌, Option, Some, None, Result, Ok, Err, List, [], ◌∷◌, ◌++◌, length, slice_get, slice_set, refl, sym, ap, subst, arith, inl, inr, ◌∙◌, length-append, append_assoc}
 use Rattle.std.proofs.lemmas.List.{append-nil}
 use Rattle.std.specs.Prelude.{unwrap_or}
 use Rattle.index_model.specs.Actions.{Effect, Add, Remove, Shape, Action}
@@ -17,7 +17,7 @@ use Rattle.session_calls.specs.declared.request.Request.TheVariants.{Insert as T
 use Rattle.schedule.specs.Snapshots.{Snapshot, slot_of, IsRunningCall, SlotRuns, SlotMatches, Fits}
 use Rattle.schedule.proofs.Lists.{get_append_new, get_append_cases}
 use Rattle.whole_calls.specs.Going.{CameBy}
-use Rattle.whole_calls.specs.Telling.{acts_by, noted_behind, AreOwnEffects, IsTold, IsHeldUp, HasNone, TellsEnd, with_call, first_call, NextTold, NothingTold, left_behind, outcome_of, step_came, insert_came, shapes, inserted_call, IsEndOf, IsAddedNow, IsNotAdded, InsertTold}
+use Rattle.whole_calls.specs.Telling.{MayAnswer, acts_by, noted_behind, AreOwnEffects, IsTold, IsHeldUp, HasNone, TellsEnd, with_call, first_call, NextTold, NothingTold, left_behind, outcome_of, step_came, insert_came, shapes, inserted_call, IsEndOf, IsAddedNow, IsNotAdded, InsertTold}
 use Rattle.whole_calls.specs.declared.inserted.Inserted.{Inserted}
 use Rattle.whole_calls.proofs.Gone.{same_ask, same_ending, same_session, many_behind, WholeTold, whole_told}
 use Rattle.whole_calls.proofs.Tellings.{runs_in_slot, one_runs, is_empty, set_new}
@@ -74,7 +74,7 @@ one_add number e call count (Add x ∷ effects) action ask none some own =
       before = 0;
       behind = length effects;
       acts_are = ap (λ (l : List Action). (record { by = number; effect = Add x }) ∷ l) r.0 ∙ ap (λ (y : Entry). (record { by = number; effect = Add y }) ∷ shapes number (length effects)) (sym same);
-      action_is = is;
+      action_is = omega (arith, is);
       noted_is = r.1 ∙ ap (λ (n : ℕ). let c : Call = record call { added = Some n } in c) (sym is);
     }
 one_add number e call count (Remove es ∷ effects) action ask none some own = absurd (rw ask at own.0)
@@ -163,7 +163,7 @@ module _ {S : Type 0} (g : Ghosts S) (start : Entry → Bool) (session : ℕ) (e
         before = o.before;
         behind = o.behind;
         ending = EndsAdded action unfinished;
-        history_is = end.history_is ∙ w.history_is ∙ ap (λ (l : List Action). x.history ++ l) o.acts_are;
+        history_is = end.history_is ∙ w.history_is ∙ ap (λ (l : List Action). x.history ++ l) o.acts_are ∙ sym (append_assoc x.history (shapes insert_number o.before) ((record { by = insert_number; effect = Add entry }) ∷ shapes insert_number o.behind));
         action_is = o.action_is;
         end_is = inl refl;
         calls_is = end.calls_is (ended_none session x y (inserted_call session entry (length x.history) action (EndsAdded action unfinished) (length z.history)) free calls (λ e. cc)) ∙ calls;
@@ -173,7 +173,7 @@ module _ {S : Type 0} (g : Ghosts S) (start : Entry → Bool) (session : ℕ) (e
       more last history is = by last (ap (λ (l : List Action). length l) is)
         where
           by : (o : Option Effect) → length y.history ≡ length (history ++ acts_of insert_number o) → act_count o + length history ≡ length y.history
-          by None h = sym (h ∙ ap (λ (l : List Action). length l) (append-nil history))
+          by None h = (let k = length-append history (acts_of insert_number None) in omega (arith, h, k))
           by (Some e) h = (let k = length-append history (acts_of insert_number (Some e)) in omega (arith, h, k))
 
   -- behind a refusal the insert's call is the last one
@@ -231,7 +231,7 @@ module _ {S : Type 0} (g : Ghosts S) (start : Entry → Bool) (session : ℕ) (e
           before = o.before;
           behind = o.behind;
           ending = GivenUp;
-          history_is = end.history_is ∙ l.history_is ∙ ap (λ (h : List Action). x.history ++ h) o.acts_are;
+          history_is = end.history_is ∙ l.history_is ∙ ap (λ (h : List Action). x.history ++ h) o.acts_are ∙ sym (append_assoc x.history (shapes insert_number o.before) ((record { by = insert_number; effect = Add entry }) ∷ shapes insert_number o.behind));
           action_is = o.action_is;
           end_is = inr (refl, λ e. cc);
           calls_is = calls ∙ ap (λ (c : Call). x.calls ++ ended c GivenUp (length y.history) ∷ []) (is ∙ o.noted_is) ∙ ap (λ (h : List Action). x.calls ++ inserted_call session entry (length x.history) action GivenUp (length h) ∷ []) (sym end.history_is);
@@ -265,6 +265,10 @@ module _ {S : Type 0} (g : Ghosts S) (start : Entry → Bool) (session : ℕ) (e
   insert_told (Ok answer) added is going t = told_by answer added is (λ e. going (ap (λ (a : Answer). Ok a) e)) t
   insert_told (Err fault) added is going t = left_told fault added is (held_so insert_number request_call fault begun y t)
 
+-- an insert that was begun in a session with no call, and came so far
+abbrev pub PutTold : {S : Type 0} → ℕ → Entry → Result Answer Fault → Snapshot S → Snapshot S → Type 0
+PutTold session entry came x y = NextTold session (ToInsert entry) came x y × HasNone session x
+
 -- an insert that was not begun
 pub not_begun : {S : Type 0} (session : ℕ) (entry : Entry) (fault : Fault) (x y : Snapshot S) → NothingTold fault x y → IsNotAdded session entry fault x y
 not_begun session entry fault x y t = record {
@@ -284,15 +288,15 @@ came_of : {S : Type 0} (number : ℕ) (e : Entry) (call : Call) (answers : List 
 came_of number e call answers x y (Added action unfinished) added ask going t h = h
 came_of number e call answers x y (Refused fault) added ask going t h = left_came answers added fault h
 came_of number e call answers x y Going added ask going t h = absurd (going refl)
-came_of number e call answers x y Begun added ask going t h = absurd (rw ask at t.may)
-came_of number e call answers x y (Ready count) added ask going t h = absurd (rw ask at t.may)
-came_of number e call answers x y Done added ask going t h = absurd (rw ask at t.may)
-came_of number e call answers x y (Finished stats) added ask going t h = absurd (rw ask at t.may)
-came_of number e call answers x y (Gave o) added ask going t h = absurd (rw ask at t.may)
-came_of number e call answers x y Ended added ask going t h = absurd (rw ask at t.may)
-came_of number e call answers x y (Forced n) added ask going t h = absurd (rw ask at t.may)
-came_of number e call answers x y (Flushed b) added ask going t h = absurd (rw ask at t.may)
-came_of number e call answers x y (Checkpointed n) added ask going t h = absurd (rw ask at t.may)
+came_of number e call answers x y Begun added ask going t h = absurd (subst (λ (a : Ask). MayAnswer a Begun) ask t.may)
+came_of number e call answers x y (Ready count) added ask going t h = absurd (subst (λ (a : Ask). MayAnswer a (Ready count)) ask t.may)
+came_of number e call answers x y Done added ask going t h = absurd (subst (λ (a : Ask). MayAnswer a Done) ask t.may)
+came_of number e call answers x y (Finished stats) added ask going t h = absurd (subst (λ (a : Ask). MayAnswer a (Finished stats)) ask t.may)
+came_of number e call answers x y (Gave o) added ask going t h = absurd (subst (λ (a : Ask). MayAnswer a (Gave o)) ask t.may)
+came_of number e call answers x y Ended added ask going t h = absurd (subst (λ (a : Ask). MayAnswer a Ended) ask t.may)
+came_of number e call answers x y (Forced n) added ask going t h = absurd (subst (λ (a : Ask). MayAnswer a (Forced n)) ask t.may)
+came_of number e call answers x y (Flushed b) added ask going t h = absurd (subst (λ (a : Ask). MayAnswer a (Flushed b)) ask t.may)
+came_of number e call answers x y (Checkpointed n) added ask going t h = absurd (subst (λ (a : Ask). MayAnswer a (Checkpointed n)) ask t.may)
 
 pub insert_comes : {S : Type 0} (session : ℕ) (entry : Entry) (came : Result Answer Fault) (added : Option ℕ) (x y : Snapshot S) (answers : List Answer) → came ≢ Ok Going → NextTold session (ToInsert entry) came x y → CameBy answers (step_came came)
     → CameBy answers (insert_came (outcome_of came added))

@@ -92,52 +92,56 @@ acts_fewer was_there sets (Scan op) added count (Remove es) old new asked flags 
 acts_fewer was_there sets (Scan op) added count Shape old new asked flags = absurd asked.0
 
 -- a step that goes on leaves fewer
-step_fewer : {S : Type 0} (g : Ghosts S) (start : Entry → Bool) (session : ℕ) (x y : Snapshot S) → (g.backing y.store).honest ≡ true → Fits g start x → EventDoes g start (MovesCall session Steps) Going x y
-    → (g.state x.store).limits.pages ≤ 65536 → steps_left (g.state y.store) (slot_of y.slots session) < steps_left (g.state x.store) (slot_of x.slots session)
-step_fewer {S} g start session x y honest fits does low = of (has_call x.slots session) does.happens
-  where
-    abbrev old : State
-    old = g.state x.store
+module _ {S : Type 0} (g : Ghosts S) (start : Entry → Bool) (session : ℕ) (x y : Snapshot S) (honest : (g.backing y.store).honest ≡ true) (fits : Fits g start x) (does : EventDoes g start (MovesCall session Steps) Going x y)
+    (low : (g.state x.store).limits.pages ≤ 65536) where
+  abbrev old : State
+  old = g.state x.store
 
-    abbrev new : State
-    new = g.state y.store
+  abbrev now : State
+  now = g.state y.store
 
-    low_now : new.limits.pages ≤ 65536
-    low_now = subst (λ (l : Limits). l.pages ≤ 65536) (sym does.quiet.limits) low
+  abbrev fewer_left : Type 0
+  fewer_left = steps_left now (slot_of y.slots session) < steps_left old (slot_of x.slots session)
 
-    goes_on : CallGoesOn g start session Going x y → steps_left new (slot_of y.slots session) < steps_left old (slot_of x.slots session)
-    goes_on c =
-        let runs : IsRunningCall y.calls session c.number c.after = record {
-          found = ap (λ (l : List Call). slice_get l c.number) c.calls_is ∙ get_set_same x.calls c.number c.after (get_within x.calls c.number c.call c.is.found);
-          session_is = ap (λ (k : Call). k.session) c.told ∙ c.is.session_is;
-          running = ap (λ (k : Call). k.ending) c.told ∙ c.is.running;
-        } in
-        let before : brought (slot_of x.slots session) ≡ brings c.call.ask c.call.added = slot_brings g start x session c.number c.call fits c.is in
-        let behind : brought (slot_of y.slots session) ≡ brings c.call.ask (add_after c.call.added (suc (length x.history)) c.effect) = slot_brings g start y session c.number c.after does.fits runs ∙ ap (λ (k : Call). brings k.ask k.added) c.told in
-        by c.effect c.history_is c.asked c.flags before behind
-      where
-        by : (effect : Option Effect) → y.history ≡ x.history ++ acts_of c.number effect → IsAsked (contents_after start x.history) c.call.ask c.call.added effect → MovesFlags effect old new
-            → brought (slot_of x.slots session) ≡ brings c.call.ask c.call.added → brought (slot_of y.slots session) ≡ brings c.call.ask (add_after c.call.added (suc (length x.history)) effect)
-            → steps_left new (slot_of y.slots session) < steps_left old (slot_of x.slots session)
-        by None history asked flags before behind =
-            let same : y.history ≡ x.history = history ∙ append-nil x.history in
-            let acts : new.acts ≡ old.acts = does.fits.matches.count ∙ ap (λ (l : List Action). length l) same ∙ sym fits.matches.count in
-            let weighs : weight new ≡ weight old = ap (λ (ps : List Page). weight_up_to (nodes_of ps) (length ps)) (does.quiet.pages same) in
-            let less = does.always.less honest acts in
-            omega (arith, weighs, less, before, behind)
-        by (Some e) history asked flags before behind =
-            let r = runs_in_slot g start x fits session c.number c.call c.is in
-            let same : r.2.call ≡ c.call = (one_runs g start x fits session c.number r.2.number c.call r.2.call c.is r.2.is).1 in
-            let ask : c.call.ask ≡ asked_of x.sets r.0 = ap (λ (k : Call). k.ask) (sym same) ∙ r.2.runs.ask in
-            let fewer = acts_fewer (contents_after start x.history) x.sets r.0 c.call.added (length x.history) e old new (subst (λ (a : Ask). IsAsked (contents_after start x.history) a c.call.added (Some e)) ask asked) flags in
-            let before' : brought (slot_of x.slots session) ≡ brings (asked_of x.sets r.0) c.call.added = before ∙ ap (λ (a : Ask). brings a c.call.added) ask in
-            let behind' : brought (slot_of y.slots session) ≡ brings (asked_of x.sets r.0) (add_after c.call.added (suc (length x.history)) (Some e)) = behind ∙ ap (λ (a : Ask). brings a (add_after c.call.added (suc (length x.history)) (Some e))) ask in
-            let work = work_bounded g start y does.fits low_now session in
-            omega (arith, fewer, before', behind', work)
+  low_now : now.limits.pages ≤ 65536
+  low_now = subst (λ (l : Limits). l.pages ≤ 65536) (sym does.quiet.limits) low
 
-    of : (b : Bool) → MovesOn g start b session Going x y → steps_left new (slot_of y.slots session) < steps_left old (slot_of x.slots session)
-    of true c = goes_on c
-    of false s = absurd (let e = s.refused in cc)
+  goes_by : (c : CallGoesOn g start session Going x y) (effect : Option Effect) → y.history ≡ x.history ++ acts_of c.number effect → IsAsked (contents_after start x.history) c.call.ask c.call.added effect → MovesFlags effect old now
+      → brought (slot_of x.slots session) ≡ brings c.call.ask c.call.added → brought (slot_of y.slots session) ≡ brings c.call.ask (add_after c.call.added (suc (length x.history)) effect)
+      → fewer_left
+  goes_by c None history asked flags before behind =
+      let same : y.history ≡ x.history = history ∙ append-nil x.history in
+      let acts : now.acts ≡ old.acts = does.fits.matches.count ∙ ap (λ (l : List Action). length l) same ∙ sym fits.matches.count in
+      let weighs : weight now ≡ weight old = ap (λ (ps : List Page). weight_up_to (nodes_of ps) (length ps)) (does.quiet.pages same) in
+      let less = does.always.less honest acts in
+      omega (arith, weighs, less, before, behind)
+  goes_by c (Some e) history asked flags before behind =
+      let r = runs_in_slot g start x fits session c.number c.call c.is in
+      let same : r.2.call ≡ c.call = (one_runs g start x fits session c.number r.2.number c.call r.2.call c.is r.2.is).1 in
+      let ask : c.call.ask ≡ asked_of x.sets r.0 = ap (λ (k : Call). k.ask) (sym same) ∙ r.2.runs.ask in
+      let fewer = acts_fewer (contents_after start x.history) x.sets r.0 c.call.added (length x.history) e old now (subst (λ (a : Ask). IsAsked (contents_after start x.history) a c.call.added (Some e)) ask asked) flags in
+      let was : brought (slot_of x.slots session) ≡ brings (asked_of x.sets r.0) c.call.added = before ∙ ap (λ (a : Ask). brings a c.call.added) ask in
+      let is : brought (slot_of y.slots session) ≡ brings (asked_of x.sets r.0) (add_after c.call.added (suc (length x.history)) (Some e)) = behind ∙ ap (λ (a : Ask). brings a (add_after c.call.added (suc (length x.history)) (Some e))) ask in
+      let work = work_bounded g start y does.fits low_now session in
+      omega (arith, fewer, was, is, work)
+
+  goes_on : CallGoesOn g start session Going x y → fewer_left
+  goes_on c =
+      let runs : IsRunningCall y.calls session c.number c.after = record {
+        found = ap (λ (l : List Call). slice_get l c.number) c.calls_is ∙ get_set_same x.calls c.number c.after (get_within x.calls c.number c.call c.is.found);
+        session_is = ap (λ (k : Call). k.session) c.told ∙ c.is.session_is;
+        running = ap (λ (k : Call). k.ending) c.told ∙ c.is.running;
+      } in
+      let before : brought (slot_of x.slots session) ≡ brings c.call.ask c.call.added = slot_brings g start x session c.number c.call fits c.is in
+      let behind : brought (slot_of y.slots session) ≡ brings c.call.ask (add_after c.call.added (suc (length x.history)) c.effect) = slot_brings g start y session c.number c.after does.fits runs ∙ ap (λ (k : Call). brings k.ask k.added) c.told in
+      goes_by c c.effect c.history_is c.asked c.flags before behind
+
+  goes_or_not : (b : Bool) → MovesOn g start b session Going x y → fewer_left
+  goes_or_not true c = goes_on c
+  goes_or_not false s = absurd (let e = s.refused in cc)
+
+  step_fewer : fewer_left
+  step_fewer = goes_or_not (has_call x.slots session) does.happens
 
 -- so does a step that is the one event of a run
 pub run_fewer : {S : Type 0} (g : Ghosts S) (session : ℕ) (answer : Answer) (a b : StoreAndSlots S) → Carries g a b (Runs g a b (Step session ∷ []) (answer ∷ []))

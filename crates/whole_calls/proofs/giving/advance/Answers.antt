@@ -8,10 +8,10 @@ use Rattle.schedule.specs.Events.{Takes}
 use Rattle.schedule.specs.Snapshots.{here_with, slot_of}
 use Rattle.schedule.specs.declared.event.Event.TheVariants.{Next}
 use Rattle.whole_calls.specs.Telling.{TellsStep, step_came}
-use Rattle.whole_calls.specs.Giving.{GoesDownBy}
-use Rattle.whole_calls.proofs.Composing.{goes_then, goes_by}
-use Rattle.whole_calls.proofs.Given.{next_down, next_kind, step_down, step_kind}
-use Rattle.whole_calls.proofs.Tellings.{moves_tells, none_stays, silent_then}
+use Rattle.whole_calls.specs.Giving.{GoesDownBy, TellsScan}
+use Rattle.whole_calls.proofs.Composing.{goes_then, goes_by, goes_told}
+use Rattle.whole_calls.proofs.Given.{next_down, next_kind, calm_scan, step_down, step_kind, scan_told, scan_then, none_stays}
+use Rattle.whole_calls.proofs.Tellings.{moves_tells}
 use Rattle.whole_calls.proofs.giving.advance.Goals as goal
 
 pub returns-in_default-clause-goes : goal.returns-in_default-clause-goes
@@ -24,7 +24,7 @@ returns-in_default-clause-goes g c =
     (λ start x y from to fits does. scan_told session (Ok answer) x y (moves_tells g.S.PageStore start x y session Takes answer tt fits does))
 
 pub returns-in_default-clause-less : goal.returns-in_default-clause-less
-returns-in_default-clause-less g c honest = next_down (g.S.PageStore.state c.args.store.now) (g.S.PageStore.state c.one-answer.new.store) _ _ c.one-answer.result c.one-answer.ensures.always.answers (c.one-answer.ensures.always.less honest) c.one-answer.ensures.always.left
+returns-in_default-clause-less g c honest = next_down (g.S.PageStore.state c.args.store.now) (g.S.PageStore.state c.one-answer.new.store) _ _ c.one-answer.result c.one-answer.ensures.always.answers c.one-answer.ensures.always.less c.one-answer.ensures.always.left
 
 pub returns-in_default-clause-kind : goal.returns-in_default-clause-kind
 returns-in_default-clause-kind g c = next_kind _ c.one-answer.result c.one-answer.ensures.always.answers (search rules)
@@ -46,11 +46,9 @@ returns-clause-goes g c =
 
 pub returns-clause-less : goal.returns-clause-less
 returns-clause-less g c honest =
-    let laws = g.met.S.PageStore.laws in
     let session = c.args.session in
-    let later = laws.follows_later c.one-answer.new.store c.step.new.store (c.step.ensures.steps _ (laws.follows_same _)) in
     let whole : c.one-answer.result ≡ Gave None = search rules in
-    let gives = subst (λ (a : Answer). GivesLess (slot_of c.args.slots.now session) (slot_of c.one-answer.new.slots session) a) whole (c.one-answer.ensures.always.less (later.honest honest)) in
+    let gives = subst (λ (a : Answer). GivesLess (slot_of c.args.slots.now session) (slot_of c.one-answer.new.slots session) a) whole c.one-answer.ensures.always.less in
     let gave = subst (λ (a : Answer). AnswersNext (slot_of c.args.slots.now session) a) whole c.one-answer.ensures.always.answers in
     let calm = calm_scan (g.S.PageStore.state c.one-answer.new.store) (g.S.PageStore.state c.step.new.store) (slot_of c.args.slots.now session) (slot_of c.one-answer.new.slots session) gave gives.0 c.step.ensures.calm in
     subst (λ (st : State). GoesDownBy st (g.S.PageStore.state c.step.new.store) (slot_of c.args.slots.now session) (slot_of c.step.new.slots session) c.step.result) c.one-answer.ensures.always.left

@@ -3,8 +3,8 @@ use Rattle.std.proofs.Common.{◌≡◌, Result, Ok, Err, Option, None, Some, sy
 use Rattle.index_model.specs.declared.entry.Entry.{Entry}
 use Rattle.index_model.specs.declared.fault.Fault.{Fault}
 use Rattle.schedule.specs.Snapshots.{here_with}
-use Rattle.whole_calls.specs.Telling.{TellsStep, TellsEnd, step_came}
-use Rattle.whole_calls.specs.Giving.{TellsGiven, given_of, give_came}
+use Rattle.whole_calls.specs.Telling.{TellsEnd, step_came}
+use Rattle.whole_calls.specs.Giving.{TellsScan, TellsGiven, given_of, give_came}
 use Rattle.whole_calls.proofs.Composing.{goes_first, goes_told}
 use Rattle.whole_calls.proofs.Given.{given_down, some_given, end_given, give_comes}
 use Rattle.whole_calls.proofs.giving.give.Goals as goal
@@ -15,7 +15,7 @@ returns-in-Ok-Some-clause-goes g c =
     let came = c.seek-came.result in
     let entry = c.in-Ok-Some.entry in
     let is : given_of came ≡ Ok (Some entry) = sym c.given.ensures ∙ c.in-Ok-Some.is ∙ ap (λ (o : Option Entry). Ok o) c.in-Ok-Some.field-0-is in
-    goes_told g.S.PageStore session (TellsStep session came) (TellsGiven session (Ok (Some entry))) (step_came came) (give_came (Ok (Some entry))) _ _
+    goes_told g.S.PageStore session (TellsScan session came) (TellsGiven session (Ok (Some entry))) (step_came came) (give_came (Ok (Some entry))) _ _
     (λ start answers x z at fits by t. (rw is at (give_comes came answers c.seek-came.ensures.kind by), some_given session came entry x z c.seek-came.ensures.kind is t)) c.seek-came.ensures.goes
 
 pub returns-in-Ok-None-clause-goes : goal.returns-in-Ok-None-clause-goes
@@ -25,12 +25,12 @@ returns-in-Ok-None-clause-goes g c =
     let start = here_with c.args.store.now c.args.slots.now (map g.T.DeadRows.is_in c.args.sets.now) in
     let here = here_with c.seek-came.new.store c.seek-came.new.slots (map g.T.DeadRows.is_in c.args.sets.now) in
     let is : given_of came ≡ Ok None = sym c.given.ensures ∙ c.in-Ok-None.is ∙ ap (λ (o : Option Entry). Ok o) c.in-Ok-None.field-0-is in
-    goes_first g.S.PageStore g.met.S.PageStore.laws session (TellsStep session came) (TellsEnd session) (TellsGiven session (Ok None)) (give_came (Ok None)) None start here (here_with c.give_up.new.store c.give_up.new.slots (map g.T.DeadRows.is_in c.args.sets.now))
+    goes_first g.S.PageStore g.met.S.PageStore.laws session (TellsScan session came) (TellsEnd session) (TellsGiven session (Ok None)) (give_came (Ok None)) None start here (here_with c.give_up.new.store c.give_up.new.slots (map g.T.DeadRows.is_in c.args.sets.now))
     c.seek-came.ensures.steps c.give_up.ensures.steps
-    (goes_told g.S.PageStore session (TellsStep session came) (TellsStep session came) (step_came came) (give_came (Ok None)) start here
+    (goes_told g.S.PageStore session (TellsScan session came) (TellsScan session came) (step_came came) (give_came (Ok None)) start here
     (λ s answers x z at fits by t. (rw is at (give_comes came answers c.seek-came.ensures.kind by), t)) c.seek-came.ensures.goes)
     c.give_up.ensures.goes
-    (λ s x y z at fx fy fz one two. subst (λ (r : Result (Option Entry) Fault). TellsGiven session r x z) is
+    (λ s x y z at then_at fx fy fz one two. subst (λ (r : Result (Option Entry) Fault). TellsGiven session r x z) is
     (end_given g.S.PageStore s session came x y z fx c.seek-came.ensures.kind (λ e some. (let f : given_of came ≡ Ok None = is in absurd cc)) one two))
 
 pub returns-in-Err-clause-goes : goal.returns-in-Err-clause-goes
@@ -41,15 +41,15 @@ returns-in-Err-clause-goes g c =
     let here = here_with c.seek-came.new.store c.seek-came.new.slots (map g.T.DeadRows.is_in c.args.sets.now) in
     let fault = c.in-Err.fault in
     let is : given_of came ≡ Err fault = sym c.given.ensures ∙ c.in-Err.is in
-    goes_first g.S.PageStore g.met.S.PageStore.laws session (TellsStep session came) (TellsEnd session) (TellsGiven session (Err fault)) (give_came (Err fault)) None start here (here_with c.give_up-in-Err.new.store c.give_up-in-Err.new.slots (map g.T.DeadRows.is_in c.args.sets.now))
+    goes_first g.S.PageStore g.met.S.PageStore.laws session (TellsScan session came) (TellsEnd session) (TellsGiven session (Err fault)) (give_came (Err fault)) None start here (here_with c.give_up-in-Err.new.store c.give_up-in-Err.new.slots (map g.T.DeadRows.is_in c.args.sets.now))
     c.seek-came.ensures.steps c.give_up-in-Err.ensures.steps
-    (goes_told g.S.PageStore session (TellsStep session came) (TellsStep session came) (step_came came) (give_came (Err fault)) start here
+    (goes_told g.S.PageStore session (TellsScan session came) (TellsScan session came) (step_came came) (give_came (Err fault)) start here
     (λ s answers x z at fits by t. (rw is at (give_comes came answers c.seek-came.ensures.kind by), t)) c.seek-came.ensures.goes)
     c.give_up-in-Err.ensures.goes
-    (λ s x y z at fx fy fz one two. subst (λ (r : Result (Option Entry) Fault). TellsGiven session r x z) is
+    (λ s x y z at then_at fx fy fz one two. subst (λ (r : Result (Option Entry) Fault). TellsGiven session r x z) is
     (end_given g.S.PageStore s session came x y z fx c.seek-came.ensures.kind (λ e some. (let f : given_of came ≡ Err fault = is in absurd cc)) one two))
 
 pub returns-in-Ok-Some-clause-less : goal.returns-in-Ok-Some-clause-less
-returns-in-Ok-Some-clause-less g c =
+returns-in-Ok-Some-clause-less g c honest =
     let is : given_of c.seek-came.result ≡ Ok (Some c.in-Ok-Some.entry) = sym c.given.ensures ∙ c.in-Ok-Some.is ∙ ap (λ (o : Option Entry). Ok o) c.in-Ok-Some.field-0-is in
-    given_down (g.S.PageStore.state c.args.store.now) (g.S.PageStore.state c.seek-came.new.store) _ _ c.seek-came.result c.in-Ok-Some.entry c.seek-came.ensures.kind is c.seek-came.ensures.less
+    given_down (g.S.PageStore.state c.args.store.now) (g.S.PageStore.state c.seek-came.new.store) _ _ c.seek-came.result c.in-Ok-Some.entry c.seek-came.ensures.kind is (c.seek-came.ensures.less honest)

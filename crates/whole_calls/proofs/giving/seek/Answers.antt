@@ -1,6 +1,7 @@
 use Rattle.std.specs.Prelude.{map}
 use Rattle.std.proofs.Common.{◌≡◌, ◌+◌, ◌<◌, ◌≤◌, arith, Result, Ok, Err, None, refl, sym, subst, ap, inl, inr, ◌∙◌, rules}
 use Rattle.index_model.specs.declared.fault.Fault.{Fault}
+use Rattle.index_model.specs.declared.limits.Limits.{Limits}
 use Rattle.session_calls.specs.Sessions.{work_in}
 use Rattle.session_calls.specs.declared.answer.Answer.{Answer}
 use Rattle.schedule.specs.Snapshots.{here_with, slot_of, snapshot_of}
@@ -101,3 +102,11 @@ loop-left-preserved g c =
       ];
       fewer = omega (arith, old_fewer);
     }
+
+pub returns-clause-goes : goal.returns-clause-goes
+returns-clause-goes g c honest start history calls fits =
+    let low = subst (λ (l : Limits). l.pages ≤ 65536) c.limits-limits.ensures.value c.limits-limits.ensures.allowed.pages_to in
+    let few = work_bounded g.S.PageStore start (snapshot_of (here_with c.args.store.now c.args.slots.now (map g.T.DeadRows.is_in c.args.sets.now)) history calls) fits low c.args.session in
+    let most = c.loop-left.invariant.budget honest in
+    let out = c.loop-left-test.false in
+    absurd (omega (arith, few, most, out))

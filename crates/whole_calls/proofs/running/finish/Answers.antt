@@ -84,3 +84,11 @@ loop-left-preserved g c =
           let fewer = c.step.ensures.fewer honest start r.then_history r.then_calls r.ran.fits low_now whole in
           omega (arith, most, fewer));
     }
+
+pub returns-clause-goes : goal.returns-clause-goes
+returns-clause-goes g c honest start history calls fits =
+    let low = subst (λ (l : Limits). l.pages ≤ 65536) c.limits-limits.ensures.value c.limits-limits.ensures.allowed.pages_to in
+    let few = steps_few g.S.PageStore g.met.S.PageStore.laws start (snapshot_of (here_with c.args.store.now c.args.slots.now (map g.T.DeadRows.is_in c.args.sets.now)) history calls) c.args.session fits low in
+    let most = c.loop-left.invariant.budget low honest start history calls fits in
+    let out = c.loop-left-test.false in
+    absurd (omega (arith, few, most, out))

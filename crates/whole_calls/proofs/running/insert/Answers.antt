@@ -1,26 +1,47 @@
 use Rattle.std.specs.Prelude.{map}
-use Rattle.std.proofs.Common.{Result, Option, None, List, sym, ap, subst, ◌∙◌}
+use Rattle.std.proofs.Common.{◌≡◌, Result, Ok, Err, Option, None, List, sym, ap, subst, ◌∙◌}
 use Rattle.index_model.specs.declared.fault.Fault.{Fault}
+use Rattle.session_calls.specs.Sessions.{slot_add}
 use Rattle.session_calls.specs.declared.op.Op.{Op}
 use Rattle.session_calls.specs.declared.request.Request.TheVariants.{Insert as ToInsert}
 use Rattle.schedule.specs.Snapshots.{here_with, slot_of}
-use Rattle.whole_calls.specs.Telling.{HasCome, TellsEnd, InsertTold, outcome_of, step_came, insert_came}
+use Rattle.whole_calls.specs.Telling.{TellsStep, TellsEnd, BeginTold, InsertTold, outcome_of, begin_came, step_came, insert_came}
 use Rattle.whole_calls.specs.Going.{CallGoes}
 use Rattle.whole_calls.specs.declared.inserted.Inserted.{Inserted}
-use Rattle.whole_calls.proofs.Composing.{goes_first, goes_told}
-use Rattle.whole_calls.proofs.Tellings.{none_runs, insert_told, insert_comes}
+use Rattle.whole_calls.proofs.Composing.{goes_first, goes_then, goes_told}
+use Rattle.whole_calls.proofs.Tellings.{begun_next, begun_free}
+use Rattle.whole_calls.proofs.Inserting.{PutTold, insert_told, insert_comes, not_begun}
 use Rattle.whole_calls.proofs.running.insert.Goals as goal
 
 pub returns-clause-goes : goal.returns-clause-goes
-returns-clause-goes g c empty =
+returns-clause-goes g c =
+    let laws = g.met.S.PageStore.laws in
     let session = c.args.session in
-    let came = c.put-came.result in
+    let entry = c.args.entry in
+    let request = ToInsert entry in
+    let came = c.finish-came.result in
+    let added = c.added-added.result in
     let start = here_with c.args.store.now c.args.slots.now (map g.T.DeadRows.is_in c.args.sets.now) in
-    let here = here_with c.put-came.new.store c.put-came.new.slots (map g.T.DeadRows.is_in c.args.sets.now) in
+    let begun = here_with c.begin.new.store c.begin.new.slots (map g.T.DeadRows.is_in c.args.sets.now) in
+    let here = here_with c.finish-came.new.store c.finish-came.new.slots (map g.T.DeadRows.is_in c.args.sets.now) in
     let there = here_with c.give_up.new.store c.give_up.new.slots (map g.T.DeadRows.is_in c.args.sets.now) in
-    let comes = goes_told g.S.PageStore session (HasCome session (ToInsert c.args.entry) came) (HasCome session (ToInsert c.args.entry) came) (step_came came) (insert_came (outcome_of came)) start here
-    (λ s answers x y at fits by told. (insert_comes session c.args.entry came x y answers c.put-came.ensures.over told by, told)) c.put-came.ensures.goes in
-    subst (λ (r : Result Inserted Fault). CallGoes g.S.PageStore session (InsertTold session c.args.entry r) (insert_came r) start there) (sym c.outcome.ensures)
-    (goes_first g.S.PageStore g.met.S.PageStore.laws session (HasCome session (ToInsert c.args.entry) came) (TellsEnd session) (InsertTold session c.args.entry (outcome_of came)) (insert_came (outcome_of came)) None start here there
-    c.put-came.ensures.steps c.give_up.ensures.steps comes c.give_up.ensures.goes
-    (λ s x y z at fx fy fz one two. insert_told session c.args.entry x y z (none_runs g.S.PageStore s x fx session (ap (λ (l : List (Option Op)). slot_of l session) at ∙ empty)) two came c.put-came.ensures.over one))
+    let put = goes_then g.S.PageStore laws session (BeginTold session request c.begin.result) (TellsStep session came) (PutTold session entry came) (begin_came c.begin.result) (step_came came) start begun here
+    c.begin.ensures.steps c.finish-came.ensures.steps c.begin.ensures.goes c.finish-came.ensures.goes
+    (λ s x y z at then_at fx fy fz one two.
+    (let b = subst (λ (r : Result (Unit {0}) Fault). BeginTold session request r x y) c.in-Ok.is one in
+    (begun_next session request x y z b came two, begun_free session request x y z b g.S.PageStore s fy))) in
+    let comes = goes_told g.S.PageStore session (PutTold session entry came) (PutTold session entry came) (step_came came) (insert_came (outcome_of came added)) start here
+    (λ s answers x y at fits by told. (insert_comes session entry came added x y answers c.finish-came.ensures.over told.0 by, told)) put in
+    subst (λ (r : Result Inserted Fault). CallGoes g.S.PageStore session (InsertTold session entry r) (insert_came r) start there) (sym c.outcome.ensures)
+    (goes_first g.S.PageStore laws session (PutTold session entry came) (TellsEnd session) (InsertTold session entry (outcome_of came added)) (insert_came (outcome_of came added)) None start here there
+    (λ f h. c.finish-came.ensures.steps f (c.begin.ensures.steps f h)) c.give_up.ensures.steps comes c.give_up.ensures.goes
+    (λ s x y z at then_at fx fy fz told end. insert_told g.S.PageStore s session entry x y z told.1 fy end came added
+    (ap (λ (l : List (Option Op)). slot_add (slot_of l session)) then_at ∙ sym c.added-added.ensures) c.finish-came.ensures.over told.0))
+
+pub returns-in-Err-clause-goes : goal.returns-in-Err-clause-goes
+returns-in-Err-clause-goes g c =
+    let session = c.args.session in
+    let entry = c.args.entry in
+    goes_told g.S.PageStore session (BeginTold session (ToInsert entry) c.begin.result) (InsertTold session entry (Err c.in-Err.fault)) (begin_came c.begin.result) (insert_came (Err c.in-Err.fault)) _ _
+    (λ start answers x y at fits came told.
+    (rw c.in-Err.is at came, not_begun session entry c.in-Err.fault x y (subst (λ (r : Result (Unit {0}) Fault). BeginTold session (ToInsert entry) r x y) c.in-Err.is told))) c.begin.ensures.goes
