@@ -57,8 +57,8 @@ impl DeadRows for NoRows {
 const NO_SETS: [NoRows; 0] = [];
 
 // An empty index without a device.
-fn empty_store(alloc: Global) -> Result<MapStore, Fault> {
-    let mut store = MapStore::new(alloc, LIMITS)?;
+fn empty_store(alloc: Global, limits: Limits) -> Result<MapStore, Fault> {
+    let mut store = MapStore::new(alloc, limits)?;
     store.add(page(0, Some(1), Items::Meta))?;
     store.add(page(1, None, Items::Entries(ArrayVec::new())))?;
     Ok(store)
@@ -66,7 +66,7 @@ fn empty_store(alloc: Global) -> Result<MapStore, Fault> {
 
 #[test]
 fn calls_run_to_their_ends(rt: HostRuntime) -> Result<(), Fail> {
-    let mut store = empty_store(rt.alloc())?;
+    let mut store = empty_store(rt.alloc(), LIMITS)?;
     let mut slots: [Option<Op>; 3] = array::from_fn(|_| None);
     let first = insert(&mut store, &mut slots, &NO_SETS, 0, entry(0x61, 1), 5)?;
     assert_eq!(rt; first.action, 1);
@@ -104,5 +104,22 @@ fn calls_run_to_their_ends(rt: HostRuntime) -> Result<(), Fail> {
     open(&mut store, &mut slots, &NO_SETS, 2, ALL)?;
     give_up(&mut store, &mut slots, &NO_SETS, 2);
     assert!(rt; slots[2].is_none());
+    Ok(())
+}
+
+#[test]
+fn inserts_split_full_pages(rt: HostRuntime) -> Result<(), Fail> {
+    let mut store = empty_store(rt.alloc(), Limits { pages: 64, ..LIMITS })?;
+    let mut slots: [Option<Op>; 1] = array::from_fn(|_| None);
+    for step in 0..20u8 {
+        let added = insert(&mut store, &mut slots, &NO_SETS, 0, entry(step * 7 % 20, 1), 0)?;
+        assert!(rt; added.unfinished.is_none());
+    }
+    open(&mut store, &mut slots, &NO_SETS, 0, ALL)?;
+    for key in 0..20u8 {
+        let given = give(&mut store, &mut slots, &NO_SETS, 0, 0)?;
+        assert!(rt; given == Some(entry(key, 1)));
+    }
+    assert!(rt; give(&mut store, &mut slots, &NO_SETS, 0, 0)?.is_none());
     Ok(())
 }
