@@ -1,5 +1,5 @@
 -- The pages of an empty index are a tree with no entry on it.
-use Rattle.std.specs.Prelude.{◌≡◌, ℕ, false, ◌||◌, List, [], ◌∷◌}
+use Rattle.std.specs.Prelude.{◌≡◌, false, ◌||◌, List, [], ◌∷◌}
 use Rattle.std.proofs.Common.{refl, sym, ap, subst, ◌∙◌}
 use Rattle.index_model.specs.Order.{is_among}
 use Rattle.index_model.specs.declared.entry.Entry.{Entry}
@@ -14,7 +14,7 @@ use Rattle.page_codec.specs.declared.page.PageState.TheVariants.{Live, HalfDead,
 use Rattle.recovery.specs.Fresh.{IsFirstMeta, IsFirstLeaf}
 use Rattle.tree_acts.specs.Trees.{IsTree}
 use Rattle.tree_shape.specs.Chains.{IsTreeOf}
-use Rattle.tree_shape.specs.Nodes.{Node, links_of, node_of, no_node, nodes_of}
+use Rattle.tree_shape.specs.Nodes.{links_of, node_of, no_node, nodes_of}
 use Rattle.tree_shape.proofs.First.{first_is_a_tree}
 
 -- a leaf has no downlinks, and is on level 0
@@ -33,7 +33,7 @@ first_node : (leaf : Page) → IsFirstLeaf leaf → node_of leaf ≡ no_node
 first_node leaf l =
     let level = leaf_level leaf leaf.items l.page.kind l.kind in
     let links = no_links leaf.items l.kind in
-    ?
+    simp (level, l.state, l.whole, l.left, l.right, l.high, l.empty, links) refl
 
 pub fresh_tree : (meta leaf : Page) → IsFirstMeta meta → IsFirstLeaf leaf → IsTree (meta ∷ leaf ∷ [])
 fresh_tree meta leaf m l =

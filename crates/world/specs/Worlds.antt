@@ -1,5 +1,5 @@
 -- What is promised of a world.
-use Rattle.std.specs.Prelude.{ℕ, Bool, Option, List, map}
+use Rattle.std.specs.Prelude.{Bool, List, map}
 use Rattle.index_model.specs.Actions.{Action}
 use Rattle.index_model.specs.Calls.{Call}
 use Rattle.index_model.specs.declared.entry.Entry.{Entry}
