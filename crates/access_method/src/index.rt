@@ -337,7 +337,7 @@ impl<D: Device> Index<Store<D>> {
     ghost use Rattle.recovery.specs.Calls.{IsIoOr};
     ghost use Rattle.recovery.specs.Index.{HasIndex};
     ghost use Rattle.recovery.specs.Opening.{AreFrames, IsNoMemoryOrIo, IsRefusal};
-    ghost use Rattle.tree_shape.specs.Tree.{IsBlinkTree};
+    ghost use Rattle.tree_acts.specs.Trees.{IsTree};
     ghost use Rattle.world.specs.Reopening.{IsIndexAfterFirstPart};
     ghost use Rattle.access_method.specs.Indexes.{IndexFits, IndexKeeps, IndexBegins, index_device};
 
@@ -347,7 +347,7 @@ impl<D: Device> Index<Store<D>> {
         // An index whose pages are a B-link tree is opened with them, or refused for want of memory or of the device.
         ensures begins { IsTrue (D.is_honest (index_device D.Device result)) → AreFrames frames
             → (limits : Limits) (pages : List Page)
-            → HasIndex limits pages (D.trace device).now.seen → IsBlinkTree pages
+            → HasIndex limits pages (D.trace device).now.seen → IsTree pages
             → MatchResult result (IndexBegins D.Device ⟦<Store<D> as PageStore>⟧ limits pages)
             (λ refused. IsNoMemoryOrIo refused.fault) }
         // A crash at each moment since leaves the same index, whatever was answered.

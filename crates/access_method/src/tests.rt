@@ -102,6 +102,22 @@ fn entries_are_given_in_order(rt: HostRuntime) -> Result<(), Fail> {
 }
 
 #[test]
+fn a_split_leaf_is_scanned(rt: HostRuntime) -> Result<(), Fail> {
+    let mut index = index(rt.alloc())?;
+    // A leaf has room for 4 entries. The fifth splits it, and one action more finishes the split.
+    for key in 1..8u8 {
+        let inserted = index.aminsert(entry(key, u16::from(key)))?;
+        assert!(rt; inserted.unfinished.is_none());
+    }
+    assert_eq!(rt; index.commit(), Ok(8));
+    let token = index.ambeginscan(ALL)?;
+    for expected in [1, 2, 3, 4, 5, 6, 7, 0, 0] {
+        assert_eq!(rt; given(&mut index, token), expected);
+    }
+    Ok(())
+}
+
+#[test]
 fn an_index_is_opened_again(rt: HostRuntime) -> Result<(), Fail> {
     let mut first = index(rt.alloc())?;
     assert!(rt; first.aminsert(entry(0x61, 1)).is_ok());

@@ -1,26 +1,51 @@
 -- The pages of an empty index are a tree with no entry on it.
 use Rattle.std.specs.Prelude.{◌≡◌, false, ◌||◌, List, [], ◌∷◌}
-use Rattle.std.proofs.Common.{refl, ap, ◌∙◌}
+use Rattle.std.proofs.Common.{refl, sym, ap, subst, ◌∙◌}
 use Rattle.index_model.specs.Order.{is_among}
 use Rattle.index_model.specs.declared.entry.Entry.{Entry}
 use Rattle.page_action.specs.Contents.{live_entries, is_on, entry_on_live_leaf}
-use Rattle.page_codec.specs.Edits.{entries_of}
+use Rattle.page_codec.specs.Edits.{entries_of, HasEntries}
+use Rattle.page_codec.specs.Grammar.{IsOfKind}
 use Rattle.page_codec.specs.declared.page.Items.{Items}
 use Rattle.page_codec.specs.declared.page.Items.TheVariants.{Meta, Entries, Downlinks}
 use Rattle.page_codec.specs.declared.page.Page.{Page}
 use Rattle.page_codec.specs.declared.page.PageState.{PageState}
 use Rattle.page_codec.specs.declared.page.PageState.TheVariants.{Live, HalfDead, Deleted}
 use Rattle.recovery.specs.Fresh.{IsFirstMeta, IsFirstLeaf}
-use Rattle.tree_shape.specs.Tree.{IsBlinkTree}
+use Rattle.tree_acts.specs.Trees.{IsTree}
+use Rattle.tree_shape.specs.Chains.{IsTreeOf}
+use Rattle.tree_shape.specs.Nodes.{links_of, node_of, no_node, nodes_of}
+use Rattle.tree_shape.proofs.First.{first_is_a_tree}
 
-pub fresh_tree : (meta leaf : Page) → IsFirstMeta meta → IsFirstLeaf leaf → IsBlinkTree (meta ∷ leaf ∷ [])
-fresh_tree meta leaf m l = record {
-  meta = meta;
-  leaf = leaf;
-  pages_are = refl;
-  names_root = record { kind = m.kind; root_is = m.root; level_is = m.level };
-  is_only = record { kind = l.kind; alive = l.state; whole = l.whole; leftmost = l.left; rightmost = l.right; unbounded = l.high };
-}
+-- a leaf has no downlinks, and is on level 0
+no_links : (items : Items) → HasEntries items → links_of items ≡ []
+no_links Meta h = absurd h
+no_links (Entries entries) h = refl
+no_links (Downlinks links) h = absurd h
+
+leaf_level : (leaf : Page) (items : Items) → IsOfKind leaf items → HasEntries items → leaf.level ≡ 0
+leaf_level leaf Meta kind h = absurd h
+leaf_level leaf (Entries entries) kind h = kind.level
+leaf_level leaf (Downlinks links) kind h = absurd h
+
+-- what the tree sees of the leaf of an empty index is what it sees where no page is
+first_node : (leaf : Page) → IsFirstLeaf leaf → node_of leaf ≡ no_node
+first_node leaf l =
+    let level = leaf_level leaf leaf.items l.page.kind l.kind in
+    let links = no_links leaf.items l.kind in
+    simp (level, l.state, l.whole, l.left, l.right, l.high, l.empty, links) refl
+
+pub fresh_tree : (meta leaf : Page) → IsFirstMeta meta → IsFirstLeaf leaf → IsTree (meta ∷ leaf ∷ [])
+fresh_tree meta leaf m l =
+    let pages = meta ∷ leaf ∷ [] in
+    record {
+      meta = meta;
+      meta_at = refl;
+      root = 1;
+      names_root = record { kind = m.kind; root_is = m.root; level_is = refl };
+      chain = λ level. 1 ∷ [];
+      is = subst (λ top. IsTreeOf (nodes_of pages) 2 1 top (λ level. 1 ∷ [])) (sym m.level) (first_is_a_tree (nodes_of pages) (first_node leaf l));
+    }
 
 -- a metapage, and a leaf without entries, whatever their state
 none_on_meta : (state : PageState) (e : Entry) → is_among (live_entries state Meta) e ≡ false

@@ -10,7 +10,7 @@ ghost use Rattle.page_codec.specs.declared.page.Page.{Page};
 ghost use Rattle.page_store.specs.Logged.{backing_of};
 ghost use Rattle.page_store.specs.Stores.{state_of, held_by};
 ghost use Rattle.recovery.specs.Index.{HasIndex};
-ghost use Rattle.tree_shape.specs.Tree.{IsBlinkTree};
+ghost use Rattle.tree_acts.specs.Trees.{IsTree};
 ghost use Rattle.session_calls.specs.declared.request.Request.TheVariants.{Insert as ToInsert};
 ghost use Rattle.whole_calls.specs.Telling.{TellsStep, HasCome, step_came};
 ghost use Rattle.world.specs.Reopening.{BeginsWith, BeginsEmpty, BeginsAfterFirstPart};
@@ -213,7 +213,7 @@ fn opened(
     setting: &Setting,
 ) -> Result<World<Store<MemDevice>, NoRows>, Fault>
     ensures begins { IsSetting setting.now → (limits : Limits) (pages : List Page)
-        → HasIndex limits pages (trace_of device).now.seen → IsBlinkTree pages
+        → HasIndex limits pages (trace_of device).now.seen → IsTree pages
         → IfOk result
         (BeginsWith ⟦<MemDevice as Device>⟧ ⟦<Store<MemDevice> as PageStore>⟧
         ⟦<NoRows as DeadRows>⟧ limits pages) }

@@ -105,7 +105,7 @@ done 1
     )
 }
 
-/// A full leaf takes no more, and keeps what it has.
+/// A full leaf is split for one entry more: the left half keeps three of five, and a new root leads to both.
 #[test]
 fn full_leaf(rt: HostRuntime) -> Result<(), Fail> {
     runs(
@@ -124,17 +124,22 @@ dump
 added 2
 added 3
 added 4
-refused 8
+added 5
 refused 5
 entry 62 (0,2)
 entry 63 (0,3)
 done 2
-0 meta root=1 level=0
-1 leaf live left=- right=- high=- split=0 cycle=0 n=4
+0 meta root=3 level=1
+1 leaf live left=- right=2 high=63 (0,3) split=0 cycle=0 n=3
   61 (0,1)
   62 (0,2)
   63 (0,3)
+2 leaf live left=1 right=- high=- split=0 cycle=0 n=2
   64 (0,4)
+  65 (0,5)
+3 internal level=1 left=- right=- high=- split=0 n=2
+  * -> 1
+  63 (0,3) -> 2
 ",
         "",
         0,

@@ -1,15 +1,19 @@
 -- A store as it is opened.
-use Rattle.std.specs.Prelude.{◌≡◌, ℕ, zero, suc, ◌<◌, unwrap_or, None, List, [], length, replicate, slice_get}
-use Rattle.std.proofs.Common.{refl, ap, subst, arith}
+use Rattle.std.specs.Prelude.{◌≡◌, ℕ, zero, suc, ◌<◌, unwrap_or, Some, None, List, [], ◌∷◌, length, replicate, slice_get}
+use Rattle.std.proofs.Common.{refl, sym, ap, subst, arith}
+use Rattle.std.proofs.lemmas.List.{length-replicate}
 use Rattle.index_model.specs.declared.limits.Limits.{Limits}
 use Rattle.latch_table.specs.Holdings.{Holding, nothing_held, holding_of, latches_exclude}
 use Rattle.latch_table.specs.declared.mode.Mode.TheVariants.{Exclusive}
 use Rattle.page_codec.specs.declared.page.Page.{Page}
 use Rattle.page_store.specs.Stores.{opened_state}
-use Rattle.tree_shape.specs.Tree.{IsBlinkTree}
+use Rattle.tree_acts.specs.Trees.{IsTree}
 use Rattle.page_action.specs.Contents.{entry_on_live_leaf}
+use Rattle.page_action.specs.States.{State}
+use Rattle.page_action.specs.Stored.{AreStored}
 use Rattle.index_model.specs.declared.dead_rows.DeadRows.{Ghosts as SetGhosts}
 use Rattle.page_action.specs.declared.page_store.PageStore.{Ghosts}
+use Rattle.recovery.specs.Opening.{IsFreshlyOpened}
 use Rattle.schedule.specs.Snapshots.{IsUnused}
 use Rattle.world.specs.Worlds.{WorldFits, WorldKeeps}
 use Rattle.world.specs.declared.world.World.{World}
@@ -23,11 +27,11 @@ all_same (suc n) (suc i) a = all_same n i a
 held_by_none : (session : ℕ) → holding_of (replicate 64 nothing_held) session ≡ nothing_held
 held_by_none session = all_same 64 session nothing_held
 
--- pages that are a tree are in order as they are opened
-pub opened_unused : (limits : Limits) (frames : ℕ) (pages : List Page) (counted : List ℕ) (counter : ℕ) → IsBlinkTree pages → IsUnused (opened_state limits frames pages counted counter)
-opened_unused limits frames pages counted counter tree = record {
+-- pages that are a tree, each stored and counted, are in order as they are opened
+opened_unused : (limits : Limits) (frames : ℕ) (pages : List Page) (counted : List ℕ) (counter : ℕ) → IsTree pages → AreStored limits 0 pages → length counted ≡ length pages → IsUnused (opened_state limits frames pages counted counter)
+opened_unused limits frames pages counted counter tree stored count = record {
   order = record {
-    tree = tree;
+    tree = record { tree = tree; stored = stored; counted = count };
     apart = λ session other block ne holds. ap (λ (h : Holding). latches_exclude h.latches block Exclusive) (held_by_none other);
     holdings = refl;
     calls = refl;
@@ -36,9 +40,17 @@ opened_unused limits frames pages counted counter tree = record {
   idle = λ session. record { holds = held_by_none session; number = all_same 64 session None };
 }
 
+-- a state as it is opened is unused, where its pages are a tree
+pub freshly_unused : (frames : ℕ) (st : State) → IsFreshlyOpened frames st → IsTree st.pages → IsUnused st
+freshly_unused frames st opened tree = subst IsUnused (sym opened.is) (opened_unused st.limits frames st.pages _ _ tree opened.stored (length-replicate (length st.pages) 0))
+
 -- a tree has pages
-pub tree_has_pages : (pages : List Page) → IsBlinkTree pages → 0 < length pages
-tree_has_pages pages tree = (let two : length pages ≡ 2 = ap (λ (ps : List Page). length ps) tree.pages_are in omega arith)
+pub tree_has_pages : (pages : List Page) → IsTree pages → 0 < length pages
+tree_has_pages [] tree = absurd (none tree.meta tree.meta_at)
+  where
+    none : (meta : Page) → None ≡ Some meta → ⊥
+    none meta h = cc
+tree_has_pages (page ∷ pages) tree = omega arith
 
 -- a world begins with the contents of these pages, by whatever name they are called
 pub same_start : {S T : Type 0} (g : Ghosts S) (d : SetGhosts T) (world : World S T) (read pages : List Page) → read ≡ pages → WorldFits g d world (entry_on_live_leaf read) [] [] → WorldFits g d world (entry_on_live_leaf pages) [] []

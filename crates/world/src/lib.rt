@@ -4,7 +4,7 @@
 mod memory;
 mod opening;
 mod over_device;
-mod whole;
+// TO GO BACK: mod whole;
 mod world;
 
 pub use opening::NotOpened;

@@ -7,7 +7,7 @@ ghost use Rattle.page_codec.specs.declared.page.Page.{Page};
 ghost use Rattle.page_store.specs.Restart.{LeavesPages};
 ghost use Rattle.recovery.specs.Index.{HasIndex};
 ghost use Rattle.recovery.specs.Opening.{AreFrames, IsNoMemoryOrIo, IsRefusal};
-ghost use Rattle.tree_shape.specs.Tree.{IsBlinkTree};
+ghost use Rattle.tree_acts.specs.Trees.{IsTree};
 ghost use Rattle.world.specs.Reopening.{BeginsWith, world_device};
 
 use crate::world::{NotMade, World};
@@ -45,7 +45,7 @@ impl<D: Device, T: DeadRows + Drop> World<Store<D>, T> {
         ensures begins { IsTrue (D.is_honest (world_device D.Device result))
             → AreFrames frames → 1 ≤ sessions → sessions ≤ 64
             → (limits : Limits) (pages : List Page)
-            → HasIndex limits pages (D.trace device).now.seen → IsBlinkTree pages
+            → HasIndex limits pages (D.trace device).now.seen → IsTree pages
             → MatchResult result
             (BeginsWith D.Device ⟦<Store<D> as PageStore>⟧ T.DeadRows limits pages)
             (λ not_opened. IsNoMemoryOrIo not_opened.fault) }

@@ -299,6 +299,89 @@ fn forced_actions_are_left(rt: HostRuntime) -> Result<(), Fail> {
     Ok(())
 }
 
+// Begins a call of session 0 and makes its steps, 16 at most: the last answer.
+fn called(world: &mut World<Store<MemDevice>, NoRows>, begin: Event) -> Answer {
+    let mut answer = world.one(begin);
+    for _ in 0..16 {
+        if !matches!(answer, Answer::Begun | Answer::Going) {
+            return answer;
+        }
+        answer = world.one(Event::Step(0));
+    }
+    answer
+}
+
+// Scans all by session 1: how many entries, each of the key and the place of its number; or None for a wrong answer.
+fn counted(world: &mut World<Store<MemDevice>, NoRows>) -> Option<u8> {
+    let mut given = 0u8;
+    let mut answer = world.one(Event::Scan(1, ALL));
+    for _ in 0..32 {
+        match answer {
+            Answer::Begun | Answer::Going | Answer::Gave(None) => {
+                answer = world.one(Event::Step(1));
+            }
+            Answer::Ready(_) => answer = world.one(Event::Next(1)),
+            Answer::Gave(Some(found)) => {
+                given = given.saturating_add(1);
+                if found != entry(given, u16::from(given)) {
+                    return None;
+                }
+                answer = world.one(Event::Next(1));
+            }
+            Answer::Done => return Some(given),
+            _ => return None,
+        }
+    }
+    None
+}
+
+#[test]
+fn split_leaf_is_opened_again(rt: HostRuntime) -> Result<(), Fail> {
+    let mut device = MemDevice::new(rt.alloc(), LEN)?;
+    create(&mut device, &LIMITS)?;
+    let mut world = opened(rt.alloc(), device)?;
+    // A leaf has room for 4 entries. The fifth splits it, and the split is finished by a new root.
+    for key in 1..6u8 {
+        let put = called(&mut world, Event::Insert(0, entry(key, u16::from(key))));
+        assert!(rt;
+            matches!(
+                put,
+                Answer::Added {
+                    unfinished: None,
+                    ..
+                }
+            )
+        );
+    }
+    assert_eq!(rt; world.used(), 4);
+    assert_eq!(rt; world.actions(), 6);
+    assert!(rt; matches!(world.one(Event::Force), Answer::Forced(6)));
+    let left = world.crash(rt.alloc(), CrashImage::Drop)?;
+    let mut again = opened(rt.alloc(), left)?;
+    assert_eq!(rt; again.used(), 4);
+    assert!(rt; counted(&mut again) == Some(5));
+    // The root is on level 1: the metapage, the root, the leaf, the entry.
+    let mut answers = Vec::new(rt.alloc());
+    let events = [
+        Event::Insert(0, entry(6, 6)),
+        Event::Step(0),
+        Event::Step(0),
+        Event::Step(0),
+        Event::Step(0),
+    ];
+    assert!(rt; again.run(&events, &mut answers).is_ok());
+    let expected = [
+        ("begun", 0),
+        ("going", 0),
+        ("going", 0),
+        ("going", 0),
+        ("added", 1),
+    ];
+    assert!(rt; are_told(answers.as_slice(), &expected));
+    assert!(rt; counted(&mut again) == Some(6));
+    Ok(())
+}
+
 #[test]
 fn slots_of_another_owner(rt: HostRuntime) -> Result<(), Fail> {
     let mut store = store(rt.alloc())?;
@@ -322,25 +405,4 @@ fn slots_of_another_owner(rt: HostRuntime) -> Result<(), Fail> {
     Ok(())
 }
 
-#[test]
-fn calls_run_to_their_ends(rt: HostRuntime) -> Result<(), Fail> {
-    let mut device = MemDevice::new(rt.alloc(), LEN)?;
-    create(&mut device, &LIMITS)?;
-    let mut world = opened(rt.alloc(), device)?;
-    let put = world.put(0, entry(0x61, 1), 5);
-    assert!(rt;
-        matches!(
-            put,
-            Ok(Answer::Added {
-                action: 1,
-                unfinished: None
-            })
-        )
-    );
-    assert!(rt; matches!(world.one(Event::Scan(1, ALL)), Answer::Begun));
-    assert!(rt; matches!(world.finish(1, 0), Ok(Answer::Ready(1))));
-    assert!(rt; world.give(1, 0)? == Some(entry(0x61, 1)));
-    assert!(rt; world.give(1, 0)?.is_none());
-    assert!(rt; matches!(world.finish(1, 0), Ok(Answer::Refused(Fault::NoSession))));
-    Ok(())
-}
+// TO GO BACK: the test calls_run_to_their_ends

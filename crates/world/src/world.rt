@@ -16,10 +16,11 @@ use std::alloc::Global;
 /// device, a crash at any moment leaves the contents after some first part of that history, with all that was durable.
 ///
 /// Of what its clauses name: `steps`, that what its store followed it follows still; `sets` and `sessions`, that these
-/// stay; `always`, what holds of an event whatever the pages are (what it may answer, that a refusal changes nothing, that
-/// a stopped log refuses first, that a step leaves less to do, and does no act where it goes on, that no other session is
-/// touched, and what an end leaves); `runs`, the continuation, in which each event also says this, how many steps its call
-/// takes, and what it leaves as it was.
+/// stay; `always`, what holds of an event whatever the pages are (what it may answer; that a refusal changes nothing; that
+/// a stopped log refuses first; that a step that goes on leaves less to do, over a device that keeps its model, unless it
+/// does an act; that an event does one act at most, and only a step does one; that no other session is touched; what an end
+/// leaves; and why a beginning is refused); `runs`, the continuation, in which each event also says this, how many steps
+/// its call takes, which pages it leaves flagged, and what it leaves as it was.
 #[derive(Drop)]
 pub struct World<S, T> {
     pub(crate) store: S,

@@ -1,8 +1,8 @@
 use Rattle.std.proofs.Common.{sym, ap, subst, ◌∙◌, IsTrue}
 use Rattle.page_store.specs.Stores.{state_of, device_of}
-use Rattle.tree_shape.specs.Tree.{IsBlinkTree}
+use Rattle.tree_acts.specs.Trees.{IsTree}
 use Rattle.schedule.specs.Snapshots.{IsUnused}
-use Rattle.world.proofs.Opened.{opened_unused}
+use Rattle.world.proofs.Opened.{freshly_unused}
 use Rattle.access_method.proofs.Seats.{same_start, same_kept}
 use Rattle.access_method.proofs.index.Index+Store+D.open.Goals as goal
 
@@ -11,8 +11,7 @@ returns-in-Ok-clause-begins g c honest frames limits pages index tree =
     let store = c.in-Ok.store in
     let st = state_of g.D.Device store in
     let same = c.in-Ok.ensures.same (subst (λ (d : g.row.D.Denot). IsTrue (g.D.Device.is_honest d)) (ap (device_of g.D.Device) c.new.ensures.store) honest) frames limits pages index in
-    let opened = c.in-Ok.ensures.opened in
-    let unused : IsUnused st = subst IsUnused (sym opened.is) (opened_unused st.limits c.args.frames st.pages _ _ (subst IsBlinkTree (sym same.pages_are) tree)) in
+    let unused : IsUnused st = freshly_unused c.args.frames st c.in-Ok.ensures.opened (subst IsTree (sym same.pages_are) tree) in
     record {
       limits_are = ap (λ s. (state_of g.D.Device s).limits) c.new.ensures.store ∙ same.limits_are;
       fits = same_start _ c.new.result st.pages pages same.pages_are (c.new.ensures.fits unused);

@@ -1,8 +1,8 @@
 use Rattle.std.proofs.Common.{arith, inl, inr, sym, ap, subst, ◌∙◌, ⊎_elim, IsTrue}
 use Rattle.page_store.specs.Stores.{state_of, device_of}
-use Rattle.tree_shape.specs.Tree.{IsBlinkTree}
+use Rattle.tree_acts.specs.Trees.{IsTree}
 use Rattle.schedule.specs.Snapshots.{IsUnused}
-use Rattle.world.proofs.Opened.{opened_unused, same_start, same_kept}
+use Rattle.world.proofs.Opened.{freshly_unused, same_start, same_kept}
 use Rattle.world.proofs.opening.World+Store+D+T.open.Goals as goal
 
 pub returns-in-Err-new-clause-begins : goal.returns-in-Err-new-clause-begins
@@ -20,8 +20,7 @@ returns-in-Ok-new-clause-begins g c honest frames from to limits pages index tre
     let store = c.in-Ok.store in
     let st = state_of g.D.Device store in
     let same = c.in-Ok.ensures.same (subst (λ (d : g.row.D.Denot). IsTrue (g.D.Device.is_honest d)) (ap (device_of g.D.Device) c.in-Ok-new.ensures.store) honest) frames limits pages index in
-    let opened = c.in-Ok.ensures.opened in
-    let unused : IsUnused st = subst IsUnused (sym opened.is) (opened_unused st.limits c.args.frames st.pages _ _ (subst IsBlinkTree (sym same.pages_are) tree)) in
+    let unused : IsUnused st = freshly_unused c.args.frames st c.in-Ok.ensures.opened (subst IsTree (sym same.pages_are) tree) in
     record {
       limits_are = ap (λ s. (state_of g.D.Device s).limits) c.in-Ok-new.ensures.store ∙ same.limits_are;
       fits = same_start _ _ c.in-Ok-new.world st.pages pages same.pages_are (c.in-Ok-new.ensures.fits unused);
