@@ -1,5 +1,5 @@
 -- What is promised of a world.
-use Rattle.std.specs.Prelude.{Bool, List, map}
+use Rattle.std.specs.Prelude.{ℕ, Bool, Option, List, map}
 use Rattle.index_model.specs.Actions.{Action}
 use Rattle.index_model.specs.Calls.{Call}
 use Rattle.index_model.specs.declared.entry.Entry.{Entry}
@@ -10,6 +10,7 @@ use Rattle.schedule.specs.Crashes.{KeepsHistory, IsCrashSafe}
 use Rattle.schedule.specs.Runs.{Carries, Runs}
 use Rattle.schedule.specs.Snapshots.{StoreAndSlots, Snapshot, snapshot_of, Fits}
 use Rattle.schedule.specs.declared.event.Event.{Event}
+use Rattle.whole_calls.specs.Going.{CallGoes}
 use Rattle.world.specs.declared.world.World.{World}
 
 -- the store of a world, what each of its sessions runs, and its sets of dead rows
@@ -41,4 +42,7 @@ WorldCarries g rows old new goes = Carries g (inside rows old) (inside rows new)
 abbrev pub WorldRuns : {S T : Type 0} → Ghosts S → SetGhosts T → World S T → World S T → List Event → List Answer → (Entry → Bool) → List Action → List Call → Type 0
 WorldRuns g rows old new events answers start history calls = Runs g (inside rows old) (inside rows new) events answers start history calls
 
--- TO GO BACK: WorldGoes, and the use of whole_calls' Going
+-- for whatever fitted the world before there is a run of events of this session, of which one answered what the call came
+-- to, and this is told
+abbrev pub WorldGoes : {S T : Type 0} → Ghosts S → SetGhosts T → ℕ → (Snapshot S → Snapshot S → Type 0) → Option Answer → World S T → World S T → Type 0
+WorldGoes g rows session Tells came old new = CallGoes g session Tells came (inside rows old) (inside rows new)

@@ -4,7 +4,7 @@
 mod memory;
 mod opening;
 mod over_device;
-// TO GO BACK: mod whole;
+mod whole;
 mod world;
 
 pub use opening::NotOpened;

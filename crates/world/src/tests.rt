@@ -405,4 +405,25 @@ fn slots_of_another_owner(rt: HostRuntime) -> Result<(), Fail> {
     Ok(())
 }
 
-// TO GO BACK: the test calls_run_to_their_ends
+#[test]
+fn calls_run_to_their_ends(rt: HostRuntime) -> Result<(), Fail> {
+    let mut device = MemDevice::new(rt.alloc(), LEN)?;
+    create(&mut device, &LIMITS)?;
+    let mut world = opened(rt.alloc(), device)?;
+    let put = world.put(0, entry(0x61, 1), 5);
+    assert!(rt;
+        matches!(
+            put,
+            Ok(Answer::Added {
+                action: 1,
+                unfinished: None
+            })
+        )
+    );
+    assert!(rt; matches!(world.one(Event::Scan(1, ALL)), Answer::Begun));
+    assert!(rt; matches!(world.finish(1, 0), Ok(Answer::Ready(1))));
+    assert!(rt; world.give(1, 0)? == Some(entry(0x61, 1)));
+    assert!(rt; world.give(1, 0)?.is_none());
+    assert!(rt; matches!(world.finish(1, 0), Ok(Answer::Refused(Fault::NoSession))));
+    Ok(())
+}
