@@ -1,5 +1,5 @@
 -- What the answers of an insert and of a scan say, read off the run.
-use Rattle.std.specs.Prelude.{IfOk, IfErr, OnOk}
+use Rattle.std.specs.Prelude.{IfOk, IfErr, OnOk, unwrap_or}
 use Rattle.index_model.specs.Faults.{HasCause}
 use Rattle.page_action.specs.Causes.{where_forced}
 use Rattle.session_calls.specs.declared.answer.Answer.{Answer}
@@ -13,57 +13,90 @@ use Rattle.whole_calls.specs.Going.{CallGoes}
 use Rattle.whole_calls.proofs.Composing.{goes_by}
 use Rattle.whole_calls.proofs.Tellings.{keeps_silent}
 use Rattle.access_method.specs.Counted.{counted, kept_came}
-use Rattle.std.proofs.Common.{◌≡◌, ◌||◌, ℕ, suc, ◌+◌, Bool, Option, Some, None, Result, Ok, Err, List, [], ◌∷◌, ◌++◌, length, take, slice_get, refl, sym, ap, subst, ◌∙◌, arith, length-append}
-use Rattle.std.proofs.lemmas.List.{take_at, take_all}
-use Rattle.index_model.specs.Actions.{ThereAtSomeMoment, Action, contents_after}
+use Rattle.std.proofs.Common.{◌≡◌, ◌||◌, ℕ, zero, suc, ◌+◌, ◌-◌, Bool, Option, Some, None, Result, Ok, Err, List, [], ◌∷◌, ◌++◌, length, take, slice_get, refl, sym, ap, subst, ◌∙◌, arith, length-append, append_assoc}
+use Rattle.std.proofs.lemmas.List.{take_at, length-replicate}
+use Rattle.std.proofs.Math.Seq.{take-append-add}
+use Rattle.index_model.specs.Actions.{Add, ThereAtSomeMoment, Action, later_or, last_said, contents_after}
 use Rattle.index_model.specs.Calls.{Failed, Ask, AskInsert, AskScan, Call, Ending, Running, Finished as EndsFinished, Meets, AnswersRight, IsAdded, IsScanAnswer, IsScanAnswerSoFar, end_of}
 use Rattle.index_model.specs.Order.{same_entry}
 use Rattle.index_model.specs.declared.entry.Entry.{Entry}
 use Rattle.index_model.specs.declared.fault.Fault.{Fault}
 use Rattle.index_model.specs.declared.fault.Fault.TheVariants.{Exists}
 use Rattle.index_model.specs.declared.range.Range.{Range}
-use Rattle.index_model.proofs.Histories.{contents_after-add}
+use Rattle.index_model.proofs.Histories.{contents_after-append, contents_after-add}
 use Rattle.page_action.specs.declared.page_store.PageStore.{Ghosts}
 use Rattle.session_calls.specs.Sessions.{begun_call, given_one, ended}
 use Rattle.schedule.specs.Snapshots.{StoreAndSlots, Fits, snapshot_of}
 use Rattle.schedule.proofs.Lists.{get_append_new, get_set_same, get_within}
-use Rattle.whole_calls.specs.Telling.{InsertTold, insert_came, inserted_call}
+use Rattle.whole_calls.specs.Telling.{InsertTold, insert_came, inserted_call, shapes}
 use Rattle.whole_calls.specs.Giving.{Becomes, TellsGiven, give_came}
 use Rattle.whole_calls.specs.Going.{CallRuns}
 use Rattle.access_method.specs.Indexes.{InsertsOrKeeps, AnswersScan}
 use Rattle.whole_calls.specs.declared.inserted.Inserted.{Inserted}
 
+-- changes of the shape say nothing of an entry, nor do the first of them
+shapes_say : (n k m : ℕ) (e : Entry) → last_said (take m (shapes n k)) e ≡ None
+shapes_say n zero zero e = refl
+shapes_say n zero (suc m) e = refl
+shapes_say n (suc k) zero e = refl
+shapes_say n (suc k) (suc m) e = ap (λ (o : Option Bool). later_or o None) (shapes_say n k m e)
+
+all_shapes_say : (n k : ℕ) (e : Entry) → last_said (shapes n k) e ≡ None
+all_shapes_say n zero e = refl
+all_shapes_say n (suc k) e = ap (λ (o : Option Bool). later_or o None) (all_shapes_say n k e)
+
+-- what says nothing of an entry leaves the contents
+after_nothing : (start : Entry → Bool) (l m : List Action) (e : Entry) → last_said m e ≡ None → contents_after start (l ++ m) e ≡ contents_after start l e
+after_nothing start l m e none = contents_after-append start l m e ∙ ap (λ (o : Option Bool). unwrap_or o (contents_after start l e)) none
+
 -- an insert's answer in words of the contents
 pub inserts_or_keeps : {S : Type 0} (g : Ghosts S) (entry : Entry) (result : Result Inserted Fault) (old new : StoreAndSlots S) (start : Entry → Bool) (history : List Action) (calls : List Call)
     → Fits g start (snapshot_of old history calls) → CallRuns g 63 (InsertTold 63 entry result) (insert_came result) old new start history calls → InsertsOrKeeps g entry result old.store new.store
 inserts_or_keeps g entry (Ok inserted) old new start history calls fits r =
-    let call : Call = inserted_call 63 entry (length history) inserted in
-    let found : slice_get r.then_calls (length calls) ≡ Some call = ap (λ (l : List Call). slice_get l (length calls)) r.tells.calls_is ∙ get_append_new calls call in
+    let t = r.tells in
+    let call : Call = inserted_call 63 entry (length history) inserted.action t.ending (length r.then_history) in
+    let found : slice_get r.then_calls (length calls) ≡ Some call = ap (λ (l : List Call). slice_get l (length calls)) t.calls_is ∙ get_append_new calls call in
     let meets : Meets start r.then_history (length calls) call = r.ran.fits.meets (length calls) call found in
-    let added : IsAdded start r.then_history (length calls) (length history) (suc (length history)) entry inserted.action = meets.right.add in
-    let before : added.before ≡ length history = (let a = added.number_is in let b = r.tells.action_is in omega (arith, a, b)) in
-    let first : take added.before r.then_history ≡ history = ap (λ (n : ℕ). take n r.then_history) before ∙ ap (λ (l : List Action). take (length history) l) r.tells.history_is ∙ take_at history _ (length history) refl in
+    let added = meets.right.add in
+    let front : List Action = history ++ shapes (length calls) t.before in
+    let behind : List Action = shapes (length calls) t.behind in
+    let act : Action = record { by = length calls; effect = Add entry } in
+    let many : length front ≡ t.before + length history = (
+      let a = length-append history (shapes (length calls) t.before) in
+      let b : length (shapes (length calls) t.before) ≡ t.before = length-replicate t.before _ in
+      omega (arith, a, b)) in
+    let before : added.before ≡ length front = (let a = added.number_is in let b = t.action_is in omega (arith, a, b, many)) in
+    let first : take added.before r.then_history ≡ front = ap (λ (n : ℕ). take n r.then_history) before ∙ ap (λ (l : List Action). take (length front) l) t.history_is ∙ take_at front (act ∷ behind) (length front) refl in
+    let kept : (e : Entry) → contents_after start front e ≡ contents_after start history e = λ e. after_nothing start history (shapes (length calls) t.before) e (all_shapes_say (length calls) t.before e) in
+    let whole : r.then_history ≡ (front ++ act ∷ []) ++ behind = t.history_is ∙ sym (append_assoc front (act ∷ []) behind) in
     record {
-      was_absent = fits.matches.contents entry ∙ ap (λ (l : List Action). contents_after start l entry) (sym first) ∙ added.was_absent;
-      contents = λ e. r.ran.fits.matches.contents e ∙ ap (λ (l : List Action). contents_after start l e) r.tells.history_is ∙ contents_after-add start history (length calls) entry e
-          ∙ ap (λ (b : Bool). same_entry entry e || b) (sym (fits.matches.contents e));
-      action_is = (
-          let a = r.tells.action_is in
+      was_absent = fits.matches.contents entry ∙ sym (kept entry) ∙ ap (λ (l : List Action). contents_after start l entry) (sym first) ∙ added.was_absent;
+      contents = λ e. r.ran.fits.matches.contents e ∙ ap (λ (l : List Action). contents_after start l e) whole
+          ∙ after_nothing start (front ++ act ∷ []) behind e (all_shapes_say (length calls) t.behind e) ∙ contents_after-add start front (length calls) entry e
+          ∙ ap (λ (b : Bool). same_entry entry e || b) (kept e ∙ sym (fits.matches.contents e));
+      since = (let a = t.action_is in let b : (g.state old.store).acts ≡ length history = fits.matches.count in omega (arith, a, b));
+      until = (
+          let a = t.action_is in
           let b : (g.state new.store).acts ≡ length r.then_history = r.ran.fits.matches.count in
-          let c : length r.then_history ≡ length history + 1 = ap (λ (l : List Action). length l) r.tells.history_is ∙ length-append history _ in
-          omega (arith, a, b, c));
+          let c : length r.then_history ≡ length front + length (act ∷ behind) = ap (λ (l : List Action). length l) t.history_is ∙ length-append front (act ∷ behind) in
+          let d : length (act ∷ behind) ≡ suc (length behind) = refl in
+          omega (arith, a, b, c, d, many));
     }
 inserts_or_keeps g entry (Err fault) old new start history calls fits r =
-    let failed : Call = ended (begun_call 63 (AskInsert entry) (length history)) (Failed Exists) (length history) in
+    let t = r.tells in
+    let failed : Call = ended (begun_call 63 (AskInsert entry) (length history)) (Failed Exists) (length r.then_history) in
     record {
-      contents = λ e. r.ran.fits.matches.contents e ∙ ap (λ (l : List Action). contents_after start l e) r.tells.history_is ∙ sym (fits.matches.contents e);
+      contents = λ e. r.ran.fits.matches.contents e ∙ ap (λ (l : List Action). contents_after start l e) t.history_is ∙ after_nothing start history (shapes (length calls) t.shaped) e (all_shapes_say (length calls) t.shaped e) ∙ sym (fits.matches.contents e);
       was_there = λ exists. (
-          let found : slice_get r.then_calls (length calls) ≡ Some failed = ap (λ (l : List Call). slice_get l (length calls)) (r.tells.exists_is exists) ∙ get_append_new calls failed in
+          let found : slice_get r.then_calls (length calls) ≡ Some failed = ap (λ (l : List Call). slice_get l (length calls)) (t.exists_is exists) ∙ get_append_new calls failed in
           let meets : Meets start r.then_history (length calls) failed = r.ran.fits.meets (length calls) failed found in
-          let at : ThereAtSomeMoment start r.then_history (length history) (length history) entry = meets.right.end.1 refl in
-          let moment : at.moment ≡ length history = (let a = at.since in let b = at.until in omega (arith, a, b)) in
-          let first : take at.moment r.then_history ≡ history = ap (λ (n : ℕ). take n r.then_history) moment ∙ ap (λ (l : List Action). take (length history) l) r.tells.history_is ∙ take_all (length history) history (omega arith) in
-          fits.matches.contents entry ∙ ap (λ (l : List Action). contents_after start l entry) (sym first) ∙ at.there);
+          let at : ThereAtSomeMoment start r.then_history (length history) (length r.then_history) entry = meets.right.end.1 refl in
+          let more : ℕ = at.moment - length history in
+          let moment : at.moment ≡ length history + more = (let a = at.since in omega (arith, a)) in
+          let first : take at.moment r.then_history ≡ history ++ take more (shapes (length calls) t.shaped) =
+          ap (λ (n : ℕ). take n r.then_history) moment ∙ ap (λ (l : List Action). take (length history + more) l) t.history_is ∙ take-append-add history (shapes (length calls) t.shaped) more in
+          fits.matches.contents entry ∙ sym (after_nothing start history (take more (shapes (length calls) t.shaped)) entry (shapes_say (length calls) t.shaped more entry))
+          ∙ ap (λ (l : List Action). contents_after start l entry) (sym first) ∙ at.there);
     }
 
 -- a running scan's answer so far

@@ -1,5 +1,5 @@
 -- What is promised of an index.
-use Rattle.std.specs.Prelude.{◌||◌, ◌≡◌, ℕ, suc, Bool, true, false, Option, Some, None, Result, Ok, Err, List, ◌∷◌, [], ◌++◌, length, slice_get, slice_set}
+use Rattle.std.specs.Prelude.{◌||◌, ◌≡◌, ◌<◌, ◌≤◌, ℕ, suc, Bool, true, false, Option, Some, None, Result, Ok, Err, List, ◌∷◌, [], ◌++◌, length, slice_get, slice_set}
 use Rattle.device.specs.declared.device.Device.{Ghosts as DeviceGhosts}
 use Rattle.index_model.specs.Actions.{Action}
 use Rattle.index_model.specs.Calls.{AskScan, Call, IsScanAnswer, IsScanAnswerSoFar}
@@ -103,11 +103,12 @@ TokenAfter token (Err fault) old new = SeatBecomes token (seat_with token true) 
 abbrev pub has_entry : {S : Type 0} → Ghosts S → S → Entry → Bool
 has_entry g store e = entry_on_live_leaf (g.state store).pages e
 
--- the entry wasn't there; the contents are those before and the entry; and the action that added it is the last one
+-- the entry wasn't there; the contents are those before and the entry; and the action that added it is one since
 pub record IsInserted {S : Type 0} (g : Ghosts S) (entry : Entry) (inserted : Inserted) (old new : S) : Type 0 where
   pub was_absent : has_entry g old entry ≡ false
   pub contents : (e : Entry) → has_entry g new e ≡ (same_entry entry e || has_entry g old e)
-  pub action_is : inserted.action ≡ (g.state new).acts
+  pub since : (g.state old).acts < inserted.action
+  pub until : inserted.action ≤ (g.state new).acts
 
 -- the contents are those before; and where an insert was refused because the entry was there, it was
 pub record KeepsContents {S : Type 0} (g : Ghosts S) (entry : Entry) (fault : Fault) (old new : S) : Type 0 where

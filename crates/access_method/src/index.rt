@@ -238,8 +238,8 @@ impl<S: PageStore> Index<S> {
     /// token is not open.
     pub fn amendscan(&mut self, token: ScanToken) -> Result<(), Fault>
         ensures steps { Continues S.follows self.old.store self.new.store }
-        ensures runs { IndexGoes S.PageStore token.session
-            (TellsEnd token.session) None self.old self.new }
+        ensures runs { OnOk result (IndexGoes S.PageStore token.session
+            (TellsEnd token.session) None self.old self.new) }
         ensures closed { seat_of self.old.seats token ≡ None
             → (result ≡ Err Fault.NoSession) × (self.new ≡ self.old) }
         ensures refused { IfErr result (λ fault. fault ≡ Fault.NoSession) }

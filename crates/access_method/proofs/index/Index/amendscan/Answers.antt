@@ -5,9 +5,5 @@ use Rattle.access_method.specs.Indexes.{slots_within}
 use Rattle.access_method.proofs.Seats.{agree_over}
 use Rattle.access_method.proofs.index.Index.amendscan.Goals as goal
 
-pub returns-in_default-clause-runs : goal.returns-in_default-clause-runs
-returns-in_default-clause-runs g c =
-    goes_nowhere g.S.PageStore g.met.S.PageStore.laws c.args.token.session (TellsEnd c.args.token.session) (slots_within c.args.self.now) (λ x. record { history_is = refl; calls_is = λ none'. refl })
-
 pub invariant_of-self : goal.invariant_of-self
 invariant_of-self g c = record { agree = agree_over c.args.self.now.slots c.give_up.new.slots c.args.self.now.seats c.args.token.session c.args.self.now.agree c.in-Some.ensures.low c.give_up.ensures.others None c.give_up.ensures.over }

@@ -15,4 +15,4 @@ returns-clause-runs g c =
     goes_then g.S.PageStore g.met.S.PageStore.laws session (TellsEnd session) (BeginTold session (ToScan c.args.range) (Ok tt)) (RescanTold session c.args.range) None (Some Begun)
     (slots_within c.args.self.now) (here_with c.give_up.new.store c.give_up.new.slots []) (here_with c.open.new.store c.open.new.slots [])
     c.give_up.ensures.steps c.open.ensures.steps c.give_up.ensures.goes (rw c.in_ok-open.was at c.open.ensures.goes)
-    (λ start x y z at fx fy fz one two. rescan_told session c.args.range tt x y z one two)
+    (λ start x y z at then_at fx fy fz one two. rescan_told session c.args.range tt x y z one two)
