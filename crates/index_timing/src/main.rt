@@ -1,0 +1,141 @@
+//! How many entries a second an index takes and gives on one core: `index_timing time` prints it to standard error. Without an
+//! argument it fills two small indexes and scans them.
+#![tactic(auto)]
+
+use access_method::Index;
+use device::MemDevice;
+use index_model::{Entry, Fault, Key, Limits, Range, RowAddr};
+use page_store::Store;
+use recovery::create;
+use std::alloc::Global;
+use std::io::Eprint;
+use std::rt::Clock;
+use std::time::Instant;
+use std::{env, io};
+
+const LIMITS: Limits = Limits {
+    items: 50,
+    pages: 8_192,
+    log_bytes: 16_777_216,
+};
+
+/// The bytes of a device with an index of these limits.
+const LEN: u64 = 4_096 + 16_777_216 + 4_096 * 8_192;
+
+/// Pages in memory at once.
+const FRAMES: u32 = 1_024;
+
+const ALL: Range = Range {
+    from: None,
+    below: None,
+};
+
+/// Each entry is this many places behind the last, so that they come in no order: a prime that divides no power of ten.
+const SHUFFLED: u32 = 7_919;
+
+/// One index to be filled: so many entries, each so many places behind the last, with a commit behind every so many (0: at the end
+/// alone).
+#[derive(Clone, Copy)]
+struct Load {
+    count: u32,
+    stride: u32,
+    commit_every: u32,
+}
+
+// Entry i, with a key of four bytes.
+fn entry(i: u32) -> Entry {
+    Entry {
+        key: Key::new(&i.to_be_bytes()).unwrap_or(Key::EMPTY),
+        row: RowAddr::new(i, 1).unwrap_or_default(),
+    }
+}
+
+// An empty index, made on a device in memory and opened.
+fn empty_index(alloc: Global) -> Result<Index<Store<MemDevice>>, Fault> {
+    let mut device = MemDevice::new(alloc, LEN)?;
+    create(&mut device, &LIMITS)?;
+    match Index::open(alloc, device, FRAMES) {
+        Ok(index) => Ok(index),
+        Err(refused) => Err(refused.fault),
+    }
+}
+
+fn fill(index: &mut Index<Store<MemDevice>>, load: Load) -> Result<(), Fault> {
+    for i in 0..load.count {
+        let at = i.wrapping_mul(load.stride) % load.count.max(1);
+        index.aminsert(entry(at))?;
+        if i % load.commit_every.max(1) + 1 == load.commit_every {
+            index.commit()?;
+        }
+    }
+    index.commit()?;
+    Ok(())
+}
+
+// How many entries a scan of the whole index gives; it stops behind one more than there may be.
+fn scan(index: &mut Index<Store<MemDevice>>, most: u32) -> Result<u32, Fault> {
+    let token = index.ambeginscan(ALL)?;
+    let mut given = 0u32;
+    for _ in 0..most {
+        if index.amgettuple(token)?.is_none() {
+            break;
+        }
+        given = given.wrapping_add(1);
+    }
+    index.amendscan(token)?;
+    Ok(given)
+}
+
+fn is_filled_and_scanned(alloc: Global, load: Load) -> Result<bool, Fault> {
+    let mut index = empty_index(alloc)?;
+    fill(&mut index, load)?;
+    Ok(scan(&mut index, load.count.saturating_add(1))? == load.count)
+}
+
+fn a_second(count: u32, nanos: u128) -> u128 {
+    1_000_000_000 * u128::from(count) / nanos.max(1)
+}
+
+// The entries a second that an index takes, and those that it gives, each once.
+fn time(rt: &(impl Clock + Eprint), alloc: Global, name: &str, load: Load) -> io::Result<()> {
+    let Ok(mut index) = empty_index(alloc) else {
+        return eprintln!(rt; "{name}: no index was made");
+    };
+    let count = load.count;
+    let every = load.commit_every;
+    let start = Instant::now(rt)?;
+    let filled = fill(&mut index, load).is_ok();
+    let taken = a_second(count, start.elapsed(rt)?.as_nanos());
+    let start = Instant::now(rt)?;
+    let given = scan(&mut index, count.saturating_add(1)).unwrap_or(0);
+    let gives = a_second(given, start.elapsed(rt)?.as_nanos());
+    if filled && given == count {
+        eprintln!(rt; "{count} {name}, a commit every {every}: {taken} inserted, {gives} scanned a second")
+    } else {
+        eprintln!(rt; "{count} {name}: {given} entries were given")
+    }
+}
+
+fn time_all(rt: &(impl Clock + Eprint), alloc: Global, count: u32) -> io::Result<()> {
+    for commit_every in [0, 100] {
+        time(rt, alloc, "ascending", Load { count, stride: 1, commit_every })?;
+        time(rt, alloc, "shuffled", Load { count, stride: SHUFFLED, commit_every })?;
+    }
+    Ok(())
+}
+
+fn main(rt: HostRuntime) -> io::Result<()> {
+    let alloc = rt.alloc();
+    for stride in [1, SHUFFLED] {
+        let load = Load { count: 1_000, stride, commit_every: 100 };
+        if is_filled_and_scanned(alloc, load).unwrap_or(false) {
+            println!(rt; "1000 entries inserted and scanned")?;
+        }
+    }
+    if env::args(&rt)?.count() > 1 {
+        for count in [1_000, 10_000, 100_000] {
+            time_all(&rt, alloc, count)?;
+        }
+    }
+    Ok(())
+}
