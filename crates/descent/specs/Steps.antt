@@ -1,5 +1,5 @@
--- What the steps of one session's call do to a store, and what other sessions may rely on meanwhile.
-use Rattle.std.specs.Prelude.{◌≡◌, ◌≢◌, ℕ, suc, Bool, true, false, Option, Some, None, unwrap_or, [], length, slice_get}
+-- Pages that one session holds alone, and what one act does.
+use Rattle.std.specs.Prelude.{◌≡◌, ◌≢◌, ℕ, suc, Bool, true, false, Option, Some, None, unwrap_or, []}
 use Rattle.index_model.specs.Actions.{Effect, Add, Remove, Shape, said_of}
 use Rattle.index_model.specs.Order.{is_among, IsAscending}
 use Rattle.index_model.specs.declared.entry.Entry.{Entry}
@@ -7,7 +7,6 @@ use Rattle.latch_table.specs.Holdings.{Table, holding_of, latches_exclude}
 use Rattle.latch_table.specs.declared.mode.Mode.TheVariants.{Shared, Exclusive}
 use Rattle.page_action.specs.Contents.{entry_on_live_leaf}
 use Rattle.page_action.specs.States.{State, with_table}
-use Rattle.tree_shape.specs.Tree.{IsBlinkTree}
 
 -- the session holds a latch of the block that excludes all others
 abbrev pub HoldsAlone : Table → ℕ → ℕ → Type 0
@@ -17,24 +16,6 @@ HoldsAlone table session block = latches_exclude (holding_of table session).latc
 abbrev pub AreApart : Table → Type 0
 AreApart table = (session other block : ℕ) → session ≢ other → HoldsAlone table session block
     → latches_exclude (holding_of table other).latches block Exclusive ≡ false
-
--- the pages are a B-link tree, and no two sessions hold what excludes each other
-pub record IsInOrder (st : State) : Type 0 where
-  pub tree : IsBlinkTree st.pages
-  pub apart : AreApart st.table
-  pub holdings : length st.table ≡ 64
-  pub calls : length st.running ≡ 64
-
--- what a session may rely on while others act: its latches and pins, its start number, and the pages that it holds
--- alone are as they were
-pub record MayRely (session : ℕ) (old new : State) : Type 0 where
-  pub held : holding_of new.table session ≡ holding_of old.table session
-  pub number : slice_get new.running session ≡ slice_get old.running session
-  pub pages : (block : ℕ) → HoldsAlone old.table session block → slice_get new.pages block ≡ slice_get old.pages block
-
--- every session but this one may rely
-abbrev pub OthersRely : ℕ → State → State → Type 0
-OthersRely session old new = (other : ℕ) → other ≢ session → MayRely other old new
 
 -- an effect that may be, by what was there: an entry is added that wasn't; entries are removed, one or more, ascending, that
 -- were; or the shape of the pages is changed
@@ -53,14 +34,3 @@ pub record HasActed (effect : Effect) (old new : State) : Type 0 where
 abbrev pub Changes : Option Effect → State → State → Type 0
 Changes None old new = new ≡ with_table old new.table
 Changes (Some effect) old new = HasActed effect old new
-
--- A step of this session's call, with one effect at most: the pages are in order, calls and limits are as they were, and
--- every other session may rely on what it held.
-pub record Does (session : ℕ) (effect : Option Effect) (old new : State) : Type 0 where
-  pub changes : Changes effect old new
-  pub limits : new.limits ≡ old.limits
-  pub frames : new.frames ≡ old.frames
-  pub begun : new.begun ≡ old.begun
-  pub running : new.running ≡ old.running
-  pub order : IsInOrder new
-  pub others : OthersRely session old new

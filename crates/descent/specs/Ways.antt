@@ -31,23 +31,3 @@ root_level pages = level_at pages 0
 -- no page is flagged: each split is finished
 abbrev pub NoneIsFlagged : List Page → Type 0
 NoneIsFlagged pages = (block : ℕ) (page : Page) → slice_get pages block ≡ Some page → page.split ≡ false
-
--- the page of this block is live and has this place below its high key, and the page to its left hasn't
-pub record Covers (pages : List Page) (has_below : Option Bound → Type 0) (block : ℕ) : Type 0 where
-  pub page : Page
-  pub found : slice_get pages block ≡ Some page
-  pub alive : page.state ≡ Live
-  pub within : has_below page.high
-  pub first : (left : ℕ) (other : Page) → page.left ≡ Some left → slice_get pages left ≡ Some other → has_below other.high → ⊥
-
--- the page of this block is the one of its level where the entry belongs
-abbrev pub CoversEntry : List Page → Entry → ℕ → Type 0
-CoversEntry pages e block = Covers pages (λ high. IsUpTo high e) block
-
--- the page of this block is the one of its level where what lies just beyond the bound belongs
-abbrev pub CoversBeyond : List Page → Bound → ℕ → Type 0
-CoversBeyond pages bound block = Covers pages (λ high. IsRise (Some bound) high) block
-
--- the leaf where the entry belongs has fewer entries than it may have
-abbrev pub HasRoomFor : ℕ → List Page → Entry → Type 0
-HasRoomFor items pages e = (block : ℕ) (leaf : CoversEntry pages e block) → HasEntries leaf.page.items → length (entries_of leaf.page.items) < items

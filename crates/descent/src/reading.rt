@@ -6,14 +6,13 @@ ghost use Rattle.latch_table.specs.Holdings.{HasRoom, is_held_by_another};
 ghost use Rattle.page_action.specs.States.{State, Continues};
 ghost use Rattle.page_action.specs.Room.{KeepsRoom};
 ghost use Rattle.page_action.specs.Stored.{IsStored};
-ghost use Rattle.tree_shape.specs.Tree.{IsBlinkTree, IsMetaOf};
 ghost use Rattle.descent.specs.Causes.{where_looked};
 ghost use Rattle.descent.specs.Shared.{where_working};
 
 use index_model::{Fault, Session};
 use latch_table::Mode;
 use page_action::PageStore;
-use page_codec::{Items, Page};
+use page_codec::Page;
 
 /// Reads a page under a shared latch, which is let go again. Refused with `Stopped`, `Blocked`, and with the faults
 /// of [`PageStore::page`].
@@ -143,35 +142,4 @@ pub fn look_at_both<S: PageStore>(
         Ok(other) => Ok((page, other)),
         Err(fault) => Err(fault),
     }
-}
-
-/// Reads the metapage and answers the block of the root, which is a leaf until leaves split. Refused with the faults
-/// of [`look`], and with `PageDamaged` for page 0 where it is not the metapage of a tree of one level.
-pub fn root<S: PageStore>(store: &mut S, session: Session) -> Result<u32, Fault>
-    ensures steps { Continues S.follows store.old store.new }
-    ensures state { S.state store.new ≡ S.state store.old }
-    ensures stopped { (S.backing store.old).stopped ≡ true → result ≡ Err Fault.Stopped }
-    ensures root { (S.backing store.new).honest ≡ true → IsBlinkTree (S.state store.old).pages
-        → IfOk result (λ b. b ≡ 1) }
-    ensures cause { (S.backing store.new).honest ≡ true → IsBlinkTree (S.state store.old).pages
-        → HasRoom (S.state store.old).table session
-        → IfErr result
-        (HasCause (where_looked (S.state store.old) (S.backing store.old)
-        (S.backing store.new) session 0)) }
-{
-    let page = look(store, session, 0)?;
-    match root_of(&page) {
-        Some(block) => Ok(block),
-        None => Err(Fault::PageDamaged(0)),
-    }
-}
-
-// The root that a page names, if it is the metapage of a tree of one level.
-fn root_of(page: &Page) -> Option<u32>
-    ensures named { (root : ℕ) → IsMetaOf page.now root 0 → result ≡ Some root }
-{
-    if !matches!(page.items, Items::Meta) || page.level != 0 {
-        return None;
-    }
-    page.right
 }

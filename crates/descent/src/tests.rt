@@ -49,7 +49,7 @@ fn entry(key: u8, block: u32) -> Entry {
 }
 
 #[test]
-fn page_and_root_are_read(rt: HostRuntime) {
+fn page_is_read(rt: HostRuntime) {
     let (Ok(mut store), Ok(one), Ok(other)) = (
         tree(rt.alloc(), &[entry(1, 1)]),
         Session::new(1),
@@ -58,7 +58,6 @@ fn page_and_root_are_read(rt: HostRuntime) {
         assert!(rt; false);
         return;
     };
-    assert_eq!(rt; root(&mut store, one), Ok(1));
     assert_eq!(rt; look(&mut store, one, 1).map(|page| page.block), Ok(1));
     assert_eq!(rt; store.latch(other, 1, Mode::Exclusive), Ok(()));
     assert_eq!(rt;
@@ -68,12 +67,15 @@ fn page_and_root_are_read(rt: HostRuntime) {
 }
 
 #[test]
-fn tree_without_a_metapage(rt: HostRuntime) {
+fn page_that_is_not_there(rt: HostRuntime) {
     let (Ok(mut store), Ok(session)) = (MapStore::new(rt.alloc(), LIMITS), Session::new(1)) else {
         assert!(rt; false);
         return;
     };
-    assert_eq!(rt; root(&mut store, session), Err(Fault::PageDamaged(0)));
+    assert_eq!(rt;
+        look(&mut store, session, 0).map(|page| page.block),
+        Err(Fault::PageDamaged(0))
+    );
 }
 
 // Where the page of a way on this level leads to the leaf of an entry.
