@@ -62,9 +62,9 @@ inserts_or_keeps g entry (Ok inserted) old new start history calls fits r =
     let behind : List Action = shapes (length calls) t.behind in
     let act : Action = record { by = length calls; effect = Add entry } in
     let many : length front ≡ t.before + length history = (
-      let a = length-append history (shapes (length calls) t.before) in
-      let b : length (shapes (length calls) t.before) ≡ t.before = length-replicate t.before _ in
-      omega (arith, a, b)) in
+    let a = length-append history (shapes (length calls) t.before) in
+    let b : length (shapes (length calls) t.before) ≡ t.before = length-replicate t.before _ in
+    omega (arith, a, b)) in
     let before : added.before ≡ length front = (let a = added.number_is in let b = t.action_is in omega (arith, a, b, many)) in
     let first : take added.before r.then_history ≡ front = ap (λ (n : ℕ). take n r.then_history) before ∙ ap (λ (l : List Action). take (length front) l) t.history_is ∙ take_at front (act ∷ behind) (length front) refl in
     let kept : (e : Entry) → contents_after start front e ≡ contents_after start history e = λ e. after_nothing start history (shapes (length calls) t.before) e (all_shapes_say (length calls) t.before e) in

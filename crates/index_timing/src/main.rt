@@ -110,7 +110,9 @@ fn time(rt: &(impl Clock + Eprint), alloc: Global, name: &str, load: Load) -> io
     let given = scan(&mut index, count.saturating_add(1)).unwrap_or(0);
     let gives = a_second(given, start.elapsed(rt)?.as_nanos());
     if filled && given == count {
-        eprintln!(rt; "{count} {name}, a commit every {every}: {taken} inserted, {gives} scanned a second")
+        eprintln!(rt;
+            "{count} {name}, a commit every {every}: {taken} inserted, {gives} scanned a second"
+        )
     } else {
         eprintln!(rt; "{count} {name}: {given} entries were given")
     }
@@ -118,8 +120,26 @@ fn time(rt: &(impl Clock + Eprint), alloc: Global, name: &str, load: Load) -> io
 
 fn time_all(rt: &(impl Clock + Eprint), alloc: Global, count: u32) -> io::Result<()> {
     for commit_every in [0, 100] {
-        time(rt, alloc, "ascending", Load { count, stride: 1, commit_every })?;
-        time(rt, alloc, "shuffled", Load { count, stride: SHUFFLED, commit_every })?;
+        time(
+            rt,
+            alloc,
+            "ascending",
+            Load {
+                count,
+                stride: 1,
+                commit_every,
+            },
+        )?;
+        time(
+            rt,
+            alloc,
+            "shuffled",
+            Load {
+                count,
+                stride: SHUFFLED,
+                commit_every,
+            },
+        )?;
     }
     Ok(())
 }
@@ -127,7 +147,11 @@ fn time_all(rt: &(impl Clock + Eprint), alloc: Global, count: u32) -> io::Result
 fn main(rt: HostRuntime) -> io::Result<()> {
     let alloc = rt.alloc();
     for stride in [1, SHUFFLED] {
-        let load = Load { count: 1_000, stride, commit_every: 100 };
+        let load = Load {
+            count: 1_000,
+            stride,
+            commit_every: 100,
+        };
         if is_filled_and_scanned(alloc, load).unwrap_or(false) {
             println!(rt; "1000 entries inserted and scanned")?;
         }

@@ -3,10 +3,10 @@ use arrayvec::ArrayVec;
 use index_model::{DeadRows, Entry, Fault, Key, Limits, Range, RowAddr};
 use page_action::{MapStore, PageStore};
 use page_codec::{Items, Page, PageState};
+use session_calls::{Answer, Op};
 use std::alloc::Global;
 use std::array;
 use std::test::{Fail, *};
-use session_calls::{Answer, Op};
 
 const LIMITS: Limits = Limits {
     items: 4,

@@ -9,8 +9,8 @@ ghost use Rattle.descent.specs.Shared.{IsInOrder};
 use crate::answer::Answer;
 use crate::request::Request;
 use index_model::{DeadRows, Fault, Session};
-use page_action::PageStore;
 use insert_split::{InsertOp, InsertStep};
+use page_action::PageStore;
 use scan::{ScanOp, ScanStep};
 
 /// A running call of a session.

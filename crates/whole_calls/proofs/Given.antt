@@ -209,10 +209,11 @@ scan_silent : {S : Type 0} (number : ℕ) (call : Call) (range : Range) (answer 
 scan_silent number call range answer x y ask t =
     let w = whole_told number call answer x y t in
     let all : w.effects ≡ [] = scan_own call range (length x.history) w.effects ask w.own in
-    let front : t.before ≡ [] = scan_own call range (length x.history) t.before ask t.own in
-    (w.history_is ∙ ap (λ (l : List Effect). x.history ++ acts_by number l) all ∙ append-nil x.history,
-    ap (λ (l : List Effect). noted_behind call (length x.history) l) front,
-    ap (λ (l : List Effect). length (x.history ++ acts_by number l)) front ∙ ap (λ (l : List Action). length l) (append-nil x.history))
+    let front : t.before ≡ [] = scan_own call range (length x.history) t.before ask t.own in (
+      w.history_is ∙ ap (λ (l : List Effect). x.history ++ acts_by number l) all ∙ append-nil x.history,
+      ap (λ (l : List Effect). noted_behind call (length x.history) l) front,
+      ap (λ (l : List Effect). length (x.history ++ acts_by number l)) front ∙ ap (λ (l : List Action). length l) (append-nil x.history),
+    )
 
 -- what is told of a session's running call is told of its scan
 pub scan_told : {S : Type 0} (session : ℕ) (result : Result Answer Fault) (x y : Snapshot S) → TellsStep session result x y → TellsScan session result x y

@@ -169,12 +169,14 @@ module _ {S : Type 0} (number : ℕ) (call : Call) (answer : Answer) (x y : Snap
 -- a call that is told to go on has gone on
 pub told_gone : {S : Type 0} (number : ℕ) (call : Call) (x y : Snapshot S) → IsTold number call Going x y → (effects : List Effect) × HasGoneOn number call effects x y
 told_gone number call x y t =
-    let w = whole_told number call Going x y t in
-    (w.effects, record {
-      own = w.own;
-      history_is = w.history_is;
-      calls_is = t.calls_is ∙ ap (λ (c : Call). slice_set x.calls number c) (t.told ∙ w.noted_is);
-    })
+    let w = whole_told number call Going x y t in (
+      w.effects,
+      record {
+        own = w.own;
+        history_is = w.history_is;
+        calls_is = t.calls_is ∙ ap (λ (c : Call). slice_set x.calls number c) (t.told ∙ w.noted_is);
+      },
+    )
 
 -- behind what tells nothing, a step tells what it tells
 pub silent_then : {S : Type 0} (session : ℕ) (result : Result Answer Fault) (x y z : Snapshot S) → IsSilent x y → TellsStep session result y z → TellsStep session result x z

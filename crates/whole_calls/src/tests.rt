@@ -109,10 +109,23 @@ fn calls_run_to_their_ends(rt: HostRuntime) -> Result<(), Fail> {
 
 #[test]
 fn inserts_split_full_pages(rt: HostRuntime) -> Result<(), Fail> {
-    let mut store = empty_store(rt.alloc(), Limits { pages: 64, ..LIMITS })?;
+    let mut store = empty_store(
+        rt.alloc(),
+        Limits {
+            pages: 64,
+            ..LIMITS
+        },
+    )?;
     let mut slots: [Option<Op>; 1] = array::from_fn(|_| None);
     for step in 0..20u8 {
-        let added = insert(&mut store, &mut slots, &NO_SETS, 0, entry(step * 7 % 20, 1), 0)?;
+        let added = insert(
+            &mut store,
+            &mut slots,
+            &NO_SETS,
+            0,
+            entry(step * 7 % 20, 1),
+            0,
+        )?;
         assert!(rt; added.unfinished.is_none());
     }
     open(&mut store, &mut slots, &NO_SETS, 0, ALL)?;
