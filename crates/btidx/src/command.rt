@@ -27,6 +27,7 @@ S: a session, counted from 0.  N: a number without sign or zeros in front; `fail
 KEY: 0 to 64 bytes as lower-case hex, `-` for none.  ROW: (BLOCK,OFFSET).
 FROM, BELOW: a key, or `*` for an open end; what is below BELOW is given.
 `added N` is the Nth action, `forced N`, `checkpointed N`: the first N are durable, `ready N`: `next` can take N.
+`added N unfinished M`: added, but fault M kept a split from being finished; a later insert finishes it.
 A crash keeps all that wasn't synced, drops it, or tears it: half of each write stays.
 A line may also answer `refused N` with the number of a fault; `refused 4 BLOCK`: that page is latched, step again.
 Any other line ends the script with status 2.";

@@ -146,6 +146,252 @@ done 2
     )
 }
 
+/// The first split also makes a new root, by an action of its own, and a force makes all six durable.
+#[test]
+fn first_split(rt: HostRuntime) -> Result<(), Fail> {
+    runs(
+        &rt,
+        ["btidx", "play"].as_slice(),
+        "put 0 61 (0,1)
+put 0 62 (0,2)
+put 0 63 (0,3)
+put 0 64 (0,4)
+put 0 65 (0,5)
+force
+dump
+",
+        "added 1
+added 2
+added 3
+added 4
+added 5
+forced 6
+0 meta root=3 level=1
+1 leaf live left=- right=2 high=63 (0,3) split=0 cycle=0 n=3
+  61 (0,1)
+  62 (0,2)
+  63 (0,3)
+2 leaf live left=1 right=- high=- split=0 cycle=0 n=2
+  64 (0,4)
+  65 (0,5)
+3 internal level=1 left=- right=- high=- split=0 n=2
+  * -> 1
+  63 (0,3) -> 2
+",
+        "",
+        0,
+    )
+}
+
+/// The last block is taken by a split whose parent splits too: no block is left for the new root.
+#[test]
+fn no_block_left(rt: HostRuntime) -> Result<(), Fail> {
+    runs(
+        &rt,
+        ["btidx", "play", "--pages", "8"].as_slice(),
+        "put 0 61 (0,1)
+put 0 62 (0,2)
+put 0 63 (0,3)
+put 0 64 (0,4)
+put 0 65 (0,5)
+put 0 66 (0,6)
+put 0 67 (0,7)
+put 0 68 (0,8)
+put 0 69 (0,9)
+put 0 6a (0,10)
+put 0 6b (0,11)
+put 0 6c (0,12)
+put 0 6d (0,13)
+put 0 6e (0,14)
+put 0 6f (0,15)
+list 0 * *
+force
+",
+        "added 1
+added 2
+added 3
+added 4
+added 5
+added 7
+added 8
+added 9
+added 11
+added 12
+added 13
+added 15
+added 16
+added 17 unfinished 8
+refused 8
+entry 61 (0,1)
+entry 62 (0,2)
+entry 63 (0,3)
+entry 64 (0,4)
+entry 65 (0,5)
+entry 66 (0,6)
+entry 67 (0,7)
+entry 68 (0,8)
+entry 69 (0,9)
+entry 6a (0,10)
+entry 6b (0,11)
+entry 6c (0,12)
+entry 6d (0,13)
+entry 6e (0,14)
+done 14
+forced 18
+",
+        "",
+        0,
+    )
+}
+
+/// A split that was given up before its downlink: a scan passes it by its link, and the next insert finishes it.
+#[test]
+fn unfinished_split(rt: HostRuntime) -> Result<(), Fail> {
+    runs(
+        &rt,
+        ["btidx", "play"].as_slice(),
+        "put 0 61 (0,1)
+put 0 62 (0,2)
+put 0 63 (0,3)
+put 0 64 (0,4)
+insert 1 65 (0,5)
+step 1
+step 1
+step 1
+end 1
+list 0 * *
+put 0 66 (0,6)
+",
+        "added 1
+added 2
+added 3
+added 4
+begun
+going
+going
+going
+ended
+entry 61 (0,1)
+entry 62 (0,2)
+entry 63 (0,3)
+entry 64 (0,4)
+entry 65 (0,5)
+done 5
+added 7
+",
+        "",
+        0,
+    )
+}
+
+/// A scan goes on by the link that it read, past a split of the leaf that it stands on.
+#[test]
+fn saved_link(rt: HostRuntime) -> Result<(), Fail> {
+    runs(
+        &rt,
+        ["btidx", "play"].as_slice(),
+        "put 0 61 (0,1)
+put 0 62 (0,2)
+put 0 63 (0,3)
+put 0 64 (0,4)
+put 0 65 (0,5)
+put 0 60 (0,9)
+scan 1 * *
+run 1
+put 0 6180 (0,7)
+next 1
+next 1
+next 1
+next 1
+next 1
+run 1
+next 1
+next 1
+next 1
+run 1
+",
+        "added 1
+added 2
+added 3
+added 4
+added 5
+added 7
+begun
+ready 4
+added 8
+entry 60 (0,9)
+entry 61 (0,1)
+entry 62 (0,2)
+entry 63 (0,3)
+none
+ready 2
+entry 64 (0,4)
+entry 65 (0,5)
+none
+done
+",
+        "",
+        0,
+    )
+}
+
+/// Leaves that split between the steps of a scan: it copies what a leaf holds when it reads it.
+#[test]
+fn splits_beside_a_scan(rt: HostRuntime) -> Result<(), Fail> {
+    runs(
+        &rt,
+        ["btidx", "play"].as_slice(),
+        "put 0 61 (0,1)
+put 0 62 (0,2)
+put 0 63 (0,3)
+put 0 64 (0,4)
+put 0 65 (0,5)
+put 0 66 (0,6)
+put 0 67 (0,7)
+put 0 68 (0,8)
+scan 1 * *
+step 1
+put 0 60 (0,9)
+step 1
+put 0 6080 (0,10)
+step 1
+put 0 6081 (0,11)
+next 1
+next 1
+next 1
+next 1
+step 1
+next 1
+next 1
+",
+        "added 1
+added 2
+added 3
+added 4
+added 5
+added 7
+added 8
+added 9
+begun
+going
+added 11
+going
+added 12
+ready 3
+added 14
+entry 60 (0,9)
+entry 6080 (0,10)
+entry 61 (0,1)
+none
+ready 2
+entry 62 (0,2)
+entry 63 (0,3)
+",
+        "",
+        0,
+    )
+}
+
 /// What was forced stands after each crash, and acts are counted anew.
 #[test]
 fn acknowledged(rt: HostRuntime) -> Result<(), Fail> {
