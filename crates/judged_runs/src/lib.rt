@@ -1,4 +1,4 @@
-//! Runs of an index, judged: tests alone. A run makes some thousands of random events of a few sessions, and a judge
+//! Runs of an index, judged: tests alone. A run makes some thousands of random events of some sessions, and a judge
 //! keeps plainly what was asked and answered, and computes each word of the promises over it.
 #![tactic(auto)]
 
@@ -7,6 +7,10 @@ mod dice;
 #[cfg(test)]
 mod judge;
 #[cfg(test)]
+mod pages;
+#[cfg(test)]
 mod runs;
+#[cfg(test)]
+mod tally;
 #[cfg(test)]
 mod tests;

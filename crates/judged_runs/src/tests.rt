@@ -1,26 +1,13 @@
-use crate::dice::Dice;
+use crate::dice::{Dice, Space};
 use crate::judge::Judge;
-use crate::runs::{NoRows, are_right, contents, ends_right};
+use crate::runs::{NoRows, Run, are_right, ends_right, judge_of};
 use arrayvec::ArrayVec;
-use device::{CrashImage, MemDevice};
 use index_model::{Fault, Limits};
 use page_action::MapStore;
 use page_codec::{Items, Page, PageState};
-use page_store::Store;
-use recovery::create;
-use schedule::Event;
-use session_calls::Answer;
-use std::alloc::{AllocError, Global};
+use std::alloc::Global;
 use std::test::{Fail, *};
 use world::World;
-
-fn limits(items: u32) -> Limits {
-    Limits {
-        items,
-        pages: 8,
-        log_bytes: 1_048_576,
-    }
-}
 
 fn page(block: u32, right: Option<u32>, items: Items) -> Page {
     Page {
@@ -38,100 +25,57 @@ fn page(block: u32, right: Option<u32>, items: Items) -> Page {
 }
 
 /// An empty index in memory: the metapage, and an empty leaf as the root.
-fn in_memory(alloc: Global, items: u32, sessions: u32) -> Result<World<MapStore, NoRows>, Fault> {
-    let mut store = MapStore::new(alloc, limits(items))?;
+fn in_memory(run: Run) -> Result<World<MapStore, NoRows>, Fault> {
+    let mut store = MapStore::new(run.alloc, run.limits)?;
     store.add(page(0, Some(1), Items::Meta))?;
     store.add(page(1, None, Items::Entries(ArrayVec::new())))?;
-    match World::new(alloc, store, sessions, Vec::new(alloc)) {
+    match World::new(run.alloc, store, run.space.sessions, Vec::new(run.alloc)) {
         Ok(world) => Ok(world),
         Err(not_made) => Err(not_made.fault),
     }
 }
 
-/// Sessions from 1 to 4, on leaves that are soon full and on one that never is.
-#[test]
-fn runs_in_memory(rt: HostRuntime) -> Result<(), Fail> {
-    let alloc = rt.alloc();
-    for (seed, items, sessions) in [
-        (1, 4, 1),
-        (2, 4, 4),
-        (3, 7, 3),
-        (4, 12, 2),
-        (5, 50, 2),
-        (6, 50, 3),
-        (7, 50, 4),
-    ] {
-        let mut world = in_memory(alloc, items, sessions)?;
-        let mut judge = Judge::new(alloc, Vec::new(alloc), sessions)?;
-        let mut dice = Dice::new(seed);
-        assert!(rt;
-            are_right(&mut world, &mut judge, &mut dice, sessions, 600)?,
-            "{seed}"
-        );
-        assert!(rt; ends_right(&mut world, &mut judge, sessions)?, "{seed}");
-        assert!(rt; judge.actions() >= 4, "{seed}");
-    }
-    Ok(())
-}
-
-fn opened(
-    alloc: Global,
-    device: MemDevice,
-    sessions: u32,
-) -> Result<World<Store<MemDevice>, NoRows>, Fault> {
-    match World::open(alloc, device, 16, sessions, Vec::new(alloc)) {
-        Ok(world) => Ok(world),
-        Err(not_opened) => Err(not_opened.fault),
+/// A run of so many sessions on pages of so many items.
+fn roomy(alloc: Global, sessions: u32, items: u32) -> Run {
+    Run {
+        alloc,
+        limits: Limits {
+            items,
+            pages: 128,
+            log_bytes: 1_048_576,
+        },
+        space: Space {
+            sessions,
+            keys: 24,
+            rows: 4,
+        },
     }
 }
 
-/// An empty index on a device in memory.
-fn on_a_device(alloc: Global) -> Result<World<Store<MemDevice>, NoRows>, Fault> {
-    let mut device = MemDevice::new(alloc, 4_096 + 1_048_576 + 8 * 4_096)?;
-    create(&mut device, &limits(50))?;
-    opened(alloc, device, 3)
-}
-
-/// A last force or checkpoint, whose device stops at one of its first calls or not at all: whether its answer is right.
-fn keeps_at_last(
-    world: &mut World<Store<MemDevice>, NoRows>,
-    judge: &mut Judge,
-    dice: &mut Dice,
-) -> Result<bool, AllocError> {
-    world.stop_at(u64::from(dice.roll(12)));
-    let event = if dice.roll(2) == 0 {
-        Event::Force
-    } else {
-        Event::Checkpoint
+/// Random events in memory: whether all are right, and the judge.
+fn judged(run: Run, seed: u64, events: u32) -> Result<(bool, Judge), Fault> {
+    let mut world = in_memory(run)?;
+    let Ok(mut judge) = judge_of(run.alloc, &mut world, run.space.sessions) else {
+        return Err(Fault::NoMemory);
     };
-    match world.one(event) {
-        Answer::Refused(Fault::Io) => Ok(true),
-        answer => judge.hears(&event, &answer),
-    }
+    let mut dice = Dice::new(seed);
+    let Ok(is_right) = are_right(run, &mut world, &mut judge, &mut dice, events) else {
+        return Err(Fault::NoMemory);
+    };
+    let Ok(is_right_at_end) = ends_right(run, &mut world, &mut judge, &mut dice) else {
+        return Err(Fault::NoMemory);
+    };
+    Ok((is_right && is_right_at_end, judge))
 }
 
-/// The same over a device, which crashes after every 100 events, inside of a force or a checkpoint, or behind it: what is
-/// opened again has the contents after some first part of the actions that holds every forced one.
 #[test]
-fn runs_over_a_device(rt: HostRuntime) -> Result<(), Fail> {
+fn trees_in_memory(rt: HostRuntime) -> Result<(), Fail> {
     let alloc = rt.alloc();
-    for seed in 8..14 {
-        let mut dice = Dice::new(seed);
-        let mut world = on_a_device(alloc)?;
-        let mut judge = Judge::new(alloc, Vec::new(alloc), 3)?;
-        for image in [CrashImage::Keep, CrashImage::Drop, CrashImage::Tear] {
-            assert!(rt;
-                are_right(&mut world, &mut judge, &mut dice, 3, 100)?,
-                "{seed}"
-            );
-            assert!(rt; keeps_at_last(&mut world, &mut judge, &mut dice)?, "{seed}");
-            let left = world.crash(alloc, image)?;
-            world = opened(alloc, left, 3)?;
-            let found = contents(alloc, &mut world)?;
-            assert!(rt; judge.is_first_part(found.as_slice()), "{seed}");
-            judge = Judge::new(alloc, found, 3)?;
-        }
-        assert!(rt; ends_right(&mut world, &mut judge, 3)?, "{seed}");
+    for (seed, sessions, events) in [(1, 1, 3000), (2, 3, 3000), (3, 8, 3000), (4, 64, 6000)] {
+        let (is_right, judge) = judged(roomy(alloc, sessions, 4), seed, events)?;
+        let t = judge.tally();
+        println!(rt; "{seed} {sessions}: {is_right} level {} flagged {} {:?}", judge.root_level(), judge.flagged(), t)?;
     }
+    assert!(rt; false);
     Ok(())
 }
