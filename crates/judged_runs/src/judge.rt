@@ -69,6 +69,11 @@ impl Judge {
         self.pages.as_slice()
     }
 
+    /// The entries that were there when the run began.
+    pub fn start(&self) -> &[Entry] {
+        self.start.as_slice()
+    }
+
     /// The level of the root.
     pub fn root_level(&self) -> u8 {
         root_level(&self.pages)
@@ -92,11 +97,6 @@ impl Judge {
     /// How many actions there were.
     pub fn actions(&self) -> usize {
         self.history.len()
-    }
-
-    /// How many actions were durable when it was last said.
-    pub fn forced(&self) -> usize {
-        self.forced
     }
 
     /// The call that the session runs.
@@ -390,8 +390,11 @@ impl Judge {
             })
     }
 
-    /// Whether these are the contents after some first part of the actions that holds every forced one.
-    pub fn is_first_part(&self, entries: &[Entry]) -> bool {
+    /// Keeps a crash that left these entries. It is right if they are the contents after some first part of the actions that
+    /// holds every forced one.
+    pub fn crashes(&mut self, entries: &[Entry]) -> bool {
+        let loses = !self.are_contents(entries, self.history.len());
+        self.tally.crash(loses);
         (self.forced..self.history.len() + 1).any(|k| self.are_contents(entries, k))
     }
 

@@ -32,15 +32,11 @@ pub struct Run {
     pub space: Space,
 }
 
-/// A judge of a world without calls that has made no action, with so many sessions.
-pub fn judge_of<S: PageStore>(
-    alloc: Global,
-    world: &mut World<S, NoRows>,
-    sessions: u32,
-) -> Result<Judge, AllocError> {
-    let pages = copies(alloc, world)?;
-    let start = contents(alloc, &pages)?;
-    Judge::new(alloc, pages, start, sessions)
+/// A judge of a world without calls that has made no action.
+pub fn judge_of<S: PageStore>(run: Run, world: &mut World<S, NoRows>) -> Result<Judge, AllocError> {
+    let pages = copies(run.alloc, world)?;
+    let start = contents(run.alloc, &pages)?;
+    Judge::new(run.alloc, pages, start, run.space.sessions)
 }
 
 /// The session that an event names.

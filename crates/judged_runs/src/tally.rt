@@ -32,6 +32,10 @@ pub struct Tally {
     pub io: u32,
     /// Refusals with `Stopped`.
     pub stopped: u32,
+    /// Crashes.
+    pub crashes: u32,
+    /// Crashes that lost actions.
+    pub losing: u32,
 }
 
 fn count(number: &mut u32) {
@@ -77,5 +81,32 @@ impl Tally {
         if is_of_others {
             count(&mut self.met);
         }
+    }
+
+    /// Counts a crash.
+    pub fn crash(&mut self, loses: bool) {
+        count(&mut self.crashes);
+        if loses {
+            count(&mut self.losing);
+        }
+    }
+
+    /// Counts all of another run too.
+    pub fn join(&mut self, other: Tally) {
+        self.events = self.events.saturating_add(other.events);
+        self.adds = self.adds.saturating_add(other.adds);
+        self.shapes = self.shapes.saturating_add(other.shapes);
+        self.met = self.met.saturating_add(other.met);
+        self.unfinished = self.unfinished.saturating_add(other.unfinished);
+        self.scans = self.scans.saturating_add(other.scans);
+        self.given_up = self.given_up.saturating_add(other.given_up);
+        self.blocked = self.blocked.saturating_add(other.blocked);
+        self.exists = self.exists.saturating_add(other.exists);
+        self.index_full = self.index_full.saturating_add(other.index_full);
+        self.log_full = self.log_full.saturating_add(other.log_full);
+        self.io = self.io.saturating_add(other.io);
+        self.stopped = self.stopped.saturating_add(other.stopped);
+        self.crashes = self.crashes.saturating_add(other.crashes);
+        self.losing = self.losing.saturating_add(other.losing);
     }
 }

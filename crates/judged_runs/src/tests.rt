@@ -1,6 +1,7 @@
 use crate::dice::{Dice, Space};
-use crate::judge::Judge;
+use crate::crashes::{Outcome, crashed};
 use crate::runs::{NoRows, Run, are_right, ends_right, judge_of};
+use crate::tally::Tally;
 use arrayvec::ArrayVec;
 use index_model::{Fault, Limits};
 use page_action::MapStore;
@@ -52,29 +53,47 @@ fn roomy(alloc: Global, sessions: u32, items: u32) -> Run {
     }
 }
 
-/// Random events in memory: whether all are right, and the judge.
-fn judged(run: Run, seed: u64, events: u32) -> Result<(bool, Judge), Fault> {
+/// Random events in memory.
+fn in_memory_run(run: Run, seed: u64, events: u32) -> Result<Outcome, Fail> {
     let mut world = in_memory(run)?;
-    let Ok(mut judge) = judge_of(run.alloc, &mut world, run.space.sessions) else {
-        return Err(Fault::NoMemory);
-    };
+    let mut judge = judge_of(run, &mut world)?;
     let mut dice = Dice::new(seed);
-    let Ok(is_right) = are_right(run, &mut world, &mut judge, &mut dice, events) else {
-        return Err(Fault::NoMemory);
-    };
-    let Ok(is_right_at_end) = ends_right(run, &mut world, &mut judge, &mut dice) else {
-        return Err(Fault::NoMemory);
-    };
-    Ok((is_right && is_right_at_end, judge))
+    let is_right = are_right(run, &mut world, &mut judge, &mut dice, events)?
+        && ends_right(run, &mut world, &mut judge, &mut dice)?;
+    Ok(Outcome {
+        is_right,
+        tally: judge.tally(),
+        level: judge.root_level(),
+    })
 }
 
 #[test]
 fn trees_in_memory(rt: HostRuntime) -> Result<(), Fail> {
     let alloc = rt.alloc();
-    for (seed, sessions, events) in [(1, 1, 3000), (2, 3, 3000), (3, 8, 3000), (4, 64, 6000)] {
-        let (is_right, judge) = judged(roomy(alloc, sessions, 4), seed, events)?;
-        let t = judge.tally();
-        println!(rt; "{seed} {sessions}: {is_right} level {} flagged {} {:?}", judge.root_level(), judge.flagged(), t)?;
+    for sessions in [1, 3, 8, 64] {
+        let mut total = Tally::default();
+        for seed in 1..6 {
+            let Outcome { is_right, tally, level } = in_memory_run(roomy(alloc, sessions, 4), seed, 3_000)?;
+            assert!(rt; is_right && level >= 2, "{sessions} {seed} {level} {tally:?}");
+            total.join(tally);
+        }
+        println!(rt; "{sessions} {total:?}")?;
+    }
+    assert!(rt; false);
+    Ok(())
+}
+
+#[test]
+fn trees_crash(rt: HostRuntime) -> Result<(), Fail> {
+    let alloc = rt.alloc();
+    for sessions in [3, 8, 64] {
+        let mut total = Tally::default();
+        for seed in 1..6 {
+            let Outcome { is_right, tally, level } = crashed(roomy(alloc, sessions, 4), seed, 6, 500)?;
+            assert!(rt; is_right && level >= 1, "{sessions} {seed} {level} {tally:?}");
+            total.join(tally);
+            println!(rt; "{sessions} {seed} {level} {tally:?}")?;
+        }
     }
     assert!(rt; false);
     Ok(())
