@@ -2,7 +2,7 @@
 
 use crate::dice::Dice;
 use crate::judge::Judge;
-use crate::runs::{NoRows, Run, are_right, ends_right, judge_of};
+use crate::runs::{NoRows, Outcome, Run, are_right, ends_right, judge_of};
 use crate::tally::Tally;
 use device::{CrashImage, MemDevice};
 use index_model::Fault;
@@ -17,7 +17,13 @@ type OverDevice = World<Store<MemDevice>, NoRows>;
 
 /// Opens the index that the device holds.
 fn opened(run: Run, device: MemDevice) -> Result<OverDevice, Fault> {
-    match World::open(run.alloc, device, 16, run.space.sessions, Vec::new(run.alloc)) {
+    match World::open(
+        run.alloc,
+        device,
+        16,
+        run.space.sessions,
+        Vec::new(run.alloc),
+    ) {
         Ok(world) => Ok(world),
         Err(not_opened) => Err(not_opened.fault),
     }
@@ -50,11 +56,13 @@ fn opened_again(run: Run, world: &OverDevice, dice: &mut Dice) -> Result<OverDev
     let sets: Vec<NoRows> = Vec::new(run.alloc);
     match World::open(run.alloc, left, 16, run.space.sessions, sets) {
         Ok(world) => opened(run, world.crash(run.alloc, image(dice))?),
-        Err(NotOpened {
-            fault: Fault::Io,
-            device,
-            ..
-        }) => opened(run, device.crash(run.alloc, image(dice))?),
+        Err(
+            NotOpened {
+                fault: Fault::Io,
+                device,
+                ..
+            },
+        ) => opened(run, device.crash(run.alloc, image(dice))?),
         Err(not_opened) => Err(not_opened.fault),
     }
 }
@@ -85,13 +93,6 @@ fn fails_right(
     are_right(run, world, judge, dice, 100)
 }
 
-/// What a run came to, and the level of the root at its end.
-pub struct Outcome {
-    pub is_right: bool,
-    pub tally: Tally,
-    pub level: u8,
-}
-
 /// A run over a device with so many crashes, each behind so many events.
 pub fn crashed(run: Run, seed: u64, crashes: u32, events: u32) -> Result<Outcome, Fail> {
     let mut dice = Dice::new(seed);
@@ -103,7 +104,7 @@ pub fn crashed(run: Run, seed: u64, crashes: u32, events: u32) -> Result<Outcome
         is_right = is_right && fails_right(run, &mut world, &mut judge, &mut dice, events)?;
         world = opened_again(run, &world, &mut dice)?;
         let next = judge_of(run, &mut world)?;
-        is_right = is_right && judge.crashes(next.start());
+        is_right = is_right && judge.crashes(&next);
         tally.join(judge.tally());
         judge = next;
     }

@@ -69,11 +69,6 @@ impl Judge {
         self.pages.as_slice()
     }
 
-    /// The entries that were there when the run began.
-    pub fn start(&self) -> &[Entry] {
-        self.start.as_slice()
-    }
-
     /// The level of the root.
     pub fn root_level(&self) -> u8 {
         root_level(&self.pages)
@@ -87,11 +82,6 @@ impl Judge {
     /// From now on calls of the device may fail.
     pub fn expects_failures(&mut self) {
         self.is_failing = true;
-    }
-
-    /// Whether the log is known to have failed.
-    pub fn is_stopped(&self) -> bool {
-        self.is_stopped
     }
 
     /// How many actions there were.
@@ -129,8 +119,7 @@ impl Judge {
     fn effect_of(&self, session: u32, pages: &[Page]) -> PlainEffect {
         match self.is_to_add(session) {
             Some(entry)
-                if is_on(pages, &entry) && !contents_has(&self.start, &self.history, &entry) =>
-            {
+                if is_on(pages, &entry) && !contents_has(&self.start, &self.history, &entry) => {
                 PlainEffect::Adds(entry)
             }
             _ => PlainEffect::Reshapes,
@@ -171,9 +160,8 @@ impl Judge {
             self.is_stopped = true;
         }
         match event {
-            Event::Insert(_, _) | Event::Scan(_, _) | Event::Force | Event::Checkpoint if self.is_stopped => {
-                Ok(matches!(answer, Answer::Refused(Fault::Stopped)))
-            }
+            Event::Insert(_, _) | Event::Scan(_, _) | Event::Force | Event::Checkpoint
+                if self.is_stopped => { Ok(matches!(answer, Answer::Refused(Fault::Stopped))) }
             Event::Step(session) if self.is_stopped => Ok(self.stops(*session, answer)),
             Event::Insert(session, entry) => self.begins(
                 *session,
@@ -390,11 +378,12 @@ impl Judge {
             })
     }
 
-    /// Keeps a crash that left these entries. It is right if they are the contents after some first part of the actions that
-    /// holds every forced one.
-    pub fn crashes(&mut self, entries: &[Entry]) -> bool {
+    /// Keeps a crash behind which this judge begins. It is right if what was there then are the contents after some first
+    /// part of the actions that holds every forced one.
+    pub fn crashes(&mut self, next: &Judge) -> bool {
+        let entries = next.start.as_slice();
         let loses = !self.are_contents(entries, self.history.len());
-        self.tally.crash(loses);
+        self.tally.crash(loses, next.flagged() > 0);
         (self.forced..self.history.len() + 1).any(|k| self.are_contents(entries, k))
     }
 
@@ -405,8 +394,5 @@ impl Judge {
 
 /// Whether a split may be left unfinished for this.
 fn is_right_unfinished(unfinished: Option<Fault>) -> bool {
-    matches!(
-        unfinished,
-        None | Some(Fault::IndexFull | Fault::LogFull)
-    )
+    matches!(unfinished, None | Some(Fault::IndexFull | Fault::LogFull))
 }

@@ -42,10 +42,7 @@ fn is_same(a: &Page, b: &Page) -> bool {
 }
 
 /// Whether the world's pages are these.
-pub fn are_kept<S: PageStore, T: DeadRows + Drop>(
-    world: &mut World<S, T>,
-    pages: &[Page],
-) -> bool {
+pub fn are_kept<S: PageStore, T: DeadRows + Drop>(world: &mut World<S, T>, pages: &[Page]) -> bool {
     if world.used() as usize != pages.len() {
         return false;
     }

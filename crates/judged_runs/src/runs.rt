@@ -3,6 +3,7 @@
 use crate::dice::{Dice, Space};
 use crate::judge::Judge;
 use crate::pages::{are_kept, contents, copies};
+use crate::tally::Tally;
 use index_model::{DeadRows, Fault, Limits, Range, RowAddr};
 use page_action::PageStore;
 use schedule::Event;
@@ -30,6 +31,14 @@ pub struct Run {
     pub alloc: Global,
     pub limits: Limits,
     pub space: Space,
+}
+
+/// Whether all of a run was right, what it came to, and the level of the root at its end.
+#[derive(Clone, Copy, Debug)]
+pub struct Outcome {
+    pub is_right: bool,
+    pub tally: Tally,
+    pub level: u8,
 }
 
 /// A judge of a world without calls that has made no action.

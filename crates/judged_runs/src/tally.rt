@@ -36,6 +36,8 @@ pub struct Tally {
     pub crashes: u32,
     /// Crashes that lost actions.
     pub losing: u32,
+    /// Crashes behind which splits were half done.
+    pub half_done: u32,
 }
 
 fn count(number: &mut u32) {
@@ -84,10 +86,13 @@ impl Tally {
     }
 
     /// Counts a crash.
-    pub fn crash(&mut self, loses: bool) {
+    pub fn crash(&mut self, loses: bool, leaves_half_done: bool) {
         count(&mut self.crashes);
         if loses {
             count(&mut self.losing);
+        }
+        if leaves_half_done {
+            count(&mut self.half_done);
         }
     }
 
@@ -108,5 +113,6 @@ impl Tally {
         self.stopped = self.stopped.saturating_add(other.stopped);
         self.crashes = self.crashes.saturating_add(other.crashes);
         self.losing = self.losing.saturating_add(other.losing);
+        self.half_done = self.half_done.saturating_add(other.half_done);
     }
 }
