@@ -14,6 +14,8 @@ pub struct Space {
     pub keys: u32,
     /// How many rows each key may have.
     pub rows: u32,
+    /// How many forces there are for a checkpoint.
+    pub forces: u32,
 }
 
 /// Gives numbers that look random.
@@ -84,6 +86,15 @@ impl Dice {
         }
     }
 
+    /// A force, or sometimes a checkpoint.
+    fn upkeep(&mut self, space: Space) -> Event {
+        if self.pick(space.forces.saturating_add(1)) == 0 {
+            Event::Checkpoint
+        } else {
+            Event::Force
+        }
+    }
+
     /// An event.
     pub fn event(&mut self, space: Space) -> Event {
         let session = self.session(space);
@@ -93,8 +104,7 @@ impl Dice {
             13..37 => Event::Step(session),
             37..46 => Event::Next(session),
             46 => Event::End(session),
-            47 => Event::Force,
-            _ => Event::Checkpoint,
+            _ => self.upkeep(space),
         }
     }
 }

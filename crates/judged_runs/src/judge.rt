@@ -156,7 +156,7 @@ impl Judge {
     /// Keeps the answer of an event, and says whether it is right. The event's action is kept before.
     pub fn hears(&mut self, event: &Event, answer: &Answer) -> Result<bool, AllocError> {
         self.tally.hear(answer);
-        if matches!(answer, Answer::Refused(Fault::Stopped)) && self.is_failing {
+        if self.is_failing && says_stopped(answer) {
             self.is_stopped = true;
         }
         match event {
@@ -390,6 +390,18 @@ impl Judge {
     fn has_if_there(&self, entries: &[Entry], k: usize, entry: &Entry) -> bool {
         is_among(entries, entry) || !is_there_after(&self.start, &self.history, k, entry)
     }
+}
+
+/// Whether the answer says that the log has failed.
+fn says_stopped(answer: &Answer) -> bool {
+    matches!(
+        answer,
+        Answer::Refused(Fault::Stopped)
+            | Answer::Added {
+                unfinished: Some(Fault::Stopped),
+                ..
+            }
+    )
 }
 
 /// Whether a split may be left unfinished for this.

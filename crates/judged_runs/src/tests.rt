@@ -63,6 +63,7 @@ fn roomy(alloc: Global, sessions: u32, items: u32) -> Run {
             sessions,
             keys: 24,
             rows: 4,
+            forces: 1,
         },
     }
 }
@@ -80,6 +81,7 @@ fn narrow(alloc: Global, sessions: u32, pages: u32) -> Run {
             sessions,
             keys: 24,
             rows: 4,
+            forces: 9,
         },
     }
 }
@@ -91,15 +93,15 @@ fn trees_in_memory(rt: HostRuntime) -> Result<(), Fail> {
     let mut total = Tally::default();
     for (seed, sessions, items, events, level) in [
         (1, 1, 4, 2_000, 2),
-        (2, 3, 4, 3_000, 3),
-        (3, 3, 4, 3_000, 3),
+        (2, 3, 4, 3_000, 2),
+        (3, 3, 4, 3_000, 2),
         (4, 8, 4, 3_000, 2),
         (5, 8, 4, 3_000, 2),
         (6, 8, 5, 3_000, 2),
         (7, 64, 4, 5_000, 2),
         (8, 64, 4, 5_000, 2),
         (9, 3, 7, 2_000, 1),
-        (10, 8, 50, 2_000, 1),
+        (10, 8, 12, 2_000, 1),
     ] {
         let outcome = ran(roomy(alloc, sessions, items), seed, events)?;
         assert!(rt; outcome.is_right, "{seed}: {outcome:?}");
@@ -108,7 +110,7 @@ fn trees_in_memory(rt: HostRuntime) -> Result<(), Fail> {
     }
     println!(rt; "{total:?}")?;
     assert!(rt;
-        total.adds >= 400 && total.shapes >= 150 && total.met >= 30,
+        total.adds >= 400 && total.shapes >= 120 && total.met >= 30,
         "{total:?}"
     );
     assert!(rt;
@@ -160,6 +162,8 @@ fn narrow_trees(rt: HostRuntime) -> Result<(), Fail> {
         (24, 8, 24),
         (25, 64, 16),
         (26, 64, 24),
+        (27, 3, 64),
+        (28, 8, 64),
     ] {
         let run = narrow(alloc, sessions, pages);
         let outcome = ran(run, seed, 2_000)?;
@@ -171,7 +175,7 @@ fn narrow_trees(rt: HostRuntime) -> Result<(), Fail> {
     }
     println!(rt; "{total:?}")?;
     assert!(rt;
-        total.index_full >= 50 && total.log_full >= 50 && total.unfinished >= 10,
+        total.index_full >= 50 && total.log_full >= 20 && total.unfinished >= 3,
         "{total:?}"
     );
     Ok(())
