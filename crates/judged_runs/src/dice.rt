@@ -5,6 +5,19 @@ ghost use Rattle.std.specs.Prelude.{◌<◌};
 use index_model::{Entry, Key, Range, RowAddr};
 use schedule::Event;
 
+/// What the events of a run are about.
+#[derive(Clone, Copy)]
+pub struct Space {
+    /// How many sessions there are.
+    pub sessions: u32,
+    /// How many keys, 1 to 256.
+    pub keys: u32,
+    /// How many rows each key may have.
+    pub rows: u32,
+    /// How many forces there are for a checkpoint.
+    pub forces: u32,
+}
+
 /// Gives numbers that look random.
 #[derive(Drop)]
 pub struct Dice {
@@ -29,52 +42,69 @@ impl Dice {
         number % sides
     }
 
-    /// The empty key, or one of a byte of few.
-    fn key(&mut self) -> Key {
-        let byte = u8::try_from(self.roll(8)).unwrap_or(0);
+    /// A number from 0 to below this one, or 0.
+    fn pick(&mut self, count: u32) -> u32 {
+        self.roll(count.max(1))
+    }
+
+    /// The empty key, or one of a byte.
+    fn key(&mut self, space: Space) -> Key {
+        let byte = u8::try_from(self.pick(space.keys)).unwrap_or(0);
         if byte == 0 {
             return Key::EMPTY;
         }
         Key::new(&[byte]).unwrap_or(Key::EMPTY)
     }
 
-    fn entry(&mut self) -> Entry {
-        let key = self.key();
-        let row = RowAddr::new(self.roll(4), 1).unwrap_or_default();
+    /// An entry.
+    pub fn entry(&mut self, space: Space) -> Entry {
+        let key = self.key(space);
+        let row = RowAddr::new(self.pick(space.rows), 1).unwrap_or_default();
         Entry { key, row }
     }
 
-    fn end(&mut self) -> Option<Key> {
+    fn end(&mut self, space: Space) -> Option<Key> {
         if self.roll(3) == 0 {
             None
         } else {
-            Some(self.key())
+            Some(self.key(space))
         }
     }
 
-    fn range(&mut self) -> Range {
-        let from = self.end();
-        let below = self.end();
+    fn range(&mut self, space: Space) -> Range {
+        let from = self.end(space);
+        let below = self.end(space);
         Range { from, below }
     }
 
-    /// An event of one of these sessions, or of the one behind them.
-    pub fn event(&mut self, sessions: u32) -> Event
-        requires { 0 < sessions }
-    {
-        let session = if self.roll(32) == 0 {
-            sessions
+    /// A session, or rarely the one behind them.
+    fn session(&mut self, space: Space) -> u32 {
+        if self.roll(32) == 0 {
+            space.sessions
         } else {
-            self.roll(sessions)
-        };
+            self.pick(space.sessions)
+        }
+    }
+
+    /// A force, or sometimes a checkpoint.
+    fn upkeep(&mut self, space: Space) -> Event {
+        if self.pick(space.forces.saturating_add(1)) == 0 {
+            Event::Checkpoint
+        } else {
+            Event::Force
+        }
+    }
+
+    /// An event.
+    pub fn event(&mut self, space: Space) -> Event {
+        let session = self.session(space);
         match self.roll(49) {
-            0..9 => Event::Insert(session, self.entry()),
-            9..15 => Event::Scan(session, self.range()),
-            15..37 => Event::Step(session),
+            0..9 => Event::Insert(session, self.entry(space)),
+            9..13 => Event::Scan(session, self.range(space)),
+            13..37 => Event::Step(session),
             37..46 => Event::Next(session),
             46 => Event::End(session),
-            47 => Event::Force,
-            _ => Event::Checkpoint,
+            _ => self.upkeep(space),
         }
     }
 }

@@ -1,6 +1,9 @@
 //! What was asked of an index and what it answered, kept plainly.
 
+use crate::pages::{flagged, is_on, root_level};
+use crate::tally::Tally;
 use index_model::{Entry, Fault};
+use page_codec::Page;
 use plain_histories::{
     PlainAction, PlainAsk, PlainCall, PlainEffect, PlainEnding, actions_are_owned, contents_has,
     is_among, is_insert_answer, is_scan_answer, is_scan_answer_so_far, is_there_after,
@@ -21,11 +24,23 @@ pub struct Judge {
     running: Vec<Option<usize>>,
     /// How many actions were durable when it was last said.
     forced: usize,
+    /// The pages as the last action left them.
+    pages: Vec<Page>,
+    /// Whether calls of the device are made to fail.
+    is_failing: bool,
+    /// Whether the log is known to have failed.
+    is_stopped: bool,
+    tally: Tally,
 }
 
 impl Judge {
-    /// Of a run that begins with these entries, and so many sessions without a call.
-    pub fn new(alloc: Global, start: Vec<Entry>, sessions: u32) -> Result<Judge, AllocError> {
+    /// Of a run that begins with these pages and the entries on them, and so many sessions without a call.
+    pub fn new(
+        alloc: Global,
+        pages: Vec<Page>,
+        start: Vec<Entry>,
+        sessions: u32,
+    ) -> Result<Judge, AllocError> {
         let mut running = Vec::new(alloc);
         for _ in 0..sessions {
             running.push(None)?;
@@ -37,17 +52,41 @@ impl Judge {
             calls: Vec::new(alloc),
             running,
             forced: 0,
+            pages,
+            is_failing: false,
+            is_stopped: false,
+            tally: Tally::default(),
         })
+    }
+
+    /// What the run has come to.
+    pub fn tally(&self) -> Tally {
+        self.tally
+    }
+
+    /// The pages as the last action left them.
+    pub fn pages(&self) -> &[Page] {
+        self.pages.as_slice()
+    }
+
+    /// The level of the root.
+    pub fn root_level(&self) -> u8 {
+        root_level(&self.pages)
+    }
+
+    /// How many splits are half done.
+    pub fn flagged(&self) -> usize {
+        flagged(&self.pages)
+    }
+
+    /// From now on calls of the device may fail.
+    pub fn expects_failures(&mut self) {
+        self.is_failing = true;
     }
 
     /// How many actions there were.
     pub fn actions(&self) -> usize {
         self.history.len()
-    }
-
-    /// How many actions were durable when it was last said.
-    pub fn forced(&self) -> usize {
-        self.forced
     }
 
     /// The call that the session runs.
@@ -64,7 +103,7 @@ impl Judge {
     }
 
     /// The entry of the insert that the session runs, as long as it isn't added.
-    pub fn is_to_add(&self, session: u32) -> Option<Entry> {
+    fn is_to_add(&self, session: u32) -> Option<Entry> {
         match &self.calls.get(self.running(session)?)? {
             PlainCall {
                 ask: PlainAsk::Inserts(entry),
@@ -75,25 +114,55 @@ impl Judge {
         }
     }
 
-    /// Keeps an action of the session's call. It is right if there is one.
-    pub fn acts(&mut self, session: u32, effect: PlainEffect) -> Result<bool, AllocError> {
+    /// What an action of the session's call, which left these pages, has done: it adds the call's entry, if that is there
+    /// now and wasn't before.
+    fn effect_of(&self, session: u32, pages: &[Page]) -> PlainEffect {
+        match self.is_to_add(session) {
+            Some(entry)
+                if is_on(pages, &entry) && !contents_has(&self.start, &self.history, &entry) => {
+                PlainEffect::Adds(entry)
+            }
+            _ => PlainEffect::Reshapes,
+        }
+    }
+
+    /// Keeps an action of the session's call, which left these pages with these entries. It is right if there is such a
+    /// call, and the entries are the contents then.
+    pub fn acts(
+        &mut self,
+        session: u32,
+        pages: Vec<Page>,
+        entries: &[Entry],
+    ) -> Result<bool, AllocError> {
         let Some(by) = self.running(session) else {
             return Ok(false);
         };
+        let effect = self.effect_of(session, &pages);
         let adds = matches!(&effect, PlainEffect::Adds(_));
+        self.pages = pages;
         self.history.push(PlainAction { by, effect })?;
         let Some(call) = self.calls.get_mut(by) else {
             return Ok(false);
         };
         if adds {
+            self.tally.add();
             call.added = Some(self.history.len());
+        } else {
+            self.tally.reshape(call.added.is_none());
         }
-        Ok(true)
+        Ok(self.are_contents(entries, self.history.len()))
     }
 
     /// Keeps the answer of an event, and says whether it is right. The event's action is kept before.
     pub fn hears(&mut self, event: &Event, answer: &Answer) -> Result<bool, AllocError> {
+        self.tally.hear(answer);
+        if self.is_failing && says_stopped(answer) {
+            self.is_stopped = true;
+        }
         match event {
+            Event::Insert(_, _) | Event::Scan(_, _) | Event::Force | Event::Checkpoint
+                if self.is_stopped => { Ok(matches!(answer, Answer::Refused(Fault::Stopped))) }
+            Event::Step(session) if self.is_stopped => Ok(self.stops(*session, answer)),
             Event::Insert(session, entry) => self.begins(
                 *session,
                 PlainAsk::Inserts(*entry),
@@ -147,14 +216,39 @@ impl Judge {
                 self.is_running(session)
             }
             Answer::Added { action, unfinished } => {
-                self.ends(
-                    session,
-                    PlainEnding::HasAdded(*action as usize, *unfinished),
-                )
+                is_right_unfinished(*unfinished)
+                    && self.ends(
+                        session,
+                        PlainEnding::HasAdded(*action as usize, *unfinished),
+                    )
             }
             Answer::Done => self.ends(session, PlainEnding::HasFinished),
             Answer::Refused(Fault::NoSession) => !self.is_running(session),
-            Answer::Refused(fault) => self.ends(session, PlainEnding::HasFailed(*fault)),
+            Answer::Refused(fault) => {
+                self.is_to_add(session).is_some()
+                    && matches!(fault, Fault::Exists | Fault::IndexFull | Fault::LogFull)
+                    && self.ends(session, PlainEnding::HasFailed(*fault))
+            }
+            _ => false,
+        }
+    }
+
+    /// A step on a log that has failed.
+    fn stops(&mut self, session: u32, answer: &Answer) -> bool {
+        match answer {
+            Answer::Added {
+                action,
+                unfinished: Some(Fault::Stopped),
+            } => {
+                self.ends(
+                    session,
+                    PlainEnding::HasAdded(*action as usize, Some(Fault::Stopped)),
+                )
+            }
+            Answer::Refused(Fault::Stopped) => {
+                !self.is_running(session)
+                    || self.ends(session, PlainEnding::HasFailed(Fault::Stopped))
+            }
             _ => false,
         }
     }
@@ -178,13 +272,27 @@ impl Judge {
     }
 
     fn forces(&mut self, answer: &Answer) -> bool {
-        self.forced = self.history.len();
-        matches!(answer, Answer::Forced(count) if *count == self.forced as u64)
+        match answer {
+            Answer::Forced(count) => self.is_durable(*count),
+            Answer::Refused(Fault::Io) => {
+                self.is_stopped = true;
+                self.is_failing
+            }
+            _ => false,
+        }
     }
 
     fn checkpoints(&mut self, answer: &Answer) -> bool {
+        match answer {
+            Answer::Checkpointed(count) => self.is_durable(*count),
+            Answer::Refused(Fault::Io) => self.is_failing,
+            _ => false,
+        }
+    }
+
+    fn is_durable(&mut self, count: u64) -> bool {
         self.forced = self.history.len();
-        matches!(answer, Answer::Checkpointed(count) if *count == self.forced as u64)
+        count == self.forced as u64
     }
 
     /// The session's call has ended so: whether it was right to, and every action so far is owned.
@@ -270,12 +378,33 @@ impl Judge {
             })
     }
 
-    /// Whether these are the contents after some first part of the actions that holds every forced one.
-    pub fn is_first_part(&self, entries: &[Entry]) -> bool {
+    /// Keeps a crash behind which this judge begins. It is right if what was there then are the contents after some first
+    /// part of the actions that holds every forced one.
+    pub fn crashes(&mut self, next: &Judge) -> bool {
+        let entries = next.start.as_slice();
+        let loses = !self.are_contents(entries, self.history.len());
+        self.tally.crash(loses, next.flagged() > 0);
         (self.forced..self.history.len() + 1).any(|k| self.are_contents(entries, k))
     }
 
     fn has_if_there(&self, entries: &[Entry], k: usize, entry: &Entry) -> bool {
         is_among(entries, entry) || !is_there_after(&self.start, &self.history, k, entry)
     }
+}
+
+/// Whether the answer says that the log has failed.
+fn says_stopped(answer: &Answer) -> bool {
+    matches!(
+        answer,
+        Answer::Refused(Fault::Stopped)
+            | Answer::Added {
+                unfinished: Some(Fault::Stopped),
+                ..
+            }
+    )
+}
+
+/// Whether a split may be left unfinished for this.
+fn is_right_unfinished(unfinished: Option<Fault>) -> bool {
+    matches!(unfinished, None | Some(Fault::IndexFull | Fault::LogFull))
 }

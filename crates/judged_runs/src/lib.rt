@@ -1,12 +1,18 @@
-//! Runs of an index, judged: tests alone. A run makes some thousands of random events of a few sessions, and a judge
+//! Runs of an index, judged: tests alone. A run makes some thousands of random events of some sessions, and a judge
 //! keeps plainly what was asked and answered, and computes each word of the promises over it.
 #![tactic(auto)]
 
+#[cfg(test)]
+mod crashes;
 #[cfg(test)]
 mod dice;
 #[cfg(test)]
 mod judge;
 #[cfg(test)]
+mod pages;
+#[cfg(test)]
 mod runs;
+#[cfg(test)]
+mod tally;
 #[cfg(test)]
 mod tests;

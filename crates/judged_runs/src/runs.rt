@@ -1,14 +1,13 @@
 //! Runs of a world that a judge hears.
 
-ghost use Rattle.std.specs.Prelude.{◌<◌};
-
-use crate::dice::Dice;
+use crate::dice::{Dice, Space};
 use crate::judge::Judge;
-use index_model::{DeadRows, Entry, Range, RowAddr};
+use crate::pages::{are_kept, contents, copies};
+use crate::tally::Tally;
+use index_model::{DeadRows, Fault, Limits, Range, RowAddr};
 use page_action::PageStore;
-use page_codec::{Items, Page, PageState};
-use plain_histories::{PlainEffect, is_among};
 use schedule::Event;
+use session_calls::Answer;
 use std::alloc::{AllocError, Global};
 use world::World;
 
@@ -26,6 +25,29 @@ impl DeadRows for NoRows {
     }
 }
 
+/// What stays the same in a run.
+#[derive(Clone, Copy)]
+pub struct Run {
+    pub alloc: Global,
+    pub limits: Limits,
+    pub space: Space,
+}
+
+/// Whether all of a run was right, what it came to, and the level of the root at its end.
+#[derive(Clone, Copy, Debug)]
+pub struct Outcome {
+    pub is_right: bool,
+    pub tally: Tally,
+    pub level: u8,
+}
+
+/// A judge of a world without calls that has made no action.
+pub fn judge_of<S: PageStore>(run: Run, world: &mut World<S, NoRows>) -> Result<Judge, AllocError> {
+    let pages = copies(run.alloc, world)?;
+    let start = contents(run.alloc, &pages)?;
+    Judge::new(run.alloc, pages, start, run.space.sessions)
+}
+
 /// The session that an event names.
 fn session_of(event: &Event) -> u32 {
     match event {
@@ -38,85 +60,149 @@ fn session_of(event: &Event) -> u32 {
     }
 }
 
-/// Whether a page has the entry.
-fn is_on_pages<S: PageStore>(world: &mut World<S, NoRows>, entry: &Entry) -> bool {
-    for block in 0..world.used() {
-        if let Ok(
-            Page {
-                items: Items::Entries(entries),
-                ..
-            },
-        ) = world.page(block)
-        {
-            if is_among(entries.as_slice(), entry) {
-                return true;
-            }
-        }
-    }
-    false
-}
-
-/// What the action that the session's call just made has done: it adds the call's entry, if that is there now.
-fn effect_of<S: PageStore>(
+/// Keeps the action that the session's call just made: whether it is right.
+fn acts<S: PageStore>(
+    alloc: Global,
     world: &mut World<S, NoRows>,
-    judge: &Judge,
+    judge: &mut Judge,
     session: u32,
-) -> PlainEffect {
-    match judge.is_to_add(session) {
-        Some(entry) if is_on_pages(world, &entry) => PlainEffect::Adds(entry),
-        _ => PlainEffect::Reshapes,
+) -> Result<bool, AllocError> {
+    let pages = copies(alloc, world)?;
+    let entries = contents(alloc, &pages)?;
+    judge.acts(session, pages, &entries)
+}
+
+/// What an answer says that something is full of.
+fn is_full_of(answer: &Answer) -> Option<Fault> {
+    match answer {
+        Answer::Refused(fault) => Some(*fault),
+        Answer::Added { unfinished, .. } => *unfinished,
+        _ => None,
     }
 }
 
-/// Does one event. Whether its answer is right, and what it has done.
-fn is_right<S: PageStore>(
+/// Whether what the answer calls full is full: each block is used, or the log has no room for the four images of an act.
+fn is_full<S: PageStore>(world: &World<S, NoRows>, limits: Limits, answer: &Answer) -> bool {
+    match is_full_of(answer) {
+        Some(Fault::IndexFull) => world.used() == limits.pages,
+        Some(Fault::LogFull) => world.room() <= 4,
+        _ => true,
+    }
+}
+
+/// Whether the same sessions run calls.
+fn are_running<S: PageStore>(world: &World<S, NoRows>, judge: &Judge, sessions: u32) -> bool {
+    (0..sessions).all(|session| world.is_running(session) == judge.is_running(session))
+}
+
+/// Does one event: its answer, or None where that is wrong, or what it has done.
+fn one<S: PageStore>(
+    run: Run,
     world: &mut World<S, NoRows>,
     judge: &mut Judge,
     event: Event,
-) -> Result<bool, AllocError> {
-    let session = session_of(&event);
+) -> Result<Option<Answer>, AllocError> {
     let before = world.actions();
     let answer = world.one(event);
-    if world.actions() != before {
-        let effect = effect_of(world, judge, session);
-        if !judge.acts(session, effect)? {
-            return Ok(false);
-        }
-    }
-    Ok(
-        judge.hears(&event, &answer)?
-            && world.actions() == judge.actions() as u64
-            && world.is_running(session) == judge.is_running(session),
-    )
+    let is_kept = if world.actions() == before {
+        are_kept(world, judge.pages())
+    } else {
+        acts(run.alloc, world, judge, session_of(&event))?
+    };
+    let is_right = is_kept
+        && judge.hears(&event, &answer)?
+        && world.actions() == judge.actions() as u64
+        && are_running(world, judge, run.space.sessions)
+        && is_full(world, run.limits, &answer);
+    Ok(if is_right { Some(answer) } else { None })
 }
 
-/// So many random events of these sessions: whether all are right.
+/// So many random events: whether all are right.
 pub fn are_right<S: PageStore>(
+    run: Run,
     world: &mut World<S, NoRows>,
     judge: &mut Judge,
     dice: &mut Dice,
-    sessions: u32,
     events: u32,
-) -> Result<bool, AllocError>
-    requires { 0 < sessions }
-{
+) -> Result<bool, AllocError> {
     for _ in 0..events {
-        let event = dice.event(sessions);
-        if !is_right(world, judge, event)? {
+        let event = dice.event(run.space);
+        if one(run, world, judge, event)?.is_none() {
             return Ok(false);
         }
     }
     Ok(true)
 }
 
-/// Gives each call up, and scans all: whether that is right, and gives exactly the contents.
-pub fn ends_right<S: PageStore>(
+/// Takes what the call of session 0 has ready, and makes a step of it: whether both are right, and nothing blocks it.
+fn goes_on<S: PageStore>(
+    run: Run,
     world: &mut World<S, NoRows>,
     judge: &mut Judge,
-    sessions: u32,
 ) -> Result<bool, AllocError> {
-    for session in 0..sessions {
-        if !is_right(world, judge, Event::End(session))? {
+    for _ in 0..50 {
+        match one(run, world, judge, Event::Next(0))? {
+            Some(Answer::Gave(Some(_))) => {}
+            Some(_) => break,
+            None => return Ok(false),
+        }
+    }
+    Ok(match one(run, world, judge, Event::Step(0))? {
+        Some(Answer::Refused(Fault::Blocked(_))) | None => false,
+        Some(_) => true,
+    })
+}
+
+/// Begins a call of session 0, which alone has one, and runs it to its end: whether all of it is right, and nothing
+/// blocks it.
+fn runs_alone<S: PageStore>(
+    run: Run,
+    world: &mut World<S, NoRows>,
+    judge: &mut Judge,
+    event: Event,
+) -> Result<bool, AllocError> {
+    if one(run, world, judge, event)?.is_none() {
+        return Ok(false);
+    }
+    for _ in 0..1_000 {
+        if !world.is_running(0) {
+            return Ok(true);
+        }
+        if !goes_on(run, world, judge)? {
+            return Ok(false);
+        }
+    }
+    Ok(false)
+}
+
+/// Gives each call up: whether that is right.
+fn gives_all_up<S: PageStore>(
+    run: Run,
+    world: &mut World<S, NoRows>,
+    judge: &mut Judge,
+) -> Result<bool, AllocError> {
+    for session in 0..run.space.sessions {
+        if one(run, world, judge, Event::End(session))?.is_none() {
+            return Ok(false);
+        }
+    }
+    Ok(true)
+}
+
+/// Gives each call up, and then inserts some entries and scans all, alone: whether that is right, nothing blocks it, and
+/// the scan gives exactly the contents.
+pub fn ends_right<S: PageStore>(
+    run: Run,
+    world: &mut World<S, NoRows>,
+    judge: &mut Judge,
+    dice: &mut Dice,
+) -> Result<bool, AllocError> {
+    if !gives_all_up(run, world, judge)? {
+        return Ok(false);
+    }
+    for _ in 0..10 {
+        let entry = dice.entry(run.space);
+        if !runs_alone(run, world, judge, Event::Insert(0, entry))? {
             return Ok(false);
         }
     }
@@ -124,50 +210,8 @@ pub fn ends_right<S: PageStore>(
         from: None,
         below: None,
     };
-    if !is_right(world, judge, Event::Scan(0, all))? {
-        return Ok(false);
-    }
-    Ok(runs_to_its_end(world, judge)? && judge.are_contents(judge.last_given(), judge.actions()))
-}
-
-/// Runs the scan of session 0 to its end, taking all that it has ready: whether all of it is right.
-fn runs_to_its_end<S: PageStore>(
-    world: &mut World<S, NoRows>,
-    judge: &mut Judge,
-) -> Result<bool, AllocError> {
-    for _ in 0..1_000 {
-        if !world.is_running(0) {
-            return Ok(true);
-        }
-        for _ in 0..50 {
-            if !is_right(world, judge, Event::Next(0))? {
-                return Ok(false);
-            }
-        }
-        if !is_right(world, judge, Event::Step(0))? {
-            return Ok(false);
-        }
-    }
-    Ok(false)
-}
-
-/// The entries of the live leaves.
-pub fn contents<S: PageStore>(
-    alloc: Global,
-    world: &mut World<S, NoRows>,
-) -> Result<Vec<Entry>, AllocError> {
-    let mut found = Vec::new(alloc);
-    for block in 0..world.used() {
-        if let Ok(
-            Page {
-                state: PageState::Live,
-                items: Items::Entries(entries),
-                ..
-            },
-        ) = world.page(block)
-        {
-            found.extend_from_slice(entries.as_slice())?;
-        }
-    }
-    Ok(found)
+    Ok(
+        runs_alone(run, world, judge, Event::Scan(0, all))?
+            && judge.are_contents(judge.last_given(), judge.actions()),
+    )
 }

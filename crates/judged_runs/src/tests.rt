@@ -1,26 +1,14 @@
-use crate::dice::Dice;
-use crate::judge::Judge;
-use crate::runs::{NoRows, are_right, contents, ends_right};
+use crate::crashes::crashed;
+use crate::dice::{Dice, Space};
+use crate::runs::{NoRows, Outcome, Run, are_right, ends_right, judge_of};
+use crate::tally::Tally;
 use arrayvec::ArrayVec;
-use device::{CrashImage, MemDevice};
 use index_model::{Fault, Limits};
 use page_action::MapStore;
 use page_codec::{Items, Page, PageState};
-use page_store::Store;
-use recovery::create;
-use schedule::Event;
-use session_calls::Answer;
-use std::alloc::{AllocError, Global};
+use std::alloc::Global;
 use std::test::{Fail, *};
 use world::World;
-
-fn limits(items: u32) -> Limits {
-    Limits {
-        items,
-        pages: 8,
-        log_bytes: 1_048_576,
-    }
-}
 
 fn page(block: u32, right: Option<u32>, items: Items) -> Page {
     Page {
@@ -38,100 +26,157 @@ fn page(block: u32, right: Option<u32>, items: Items) -> Page {
 }
 
 /// An empty index in memory: the metapage, and an empty leaf as the root.
-fn in_memory(alloc: Global, items: u32, sessions: u32) -> Result<World<MapStore, NoRows>, Fault> {
-    let mut store = MapStore::new(alloc, limits(items))?;
+fn in_memory(run: Run) -> Result<World<MapStore, NoRows>, Fault> {
+    let mut store = MapStore::new(run.alloc, run.limits)?;
     store.add(page(0, Some(1), Items::Meta))?;
     store.add(page(1, None, Items::Entries(ArrayVec::new())))?;
-    match World::new(alloc, store, sessions, Vec::new(alloc)) {
+    match World::new(run.alloc, store, run.space.sessions, Vec::new(run.alloc)) {
         Ok(world) => Ok(world),
         Err(not_made) => Err(not_made.fault),
     }
 }
 
-/// Sessions from 1 to 4, on leaves that are soon full and on one that never is.
-#[test]
-fn runs_in_memory(rt: HostRuntime) -> Result<(), Fail> {
-    let alloc = rt.alloc();
-    for (seed, items, sessions) in [
-        (1, 4, 1),
-        (2, 4, 4),
-        (3, 7, 3),
-        (4, 12, 2),
-        (5, 50, 2),
-        (6, 50, 3),
-        (7, 50, 4),
-    ] {
-        let mut world = in_memory(alloc, items, sessions)?;
-        let mut judge = Judge::new(alloc, Vec::new(alloc), sessions)?;
-        let mut dice = Dice::new(seed);
-        assert!(rt;
-            are_right(&mut world, &mut judge, &mut dice, sessions, 600)?,
-            "{seed}"
-        );
-        assert!(rt; ends_right(&mut world, &mut judge, sessions)?, "{seed}");
-        assert!(rt; judge.actions() >= 4, "{seed}");
+/// A run over an empty index in memory.
+fn ran(run: Run, seed: u64, events: u32) -> Result<Outcome, Fail> {
+    let mut world = in_memory(run)?;
+    let mut judge = judge_of(run, &mut world)?;
+    let mut dice = Dice::new(seed);
+    let is_right = are_right(run, &mut world, &mut judge, &mut dice, events)?
+        && ends_right(run, &mut world, &mut judge, &mut dice)?;
+    Ok(Outcome {
+        is_right,
+        tally: judge.tally(),
+        level: judge.root_level(),
+    })
+}
+
+/// A run of so many sessions that has room for all its entries, on pages of so many items.
+fn roomy(alloc: Global, sessions: u32, items: u32) -> Run {
+    Run {
+        alloc,
+        limits: Limits {
+            items,
+            pages: 128,
+            log_bytes: 1_048_576,
+        },
+        space: Space {
+            sessions,
+            keys: 24,
+            rows: 4,
+            forces: 1,
+        },
     }
+}
+
+/// A run of so many sessions over few pages and the smallest log.
+fn narrow(alloc: Global, sessions: u32, pages: u32) -> Run {
+    Run {
+        alloc,
+        limits: Limits {
+            items: 4,
+            pages,
+            log_bytes: 65_536,
+        },
+        space: Space {
+            sessions,
+            keys: 24,
+            rows: 4,
+            forces: 9,
+        },
+    }
+}
+
+/// Sessions from 1 to 64 on small pages, and some on larger ones: trees of three levels and more.
+#[test]
+fn trees_in_memory(rt: HostRuntime) -> Result<(), Fail> {
+    let alloc = rt.alloc();
+    let mut total = Tally::default();
+    for (seed, sessions, items, events, level) in [
+        (1, 1, 4, 2_000, 2),
+        (2, 3, 4, 3_000, 2),
+        (3, 3, 4, 3_000, 2),
+        (4, 8, 4, 3_000, 2),
+        (5, 8, 4, 3_000, 2),
+        (6, 8, 5, 3_000, 2),
+        (7, 64, 4, 5_000, 2),
+        (8, 64, 4, 5_000, 2),
+        (9, 3, 7, 2_000, 1),
+        (10, 8, 12, 2_000, 1),
+    ] {
+        let outcome = ran(roomy(alloc, sessions, items), seed, events)?;
+        assert!(rt; outcome.is_right, "{seed}: {outcome:?}");
+        assert!(rt; outcome.level >= level, "{seed}: {outcome:?}");
+        total.join(outcome.tally);
+    }
+    println!(rt; "{total:?}")?;
+    assert!(rt;
+        total.adds >= 400 && total.shapes >= 120 && total.met >= 30,
+        "{total:?}"
+    );
+    assert!(rt;
+        total.scans >= 50 && total.exists >= 50 && total.blocked >= 500,
+        "{total:?}"
+    );
+    assert!(rt; total.index_full == 0 && total.log_full == 0, "{total:?}");
     Ok(())
 }
 
-fn opened(
-    alloc: Global,
-    device: MemDevice,
-    sessions: u32,
-) -> Result<World<Store<MemDevice>, NoRows>, Fault> {
-    match World::open(alloc, device, 16, sessions, Vec::new(alloc)) {
-        Ok(world) => Ok(world),
-        Err(not_opened) => Err(not_opened.fault),
-    }
-}
-
-/// An empty index on a device in memory.
-fn on_a_device(alloc: Global) -> Result<World<Store<MemDevice>, NoRows>, Fault> {
-    let mut device = MemDevice::new(alloc, 4_096 + 1_048_576 + 8 * 4_096)?;
-    create(&mut device, &limits(50))?;
-    opened(alloc, device, 3)
-}
-
-/// A last force or checkpoint, whose device stops at one of its first calls or not at all: whether its answer is right.
-fn keeps_at_last(
-    world: &mut World<Store<MemDevice>, NoRows>,
-    judge: &mut Judge,
-    dice: &mut Dice,
-) -> Result<bool, AllocError> {
-    world.stop_at(u64::from(dice.roll(12)));
-    let event = if dice.roll(2) == 0 {
-        Event::Force
-    } else {
-        Event::Checkpoint
-    };
-    match world.one(event) {
-        Answer::Refused(Fault::Io) => Ok(true),
-        answer => judge.hears(&event, &answer),
-    }
-}
-
-/// The same over a device, which crashes after every 100 events, inside of a force or a checkpoint, or behind it: what is
-/// opened again has the contents after some first part of the actions that holds every forced one.
+/// The same over a device, which crashes again and again: what is opened again has the contents after some first part of the
+/// actions that holds every forced one.
 #[test]
-fn runs_over_a_device(rt: HostRuntime) -> Result<(), Fail> {
+fn trees_crash(rt: HostRuntime) -> Result<(), Fail> {
     let alloc = rt.alloc();
-    for seed in 8..14 {
-        let mut dice = Dice::new(seed);
-        let mut world = on_a_device(alloc)?;
-        let mut judge = Judge::new(alloc, Vec::new(alloc), 3)?;
-        for image in [CrashImage::Keep, CrashImage::Drop, CrashImage::Tear] {
-            assert!(rt;
-                are_right(&mut world, &mut judge, &mut dice, 3, 100)?,
-                "{seed}"
-            );
-            assert!(rt; keeps_at_last(&mut world, &mut judge, &mut dice)?, "{seed}");
-            let left = world.crash(alloc, image)?;
-            world = opened(alloc, left, 3)?;
-            let found = contents(alloc, &mut world)?;
-            assert!(rt; judge.is_first_part(found.as_slice()), "{seed}");
-            judge = Judge::new(alloc, found, 3)?;
-        }
-        assert!(rt; ends_right(&mut world, &mut judge, 3)?, "{seed}");
+    let mut total = Tally::default();
+    for (seed, sessions, crashes, level) in [
+        (11, 3, 6, 2),
+        (12, 3, 6, 2),
+        (13, 3, 6, 2),
+        (14, 8, 6, 2),
+        (15, 8, 6, 2),
+        (16, 8, 6, 2),
+        (17, 64, 4, 1),
+        (18, 64, 4, 1),
+    ] {
+        let outcome = crashed(roomy(alloc, sessions, 4), seed, crashes, 400)?;
+        assert!(rt; outcome.is_right, "{seed}: {outcome:?}");
+        assert!(rt; outcome.level >= level, "{seed}: {outcome:?}");
+        total.join(outcome.tally);
     }
+    println!(rt; "{total:?}")?;
+    assert!(rt;
+        total.crashes >= 40 && total.losing >= 5 && total.stopped >= 50,
+        "{total:?}"
+    );
+    Ok(())
+}
+
+/// Few pages and a small log, in memory and over a device that crashes: refusals leave nothing.
+#[test]
+fn narrow_trees(rt: HostRuntime) -> Result<(), Fail> {
+    let alloc = rt.alloc();
+    let mut total = Tally::default();
+    for (seed, sessions, pages) in [
+        (21, 3, 8),
+        (22, 3, 16),
+        (23, 8, 12),
+        (24, 8, 24),
+        (25, 64, 16),
+        (26, 64, 24),
+        (27, 3, 64),
+        (28, 8, 64),
+    ] {
+        let run = narrow(alloc, sessions, pages);
+        let outcome = ran(run, seed, 2_000)?;
+        assert!(rt; outcome.is_right, "{seed}: {outcome:?}");
+        total.join(outcome.tally);
+        let outcome = crashed(run, seed, 4, 400)?;
+        assert!(rt; outcome.is_right, "{seed}: {outcome:?}");
+        total.join(outcome.tally);
+    }
+    println!(rt; "{total:?}")?;
+    assert!(rt;
+        total.index_full >= 50 && total.log_full >= 20 && total.unfinished >= 3,
+        "{total:?}"
+    );
     Ok(())
 }

@@ -1,0 +1,118 @@
+//! What a run has come to.
+
+use index_model::Fault;
+use session_calls::Answer;
+
+/// How often a run came to what it is made for.
+#[derive(Clone, Copy, Debug, Default)]
+pub struct Tally {
+    /// Events.
+    pub events: u32,
+    /// Adds.
+    pub adds: u32,
+    /// Actions that change the shape alone.
+    pub shapes: u32,
+    /// Of these, splits of others, finished by an insert on its way.
+    pub met: u32,
+    /// Inserts that say that their split is left unfinished.
+    pub unfinished: u32,
+    /// Scans that gave all.
+    pub scans: u32,
+    /// Calls given up.
+    pub given_up: u32,
+    /// Refusals with `Blocked`.
+    pub blocked: u32,
+    /// Refusals with `Exists`.
+    pub exists: u32,
+    /// Refusals with `IndexFull`.
+    pub index_full: u32,
+    /// Refusals with `LogFull`.
+    pub log_full: u32,
+    /// Refusals with `Io`.
+    pub io: u32,
+    /// Refusals with `Stopped`.
+    pub stopped: u32,
+    /// Crashes.
+    pub crashes: u32,
+    /// Crashes that lost actions.
+    pub losing: u32,
+    /// Crashes behind which splits were half done.
+    pub half_done: u32,
+}
+
+fn count(number: &mut u32) {
+    *number = number.saturating_add(1);
+}
+
+impl Tally {
+    /// Counts an event that was answered so.
+    pub fn hear(&mut self, answer: &Answer) {
+        count(&mut self.events);
+        match answer {
+            Answer::Refused(fault) => self.refuse(*fault),
+            Answer::Added {
+                unfinished: Some(_),
+                ..
+            } => count(&mut self.unfinished),
+            Answer::Done => count(&mut self.scans),
+            Answer::Ended => count(&mut self.given_up),
+            _ => {}
+        }
+    }
+
+    fn refuse(&mut self, fault: Fault) {
+        match fault {
+            Fault::Blocked(_) => count(&mut self.blocked),
+            Fault::Exists => count(&mut self.exists),
+            Fault::IndexFull => count(&mut self.index_full),
+            Fault::LogFull => count(&mut self.log_full),
+            Fault::Io => count(&mut self.io),
+            Fault::Stopped => count(&mut self.stopped),
+            _ => {}
+        }
+    }
+
+    /// Counts an action that adds an entry.
+    pub fn add(&mut self) {
+        count(&mut self.adds);
+    }
+
+    /// Counts an action that changes the shape alone. It is of a split of others unless the call's entry is added.
+    pub fn reshape(&mut self, is_of_others: bool) {
+        count(&mut self.shapes);
+        if is_of_others {
+            count(&mut self.met);
+        }
+    }
+
+    /// Counts a crash.
+    pub fn crash(&mut self, loses: bool, leaves_half_done: bool) {
+        count(&mut self.crashes);
+        if loses {
+            count(&mut self.losing);
+        }
+        if leaves_half_done {
+            count(&mut self.half_done);
+        }
+    }
+
+    /// Counts all of another run too.
+    pub fn join(&mut self, other: Tally) {
+        self.events = self.events.saturating_add(other.events);
+        self.adds = self.adds.saturating_add(other.adds);
+        self.shapes = self.shapes.saturating_add(other.shapes);
+        self.met = self.met.saturating_add(other.met);
+        self.unfinished = self.unfinished.saturating_add(other.unfinished);
+        self.scans = self.scans.saturating_add(other.scans);
+        self.given_up = self.given_up.saturating_add(other.given_up);
+        self.blocked = self.blocked.saturating_add(other.blocked);
+        self.exists = self.exists.saturating_add(other.exists);
+        self.index_full = self.index_full.saturating_add(other.index_full);
+        self.log_full = self.log_full.saturating_add(other.log_full);
+        self.io = self.io.saturating_add(other.io);
+        self.stopped = self.stopped.saturating_add(other.stopped);
+        self.crashes = self.crashes.saturating_add(other.crashes);
+        self.losing = self.losing.saturating_add(other.losing);
+        self.half_done = self.half_done.saturating_add(other.half_done);
+    }
+}
