@@ -114,9 +114,11 @@ impl<S: PageStore> Index<S> {
         }
     }
 
-    /// Inserts an entry: begins an insert and runs its steps to the end. Refused with `Exists` where the entry is there,
-    /// with `IndexFull`, `Io`, `Stopped`, and with `Blocked` or `NoFrame` where open scans hold what it needs: no entry
-    /// is added then. Open scans stay as they are.
+    /// Inserts an entry: begins an insert and runs its steps to the end. Refused with `Exists` (5) where the entry is there;
+    /// with `IndexFull` (8) where a page is full and no block is left, with `TooTall` (19) where the root is full on level 31;
+    /// with `Io` (2), `Stopped` (3), `LogFull` (9), and with `Blocked` (4) or `NoFrame` (10) where open scans hold what it
+    /// needs; with `PageDamaged` (17) on pages that are no tree: no entry is added then. Once the entry is added, a fault that
+    /// keeps a split from being finished stands in `unfinished`. Open scans stay as they are.
     pub fn aminsert(&mut self, entry: Entry) -> Result<Inserted, Fault>
         ensures steps { Continues S.follows self.old.store self.new.store }
         ensures runs { IndexGoes S.PageStore 63 (InsertTold 63 entry result)
@@ -184,9 +186,10 @@ impl<S: PageStore> Index<S> {
         }
     }
 
-    /// The next entry of an open scan, in ascending order, or None where it has given all. Refused with `NoSession`
-    /// where the token is not open, or a fault was answered since the scan was begun; with `Io` and `Stopped`, and with
-    /// `Blocked` or `NoFrame`: the scan is over then. Once it has answered None it answers None again.
+    /// The next entry of an open scan, in ascending order, or None where it has given all. Refused with `NoSession` (12)
+    /// where the token is not open, or a fault was answered since the scan was begun; with `Io` (2) and `Stopped` (3), with
+    /// `Blocked` (4) or `NoFrame` (10), and with `PageDamaged` (17) on pages that are no tree: the scan is over then. Once it
+    /// has answered None it answers None again.
     pub fn amgettuple(&mut self, token: ScanToken) -> Result<Option<Entry>, Fault>
         ensures steps { Continues S.follows self.old.store self.new.store }
         ensures runs { seat_of self.old.seats token ≡ seat_with token false
