@@ -56,7 +56,7 @@ fn opened_again(
 ) -> Result<OverDevice, Fault> {
     let mut left = world.crash(run.alloc, image(dice))?;
     if dice.roll(2) == 0 {
-        left.stop_at(u64::from(dice.roll(400)));
+        left.stop_at(u64::from(dice.roll(20)) + 1);
     }
     let sets: Vec<NoRows> = Vec::new(run.alloc);
     match World::open(run.alloc, left, 16, run.space.sessions, sets) {

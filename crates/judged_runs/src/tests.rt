@@ -131,7 +131,6 @@ fn trees_in_memory(rt: HostRuntime) -> Result<(), Fail> {
             total.join(outcome.tally);
         }
     }
-    println!(rt; "{total:?}")?;
     assert!(rt; total.index_full == 0 && total.log_full == 0, "{total:?}");
     assert!(rt;
         total.met >= 300 && total.exists >= 500 && total.blocked >= 5_000,
@@ -140,13 +139,12 @@ fn trees_in_memory(rt: HostRuntime) -> Result<(), Fail> {
     Ok(())
 }
 
-/// Trees of six levels.
+/// Trees of five levels.
 #[test]
 fn high_trees(rt: HostRuntime) -> Result<(), Fail> {
     let alloc = rt.alloc();
     for (seed, sessions) in [(800, 3), (801, 8)] {
         let outcome = ran(high(alloc, sessions), seed, 20_000)?;
-        println!(rt; "{outcome:?}")?;
         assert!(rt;
             outcome.is_right && outcome.tally.level >= 4,
             "{seed}: {outcome:?}"
@@ -170,7 +168,6 @@ fn trees_crash(rt: HostRuntime) -> Result<(), Fail> {
             total.join(outcome.tally);
         }
     }
-    println!(rt; "{total:?}")?;
     assert!(rt; total.level >= 3, "{total:?}");
     assert!(rt;
         total.losing >= 60 && total.half_done >= 100 && total.opening >= 20,
@@ -204,7 +201,6 @@ fn narrow_trees(rt: HostRuntime) -> Result<(), Fail> {
             total.join(outcome.tally);
         }
     }
-    println!(rt; "{total:?}")?;
     assert!(rt;
         total.index_full >= 400 && total.log_full >= 200 && total.unfinished >= 40,
         "{total:?}"
