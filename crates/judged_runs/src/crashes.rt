@@ -48,10 +48,15 @@ fn image(dice: &mut Dice) -> CrashImage {
 
 /// Opens the index behind a crash. Half of the times the device stops inside of the first open, which may be refused with
 /// `Io`, and crashes again.
-fn opened_again(run: Run, world: &OverDevice, dice: &mut Dice) -> Result<OverDevice, Fault> {
+fn opened_again(
+    run: Run,
+    world: &OverDevice,
+    dice: &mut Dice,
+    tally: &mut Tally,
+) -> Result<OverDevice, Fault> {
     let mut left = world.crash(run.alloc, image(dice))?;
     if dice.roll(2) == 0 {
-        left.stop_at(u64::from(dice.roll(400)));
+        left.stop_at(u64::from(dice.roll(20)) + 1);
     }
     let sets: Vec<NoRows> = Vec::new(run.alloc);
     match World::open(run.alloc, left, 16, run.space.sessions, sets) {
@@ -62,7 +67,10 @@ fn opened_again(run: Run, world: &OverDevice, dice: &mut Dice) -> Result<OverDev
                 device,
                 ..
             },
-        ) => opened(run, device.crash(run.alloc, image(dice))?),
+        ) => {
+            tally.crash_opening();
+            opened(run, device.crash(run.alloc, image(dice))?)
+        }
         Err(not_opened) => Err(not_opened.fault),
     }
 }
@@ -102,7 +110,7 @@ pub fn crashed(run: Run, seed: u64, crashes: u32, events: u32) -> Result<Outcome
     let mut is_right = true;
     for _ in 0..crashes {
         is_right = is_right && fails_right(run, &mut world, &mut judge, &mut dice, events)?;
-        world = opened_again(run, &world, &mut dice)?;
+        world = opened_again(run, &world, &mut dice, &mut tally)?;
         let next = judge_of(run, &mut world)?;
         is_right = is_right && judge.crashes(&next);
         tally.join(judge.tally());
@@ -110,9 +118,5 @@ pub fn crashed(run: Run, seed: u64, crashes: u32, events: u32) -> Result<Outcome
     }
     is_right = is_right && ends_right(run, &mut world, &mut judge, &mut dice)?;
     tally.join(judge.tally());
-    Ok(Outcome {
-        is_right,
-        tally,
-        level: judge.root_level(),
-    })
+    Ok(Outcome { is_right, tally })
 }

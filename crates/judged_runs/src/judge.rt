@@ -69,13 +69,8 @@ impl Judge {
         self.pages.as_slice()
     }
 
-    /// The level of the root.
-    pub fn root_level(&self) -> u8 {
-        root_level(&self.pages)
-    }
-
     /// How many splits are half done.
-    pub fn flagged(&self) -> usize {
+    fn flagged(&self) -> usize {
         flagged(&self.pages)
     }
 
@@ -139,6 +134,7 @@ impl Judge {
         };
         let effect = self.effect_of(session, &pages);
         let adds = matches!(&effect, PlainEffect::Adds(_));
+        self.tally.reach(root_level(&pages));
         self.pages = pages;
         self.history.push(PlainAction { by, effect })?;
         let Some(call) = self.calls.get_mut(by) else {

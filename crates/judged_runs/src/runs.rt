@@ -33,12 +33,11 @@ pub struct Run {
     pub space: Space,
 }
 
-/// Whether all of a run was right, what it came to, and the level of the root at its end.
+/// Whether all of a run was right, and what it came to.
 #[derive(Clone, Copy, Debug)]
 pub struct Outcome {
     pub is_right: bool,
     pub tally: Tally,
-    pub level: u8,
 }
 
 /// A judge of a world without calls that has made no action.

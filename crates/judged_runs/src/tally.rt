@@ -34,10 +34,14 @@ pub struct Tally {
     pub stopped: u32,
     /// Crashes.
     pub crashes: u32,
+    /// Crashes inside of an open.
+    pub opening: u32,
     /// Crashes that lost actions.
     pub losing: u32,
     /// Crashes behind which splits were half done.
     pub half_done: u32,
+    /// The highest level of a root.
+    pub level: u8,
 }
 
 fn count(number: &mut u32) {
@@ -85,6 +89,16 @@ impl Tally {
         }
     }
 
+    /// Marks the level of a root.
+    pub fn reach(&mut self, level: u8) {
+        self.level = self.level.max(level);
+    }
+
+    /// Counts a crash inside of an open.
+    pub fn crash_opening(&mut self) {
+        count(&mut self.opening);
+    }
+
     /// Counts a crash.
     pub fn crash(&mut self, loses: bool, leaves_half_done: bool) {
         count(&mut self.crashes);
@@ -113,6 +127,8 @@ impl Tally {
         self.stopped = self.stopped.saturating_add(other.stopped);
         self.crashes = self.crashes.saturating_add(other.crashes);
         self.losing = self.losing.saturating_add(other.losing);
+        self.opening = self.opening.saturating_add(other.opening);
         self.half_done = self.half_done.saturating_add(other.half_done);
+        self.reach(other.level);
     }
 }

@@ -46,7 +46,6 @@ fn ran(run: Run, seed: u64, events: u32) -> Result<Outcome, Fail> {
     Ok(Outcome {
         is_right,
         tally: judge.tally(),
-        level: judge.root_level(),
     })
 }
 
@@ -63,6 +62,24 @@ fn roomy(alloc: Global, sessions: u32, items: u32) -> Run {
             sessions,
             keys: 24,
             rows: 4,
+            forces: 1,
+        },
+    }
+}
+
+/// A run of so many sessions over many entries on small pages.
+fn high(alloc: Global, sessions: u32) -> Run {
+    Run {
+        alloc,
+        limits: Limits {
+            items: 4,
+            pages: 512,
+            log_bytes: 1_048_576,
+        },
+        space: Space {
+            sessions,
+            keys: 60,
+            rows: 5,
             forces: 1,
         },
     }
@@ -92,59 +109,68 @@ fn trees_in_memory(rt: HostRuntime) -> Result<(), Fail> {
     let alloc = rt.alloc();
     let mut total = Tally::default();
     for (seed, sessions, items, events, level) in [
-        (1, 1, 4, 2_000, 2),
-        (2, 3, 4, 3_000, 2),
-        (3, 3, 4, 3_000, 2),
-        (4, 8, 4, 3_000, 2),
-        (5, 8, 4, 3_000, 2),
-        (6, 8, 5, 3_000, 2),
-        (7, 64, 4, 5_000, 2),
-        (8, 64, 4, 5_000, 2),
-        (9, 3, 7, 2_000, 1),
-        (10, 8, 12, 2_000, 1),
+        (100, 1, 4, 2_000, 2),
+        (200, 3, 4, 3_000, 2),
+        (300, 8, 4, 3_000, 2),
+        (400, 64, 4, 5_000, 2),
+        (500, 8, 5, 3_000, 2),
+        (600, 3, 7, 2_000, 1),
+        (700, 8, 12, 2_000, 1),
     ] {
-        let outcome = ran(roomy(alloc, sessions, items), seed, events)?;
-        assert!(rt; outcome.is_right, "{seed}: {outcome:?}");
-        assert!(rt; outcome.level >= level, "{seed}: {outcome:?}");
-        total.join(outcome.tally);
+        for round in 0..12u64 {
+            let outcome = ran(
+                roomy(alloc, sessions, items),
+                round.wrapping_add(seed),
+                events,
+            )?;
+            assert!(rt; outcome.is_right, "{seed} + {round}: {outcome:?}");
+            assert!(rt;
+                outcome.tally.level >= level,
+                "{seed} + {round}: {outcome:?}"
+            );
+            total.join(outcome.tally);
+        }
     }
-    println!(rt; "{total:?}")?;
-    assert!(rt;
-        total.adds >= 400 && total.shapes >= 120 && total.met >= 30,
-        "{total:?}"
-    );
-    assert!(rt;
-        total.scans >= 50 && total.exists >= 50 && total.blocked >= 500,
-        "{total:?}"
-    );
     assert!(rt; total.index_full == 0 && total.log_full == 0, "{total:?}");
+    assert!(rt;
+        total.met >= 300 && total.exists >= 500 && total.blocked >= 5_000,
+        "{total:?}"
+    );
     Ok(())
 }
 
-/// The same over a device, which crashes again and again: what is opened again has the contents after some first part of the
-/// actions that holds every forced one.
+/// Trees of five levels.
+#[test]
+fn high_trees(rt: HostRuntime) -> Result<(), Fail> {
+    let alloc = rt.alloc();
+    for (seed, sessions) in [(800, 3), (801, 8)] {
+        let outcome = ran(high(alloc, sessions), seed, 20_000)?;
+        assert!(rt;
+            outcome.is_right && outcome.tally.level >= 4,
+            "{seed}: {outcome:?}"
+        );
+    }
+    Ok(())
+}
+
+/// Over a device, which crashes again and again: what is opened again has the contents after some first part of the actions
+/// that holds every forced one.
 #[test]
 fn trees_crash(rt: HostRuntime) -> Result<(), Fail> {
     let alloc = rt.alloc();
     let mut total = Tally::default();
-    for (seed, sessions, crashes, level) in [
-        (11, 3, 6, 2),
-        (12, 3, 6, 2),
-        (13, 3, 6, 2),
-        (14, 8, 6, 2),
-        (15, 8, 6, 2),
-        (16, 8, 6, 2),
-        (17, 64, 4, 1),
-        (18, 64, 4, 1),
-    ] {
-        let outcome = crashed(roomy(alloc, sessions, 4), seed, crashes, 400)?;
-        assert!(rt; outcome.is_right, "{seed}: {outcome:?}");
-        assert!(rt; outcome.level >= level, "{seed}: {outcome:?}");
-        total.join(outcome.tally);
+    for (seed, sessions, crashes) in [(1_100, 3, 6), (1_200, 8, 6), (1_300, 64, 6)] {
+        for round in 0..20u64 {
+            let run = roomy(alloc, sessions, 4);
+            let outcome = crashed(run, round.wrapping_add(seed), crashes, 400)?;
+            assert!(rt; outcome.is_right, "{seed} + {round}: {outcome:?}");
+            assert!(rt; outcome.tally.level >= 1, "{seed} + {round}: {outcome:?}");
+            total.join(outcome.tally);
+        }
     }
-    println!(rt; "{total:?}")?;
+    assert!(rt; total.level >= 3, "{total:?}");
     assert!(rt;
-        total.crashes >= 40 && total.losing >= 5 && total.stopped >= 50,
+        total.losing >= 60 && total.half_done >= 100 && total.opening >= 20,
         "{total:?}"
     );
     Ok(())
@@ -156,26 +182,27 @@ fn narrow_trees(rt: HostRuntime) -> Result<(), Fail> {
     let alloc = rt.alloc();
     let mut total = Tally::default();
     for (seed, sessions, pages) in [
-        (21, 3, 8),
-        (22, 3, 16),
-        (23, 8, 12),
-        (24, 8, 24),
-        (25, 64, 16),
-        (26, 64, 24),
-        (27, 3, 64),
-        (28, 8, 64),
+        (2_100, 3, 8),
+        (2_200, 3, 16),
+        (2_300, 8, 12),
+        (2_400, 8, 24),
+        (2_500, 64, 16),
+        (2_600, 64, 24),
+        (2_700, 3, 64),
+        (2_800, 8, 64),
     ] {
-        let run = narrow(alloc, sessions, pages);
-        let outcome = ran(run, seed, 2_000)?;
-        assert!(rt; outcome.is_right, "{seed}: {outcome:?}");
-        total.join(outcome.tally);
-        let outcome = crashed(run, seed, 4, 400)?;
-        assert!(rt; outcome.is_right, "{seed}: {outcome:?}");
-        total.join(outcome.tally);
+        for round in 0..8u64 {
+            let run = narrow(alloc, sessions, pages);
+            let outcome = ran(run, round.wrapping_add(seed), 2_000)?;
+            assert!(rt; outcome.is_right, "{seed} + {round}: {outcome:?}");
+            total.join(outcome.tally);
+            let outcome = crashed(run, round.wrapping_add(seed), 4, 400)?;
+            assert!(rt; outcome.is_right, "{seed} + {round}: {outcome:?}");
+            total.join(outcome.tally);
+        }
     }
-    println!(rt; "{total:?}")?;
     assert!(rt;
-        total.index_full >= 50 && total.log_full >= 20 && total.unfinished >= 3,
+        total.index_full >= 400 && total.log_full >= 200 && total.unfinished >= 40,
         "{total:?}"
     );
     Ok(())
