@@ -13,7 +13,7 @@ use Rattle.whole_calls.specs.Going.{CallGoes}
 use Rattle.whole_calls.proofs.Composing.{goes_by}
 use Rattle.whole_calls.proofs.Tellings.{keeps_silent}
 use Rattle.access_method.specs.Counted.{counted, kept_came}
-use Rattle.std.proofs.Common.{◌≡◌, ◌||◌, ℕ, zero, suc, ◌+◌, ◌-◌, Bool, Option, Some, None, Result, Ok, Err, List, [], ◌∷◌, ◌++◌, length, take, slice_get, refl, sym, ap, subst, ◌∙◌, arith, length-append, append_assoc}
+use Rattle.std.proofs.Common.{◌≡◌, ◌||◌, ℕ, zero, suc, ◌+◌, ◌-◌, Bool, Option, Some, None, Result, Ok, Err, List, [], ◌∷◌, ◌++◌, length, take, slice_get, refl, sym, ap, subst, inl, inr, ◌∙◌, arith, length-append, append_assoc}
 use Rattle.std.proofs.lemmas.List.{take_at, length-replicate}
 use Rattle.std.proofs.Math.Seq.{take-append-add}
 use Rattle.index_model.specs.Actions.{Add, ThereAtSomeMoment, Action, later_or, last_said, contents_after}
@@ -28,7 +28,8 @@ use Rattle.page_action.specs.declared.page_store.PageStore.{Ghosts}
 use Rattle.session_calls.specs.Sessions.{begun_call, given_one, ended}
 use Rattle.schedule.specs.Snapshots.{StoreAndSlots, Fits, snapshot_of}
 use Rattle.schedule.proofs.Lists.{get_append_new, get_set_same, get_within}
-use Rattle.whole_calls.specs.Telling.{InsertTold, insert_came, inserted_call, shapes}
+use Rattle.whole_calls.specs.Telling.{InsertTold, inserted_call, shapes}
+use Rattle.whole_calls.specs.Inserting.{InsertGoes}
 use Rattle.whole_calls.specs.Giving.{Becomes, TellsGiven, give_came}
 use Rattle.whole_calls.specs.Going.{CallRuns}
 use Rattle.access_method.specs.Indexes.{InsertsOrKeeps, AnswersScan}
@@ -50,9 +51,9 @@ after_nothing : (start : Entry → Bool) (l m : List Action) (e : Entry) → las
 after_nothing start l m e none = contents_after-append start l m e ∙ ap (λ (o : Option Bool). unwrap_or o (contents_after start l e)) none
 
 -- an insert's answer in words of the contents
-pub inserts_or_keeps : {S : Type 0} (g : Ghosts S) (entry : Entry) (result : Result Inserted Fault) (old new : StoreAndSlots S) (start : Entry → Bool) (history : List Action) (calls : List Call)
-    → Fits g start (snapshot_of old history calls) → CallRuns g 63 (InsertTold 63 entry result) (insert_came result) old new start history calls → InsertsOrKeeps g entry result old.store new.store
-inserts_or_keeps g entry (Ok inserted) old new start history calls fits r =
+told_or_kept : {S : Type 0} (g : Ghosts S) (entry : Entry) (result : Result Inserted Fault) (came : Option Answer) (old new : StoreAndSlots S) (start : Entry → Bool) (history : List Action) (calls : List Call)
+    → Fits g start (snapshot_of old history calls) → CallRuns g 63 (InsertTold 63 entry result) came old new start history calls → InsertsOrKeeps g entry result old.store new.store
+told_or_kept g entry (Ok inserted) came old new start history calls fits r =
     let t = r.tells in
     let call : Call = inserted_call 63 entry (length history) inserted.action t.ending (length r.then_history) in
     let found : slice_get r.then_calls (length calls) ≡ Some call = ap (λ (l : List Call). slice_get l (length calls)) t.calls_is ∙ get_append_new calls call in
@@ -82,7 +83,7 @@ inserts_or_keeps g entry (Ok inserted) old new start history calls fits r =
           let d : length (act ∷ behind) ≡ suc (length behind) = refl in
           omega (arith, a, b, c, d, many));
     }
-inserts_or_keeps g entry (Err fault) old new start history calls fits r =
+told_or_kept g entry (Err fault) came old new start history calls fits r =
     let t = r.tells in
     let failed : Call = ended (begun_call 63 (AskInsert entry) (length history)) (Failed Exists) (length r.then_history) in
     record {
@@ -98,6 +99,11 @@ inserts_or_keeps g entry (Err fault) old new start history calls fits r =
           fits.matches.contents entry ∙ sym (after_nothing start history (take more (shapes (length calls) t.shaped)) entry (shapes_say (length calls) t.shaped more entry))
           ∙ ap (λ (l : List Action). contents_after start l entry) (sym first) ∙ at.there);
     }
+
+pub inserts_or_keeps : {S : Type 0} (g : Ghosts S) (entry : Entry) (result : Result Inserted Fault) (old new : StoreAndSlots S) → InsertGoes g 63 entry result old new → Carries g old new (λ start history calls. InsertsOrKeeps g entry result old.store new.store)
+inserts_or_keeps g entry (Ok inserted) old new (inl goes) honest start history calls fits = told_or_kept g entry (Ok inserted) (Some (Added inserted.action inserted.unfinished)) old new start history calls fits (goes honest start history calls fits)
+inserts_or_keeps g entry (Ok inserted) old new (inr short) honest start history calls fits = told_or_kept g entry (Ok inserted) (Some (Refused short.fault)) old new start history calls fits (short.goes honest start history calls fits)
+inserts_or_keeps g entry (Err fault) old new goes honest start history calls fits = told_or_kept g entry (Err fault) (Some (Refused fault)) old new start history calls fits (goes honest start history calls fits)
 
 -- a running scan's answer so far
 so_far : (start : Entry → Bool) (history : List Action) (number began until : ℕ) (ask : Ask) (range : Range) (given : List Entry) (added : Option ℕ) (ending : Ending) → ask ≡ AskScan range → ending ≡ Running

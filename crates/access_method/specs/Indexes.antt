@@ -22,6 +22,7 @@ use Rattle.schedule.specs.Crashes.{KeepsHistory}
 use Rattle.schedule.specs.Runs.{Carries}
 use Rattle.schedule.specs.Snapshots.{StoreAndSlots, Snapshot, snapshot_of, IsRunningCall, Fits}
 use Rattle.whole_calls.specs.Going.{CallGoes}
+use Rattle.whole_calls.specs.Inserting.{InsertGoes}
 use Rattle.whole_calls.specs.Telling.{HasNone}
 use Rattle.whole_calls.specs.declared.inserted.Inserted.{Inserted}
 use Rattle.access_method.specs.Tokens.{seat_of, AreTaken}
@@ -45,6 +46,10 @@ IndexKeeps g index start history calls = KeepsHistory g start (snapshot_of (slot
 -- to, and this is told
 abbrev pub IndexGoes : {S : Type 0} → Ghosts S → ℕ → (Snapshot S → Snapshot S → Type 0) → Option Answer → Index S → Index S → Type 0
 IndexGoes g session Tells came old new = CallGoes g session Tells came (slots_within old) (slots_within new)
+
+-- ... of an insert that is run to its end
+abbrev pub IndexInserts : {S : Type 0} → Ghosts S → ℕ → Entry → Result Inserted Fault → Index S → Index S → Type 0
+IndexInserts g session entry result old new = InsertGoes g session entry result (slots_within old) (slots_within new)
 
 -- where the device has kept its model up to now, this holds of whatever fitted the index before
 abbrev pub IndexCarries : {S : Type 0} → Ghosts S → Index S → Index S → ((Entry → Bool) → List Action → List Call → Type 0) → Type 0

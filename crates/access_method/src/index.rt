@@ -89,10 +89,10 @@ impl<S: PageStore> Index<S> {
     ghost use Rattle.session_calls.specs.declared.request.Request.TheVariants.{Scan as ToScan};
     ghost use Rattle.schedule.specs.Events.{Forces, Checkpoints};
     ghost use Rattle.schedule.specs.Snapshots.{IsUnused, slot_of};
-    ghost use Rattle.whole_calls.specs.Telling.{IsSilent, InsertTold, HasBegun, TellsEnd, insert_came};
+    ghost use Rattle.whole_calls.specs.Telling.{IsSilent, HasBegun, TellsEnd};
     ghost use Rattle.whole_calls.specs.Giving.{TellsGiven, EndsUnlessGiven, give_came};
     ghost use Rattle.access_method.specs.Tokens.{seat_of};
-    ghost use Rattle.access_method.specs.Indexes.{IndexFits, IndexKeeps, IndexGoes, IndexCarries, KeepsTokens, IsNewToken, SeatBecomes, seat_with, RescanTold, TokenAfter, InsertsOrKeeps, AnswersScan, NotOpenedFor, NotRescannedFor, cannot_begin};
+    ghost use Rattle.access_method.specs.Indexes.{IndexFits, IndexKeeps, IndexGoes, IndexInserts, IndexCarries, KeepsTokens, IsNewToken, SeatBecomes, seat_with, RescanTold, TokenAfter, InsertsOrKeeps, AnswersScan, NotOpenedFor, NotRescannedFor, cannot_begin};
     ghost use Rattle.access_method.specs.Counted.{kept_came};
 
     /// An index over the store, with no call and no open scan. Where the store's pages are in order and it has made no
@@ -121,8 +121,7 @@ impl<S: PageStore> Index<S> {
     /// keeps a split from being finished stands in `unfinished`. Open scans stay as they are.
     pub fn aminsert(&mut self, entry: Entry) -> Result<Inserted, Fault>
         ensures steps { Continues S.follows self.old.store self.new.store }
-        ensures runs { IndexGoes S.PageStore 63 (InsertTold 63 entry result)
-            (insert_came result) self.old self.new }
+        ensures runs { IndexInserts S.PageStore 63 entry result self.old self.new }
         ensures inserts { IndexCarries S.PageStore self.old self.new
             (λ start history calls. InsertsOrKeeps S.PageStore entry result self.old.store
             self.new.store) }

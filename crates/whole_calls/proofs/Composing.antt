@@ -6,7 +6,6 @@ use Rattle.index_model.specs.declared.entry.Entry.{Entry}
 use Rattle.page_action.specs.States.{IsLater, Continues}
 use Rattle.page_action.specs.declared.page_store.PageStore.{Ghosts}
 use Rattle.session_calls.specs.declared.answer.Answer.{Answer}
-use Rattle.session_calls.specs.declared.answer.Answer.TheVariants.{Refused}
 use Rattle.schedule.specs.Snapshots.{StoreAndSlots, Snapshot, snapshot_of, here_at, Fits}
 use Rattle.schedule.specs.Events.{kind_of, IsOf, EventDoes}
 use Rattle.schedule.specs.Runs.{EventGoes, Carries, Runs}
@@ -27,13 +26,11 @@ among_right (x ∷ xs) ys answer h = inr (among_right xs ys answer h)
 
 came_left : (xs ys : List Answer) (came : Option Answer) → CameBy xs came → CameBy (xs ++ ys) came
 came_left xs ys None h = tt
-came_left xs ys (Some answer) (inl h) = inl (among_left xs ys answer h)
-came_left xs ys (Some answer) (inr h) = inr (record { action = h.action; fault = h.fault; is = h.is; among = among_left xs ys (Refused h.fault) h.among })
+came_left xs ys (Some answer) h = among_left xs ys answer h
 
 came_right : (xs ys : List Answer) (came : Option Answer) → CameBy ys came → CameBy (xs ++ ys) came
 came_right xs ys None h = tt
-came_right xs ys (Some answer) (inl h) = inl (among_right xs ys answer h)
-came_right xs ys (Some answer) (inr h) = inr (record { action = h.action; fault = h.fault; is = h.is; among = among_right xs ys (Refused h.fault) h.among })
+came_right xs ys (Some answer) h = among_right xs ys answer h
 
 -- the one event of a run
 pub event_of : {S : Type 0} (g : Ghosts S) (event : Event) (answer : Answer) (a b : StoreAndSlots S) (start : Entry → Bool) (history : List Action) (calls : List Call) → Runs g a b (event ∷ []) (answer ∷ []) start history calls
@@ -128,6 +125,6 @@ module _ {S : Type 0} (g : Ghosts S) (laws : Laws g) (session : ℕ) where
         answers = answer ∷ [];
         own = (of, tt);
         ran = r.ran;
-        came_by = inl (inl refl);
+        came_by = inl refl;
         tells = tells start first last refl refl fits goes.does;
       }

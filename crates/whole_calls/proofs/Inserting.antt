@@ -6,7 +6,7 @@ use Rattle.index_model.specs.Actions.{Effect, Add, Remove, Shape, Action}
 use Rattle.index_model.specs.Calls.{Ask, AskInsert, Ending, Running, Added as EndsAdded, GivenUp, Failed, AnswersRight, end_of, Meets, Call}
 use Rattle.index_model.specs.declared.entry.Entry.{Entry}
 use Rattle.index_model.specs.declared.fault.Fault.{Fault}
-use Rattle.index_model.specs.declared.fault.Fault.TheVariants.{Exists}
+use Rattle.index_model.specs.declared.fault.Fault.TheVariants.{NoSession, Exists}
 use Rattle.page_action.specs.declared.page_store.PageStore.{Ghosts}
 use Rattle.session_calls.specs.Ops.{add_of, ends_call}
 use Rattle.session_calls.specs.Sessions.{act_count, acts_of, noted, begun_call, ended, slot_add}
@@ -14,11 +14,13 @@ use Rattle.session_calls.specs.declared.answer.Answer.{Answer}
 use Rattle.session_calls.specs.declared.answer.Answer.TheVariants.{Begun, Going, Added, Ready, Done, Finished, Gave, Ended, Forced, Flushed, Checkpointed, Refused}
 use Rattle.session_calls.specs.declared.op.Op.{Op}
 use Rattle.session_calls.specs.declared.request.Request.TheVariants.{Insert as ToInsert}
-use Rattle.schedule.specs.Snapshots.{Snapshot, slot_of, IsRunningCall, SlotRuns, SlotMatches, Fits}
+use Rattle.schedule.specs.Snapshots.{StoreAndSlots, Snapshot, slot_of, IsRunningCall, SlotRuns, SlotMatches, Fits}
 use Rattle.schedule.proofs.Lists.{get_append_new, get_append_cases}
-use Rattle.whole_calls.specs.Going.{CameBy}
-use Rattle.whole_calls.specs.Telling.{MayAnswer, acts_by, noted_behind, AreOwnEffects, IsTold, IsHeldUp, HasNone, TellsEnd, with_call, first_call, NextTold, NothingTold, left_behind, outcome_of, step_came, insert_came, shapes, inserted_call, IsEndOf, IsAddedNow, IsNotAdded, InsertTold}
+use Rattle.whole_calls.specs.Going.{CallGoes}
+use Rattle.whole_calls.specs.Inserting.{InsertGoes}
+use Rattle.whole_calls.specs.Telling.{acts_by, noted_behind, AreOwnEffects, IsTold, IsHeldUp, HasNone, TellsEnd, with_call, first_call, NextTold, NothingTold, left_behind, outcome_of, step_came, shapes, inserted_call, IsEndOf, IsAddedNow, IsNotAdded, InsertTold}
 use Rattle.whole_calls.specs.declared.inserted.Inserted.{Inserted}
+use Rattle.whole_calls.proofs.Composing.{goes_told}
 use Rattle.whole_calls.proofs.Gone.{same_ask, same_ending, same_session, many_behind, WholeTold, whole_told}
 use Rattle.whole_calls.proofs.Tellings.{runs_in_slot, one_runs, is_empty, set_new}
 
@@ -277,29 +279,31 @@ not_begun session entry fault x y t = record {
   exists_is = λ e. absurd (t.not_exists e);
 }
 
--- what an insert that came so far comes to
-left_came : (answers : List Answer) (added : Option ℕ) (fault : Fault) → CameBy answers (Some (Refused fault)) → CameBy answers (insert_came (left_behind added fault))
-left_came answers None fault h = h
-left_came answers (Some action) fault (inl h) = inr (record { action = action; fault = fault; is = refl; among = h })
-left_came answers (Some action) fault (inr h) = absurd (let e = h.is in cc)
+-- how an insert goes that came so far, and then was over
+module _ {S : Type 0} (g : Ghosts S) (session : ℕ) (entry : Entry) (a b c : StoreAndSlots S) where
+  goes_left : (added : Option ℕ) (fault : Fault) → CallGoes g session (InsertTold session entry (left_behind added fault)) (Some (Refused fault)) a c → InsertGoes g session entry (left_behind added fault) a c
+  goes_left None fault goes = goes
+  goes_left (Some action) fault goes = inr (record { fault = fault; left = refl; goes = goes })
 
-came_of : {S : Type 0} (number : ℕ) (e : Entry) (call : Call) (answers : List Answer) (x y : Snapshot S) (answer : Answer) (added : Option ℕ) → call.ask ≡ AskInsert e → answer ≢ Going → IsTold number call answer x y → CameBy answers (Some answer)
-    → CameBy answers (insert_came (outcome_of (Ok answer) added))
-came_of number e call answers x y (Added action unfinished) added ask going t h = h
-came_of number e call answers x y (Refused fault) added ask going t h = left_came answers added fault h
-came_of number e call answers x y Going added ask going t h = absurd (going refl)
-came_of number e call answers x y Begun added ask going t h = absurd (subst (λ (a : Ask). MayAnswer a Begun) ask t.may)
-came_of number e call answers x y (Ready count) added ask going t h = absurd (subst (λ (a : Ask). MayAnswer a (Ready count)) ask t.may)
-came_of number e call answers x y Done added ask going t h = absurd (subst (λ (a : Ask). MayAnswer a Done) ask t.may)
-came_of number e call answers x y (Finished stats) added ask going t h = absurd (subst (λ (a : Ask). MayAnswer a (Finished stats)) ask t.may)
-came_of number e call answers x y (Gave o) added ask going t h = absurd (subst (λ (a : Ask). MayAnswer a (Gave o)) ask t.may)
-came_of number e call answers x y Ended added ask going t h = absurd (subst (λ (a : Ask). MayAnswer a Ended) ask t.may)
-came_of number e call answers x y (Forced n) added ask going t h = absurd (subst (λ (a : Ask). MayAnswer a (Forced n)) ask t.may)
-came_of number e call answers x y (Flushed b) added ask going t h = absurd (subst (λ (a : Ask). MayAnswer a (Flushed b)) ask t.may)
-came_of number e call answers x y (Checkpointed n) added ask going t h = absurd (subst (λ (a : Ask). MayAnswer a (Checkpointed n)) ask t.may)
+  -- an insert answers nothing else
+  goes_else : (answer : Answer) → ((x y : Snapshot S) → PutTold session entry (Ok answer) x y → ⊥) → CallGoes g session (PutTold session entry (Ok answer)) (Some answer) a b
+      → CallGoes g session (PutTold session entry (Ok answer)) (Some (Refused NoSession)) a b
+  goes_else answer none put =
+      goes_told g session (PutTold session entry (Ok answer)) (PutTold session entry (Ok answer)) (Some answer) (Some (Refused NoSession)) a b (λ start answers x y at fits by t. absurd (none x y t)) put
 
-pub insert_comes : {S : Type 0} (session : ℕ) (entry : Entry) (came : Result Answer Fault) (added : Option ℕ) (x y : Snapshot S) (answers : List Answer) → came ≢ Ok Going → NextTold session (ToInsert entry) came x y → CameBy answers (step_came came)
-    → CameBy answers (insert_came (outcome_of came added))
-insert_comes session entry (Ok answer) added x y answers going t h =
-    came_of (length x.calls) entry (first_call session (ToInsert entry) x) answers (with_call x (first_call session (ToInsert entry) x)) y answer added refl (λ e. going (ap (λ (a : Answer). Ok a) e)) t h
-insert_comes session entry (Err fault) added x y answers going t h = left_came answers added fault h
+  pub insert_goes : (came : Result Answer Fault) (added : Option ℕ) → came ≢ Ok Going → CallGoes g session (PutTold session entry came) (step_came came) a b
+      → ((to : Option Answer) → CallGoes g session (PutTold session entry came) to a b → CallGoes g session (InsertTold session entry (outcome_of came added)) to a c)
+      → InsertGoes g session entry (outcome_of came added) a c
+  insert_goes (Ok (Added action unfinished)) added going put ends = inl (ends (Some (Added action unfinished)) put)
+  insert_goes (Ok (Refused fault)) added going put ends = goes_left added fault (ends (Some (Refused fault)) put)
+  insert_goes (Err fault) added going put ends = goes_left added fault (ends (Some (Refused fault)) put)
+  insert_goes (Ok Going) added going put ends = absurd (going refl)
+  insert_goes (Ok Begun) added going put ends = ends (Some (Refused NoSession)) (goes_else Begun (λ x y t. t.0.may) put)
+  insert_goes (Ok (Ready count)) added going put ends = ends (Some (Refused NoSession)) (goes_else (Ready count) (λ x y t. t.0.may) put)
+  insert_goes (Ok Done) added going put ends = ends (Some (Refused NoSession)) (goes_else Done (λ x y t. t.0.may) put)
+  insert_goes (Ok (Finished stats)) added going put ends = ends (Some (Refused NoSession)) (goes_else (Finished stats) (λ x y t. t.0.may) put)
+  insert_goes (Ok (Gave e)) added going put ends = ends (Some (Refused NoSession)) (goes_else (Gave e) (λ x y t. t.0.may) put)
+  insert_goes (Ok Ended) added going put ends = ends (Some (Refused NoSession)) (goes_else Ended (λ x y t. t.0.may) put)
+  insert_goes (Ok (Forced n)) added going put ends = ends (Some (Refused NoSession)) (goes_else (Forced n) (λ x y t. t.0.may) put)
+  insert_goes (Ok (Flushed block)) added going put ends = ends (Some (Refused NoSession)) (goes_else (Flushed block) (λ x y t. t.0.may) put)
+  insert_goes (Ok (Checkpointed n)) added going put ends = ends (Some (Refused NoSession)) (goes_else (Checkpointed n) (λ x y t. t.0.may) put)

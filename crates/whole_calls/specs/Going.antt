@@ -3,10 +3,8 @@ use Rattle.std.specs.Prelude.{◌≡◌, ◌⊎◌, ℕ, Bool, Option, Some, Non
 use Rattle.index_model.specs.Actions.{Action}
 use Rattle.index_model.specs.Calls.{Call}
 use Rattle.index_model.specs.declared.entry.Entry.{Entry}
-use Rattle.index_model.specs.declared.fault.Fault.{Fault}
 use Rattle.page_action.specs.declared.page_store.PageStore.{Ghosts}
 use Rattle.session_calls.specs.declared.answer.Answer.{Answer}
-use Rattle.session_calls.specs.declared.answer.Answer.TheVariants.{Added, Refused}
 use Rattle.schedule.specs.Snapshots.{StoreAndSlots, Snapshot, snapshot_of}
 use Rattle.schedule.specs.Events.{AreOf}
 use Rattle.schedule.specs.Runs.{Ran, Carries}
@@ -17,21 +15,14 @@ abbrev pub IsAmong : List Answer → Answer → Type 0
 IsAmong [] answer = ⊥
 IsAmong (x ∷ answers) answer = (x ≡ answer) ⊎ IsAmong answers answer
 
--- the answer tells that an entry is added and splits are left unfinished, with the fault of a refusal among these answers
-pub record TellsFaultOf (answers : List Answer) (answer : Answer) : Type 0 where
-  pub action : ℕ
-  pub fault : Fault
-  pub is : answer ≡ Added action (Some fault)
-  pub among : IsAmong answers (Refused fault)
-
--- what a call came to, if it says so, is one of these answers, or tells of the fault of one
+-- what a call came to, if it says so, is one of these answers
 abbrev pub CameBy : List Answer → Option Answer → Type 0
 CameBy answers None = Unit {0}
-CameBy answers (Some answer) = IsAmong answers answer ⊎ TellsFaultOf answers answer
+CameBy answers (Some answer) = IsAmong answers answer
 
 -- There is a continuation of the history and of the calls that fits now, by a run of events of this session with these
--- answers. What the call came to is the answer of one of them, so a refusal, and a fault that is left behind, has the cause
--- of that event; and this is told from the moment before to the moment after.
+-- answers. What the call came to is the answer of one of them, so a refusal has the cause of that event; and this is told
+-- from the moment before to the moment after.
 pub record CallRuns {S : Type 0} (g : Ghosts S) (session : ℕ) (Tells : Snapshot S → Snapshot S → Type 0) (came : Option Answer) (old new : StoreAndSlots S) (start : Entry → Bool) (history : List Action) (calls : List Call) : Type 0 where
   pub then_history : List Action
   pub then_calls : List Call

@@ -2,3 +2,4 @@ pub mod Going
 pub mod Telling
 pub mod Giving
 pub mod Spending
+pub mod Inserting

@@ -157,11 +157,6 @@ outcome_of (Ok (Refused fault)) added = left_behind added fault
 outcome_of (Ok answer) added = Err NoSession
 outcome_of (Err fault) added = left_behind added fault
 
--- ... and what it came to
-abbrev pub insert_came : Result Inserted Fault → Option Answer
-insert_came (Ok inserted) = Some (Added inserted.action inserted.unfinished)
-insert_came (Err fault) = Some (Refused fault)
-
 -- so many changes of the pages' shape, by the call of this number
 abbrev pub shapes : ℕ → ℕ → List Action
 shapes number count = replicate count (record { by = number; effect = Shape })

@@ -14,8 +14,9 @@ ghost use Rattle.schedule.specs.Events.{OthersStay, IsUnchanged};
 ghost use Rattle.schedule.specs.Runs.{Carries};
 ghost use Rattle.whole_calls.specs.Going.{CallGoes};
 ghost use Rattle.whole_calls.specs.Giving.{StepLeavesLess};
+ghost use Rattle.whole_calls.specs.Inserting.{InsertGoes};
 ghost use Rattle.whole_calls.specs.Spending.{TakesFewer};
-ghost use Rattle.whole_calls.specs.Telling.{RoomIsMade, IsSilent, TellsStep, TellsEnd, HasCome, InsertTold, left_behind, outcome_of, BeginTold, begun_of, step_came, begin_came, insert_came, room_came};
+ghost use Rattle.whole_calls.specs.Telling.{RoomIsMade, IsSilent, TellsStep, TellsEnd, HasCome, left_behind, outcome_of, BeginTold, begun_of, step_came, begin_came, room_came};
 
 use crate::inserted::Inserted;
 use index_model::{DeadRows, Entry, Fault};
@@ -251,8 +252,7 @@ pub fn insert<S: PageStore, T: DeadRows>(
     ensures sessions { length slots.new ≡ length slots.old }
     ensures others { OthersStay session slots.old slots.new }
     ensures over { slot_of slots.old session ≡ None → slot_of slots.new session ≡ None }
-    ensures goes { CallGoes S.PageStore session (InsertTold session entry result)
-        (insert_came result)
+    ensures goes { InsertGoes S.PageStore session entry result
         (here_with store.old slots.old (map T.is_in sets.now))
         (here_with store.new slots.new (map T.is_in sets.now)) }
 {

@@ -1,16 +1,17 @@
 use Rattle.std.specs.Prelude.{map}
-use Rattle.std.proofs.Common.{◌≡◌, Result, Ok, Err, Option, None, List, sym, ap, subst, ◌∙◌}
+use Rattle.std.proofs.Common.{◌≡◌, Result, Ok, Err, Option, Some, None, List, sym, ap, subst, ◌∙◌}
 use Rattle.index_model.specs.declared.fault.Fault.{Fault}
 use Rattle.session_calls.specs.Sessions.{slot_add}
 use Rattle.session_calls.specs.declared.op.Op.{Op}
 use Rattle.session_calls.specs.declared.request.Request.TheVariants.{Insert as ToInsert}
 use Rattle.schedule.specs.Snapshots.{here_with, slot_of}
-use Rattle.whole_calls.specs.Telling.{TellsStep, TellsEnd, BeginTold, InsertTold, outcome_of, begin_came, step_came, insert_came}
-use Rattle.whole_calls.specs.Going.{CallGoes}
+use Rattle.whole_calls.specs.Telling.{TellsStep, TellsEnd, BeginTold, InsertTold, outcome_of, begin_came, step_came}
+use Rattle.session_calls.specs.declared.answer.Answer.TheVariants.{Refused}
+use Rattle.whole_calls.specs.Inserting.{InsertGoes}
 use Rattle.whole_calls.specs.declared.inserted.Inserted.{Inserted}
 use Rattle.whole_calls.proofs.Composing.{goes_first, goes_then, goes_told}
 use Rattle.whole_calls.proofs.Tellings.{begun_next, begun_free}
-use Rattle.whole_calls.proofs.Inserting.{PutTold, insert_told, insert_comes, not_begun}
+use Rattle.whole_calls.proofs.Inserting.{PutTold, insert_told, insert_goes, not_begun}
 use Rattle.whole_calls.proofs.running.insert.Goals as goal
 
 pub returns-clause-goes : goal.returns-clause-goes
@@ -30,18 +31,17 @@ returns-clause-goes g c =
     (λ s x y z at then_at fx fy fz one two.
     (let b = subst (λ (r : Result (Unit {0}) Fault). BeginTold session request r x y) c.in-Ok.is one in
     (begun_next session request x y z b came two, begun_free session request x y z b g.S.PageStore s fy))) in
-    let comes = goes_told g.S.PageStore session (PutTold session entry came) (PutTold session entry came) (step_came came) (insert_came (outcome_of came added)) start here
-    (λ s answers x y at fits by told. (insert_comes session entry came added x y answers c.finish-came.ensures.over told.0 by, told)) put in
-    subst (λ (r : Result Inserted Fault). CallGoes g.S.PageStore session (InsertTold session entry r) (insert_came r) start there) (sym c.outcome.ensures)
-    (goes_first g.S.PageStore laws session (PutTold session entry came) (TellsEnd session) (InsertTold session entry (outcome_of came added)) (insert_came (outcome_of came added)) None start here there
-    (λ f h. c.finish-came.ensures.steps f (c.begin.ensures.steps f h)) c.give_up.ensures.steps comes c.give_up.ensures.goes
+    subst (λ (r : Result Inserted Fault). InsertGoes g.S.PageStore session entry r start there) (sym c.outcome.ensures)
+    (insert_goes g.S.PageStore session entry start here there came added c.finish-came.ensures.over put
+    (λ to goes. goes_first g.S.PageStore laws session (PutTold session entry came) (TellsEnd session) (InsertTold session entry (outcome_of came added)) to None start here there
+    (λ f h. c.finish-came.ensures.steps f (c.begin.ensures.steps f h)) c.give_up.ensures.steps goes c.give_up.ensures.goes
     (λ s x y z at then_at fx fy fz told end. insert_told g.S.PageStore s session entry x y z told.1 fy end came added
-    (ap (λ (l : List (Option Op)). slot_add (slot_of l session)) then_at ∙ sym c.added-added.ensures) c.finish-came.ensures.over told.0))
+    (ap (λ (l : List (Option Op)). slot_add (slot_of l session)) then_at ∙ sym c.added-added.ensures) c.finish-came.ensures.over told.0)))
 
 pub returns-in-Err-clause-goes : goal.returns-in-Err-clause-goes
 returns-in-Err-clause-goes g c =
     let session = c.args.session in
     let entry = c.args.entry in
-    goes_told g.S.PageStore session (BeginTold session (ToInsert entry) c.begin.result) (InsertTold session entry (Err c.in-Err.fault)) (begin_came c.begin.result) (insert_came (Err c.in-Err.fault)) _ _
+    goes_told g.S.PageStore session (BeginTold session (ToInsert entry) c.begin.result) (InsertTold session entry (Err c.in-Err.fault)) (begin_came c.begin.result) (Some (Refused c.in-Err.fault)) _ _
     (λ start answers x y at fits came told.
     (rw c.in-Err.is at came, not_begun session entry c.in-Err.fault x y (subst (λ (r : Result (Unit {0}) Fault). BeginTold session (ToInsert entry) r x y) c.in-Err.is told))) c.begin.ensures.goes

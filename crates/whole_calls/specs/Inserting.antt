@@ -1,0 +1,22 @@
+-- An insert that is run to its end, as a run of events.
+use Rattle.std.specs.Prelude.{◌≡◌, ◌⊎◌, ℕ, Some, Result, Ok, Err}
+use Rattle.index_model.specs.declared.entry.Entry.{Entry}
+use Rattle.index_model.specs.declared.fault.Fault.{Fault}
+use Rattle.page_action.specs.declared.page_store.PageStore.{Ghosts}
+use Rattle.session_calls.specs.declared.answer.Answer.TheVariants.{Added, Refused}
+use Rattle.schedule.specs.Snapshots.{StoreAndSlots}
+use Rattle.whole_calls.specs.Going.{CallGoes}
+use Rattle.whole_calls.specs.Telling.{InsertTold}
+use Rattle.whole_calls.specs.declared.inserted.Inserted.{Inserted}
+
+-- the insert has added its entry, and then an event was refused with the fault that it leaves behind
+pub record IsCutShort {S : Type 0} (g : Ghosts S) (session : ℕ) (entry : Entry) (inserted : Inserted) (old new : StoreAndSlots S) : Type 0 where
+  pub fault : Fault
+  pub left : inserted.unfinished ≡ Some fault
+  pub goes : CallGoes g session (InsertTold session entry (Ok inserted)) (Some (Refused fault)) old new
+
+-- the insert goes to what it answers: that its entry is added, or a refusal; or it is cut short behind its Add
+abbrev pub InsertGoes : {S : Type 0} → Ghosts S → ℕ → Entry → Result Inserted Fault → StoreAndSlots S → StoreAndSlots S → Type 0
+InsertGoes g session entry (Ok inserted) old new =
+    CallGoes g session (InsertTold session entry (Ok inserted)) (Some (Added inserted.action inserted.unfinished)) old new ⊎ IsCutShort g session entry inserted old new
+InsertGoes g session entry (Err fault) old new = CallGoes g session (InsertTold session entry (Err fault)) (Some (Refused fault)) old new
