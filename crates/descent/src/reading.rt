@@ -14,14 +14,12 @@ use latch_table::Mode;
 use page_action::PageStore;
 use page_codec::Page;
 
-/// Reads a page under a shared latch, which is let go again. Refused with `Stopped`, `Blocked`, and with the faults
-/// of [`PageStore::page`].
-pub fn look<S: PageStore>(store: &mut S, session: Session, block: u32) -> Result<Page, Fault>
+/// Brings a page into memory under a shared latch, which is let go again: [`PageStore::view`] shows it. Refused with
+/// `Stopped`, `Blocked`, and with the faults of [`PageStore::fetch`].
+pub fn look<S: PageStore>(store: &mut S, session: Session, block: u32) -> Result<(), Fault>
     ensures steps { Continues S.follows store.old store.new }
     ensures state { S.state store.new ≡ S.state store.old }
-    ensures page { (S.backing store.new).honest ≡ true
-        → IfOk result (λ p. slice_get (S.state store.old).pages block ≡ Some p) }
-    ensures stored { IfOk result (IsStored (S.state store.old).limits block) }
+    ensures has { OnOk result (S.has store.new block) }
     ensures used { OnOk result (block < length (S.state store.old).pages) }
     ensures inside { OnOk result (length (S.state store.old).pages ≤
         (S.state store.old).limits.pages) }
@@ -40,7 +38,7 @@ pub fn look<S: PageStore>(store: &mut S, session: Session, block: u32) -> Result
         return Err(Fault::Stopped);
     }
     ask_for(store, session, block, Mode::Shared)?;
-    store.page(block)
+    store.fetch(block)
 }
 
 /// Tests that no other session's hold on the page conflicts. Nothing is kept: a step is one moment, so what it latches for

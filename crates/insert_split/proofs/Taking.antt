@@ -12,6 +12,7 @@ use Rattle.page_codec.specs.declared.page.PageState.TheVariants.{Live}
 use Rattle.page_action.specs.States.{State, Continues, with_table}
 use Rattle.page_action.specs.declared.page_store.PageStore.{Ghosts}
 use Rattle.tree_shape.specs.Walks.{entry_aim, is_within}
+use Rattle.tree_shape.specs.Leaf.{MayHold}
 use Rattle.tree_acts.specs.Trees.{HasPlace}
 use Rattle.tree_acts.proofs.Telling.{live_tells}
 use Rattle.descent.specs.Shared.{IsInOrder, Does}
@@ -65,7 +66,7 @@ true_false h = cc
 pub takes : {S : Type 0} (g : Ghosts S) (before after : InsertOp) (old mid new : S) (page : Page) (way : Way) (result : Result InsertStep Fault)
     → Continues g.follows old new → g.state mid ≡ g.state old → g.backing new ≡ g.backing mid
     → (g.backing old).stopped ≡ false → before.at ≡ At way
-    → (InsertFits (g.state old) before → Takes page before after (g.state mid) (g.state new) result)
+    → (InsertFits (g.state old) before → Takes page.block before after (g.state mid) (g.state new) result)
     → (result ≡ Ok Going → (g.state new ≡ with_table (g.state mid) (pinned (latched (g.state mid).table before.session page.block Exclusive) before.session page.block)) × (after ≡ record before { at = Holds page.block }))
     → ((fault : Fault) → result ≡ Err fault → (g.state new ≡ g.state mid) × (after ≡ before))
     → ((action : ℕ) (unfinished : Option Fault) → result ≡ Ok (Added action unfinished) → ⊥)
@@ -152,24 +153,29 @@ takes g before after old mid new page way (Err fault) steps same backing alive a
     st : State
     st = g.state old
 
-    why : (g.backing new).honest ≡ true → (order : IsInOrder st) → (fits : InsertFits st before) → IsNotTaken page before (g.state mid) fault
+    why : (g.backing new).honest ≡ true → (order : IsInOrder st) → (fits : InsertFits st before) → IsNotTaken page.block before (g.state mid) fault
         → HasCause (where_inserting st (g.backing old) (g.backing new) before.session before.entry before.at) fault
-    why honest order fits (inl damaged) =
-        let stands = on_way st before way at_is fits in
-        let used = place_in_use st order.tree fits.start way.level (entry_aim before.entry) true way.block stands.1.place in
-        let place : HasPlace st fits.start 0 (entry_aim before.entry) true page.block =
-        subst (λ (l : ℕ). HasPlace st fits.start l (entry_aim before.entry) true page.block) (ground honest order fits)
-        (subst (HasPlace st fits.start way.level (entry_aim before.entry) true) (sym block_is) stands.1.place) in
-        let there : slice_get st.pages page.block ≡ Some page = subst (λ (b : ℕ). slice_get st.pages b ≡ Some page) (sym block_is) (found honest) in
-        let arrival = live_tells st fits.start 0 (entry_aim before.entry) true page order.tree there place live in
-        absurd (damaged.1 (record {
-          leaf = leaf_items page admitted arrival.level_is (subst (λ (b : ℕ). 0 < b) (sym block_is) used.0);
-          alive = live;
-          whole = whole;
-          within = up_to_within page.high before.entry within;
-        }))
-    why honest order fits (inr held) =
+    why honest order fits held =
         subst (HasCause (where_inserting st (g.backing old) (g.backing new) before.session before.entry before.at)) (sym held.0)
         (reading_cause st (g.backing old) (g.backing new) before way (Blocked page.block) at_is
         (held_cause st (g.backing old) (g.backing new) before.session 0 1 page.block Exclusive (inr refl)
         (subst (λ (s : State). is_held_by_another s.table before.session page.block Exclusive ≡ true) same held.1)))
+
+-- the page that a search ends at may hold the entry
+pub may_be_held : (st : State) (before : InsertOp) (page : Page) (way : Way) → before.at ≡ At way → (order : IsInOrder st) → (fits : InsertFits st before)
+    → page.block ≡ way.block → IsPage page → page.state ≡ Live → page.split ≡ false → is_within (entry_aim before.entry) page.high ≡ true → slice_get st.pages way.block ≡ Some page → way.level ≡ 0
+    → MayHold page before.entry
+may_be_held st before page way at_is order fits block_is admitted live whole within found ground =
+    let stands = on_way st before way at_is fits in
+    let used = place_in_use st order.tree fits.start way.level (entry_aim before.entry) true way.block stands.1.place in
+    let place : HasPlace st fits.start 0 (entry_aim before.entry) true page.block =
+    subst (λ (l : ℕ). HasPlace st fits.start l (entry_aim before.entry) true page.block) ground
+    (subst (HasPlace st fits.start way.level (entry_aim before.entry) true) (sym block_is) stands.1.place) in
+    let there : slice_get st.pages page.block ≡ Some page = subst (λ (b : ℕ). slice_get st.pages b ≡ Some page) (sym block_is) found in
+    let arrival = live_tells st fits.start 0 (entry_aim before.entry) true page order.tree there place live in
+    record {
+      leaf = leaf_items page admitted arrival.level_is (subst (λ (b : ℕ). 0 < b) (sym block_is) used.0);
+      alive = live;
+      whole = whole;
+      within = up_to_within page.high before.entry within;
+    }

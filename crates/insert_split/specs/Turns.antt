@@ -56,25 +56,22 @@ Meets page way before after (Ok (Added action unfinished)) = ⊥
 Meets page way before after (Err fault) = MeetsNone page way before after fault
 
 -- the leaf is taken: latched, and pinned
-pub record TakesLeaf (page : Page) (before after : InsertOp) (old new : State) : Type 0 where
-  pub after_is : after ≡ record before { at = Holds page.block }
-  pub may : MayHold page before.entry
-  pub free : is_held_by_another old.table before.session page.block Exclusive ≡ false
+pub record TakesLeaf (block : ℕ) (before after : InsertOp) (old new : State) : Type 0 where
+  pub after_is : after ≡ record before { at = Holds block }
+  pub free : is_held_by_another old.table before.session block Exclusive ≡ false
   pub state : new ≡ with_table old
-      (pinned (latched old.table before.session page.block Exclusive) before.session page.block)
+      (pinned (latched old.table before.session block Exclusive) before.session block)
 
--- the page isn't the leaf of the entry, or another session holds it
-abbrev pub IsNotTaken : Page → InsertOp → State → Fault → Type 0
-IsNotTaken page before old fault =
-    ((fault ≡ PageDamaged page.block) × (MayHold page before.entry → ⊥))
-    ⊎ ((fault ≡ Blocked page.block)
-    × (is_held_by_another old.table before.session page.block Exclusive ≡ true))
+-- another session holds the leaf
+abbrev pub IsNotTaken : ℕ → InsertOp → State → Fault → Type 0
+IsNotTaken block before old fault = (fault ≡ Blocked block)
+    × (is_held_by_another old.table before.session block Exclusive ≡ true)
 
-abbrev pub Takes : Page → InsertOp → InsertOp → State → State → Result InsertStep Fault → Type 0
-Takes page before after old new (Ok Going) = TakesLeaf page before after old new
-Takes page before after old new (Ok (Added action unfinished)) = ⊥
-Takes page before after old new (Err fault) =
-    (new ≡ old) × (after ≡ before) × IsNotTaken page before old fault
+abbrev pub Takes : ℕ → InsertOp → InsertOp → State → State → Result InsertStep Fault → Type 0
+Takes block before after old new (Ok Going) = TakesLeaf block before after old new
+Takes block before after old new (Ok (Added action unfinished)) = ⊥
+Takes block before after old new (Err fault) =
+    (new ≡ old) × (after ≡ before) × IsNotTaken block before old fault
 
 -- why a page gives no place for an entry
 abbrev pub PlaceRefused : Page → Entry → Fault → Type 0

@@ -110,11 +110,11 @@ impl InsertOp {
         requires alive { (S.backing store.old).stopped ≡ false }
         ensures { InsertSteps S.PageStore self.old self.new store.old store.new result }
     {
-        let meta = match look(store, self.session, 0) {
-            Ok(meta) => meta,
+        match look(store, self.session, 0) {
+            Ok(()) => {}
             Err(fault) => return Err(fault),
-        };
-        let Some(way) = way_down(&meta) else {
+        }
+        let Some(way) = way_down(store.view(0)) else {
             return Err(Fault::PageDamaged(0));
         };
         self.at = InsertAt::At(way);
@@ -127,20 +127,26 @@ impl InsertOp {
         requires alive { (S.backing store.old).stopped ≡ false }
         ensures { InsertSteps S.PageStore self.old self.new store.old store.new result }
     {
-        let page = match look(store, self.session, way.block) {
-            Ok(page) => page,
+        match look(store, self.session, way.block) {
+            Ok(()) => {}
             Err(fault) => return Err(fault),
-        };
-        if is_unfinished(&page) {
-            return self.meet(&page, way);
+        }
+        let page = store.view(way.block);
+        if is_unfinished(page) {
+            return self.meet(page, way);
         }
         let aim = Aim::Below(self.entry.bound());
-        match lead(&page, &way, &aim, 0, store.limits().pages) {
+        match lead(page, &way, &aim, 0, store.limits().pages) {
             Some(Onward::Going(on)) => {
                 self.at = InsertAt::At(on);
                 Ok(InsertStep::Going)
             }
-            Some(Onward::Here) => self.take(store, &page),
+            Some(Onward::Here) => {
+                if !may_hold(page, &self.entry) {
+                    return Err(Fault::PageDamaged(way.block));
+                }
+                self.take(store, way.block)
+            }
             None => Err(Fault::PageDamaged(way.block)),
         }
     }
@@ -159,26 +165,23 @@ impl InsertOp {
     }
 
     // Latches its leaf exclusively, and pins it.
-    fn take<S: PageStore>(&mut self, store: &mut S, page: &Page) -> Result<InsertStep, Fault>
+    fn take<S: PageStore>(&mut self, store: &mut S, block: u32) -> Result<InsertStep, Fault>
         ensures steps { Continues S.follows store.old store.new }
         ensures backing { S.backing store.new ≡ S.backing store.old }
         ensures takes { HasRoom (S.state store.old).table self.old.session
-            → Takes page.now self.old self.new (S.state store.old) (S.state store.new) result }
+            → Takes block self.old self.new (S.state store.old) (S.state store.new) result }
         ensures going { IfOk result (λ step. step ≡ InsertStep.Going) }
         ensures taken { OnOk result ((S.state store.new ≡ with_table (S.state store.old)
-            (pinned (latched (S.state store.old).table self.old.session page.now.block Mode.Exclusive)
-            self.old.session page.now.block))
-            × (self.new ≡ record self.old { at = InsertAt.Holding page.now.block })) }
+            (pinned (latched (S.state store.old).table self.old.session block Mode.Exclusive)
+            self.old.session block))
+            × (self.new ≡ record self.old { at = InsertAt.Holding block })) }
         ensures state { OnErr result (S.state store.new ≡ S.state store.old) }
         ensures op { OnErr result (self.new ≡ self.old) }
     {
-        if !may_hold(page, &self.entry) {
-            return Err(Fault::PageDamaged(page.block));
-        }
-        match store.latch(self.session, page.block, Mode::Exclusive) {
+        match store.latch(self.session, block, Mode::Exclusive) {
             Ok(()) => {
-                store.pin(self.session, page.block);
-                self.at = InsertAt::Holding(page.block);
+                store.pin(self.session, block);
+                self.at = InsertAt::Holding(block);
                 Ok(InsertStep::Going)
             }
             Err(fault) => Err(fault),

@@ -85,6 +85,7 @@ impl MapStore {
 }
 
 impl PageStore for MapStore {
+    ghost use Rattle.std.specs.Prelude.{◌<◌};
     ghost use Rattle.page_action.specs.States.{IsLater};
     ghost use Rattle.page_action.specs.MapStore.{map_state, map_backing, map_laws};
 
@@ -102,14 +103,19 @@ impl PageStore for MapStore {
 
     ghost restarts = { λ s image pages. ⊥ };
 
+    ghost has = { λ s block. block < length s.pages.items };
+
     ghost laws = { map_laws };
 
-    fn page(&mut self, block: u32) -> Result<Page, Fault> {
-        let at = block as usize;
-        if at >= self.pages.len() {
+    fn fetch(&mut self, block: u32) -> Result<(), Fault> {
+        if block as usize >= self.pages.len() {
             return Err(Fault::PageDamaged(block));
         }
-        Ok(self.pages[at].copy())
+        Ok(())
+    }
+
+    fn view(&self, block: u32) -> &Page {
+        &self.pages[block as usize]
     }
 
     fn act(&mut self, pages: &[Page]) -> Result<u64, Fault> {

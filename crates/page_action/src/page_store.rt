@@ -43,8 +43,33 @@ pub trait PageStore {
     /// These bytes restart to these pages.
     ghost restarts: { Self → List ℕ → List Page → Type 0 };
 
-    /// A copy of the page of this block, as it was acted last. Refused with `Io`, `Stopped`, `NoFrame`, and with
-    /// `PageDamaged` for a block that is not in use yet, or whose page is not one of the format.
+    /// The page of this block can be looked at: it is in memory.
+    ghost has: { Self → ℕ → Type 0 };
+
+    /// Brings the page of this block into memory, as it was acted last, so that [`PageStore::view`] shows it until the next
+    /// call that changes the store. Refused with `Io`, `Stopped`, `NoFrame`, and with `PageDamaged` for a block that is not in
+    /// use yet, or whose page is not one of the format.
+    fn fetch(&mut self, block: u32) -> Result<(), Fault>
+        ensures steps { Continues follows self.old self.new }
+        ensures state { state self.new ≡ state self.old }
+        ensures has { OnOk result (has self.new block) }
+        ensures used { OnOk result (block < length (state self.old).pages) }
+        ensures inside { OnOk result
+            (length (state self.old).pages ≤ (state self.old).limits.pages) }
+        ensures alive { OnOk result
+            ((backing self.new).stopped ≡ true → (backing self.old).stopped ≡ true) }
+        ensures room { KeepsRoom (state self.old) (backing self.old) (backing self.new) }
+        ensures cause { IfErr result
+            (HasCause (where_read (state self.old) (backing self.old) (backing self.new) block)) };
+
+    /// The page of this block, where it stands.
+    fn view(&self, block: u32) -> &Page
+        requires has { has self.now block }
+        ensures page { (backing self.now).honest ≡ true
+            → slice_get (state self.now).pages block ≡ Some result.now }
+        ensures stored { IsStored (state self.now).limits block result.now };
+
+    /// A copy of the page of this block, as it was acted last. Refused as [`PageStore::fetch`].
     fn page(&mut self, block: u32) -> Result<Page, Fault>
         ensures steps { Continues follows self.old self.new }
         ensures state { state self.new ≡ state self.old }
@@ -58,7 +83,13 @@ pub trait PageStore {
             ((backing self.new).stopped ≡ true → (backing self.old).stopped ≡ true) }
         ensures room { KeepsRoom (state self.old) (backing self.old) (backing self.new) }
         ensures cause { IfErr result
-            (HasCause (where_read (state self.old) (backing self.old) (backing self.new) block)) };
+            (HasCause (where_read (state self.old) (backing self.old) (backing self.new) block)) }
+    {
+        match self.fetch(block) {
+            Ok(()) => Ok(self.view(block).copy()),
+            Err(fault) => Err(fault),
+        }
+    }
 
     /// Changes one to four pages at once, or none, and answers the number of the act, counted from 1 since opening.
     /// Refused with `Io`, `Stopped`, `LogFull`, `NoFrame`.

@@ -90,6 +90,7 @@ impl<D: Device> Store<D> {
 }
 
 impl<D: Device> PageStore for Store<D> {
+    ghost use Rattle.std.specs.Prelude.{◌<◌};
     ghost use Rattle.page_store.specs.Logged.{backing_of};
     ghost use Rattle.page_store.specs.Stores.{state_of, held_by, IsOwnStore};
     ghost use Rattle.page_store.specs.StoreLaws.{follows_by, past_of, leaves_by, restarts_by, store_laws};
@@ -108,14 +109,19 @@ impl<D: Device> PageStore for Store<D> {
 
     ghost restarts = { restarts_by D.Device };
 
+    ghost has = { λ s block. block < length s.held.pages.items };
+
     ghost laws = { store_laws _ };
 
-    fn page(&mut self, block: u32) -> Result<Page, Fault> {
-        let at = block as usize;
-        if at >= self.held.pages.len() {
+    fn fetch(&mut self, block: u32) -> Result<(), Fault> {
+        if block as usize >= self.held.pages.len() {
             return Err(Fault::PageDamaged(block));
         }
-        Ok(self.held.pages[at].copy())
+        Ok(())
+    }
+
+    fn view(&self, block: u32) -> &Page {
+        &self.held.pages[block as usize]
     }
 
     fn act(&mut self, pages: &[Page]) -> Result<u64, Fault> {

@@ -118,8 +118,8 @@ impl ScanOp {
         requires none { waiting self.old ≡ [] }
         ensures { ScanSteps S.PageStore self.old self.new store.old store.new result }
     {
-        let page = look(store, self.session, 0)?;
-        let Some(way) = way_down(&page) else {
+        look(store, self.session, 0)?;
+        let Some(way) = way_down(store.view(0)) else {
             return Err(Fault::PageDamaged(0));
         };
         self.go_on(store, way);
@@ -132,9 +132,10 @@ impl ScanOp {
         requires none { waiting self.old ≡ [] }
         ensures { ScanSteps S.PageStore self.old self.new store.old store.new result }
     {
-        let page = look(store, self.session, way.block)?;
+        look(store, self.session, way.block)?;
+        let page = store.view(way.block);
         let most = store.limits().pages;
-        match lead(&page, &way, &Aim::UpTo(self.frontier), 0, most) {
+        match lead(page, &way, &Aim::UpTo(self.frontier), 0, most) {
             None => Err(Fault::PageDamaged(way.block)),
             Some(Onward::Going(on)) => {
                 self.go_on(store, on);
@@ -144,8 +145,8 @@ impl ScanOp {
                 let Items::Entries(entries) = &page.items else {
                     return Err(Fault::PageDamaged(way.block));
                 };
+                self.take(page, entries.as_slice());
                 self.stand_on(store, way.block);
-                self.take(&page, entries.as_slice());
                 Ok(ScanStep::Ready(self.ready()))
             }
         }

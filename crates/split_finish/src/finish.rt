@@ -101,8 +101,8 @@ impl FinishOp {
         requires { self.old.at ≡ FinishAt.Start }
         ensures { FinishSteps S.PageStore self.old self.new store.old store.new result }
     {
-        let meta = look(store, self.session, 0)?;
-        self.leave_metapage(&meta)
+        look(store, self.session, 0)?;
+        self.leave_metapage(store.view(0))
     }
 
     fn read_page<S: PageStore>(&mut self, store: &mut S, way: Way) -> Result<FinishStep, Fault>
@@ -110,9 +110,9 @@ impl FinishOp {
         ensures { FinishSteps S.PageStore self.old self.new store.old store.new result }
     {
         match look(store, self.session, way.block) {
-            Ok(page) => {
+            Ok(()) => {
                 let most = store.limits().pages;
-                self.leave_page(&page, way, most)
+                self.leave_page(store.view(way.block), way, most)
             }
             Err(fault) => Err(fault),
         }

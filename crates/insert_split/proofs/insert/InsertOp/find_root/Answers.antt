@@ -1,5 +1,7 @@
-use Rattle.std.proofs.Common.{arith, ◌≡◌, ℕ, suc, ◌≤◌, ◌+◌, true, refl, sym, subst, ◌∙◌}
+use Rattle.std.proofs.Common.{arith, ◌≡◌, ℕ, suc, ◌≤◌, ◌+◌, Some, true, slice_get, refl, sym, subst, ◌∙◌}
+use Rattle.page_codec.specs.declared.page.Page.{Page}
 use Rattle.page_action.specs.States.{State}
+use Rattle.page_action.specs.Stored.{IsStored}
 use Rattle.tree_shape.specs.Walks.{entry_aim}
 use Rattle.split_finish.specs.Targets.{OnlyTargetsAreFlagged}
 use Rattle.split_finish.proofs.Counting.{walk_is_long}
@@ -13,8 +15,12 @@ use Rattle.insert_split.proofs.insert.InsertOp.find_root.Goals as goal
 pub returns : goal.returns
 returns g c =
     let old : State = g.S.PageStore.state c.args.store.now in
+    let meta : Page = c.view.result.now in
+    let stored : IsStored old.limits 0 meta = subst (λ (st : State). IsStored st.limits 0 meta) c.look.ensures.state c.view.ensures.stored in
+    let found : (g.S.PageStore.backing c.look.new.store).honest ≡ true → slice_get old.pages 0 ≡ Some meta =
+    λ honest. subst (λ (st : State). slice_get st.pages 0 ≡ Some meta) c.look.ensures.state (c.view.ensures.page honest) in
     let most : ℕ = old.limits.pages in
-    let low : c.in-Some.way.level ≤ 255 = (let l = level_low c.in-Ok.meta c.in-Ok.ensures.stored.storable.admitted in let e = c.in-Some.ensures.level in omega arith) in
+    let low : c.in-Some.way.level ≤ 255 = (let l = level_low meta stored.storable.admitted in let e = c.in-Some.ensures.level in omega arith) in
     let shorter = walk_is_long most c.in-Some.way low in
     goes_on g.S.PageStore c.args.self.now _ c.args.store.now c.look.new.store c.look.ensures.steps c.look.ensures.state refl refl c.requires.alive
     (λ honest. rw c.requires.at (omega (arith, shorter)))
@@ -28,7 +34,7 @@ returns g c =
         running = fits.running;
         stands = (
           free,
-          on_way_from_root old fits.start (entry_aim c.args.self.now.entry) true 0 c.in-Ok.meta c.in-Some.way order.tree (c.in-Ok.ensures.page honest) (omega arith)
+          on_way_from_root old fits.start (entry_aim c.args.self.now.entry) true 0 meta c.in-Some.way order.tree (found honest) (omega arith)
               (λ root names. sym c.in-Some.is ∙ c.way_down.ensures.named root names),
         );
         to_come = subst (λ (a : InsertAt). IsToCome a c.args.self.now.added) c.requires.at fits.to_come;
@@ -37,7 +43,7 @@ returns g c =
       flags = λ only. subst (λ (a : InsertAt). OnlyTargetsAreFlagged old (targets_at a)) c.requires.at only;
     })
     (λ honest order whole on.
-    let there = root_covers_there old (entry_aim c.args.self.now.entry) c.in-Ok.meta c.in-Some.way order.tree whole (c.in-Ok.ensures.page honest) (λ root names. sym c.in-Some.is ∙ c.way_down.ensures.named root names) in (
+    let there = root_covers_there old (entry_aim c.args.self.now.entry) meta c.in-Some.way order.tree whole (found honest) (λ root names. sym c.in-Some.is ∙ c.way_down.ensures.named root names) in (
       there.0,
       subst (λ (a : InsertAt). suc (c.in-Some.way.level + 2) ≡ straight_steps old.pages a) (sym c.requires.at) (let z = there.1 in omega (arith, z)),
     ))

@@ -1,11 +1,15 @@
-use Rattle.std.proofs.Common.{arith, ◌≡◌, ℕ, suc, ◌+◌, ◌≤◌, ◌<◌, Some, Ok, true, refl, sym, ap, subst, ◌∙◌, length}
-use Rattle.page_action.specs.States.{State, IsLater}
+use Rattle.std.proofs.Common.{arith, ◌≡◌, ℕ, suc, ◌+◌, ◌≤◌, ◌<◌, Some, Ok, true, false, refl, sym, ap, subst, ◌∙◌, length, slice_get}
+use Rattle.page_action.specs.States.{State, IsLater, with_table}
+use Rattle.page_action.specs.Stored.{IsStored}
 use Rattle.descent.specs.Onward.{LeadsOnward, LeavesLess}
 use Rattle.tree_shape.specs.Walks.{entry_aim, bound_aim, is_within}
 use Rattle.index_model.specs.declared.bound.Bound.{Bound}
 use Rattle.index_model.specs.declared.limits.Limits.{Limits}
-use Rattle.latch_table.specs.Holdings.{HasRoom}
+use Rattle.latch_table.specs.Holdings.{HasRoom, latched, pinned}
+use Rattle.latch_table.specs.declared.mode.Mode.TheVariants.{Exclusive}
+use Rattle.insert_split.specs.Turns.{Takes}
 use Rattle.descent.specs.Onward.{IsShorter, LeadsStraight}
+use Rattle.tree_shape.specs.Leaf.{MayHold}
 use Rattle.tree_acts.specs.Trees.{HasCover}
 use Rattle.insert_split.specs.Straight.{IsStraight, straight_steps}
 use Rattle.descent.specs.declared.way.Way.{Way}
@@ -15,13 +19,23 @@ use Rattle.insert_split.specs.declared.insert.InsertOp.{InsertOp}
 use Rattle.insert_split.specs.declared.insert.InsertStep.TheVariants.{Going as InsertGoing}
 use Rattle.insert_split.specs.Inserts.{InsertSteps, insert_left, targets_at}
 use Rattle.insert_split.specs.declared.insert.InsertAt.{InsertAt}
-use Rattle.insert_split.specs.declared.insert.InsertAt.TheVariants.{At}
+use Rattle.insert_split.specs.declared.insert.InsertAt.TheVariants.{At, Holding as Holds}
 use Rattle.insert_split.proofs.Left.{way_shortens}
 use Rattle.insert_split.proofs.Steps.{refuses, goes_on, on_ok, on_err, only_going}
 use Rattle.insert_split.proofs.Walking.{led, on_way, to_come_there, reading_cause, room_free, place_in_use}
 use Rattle.insert_split.proofs.Meeting.{meets}
-use Rattle.insert_split.proofs.Taking.{takes}
+use Rattle.insert_split.proofs.Taking.{takes, may_be_held}
+use Rattle.insert_split.proofs.insert.InsertOp.walk.Given.{Over}
+use Rattle.insert_split.proofs.insert.InsertOp.walk.Goals.{After-view-page}
 use Rattle.insert_split.proofs.insert.InsertOp.walk.Goals as goal
+
+-- the page that was read is stored
+stored : (g : Over) (c : After-view-page g) → IsStored (g.S.PageStore.state c.args.store.now).limits c.args.way.block c.view-page.result.now
+stored g c = subst (λ (st : State). IsStored st.limits c.args.way.block c.view-page.result.now) c.look.ensures.state c.view-page.ensures.stored
+
+-- ... and the one in use, where the device kept its model
+found : (g : Over) (c : After-view-page g) → (g.S.PageStore.backing c.look.new.store).honest ≡ true → slice_get (g.S.PageStore.state c.args.store.now).pages c.args.way.block ≡ Some c.view-page.result.now
+found g c honest = subst (λ (st : State). slice_get st.pages c.args.way.block ≡ Some c.view-page.result.now) c.look.ensures.state (c.view-page.ensures.page honest)
 
 pub returns-in-Err : goal.returns-in-Err
 returns-in-Err g c =
@@ -35,8 +49,8 @@ returns-in-Err g c =
 
 pub returns-then-is_unfinished : goal.returns-then-is_unfinished
 returns-then-is_unfinished g c =
-    meets g.S.PageStore c.args.self.now c.meet.new.self c.args.store.now c.look.new.store c.in-Ok.page c.args.way c.meet.result c.look.ensures.steps c.look.ensures.state c.requires.alive c.requires.at
-    c.meet.ensures (c.if-is_unfinished.ensures.live refl) (c.if-is_unfinished.ensures.flagged refl) c.in-Ok.ensures.stored.storable.admitted c.in-Ok.ensures.stored.block_is c.in-Ok.ensures.page
+    meets g.S.PageStore c.args.self.now c.meet.new.self c.args.store.now c.look.new.store c.view-page.result.now c.args.way c.meet.result c.look.ensures.steps c.look.ensures.state c.requires.alive c.requires.at
+    c.meet.ensures (c.if-is_unfinished.ensures.live refl) (c.if-is_unfinished.ensures.flagged refl) (stored g (goal.at.returns-then-is_unfinished g c).After-view-page).storable.admitted (stored g (goal.at.returns-then-is_unfinished g c).After-view-page).block_is (found g (goal.at.returns-then-is_unfinished g c).After-view-page)
 
 pub returns-in-Some-Going : goal.returns-in-Some-Going
 returns-in-Some-Going g c =
@@ -51,7 +65,7 @@ returns-in-Some-Going g c =
     (goes_on g.S.PageStore op (record { session = op.session; entry = op.entry; at = At on; added = op.added }) c.args.store.now c.look.new.store c.look.ensures.steps c.look.ensures.state refl refl c.requires.alive
     (λ honest. subst (λ (a : InsertAt). insert_left st.limits.pages st.pages (At on) < insert_left st.limits.pages st.pages a) (sym c.requires.at) (omega (arith, less)))
     (λ honest order fits.
-    let led_on = led st op c.args.way c.in-Ok.page c.bound.result c.limits.result.pages c.lead.result c.requires.at order fits (c.in-Ok.ensures.page honest) c.in-Ok.ensures.stored.storable.admitted
+    let led_on = led st op c.args.way c.view-page.result.now c.bound.result c.limits.result.pages c.lead.result c.requires.at order fits (found g (goal.at.returns-in-Some-Going g c).After-view-page honest) (stored g (goal.at.returns-in-Some-Going g c).After-view-page).storable.admitted
     (c.if-is_unfinished.ensures.whole refl) c.bound.ensures (subst (λ (n : ℕ). length st.pages ≤ n) (sym most) c.in-Ok.ensures.inside) c.lead.ensures.goes in
     let stands = on_way st op c.args.way c.requires.at fits in
     record {
@@ -69,32 +83,53 @@ returns-in-Some-Going g c =
     let covers : HasCover st c.args.way.level (bound_aim c.bound.result) c.args.way.block =
     subst (λ (b : Bound). HasCover st c.args.way.level (bound_aim b) c.args.way.block) (sym c.bound.ensures) (subst (IsStraight st op.entry) c.requires.at on_way_there) in
     let led_straight : LeadsStraight st (bound_aim c.bound.result) 0 c.args.way (Some (Going on)) =
-    subst (LeadsStraight st (bound_aim c.bound.result) 0 c.args.way) result (c.lead.ensures.straight st order.tree whole (c.in-Ok.ensures.page honest) covers) in (
+    subst (LeadsStraight st (bound_aim c.bound.result) 0 c.args.way) result (c.lead.ensures.straight st order.tree whole (found g (goal.at.returns-in-Some-Going g c).After-view-page honest) covers) in (
       subst (λ (b : Bound). HasCover st on.level (bound_aim b) on.block) c.bound.ensures led_straight.1,
       subst (λ (a : InsertAt). suc (on.level + 2) ≡ straight_steps st.pages a) (sym c.requires.at) (let z = led_straight.0 in omega (arith, z)),
     )))
 
-pub returns-in-Some-Here : goal.returns-in-Some-Here
-returns-in-Some-Here g c =
+pub returns-else-not-may_hold : goal.returns-else-not-may_hold
+returns-else-not-may_hold g c =
     let st : State = g.S.PageStore.state c.args.store.now in
     let op : InsertOp = c.args.self.now in
     let result : c.lead.result ≡ Some Here = c.in-Some-Here.is ∙ ap Some c.in-Some-Here.field-0-is in
     let arrived = c.lead.ensures.here result in
     let most : c.limits.result.pages ≡ st.limits.pages = ap (λ (l : Limits). l.pages) (c.limits.ensures.value ∙ ap (λ (s : State). s.limits) c.look.ensures.state) in
     let later : IsLater (g.S.PageStore.backing c.look.new.store) (g.S.PageStore.backing c.take.new.store) = g.met.S.PageStore.laws.follows_later _ _ (c.take.ensures.steps _ (g.met.S.PageStore.laws.follows_same _)) in
-    takes g.S.PageStore op c.take.new.self c.args.store.now c.look.new.store c.take.new.store c.in-Ok.page c.args.way c.take.result
+    let block_is : c.view-page.result.now.block ≡ c.args.way.block = (stored g (goal.at.returns-else-not-may_hold g c).After-view-page).block_is in
+    takes g.S.PageStore op c.take.new.self c.args.store.now c.look.new.store c.take.new.store c.view-page.result.now c.args.way c.take.result
     (λ first h. c.take.ensures.steps first (c.look.ensures.steps first h)) c.look.ensures.state c.take.ensures.backing c.requires.alive c.requires.at
-    (λ fits. c.take.ensures.takes (subst (λ (s : State). HasRoom s.table op.session) (sym c.look.ensures.state) (room_free st op.session (on_way st op c.args.way c.requires.at fits).0)))
-    (λ going. on_ok c.take.result InsertGoing _ c.take.ensures.taken going)
+    (λ fits. subst (λ (b : ℕ). Takes b op c.take.new.self (g.S.PageStore.state c.look.new.store) (g.S.PageStore.state c.take.new.store) c.take.result) (sym block_is)
+    (c.take.ensures.takes (subst (λ (s : State). HasRoom s.table op.session) (sym c.look.ensures.state) (room_free st op.session (on_way st op c.args.way c.requires.at fits).0))))
+    (λ going. subst (λ (b : ℕ). (g.S.PageStore.state c.take.new.store ≡ with_table (g.S.PageStore.state c.look.new.store) (pinned (latched (g.S.PageStore.state c.look.new.store).table op.session b Exclusive) op.session b))
+    × (c.take.new.self ≡ record { session = op.session; entry = op.entry; at = Holds b; added = op.added })) (sym block_is) (on_ok c.take.result InsertGoing _ c.take.ensures.taken going))
     (λ fault failed. (on_err c.take.result fault _ c.take.ensures.state failed, on_err c.take.result fault _ c.take.ensures.op failed))
     (λ action unfinished added. only_going c.take.result action unfinished c.take.ensures.going added)
-    c.in-Ok.ensures.stored.block_is c.in-Ok.ensures.stored.storable.admitted arrived.alive (c.if-is_unfinished.ensures.whole refl arrived.alive)
-    (subst (λ (b : Bound). is_within (bound_aim b) c.in-Ok.page.high ≡ true) c.bound.ensures arrived.within)
-    (λ honest. c.in-Ok.ensures.page (later.honest honest))
+    (stored g (goal.at.returns-else-not-may_hold g c).After-view-page).block_is (stored g (goal.at.returns-else-not-may_hold g c).After-view-page).storable.admitted arrived.alive (c.if-is_unfinished.ensures.whole refl arrived.alive)
+    (subst (λ (b : Bound). is_within (bound_aim b) c.view-page.result.now.high ≡ true) c.bound.ensures arrived.within)
+    (λ honest. found g (goal.at.returns-else-not-may_hold g c).After-view-page (later.honest honest))
     (λ honest order fits.
-    let led_on = led st op c.args.way c.in-Ok.page c.bound.result c.limits.result.pages c.lead.result c.requires.at order fits (c.in-Ok.ensures.page (later.honest honest)) c.in-Ok.ensures.stored.storable.admitted
+    let led_on = led st op c.args.way c.view-page.result.now c.bound.result c.limits.result.pages c.lead.result c.requires.at order fits (found g (goal.at.returns-else-not-may_hold g c).After-view-page (later.honest honest)) (stored g (goal.at.returns-else-not-may_hold g c).After-view-page).storable.admitted
     (c.if-is_unfinished.ensures.whole refl) c.bound.ensures (subst (λ (n : ℕ). length st.pages ≤ n) (sym most) c.in-Ok.ensures.inside) c.lead.ensures.goes in
     (subst (LeadsOnward st fits.start (entry_aim op.entry) true 0 c.args.way) result led_on).0)
+
+pub returns-then-not-may_hold : goal.returns-then-not-may_hold
+returns-then-not-may_hold g c =
+    let st : State = g.S.PageStore.state c.args.store.now in
+    let op : InsertOp = c.args.self.now in
+    let result : c.lead.result ≡ Some Here = c.in-Some-Here.is ∙ ap Some c.in-Some-Here.field-0-is in
+    let arrived = c.lead.ensures.here result in
+    let most : c.limits.result.pages ≡ st.limits.pages = ap (λ (l : Limits). l.pages) (c.limits.ensures.value ∙ ap (λ (s : State). s.limits) c.look.ensures.state) in
+    refuses g.S.PageStore op c.args.store.now c.look.new.store _ c.look.ensures.steps c.look.ensures.state c.requires.alive
+    (λ honest order fits.
+    let there = found g (goal.at.returns-then-not-may_hold g c).After-view-page honest in
+    let admitted = (stored g (goal.at.returns-then-not-may_hold g c).After-view-page).storable.admitted in
+    let led_on = led st op c.args.way c.view-page.result.now c.bound.result c.limits.result.pages c.lead.result c.requires.at order fits there admitted
+    (c.if-is_unfinished.ensures.whole refl) c.bound.ensures (subst (λ (n : ℕ). length st.pages ≤ n) (sym most) c.in-Ok.ensures.inside) c.lead.ensures.goes in
+    let may : MayHold c.view-page.result.now op.entry = may_be_held st op c.view-page.result.now c.args.way c.requires.at order fits (stored g (goal.at.returns-then-not-may_hold g c).After-view-page).block_is admitted arrived.alive (c.if-is_unfinished.ensures.whole refl arrived.alive)
+    (subst (λ (b : Bound). is_within (bound_aim b) c.view-page.result.now.high ≡ true) c.bound.ensures arrived.within) there
+    (subst (LeadsOnward st fits.start (entry_aim op.entry) true 0 c.args.way) result led_on).0 in
+    let k : false ≡ true = c.if-not-may_hold.ensures.1 may in absurd cc)
 
 pub returns-in-None : goal.returns-in-None
 returns-in-None g c =
@@ -103,6 +138,6 @@ returns-in-None g c =
     let most : c.limits.result.pages ≡ st.limits.pages = ap (λ (l : Limits). l.pages) (c.limits.ensures.value ∙ ap (λ (s : State). s.limits) c.look.ensures.state) in
     refuses g.S.PageStore op c.args.store.now c.look.new.store _ c.look.ensures.steps c.look.ensures.state c.requires.alive
     (λ honest order fits.
-    let led_on = led st op c.args.way c.in-Ok.page c.bound.result c.limits.result.pages c.lead.result c.requires.at order fits (c.in-Ok.ensures.page honest) c.in-Ok.ensures.stored.storable.admitted
+    let led_on = led st op c.args.way c.view-page.result.now c.bound.result c.limits.result.pages c.lead.result c.requires.at order fits (found g (goal.at.returns-in-None g c).After-view-page honest) (stored g (goal.at.returns-in-None g c).After-view-page).storable.admitted
     (c.if-is_unfinished.ensures.whole refl) c.bound.ensures (subst (λ (n : ℕ). length st.pages ≤ n) (sym most) c.in-Ok.ensures.inside) c.lead.ensures.goes in
     absurd (subst (LeadsOnward st fits.start (entry_aim op.entry) true 0 c.args.way) c.in-None.is led_on))

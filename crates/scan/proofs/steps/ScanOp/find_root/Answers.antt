@@ -22,7 +22,7 @@ returns g c =
     let new : State = g.S.PageStore.state c.go_on.new.store in
     let before : ScanOp = c.args.self.now in
     let after : ScanOp = c.go_on.new.self in
-    let page : Page = c.in_ok-page.page in
+    let page : Page = c.view.result.now in
     let way : Way = c.in-Some.way in
     let is : new ≡ with_table old (without_leaf old.table before.session before.leaf) =
     c.go_on.ensures.state ∙ ap (λ (st : State). with_table st (without_leaf st.table before.session before.leaf)) c.look.ensures.state in
@@ -43,7 +43,7 @@ returns g c =
       no_more = λ honest. omega arith;
       stepped = λ honest order fits.
           let later : IsLater (g.S.PageStore.backing c.look.new.store) (g.S.PageStore.backing c.go_on.new.store) = g.met.S.PageStore.laws.follows_later _ _ (c.go_on.ensures.steps _ (g.met.S.PageStore.laws.follows_same _)) in
-          let found : slice_get old.pages 0 ≡ Some page = c.in_ok-page.ensures.page (later.honest honest) in
+          let found : slice_get old.pages 0 ≡ Some page = subst (λ (st : State). slice_get st.pages 0 ≡ Some page) c.look.ensures.state (c.view.ensures.page (later.honest honest)) in
           let root = root_way old fits.start (frontier_aim before.frontier) false page order.tree found in
           let named : Some way ≡ Some (way_from root.root page.level) = sym c.in-Some.is ∙ c.way_down.ensures.named root.root root.names in
           let same : way ≡ way_from root.root page.level = cc in
@@ -58,7 +58,7 @@ returns g c =
           };
       straight = λ honest order whole none starts.
           let later : IsLater (g.S.PageStore.backing c.look.new.store) (g.S.PageStore.backing c.go_on.new.store) = g.met.S.PageStore.laws.follows_later _ _ (c.go_on.ensures.steps _ (g.met.S.PageStore.laws.follows_same _)) in
-          let found : slice_get old.pages 0 ≡ Some page = c.in_ok-page.ensures.page (later.honest honest) in
+          let found : slice_get old.pages 0 ≡ Some page = subst (λ (st : State). slice_get st.pages 0 ≡ Some page) c.look.ensures.state (c.view.ensures.page (later.honest honest)) in
           let root = straight_root old (frontier_aim before.frontier) page order.tree whole found in
           let named : Some way ≡ Some (way_from root.root page.level) = sym c.in-Some.is ∙ c.way_down.ensures.named root.root root.names in
           let same : way ≡ way_from root.root page.level = cc in

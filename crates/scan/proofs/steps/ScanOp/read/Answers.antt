@@ -8,6 +8,7 @@ use Rattle.latch_table.specs.Holdings.{pinned}
 use Rattle.page_codec.specs.Edits.{entries_of}
 use Rattle.page_codec.specs.declared.page.Page.{Page}
 use Rattle.page_action.specs.States.{State, IsLater, with_table}
+use Rattle.page_action.specs.Stored.{IsStored}
 use Rattle.tree_shape.specs.Leaf.{IsCopiedFrom}
 use Rattle.tree_shape.specs.Walks.{frontier_aim}
 use Rattle.tree_acts.specs.Trees.{HasPlace, HasCover}
@@ -28,10 +29,20 @@ use Rattle.scan.proofs.Moving.{going_does, going_fits, going_less, reading_does,
 use Rattle.scan.proofs.Refusing.{refuses, scan_led}
 use Rattle.scan.proofs.Resting.{quiet_by, rests}
 use Rattle.scan.proofs.Rooting.{place_in_use}
+use Rattle.scan.proofs.steps.ScanOp.read.Given.{Over}
+use Rattle.scan.proofs.steps.ScanOp.read.Goals.{After-view-page}
 use Rattle.scan.proofs.steps.ScanOp.read.Goals as goal
 
-pub returns-in_err-page : goal.returns-in_err-page
-returns-in_err-page g c = record {
+-- the page that was read is stored
+stored_there : (g : Over) (c : After-view-page g) → IsStored (g.S.PageStore.state c.args.store.now).limits c.args.way.block c.view-page.result.now
+stored_there g c = subst (λ (st : State). IsStored st.limits c.args.way.block c.view-page.result.now) c.look.ensures.state c.view-page.ensures.stored
+
+-- ... and the one in use, where the device kept its model
+found_there : (g : Over) (c : After-view-page g) → (g.S.PageStore.backing c.look.new.store).honest ≡ true → slice_get (g.S.PageStore.state c.args.store.now).pages c.args.way.block ≡ Some c.view-page.result.now
+found_there g c honest = subst (λ (st : State). slice_get st.pages c.args.way.block ≡ Some c.view-page.result.now) c.look.ensures.state (c.view-page.ensures.page honest)
+
+pub returns-in_err-look : goal.returns-in_err-look
+returns-in_err-look g c = record {
   steps = search rules;
   session = refl;
   range = refl;
@@ -60,28 +71,28 @@ returns-in_default g c =
     let old : State = g.S.PageStore.state c.args.store.now in
     let before : ScanOp = c.args.self.now in
     let way : Way = c.args.way in
-    let page : Page = c.in_ok-page.page in
+    let page : Page = c.view-page.result.now in
     refuses g.S.PageStore before c.args.store.now c.look.new.store _ c.look.ensures.steps c.look.ensures.state
-    (λ h. (let k = sym c.in_ok-page.was ∙ c.look.ensures.stopped h in cc))
+    (λ h. (let k = sym c.in_ok-look.was ∙ c.look.ensures.stopped h in cc))
     (λ honest order fits.
-    let found = c.in_ok-page.ensures.page honest in
+    let found = found_there g (goal.at.returns-in_default g c).After-view-page honest in
     let led = scan_led old before way page c.limits-most.result c.lead.result c.requires.at order fits found
-    (c.limits-most.ensures.value ∙ ap (λ (st : State). st.limits) c.look.ensures.state) c.in_ok-page.ensures.inside c.lead.ensures.goes in
+    (c.limits-most.ensures.value ∙ ap (λ (st : State). st.limits) c.look.ensures.state) c.in_ok-look.ensures.inside c.lead.ensures.goes in
     let here = subst (LeadsOnward old fits.start (frontier_aim before.frontier) false 0 way) (c.in-Some-Here.is ∙ ap Some c.in-Some-Here.field-0-is) led in
-    let block_is : page.block ≡ way.block = c.in_ok-page.ensures.stored.block_is in
+    let block_is : page.block ≡ way.block = (stored_there g (goal.at.returns-in_default g c).After-view-page).block_is in
     absurd (other_items page.items c.in_default.not-Entries (leaf_has_entries old (frontier_aim before.frontier) page order.tree
-    (subst (λ (b : ℕ). slice_get old.pages b ≡ Some page) (sym block_is) found) c.in_ok-page.ensures.stored.storable.admitted
+    (subst (λ (b : ℕ). slice_get old.pages b ≡ Some page) (sym block_is) found) (stored_there g (goal.at.returns-in_default g c).After-view-page).storable.admitted
     (subst (HasCover old 0 (frontier_aim before.frontier)) (sym block_is) here.1))))
 
 pub returns-in-None : goal.returns-in-None
 returns-in-None g c =
     let old : State = g.S.PageStore.state c.args.store.now in
     refuses g.S.PageStore c.args.self.now c.args.store.now c.look.new.store _ c.look.ensures.steps c.look.ensures.state
-    (λ h. (let k = sym c.in_ok-page.was ∙ c.look.ensures.stopped h in cc))
+    (λ h. (let k = sym c.in_ok-look.was ∙ c.look.ensures.stopped h in cc))
     (λ honest order fits.
     absurd (subst (LeadsOnward old fits.start (frontier_aim c.args.self.now.frontier) false 0 c.args.way) c.in-None.is
-    (scan_led old c.args.self.now c.args.way c.in_ok-page.page c.limits-most.result c.lead.result c.requires.at order fits (c.in_ok-page.ensures.page honest)
-    (c.limits-most.ensures.value ∙ ap (λ (st : State). st.limits) c.look.ensures.state) c.in_ok-page.ensures.inside c.lead.ensures.goes)))
+    (scan_led old c.args.self.now c.args.way c.view-page.result.now c.limits-most.result c.lead.result c.requires.at order fits (found_there g (goal.at.returns-in-None g c).After-view-page honest)
+    (c.limits-most.ensures.value ∙ ap (λ (st : State). st.limits) c.look.ensures.state) c.in_ok-look.ensures.inside c.lead.ensures.goes)))
 
 pub returns-in-Some-Going : goal.returns-in-Some-Going
 returns-in-Some-Going g c =
@@ -113,8 +124,8 @@ returns-in-Some-Going g c =
       stepped = λ honest order fits.
           let later : IsLater (g.S.PageStore.backing c.look.new.store) (g.S.PageStore.backing c.go_on.new.store) = g.met.S.PageStore.laws.follows_later _ _ (c.go_on.ensures.steps _ (g.met.S.PageStore.laws.follows_same _)) in
           let way : Way = c.args.way in
-          let led = scan_led old before way c.in_ok-page.page c.limits-most.result c.lead.result c.requires.at order fits (c.in_ok-page.ensures.page (later.honest honest))
-          (c.limits-most.ensures.value ∙ ap (λ (st : State). st.limits) c.look.ensures.state) c.in_ok-page.ensures.inside c.lead.ensures.goes in
+          let led = scan_led old before way c.view-page.result.now c.limits-most.result c.lead.result c.requires.at order fits (found_there g (goal.at.returns-in-Some-Going g c).After-view-page (later.honest honest))
+          (c.limits-most.ensures.value ∙ ap (λ (st : State). st.limits) c.look.ensures.state) c.in_ok-look.ensures.inside c.lead.ensures.goes in
           record {
             does = going_does old new before order fits is;
             fits = subst (ScanFits new) (sym c.go_on.ensures.op)
@@ -126,7 +137,7 @@ returns-in-Some-Going g c =
           };
       straight = λ honest order whole none starts.
           let later : IsLater (g.S.PageStore.backing c.look.new.store) (g.S.PageStore.backing c.go_on.new.store) = g.met.S.PageStore.laws.follows_later _ _ (c.go_on.ensures.steps _ (g.met.S.PageStore.laws.follows_same _)) in
-          let found : slice_get old.pages c.args.way.block ≡ Some c.in_ok-page.page = c.in_ok-page.ensures.page (later.honest honest) in
+          let found : slice_get old.pages c.args.way.block ≡ Some c.view-page.result.now = found_there g (goal.at.returns-in-Some-Going g c).After-view-page (later.honest honest) in
           let cover : HasCover old c.args.way.level (frontier_aim before.frontier) c.args.way.block = subst (IsStraight old before.frontier) c.requires.at starts in
           let led : LeadsStraight old (frontier_aim before.frontier) 0 c.args.way (Some (Going on)) =
           subst (LeadsStraight old (frontier_aim before.frontier) 0 c.args.way) answer (c.lead.ensures.straight old order.tree whole found cover) in
@@ -139,20 +150,22 @@ returns-in-Entries g c =
     let old : State = g.S.PageStore.state c.args.store.now in
     let new : State = g.S.PageStore.state c.stand_on.new.store in
     let before : ScanOp = c.args.self.now in
-    let after : ScanOp = c.take.new.self in
+    let after : ScanOp = c.stand_on.new.self in
     let way : Way = c.args.way in
-    let page : Page = c.in_ok-page.page in
+    let page : Page = c.view-page.result.now in
     let es : List Entry = c.take.new.self.copied.items in
+    let taken : c.take.new.self ≡ behind before page.high page.right es = c.take.ensures.op in
     let is : new ≡ with_table old (pinned (without_leaf old.table before.session before.leaf) before.session way.block) =
-    c.stand_on.ensures.state ∙ ap (λ (st : State). with_table st (pinned (without_leaf st.table before.session before.leaf) before.session way.block)) c.look.ensures.state in
+    subst (λ (op : ScanOp). new ≡ with_table (g.S.PageStore.state c.look.new.store) (pinned (without_leaf (g.S.PageStore.state c.look.new.store).table op.session op.leaf) op.session way.block)) taken c.stand_on.ensures.state
+    ∙ ap (λ (st : State). with_table st (pinned (without_leaf st.table before.session before.leaf) before.session way.block)) c.look.ensures.state in
     let op_is : after ≡ behind (record before { leaf = Some way.block }) page.high page.right es =
-    c.take.ensures.op ∙ ap (λ (op : ScanOp). behind op page.high page.right es) c.stand_on.ensures.op in
+    c.stand_on.ensures.op ∙ ap (λ (op : ScanOp). record op { leaf = Some way.block }) taken in
     let arrived : IsArrived page (frontier_aim before.frontier) = c.lead.ensures.here (c.in-Some-Here.is ∙ ap Some c.in-Some-Here.field-0-is) in
     let many : length es ≤ 50 = c.take.ensures.many in
     let later : IsLater (g.S.PageStore.backing c.look.new.store) (g.S.PageStore.backing c.stand_on.new.store) = g.met.S.PageStore.laws.follows_later _ _ (c.stand_on.ensures.steps _ (g.met.S.PageStore.laws.follows_same _)) in
     let less : (g.S.PageStore.backing c.stand_on.new.store).honest ≡ true → scan_left old.limits.pages old.pages after < scan_left old.limits.pages old.pages before =
     λ honest. subst (λ (op : ScanOp). scan_left old.limits.pages old.pages op < scan_left old.limits.pages old.pages before) (sym op_is)
-    (reading_less old.limits.pages old.pages before (Some way.block) way way.block page es c.requires.at (c.in_ok-page.ensures.page (later.honest honest)) arrived many) in
+    (reading_less old.limits.pages old.pages before (Some way.block) way way.block page es c.requires.at (found_there g (goal.at.returns-in-Entries g c).After-view-page (later.honest honest)) arrived many) in
     record {
       steps = search rules;
       session = ap (λ (op : ScanOp). op.session) op_is;
@@ -166,13 +179,13 @@ returns-in-Entries g c =
       no_more = λ honest. (let l = less honest in omega arith);
       stepped = λ honest order fits.
           let on_way : IsOnWay old fits.start (frontier_aim before.frontier) false 0 way = subst (ScanStands old fits.start before.leaf before.frontier) c.requires.at fits.stands in
-          let found : slice_get old.pages way.block ≡ Some page = c.in_ok-page.ensures.page (later.honest honest) in
+          let found : slice_get old.pages way.block ≡ Some page = found_there g (goal.at.returns-in-Entries g c).After-view-page (later.honest honest) in
           let led = scan_led old before way page c.limits-most.result c.lead.result c.requires.at order fits found
-          (c.limits-most.ensures.value ∙ ap (λ (st : State). st.limits) c.look.ensures.state) c.in_ok-page.ensures.inside c.lead.ensures.goes in
+          (c.limits-most.ensures.value ∙ ap (λ (st : State). st.limits) c.look.ensures.state) c.in_ok-look.ensures.inside c.lead.ensures.goes in
           let here : (way.level ≡ 0) × HasCover old 0 (frontier_aim before.frontier) way.block =
           subst (LeadsOnward old fits.start (frontier_aim before.frontier) false 0 way) (c.in-Some-Here.is ∙ ap Some c.in-Some-Here.field-0-is) led in
-          let admitted = c.in_ok-page.ensures.stored.storable.admitted in
-          let block_is : page.block ≡ way.block = c.in_ok-page.ensures.stored.block_is in
+          let admitted = (stored_there g (goal.at.returns-in-Entries g c).After-view-page).storable.admitted in
+          let block_is : page.block ≡ way.block = (stored_there g (goal.at.returns-in-Entries g c).After-view-page).block_is in
           let there : slice_get old.pages page.block ≡ Some page = subst (λ (b : ℕ). slice_get old.pages b ≡ Some page) (sym block_is) found in
           let cover : HasCover old 0 (frontier_aim before.frontier) page.block = subst (HasCover old 0 (frontier_aim before.frontier)) (sym block_is) here.1 in
           let has = leaf_has_entries old (frontier_aim before.frontier) page order.tree there admitted cover in
@@ -181,9 +194,7 @@ returns-in-Entries g c =
           subst (λ (b : ℕ). HasPlace old fits.start 0 (frontier_aim before.frontier) false b) (sym block_is)
           (subst (λ (k : ℕ). HasPlace old fits.start k (frontier_aim before.frontier) false way.block) here.0 on_way.place) in
           let entries = c.as_slice.ensures.value ∙ ap entries_of (sym c.in-Entries.is) in
-          let copied_by : IsCopiedFrom c.as_slice.result.now before.frontier before.range.below es =
-          subst (λ (op : ScanOp). IsCopiedFrom c.as_slice.result.now op.frontier op.range.below es) c.stand_on.ensures.op
-          (c.take.ensures.copied (subst IsAscending (sym entries) live.entries.ascends)) in
+          let copied_by : IsCopiedFrom c.as_slice.result.now before.frontier before.range.below es = c.take.ensures.copied (subst IsAscending (sym entries) live.entries.ascends) in
           let copied : IsCopiedFrom (entries_of page.items) before.frontier before.range.below es =
           subst (λ (xs : List Entry). IsCopiedFrom xs before.frontier before.range.below es) entries copied_by in
           inr (record {
@@ -198,7 +209,7 @@ returns-in-Entries g c =
             count_is = c.ready.ensures;
           });
       straight = λ honest order whole none starts.
-          let found : slice_get old.pages way.block ≡ Some page = c.in_ok-page.ensures.page (later.honest honest) in
+          let found : slice_get old.pages way.block ≡ Some page = found_there g (goal.at.returns-in-Entries g c).After-view-page (later.honest honest) in
           let cover : HasCover old way.level (frontier_aim before.frontier) way.block = subst (IsStraight old before.frontier) c.requires.at starts in
           let led : LeadsStraight old (frontier_aim before.frontier) 0 way (Some Here) =
           subst (LeadsStraight old (frontier_aim before.frontier) 0 way) (c.in-Some-Here.is ∙ ap Some c.in-Some-Here.field-0-is) (c.lead.ensures.straight old order.tree whole found cover) in

@@ -1,4 +1,4 @@
-use Rattle.std.proofs.Common.{◌≤◌, ℕ, true, length, sym, ap, subst, ◌∙◌, arith}
+use Rattle.std.proofs.Common.{◌≤◌, ℕ, true, length, slice_get, sym, ap, subst, ◌∙◌, arith}
 use Rattle.index_model.specs.Faults.{HasCause}
 use Rattle.page_action.specs.States.{State}
 use Rattle.descent.specs.Shared.{where_working}
@@ -13,7 +13,8 @@ pub returns-in-Ok : goal.returns-in-Ok
 returns-in-Ok g c =
     turns g.S.PageStore c.args.self.now c.leave_page.new.self c.args.store.now c.look.new.store c.leave_page.result c.look.ensures.steps c.look.ensures.state
     c.leave_page.ensures.session c.leave_page.ensures.refused (λ h. (let k = sym c.in-Ok.is ∙ c.look.ensures.stopped h in cc))
-    (λ honest. c.leave_page.ensures.turn (g.S.PageStore.state c.args.store.now) (c.in-Ok.ensures.page honest)
+    (λ honest. c.leave_page.ensures.turn (g.S.PageStore.state c.args.store.now)
+    (ap (λ (st : State). slice_get st.pages c.args.way.block) (sym c.look.ensures.state) ∙ c.view.ensures.page honest)
     (ap (λ (st : State). st.limits.pages) (sym c.look.ensures.state) ∙ sym (ap (λ (l : _). l.pages) c.limits-most.ensures.value))
     (let most = c.in-Ok.ensures.inside in
     let same = ap (λ (st : State). st.limits.pages) (sym c.look.ensures.state) ∙ sym (ap (λ (l : _). l.pages) c.limits-most.ensures.value) in
