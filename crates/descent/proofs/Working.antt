@@ -53,63 +53,63 @@ in_use_read a n true is lt h = (let k : n ≤ a = leb-true n a h in omega arith)
 in_use_read a n false is lt h = absurd cc
 
 -- why a page that is in use isn't read
-pub read_cause : (st : State) (first second third : Backing) (session images frames block : ℕ) (fault : Fault)
+pub read_cause : (st : State) (first second third : Backing) (session images frames : ℕ) (takes splits : Bool) (block : ℕ) (fault : Fault)
     → first.failures ≤ second.failures → (second.stopped ≡ true → first.stopped ≡ true) → third.honest ≡ true → block < length st.pages → 1 ≤ frames
-    → HasCause (where_read st second third block) fault → HasCause (where_working st first third session images frames) fault
-read_cause st first second third session images frames block Io le alive honest used some h = later_failed first second third le h
-read_cause st first second third session images frames block Stopped le alive honest used some h = or_here first.stopped (is_at_end st.acts) (alive h)
-read_cause st first second third session images frames block NoFrame le alive honest used some h = frames_short st.frames (block ∷ []) (pinned_blocks st.table) frames some h
-read_cause st first second third session images frames block (PageDamaged b) le alive honest used some h =
+    → HasCause (where_read st second third block) fault → HasCause (where_working st first third session images frames takes splits) fault
+read_cause st first second third session images frames takes splits block Io le alive honest used some h = later_failed first second third le h
+read_cause st first second third session images frames takes splits block Stopped le alive honest used some h = or_here first.stopped (is_at_end st.acts) (alive h)
+read_cause st first second third session images frames takes splits block NoFrame le alive honest used some h = frames_short st.frames (block ∷ []) (pinned_blocks st.table) frames some h
+read_cause st first second third session images frames takes splits block (PageDamaged b) le alive honest used some h =
     absurd (in_use_read block (length st.pages) third.honest honest used
     (let p = and_parts (b == block) (not third.honest || nat_le (length st.pages) block) h in p.1))
-read_cause st first second third session images frames block (Blocked b) le alive honest used some h = absurd cc
-read_cause st first second third session images frames block NoMemory le alive honest used some h = h
-read_cause st first second third session images frames block Exists le alive honest used some h = h
-read_cause st first second third session images frames block IndexFull le alive honest used some h = absurd cc
-read_cause st first second third session images frames block LogFull le alive honest used some h = absurd cc
-read_cause st first second third session images frames block TooTall le alive honest used some h = absurd cc
-read_cause st first second third session images frames block fault le alive honest used some h = h
+read_cause st first second third session images frames takes splits block (Blocked b) le alive honest used some h = absurd cc
+read_cause st first second third session images frames takes splits block NoMemory le alive honest used some h = h
+read_cause st first second third session images frames takes splits block Exists le alive honest used some h = h
+read_cause st first second third session images frames takes splits block IndexFull le alive honest used some h = absurd cc
+read_cause st first second third session images frames takes splits block LogFull le alive honest used some h = absurd cc
+read_cause st first second third session images frames takes splits block TooTall le alive honest used some h = absurd cc
+read_cause st first second third session images frames takes splits block fault le alive honest used some h = h
 
 -- why an act of these pages isn't done
-pub act_cause : (st : State) (first second third : Backing) (session images frames : ℕ) (changed : List Page) (fault : Fault)
+pub act_cause : (st : State) (first second third : Backing) (session images frames : ℕ) (takes splits : Bool) (changed : List Page) (fault : Fault)
     → first.failures ≤ second.failures → (second.stopped ≡ true → first.stopped ≡ true) → second.promised ≡ first.promised → length changed ≤ images
     → count_apart (map (λ (page : Page). page.block) changed ++ pinned_blocks st.table) ≤ frames + count_apart (pinned_blocks st.table)
-    → HasCause (where_acted st second third changed) fault → HasCause (where_working st first third session images frames) fault
-act_cause st first second third session images frames changed Io le alive promised few short h = later_failed first second third le h
-act_cause st first second third session images frames changed Stopped le alive promised few short h = or_left second.stopped (is_at_end st.acts) first.stopped alive h
-act_cause st first second third session images frames changed LogFull le alive promised few short h =
+    → HasCause (where_acted st second third changed) fault → HasCause (where_working st first third session images frames takes splits) fault
+act_cause st first second third session images frames takes splits changed Io le alive promised few short h = later_failed first second third le h
+act_cause st first second third session images frames takes splits changed Stopped le alive promised few short h = or_left second.stopped (is_at_end st.acts) first.stopped alive h
+act_cause st first second third session images frames takes splits changed LogFull le alive promised few short h =
     let k : second.promised ≤ length changed = leb-true second.promised (length changed) h in
     le-leb first.promised images (omega arith)
-act_cause st first second third session images frames changed NoFrame le alive promised few short h =
+act_cause st first second third session images frames takes splits changed NoFrame le alive promised few short h =
     let k : st.frames < count_apart (map (λ (page : Page). page.block) changed ++ pinned_blocks st.table) = ltb-true st.frames _ h in
     lt-ltb st.frames (frames + count_apart (pinned_blocks st.table)) (omega arith)
-act_cause st first second third session images frames changed (PageDamaged b) le alive promised few short h = h
-act_cause st first second third session images frames changed (Blocked b) le alive promised few short h = absurd cc
-act_cause st first second third session images frames changed NoMemory le alive promised few short h = h
-act_cause st first second third session images frames changed Exists le alive promised few short h = h
-act_cause st first second third session images frames changed IndexFull le alive promised few short h = absurd cc
-act_cause st first second third session images frames changed TooTall le alive promised few short h = absurd cc
-act_cause st first second third session images frames changed fault le alive promised few short h = h
+act_cause st first second third session images frames takes splits changed (PageDamaged b) le alive promised few short h = h
+act_cause st first second third session images frames takes splits changed (Blocked b) le alive promised few short h = absurd cc
+act_cause st first second third session images frames takes splits changed NoMemory le alive promised few short h = h
+act_cause st first second third session images frames takes splits changed Exists le alive promised few short h = h
+act_cause st first second third session images frames takes splits changed IndexFull le alive promised few short h = absurd cc
+act_cause st first second third session images frames takes splits changed TooTall le alive promised few short h = absurd cc
+act_cause st first second third session images frames takes splits changed fault le alive promised few short h = h
 
 length_map : {A B : Type 0} (f : A → B) (xs : List A) → length (map f xs) ≡ length xs
 length_map f [] = refl
 length_map f (x ∷ xs) = ap suc (length_map f xs)
 
 -- ... where each of them may need a frame
-pub act_cause_of : (st : State) (first second third : Backing) (session most : ℕ) (changed : List Page) (fault : Fault)
+pub act_cause_of : (st : State) (first second third : Backing) (session most : ℕ) (takes splits : Bool) (changed : List Page) (fault : Fault)
     → first.failures ≤ second.failures → (second.stopped ≡ true → first.stopped ≡ true) → second.promised ≡ first.promised → length changed ≤ most
-    → HasCause (where_acted st second third changed) fault → HasCause (where_working st first third session most most) fault
-act_cause_of st first second third session most changed fault le alive promised few h =
-    act_cause st first second third session most most changed fault le alive promised few
+    → HasCause (where_acted st second third changed) fault → HasCause (where_working st first third session most most takes splits) fault
+act_cause_of st first second third session most takes splits changed fault le alive promised few h =
+    act_cause st first second third session most most takes splits changed fault le alive promised few
     (let a = apart_few (map (λ (page : Page). page.block) changed) (pinned_blocks st.table) in
     let l = length_map (λ (page : Page). page.block) changed in omega arith) h
 
 -- another session holds the page
-pub held_cause : (st : State) (first third : Backing) (session images frames block : ℕ) (mode : Mode) → (mode ≡ Shared) ⊎ (mode ≡ Exclusive)
-    → is_held_by_another st.table session block mode ≡ true → HasCause (where_working st first third session images frames) (Blocked block)
-held_cause st first third session images frames block mode (inl is) h =
+pub held_cause : (st : State) (first third : Backing) (session images frames : ℕ) (takes splits : Bool) (block : ℕ) (mode : Mode) → (mode ≡ Shared) ⊎ (mode ≡ Exclusive)
+    → is_held_by_another st.table session block mode ≡ true → HasCause (where_working st first third session images frames takes splits) (Blocked block)
+held_cause st first third session images frames takes splits block mode (inl is) h =
     or_here (is_held_by_another st.table session block Shared) _ (subst (λ (m : Mode). is_held_by_another st.table session block m ≡ true) is h)
-held_cause st first third session images frames block mode (inr is) h =
+held_cause st first third session images frames takes splits block mode (inr is) h =
     or_there (is_held_by_another st.table session block Shared) _ (subst (λ (m : Mode). is_held_by_another st.table session block m ≡ true) is h)
 
 none_below : (st : State) (n : ℕ) → ((b : ℕ) → b < n → is_reusable st b ≡ false) → any_is_reusable st n ≡ false
@@ -117,12 +117,12 @@ none_below st zero none = refl
 none_below st (suc n) none = rw (none n (omega arith), none_below st n (λ b lt. none b (omega arith))) refl
 
 -- no block is free
-pub full_cause : (st : State) (first third : Backing) (session images frames : ℕ) → IsFull st → HasCause (where_working st first third session images frames) IndexFull
-full_cause st first third session images frames full = rw (le-leb st.limits.pages (length st.pages) full.used, none_below st (length st.pages) full.none) refl
+pub full_cause : (st : State) (first third : Backing) (session images frames : ℕ) (splits : Bool) → IsFull st → HasCause (where_working st first third session images frames true splits) IndexFull
+full_cause st first third session images frames splits full = rw (le-leb st.limits.pages (length st.pages) full.used, none_below st (length st.pages) full.none) refl
 
 -- the log had stopped
-pub stopped_cause : (st : State) (first third : Backing) (session images frames : ℕ) → first.stopped ≡ true → HasCause (where_working st first third session images frames) Stopped
-stopped_cause st first third session images frames h = or_here first.stopped (is_at_end st.acts) h
+pub stopped_cause : (st : State) (first third : Backing) (session images frames : ℕ) (takes splits : Bool) → first.stopped ≡ true → HasCause (where_working st first third session images frames takes splits) Stopped
+stopped_cause st first third session images frames takes splits h = or_here first.stopped (is_at_end st.acts) h
 
 -- what two readings leave of the room
 pub keeps_room_on : (st : State) (first second third : Backing) → first.durable ≤ second.durable → second.durable ≤ st.acts → KeepsRoom st first second → KeepsRoom st second third → KeepsRoom st first third
@@ -132,15 +132,15 @@ keeps_room_on st first second third up few one two = record {
 }
 
 -- what is a cause where some calls were made before is one from before these
-pub working_later : (st : State) (first second third : Backing) (session images frames : ℕ) (fault : Fault)
+pub working_later : (st : State) (first second third : Backing) (session images frames : ℕ) (takes splits : Bool) (fault : Fault)
     → first.failures ≤ second.failures → (second.stopped ≡ true → first.stopped ≡ true) → second.promised ≡ first.promised
-    → HasCause (where_working st second third session images frames) fault → HasCause (where_working st first third session images frames) fault
-working_later st first second third session images frames Io le alive promised h = later_failed first second third le h
-working_later st first second third session images frames Stopped le alive promised h = or_left second.stopped (is_at_end st.acts) first.stopped alive h
-working_later st first second third session images frames LogFull le alive promised h = subst (λ (n : ℕ). nat_le n images ≡ true) promised h
-working_later st first second third session images frames (Blocked b) le alive promised h = h
-working_later st first second third session images frames (PageDamaged b) le alive promised h = h
-working_later st first second third session images frames fault le alive promised h = h
+    → HasCause (where_working st second third session images frames takes splits) fault → HasCause (where_working st first third session images frames takes splits) fault
+working_later st first second third session images frames takes splits Io le alive promised h = later_failed first second third le h
+working_later st first second third session images frames takes splits Stopped le alive promised h = or_left second.stopped (is_at_end st.acts) first.stopped alive h
+working_later st first second third session images frames takes splits LogFull le alive promised h = subst (λ (n : ℕ). nat_le n images ≡ true) promised h
+working_later st first second third session images frames takes splits (Blocked b) le alive promised h = h
+working_later st first second third session images frames takes splits (PageDamaged b) le alive promised h = h
+working_later st first second third session images frames takes splits fault le alive promised h = h
 
 -- one of these blocks is pinned, so it needs no frame more
 pub apart_pinned : (block : ℕ) (blocks pins : List ℕ) → has_pin pins block ≡ true → count_apart (block ∷ blocks ++ pins) ≤ length blocks + count_apart pins
@@ -152,23 +152,23 @@ apart_pinned block blocks pins pin = subst (λ (c : Bool). (if c then count_apar
     pin_among (b ∷ bs) = or_there (b == block) (has_pin (bs ++ pins) block) (pin_among bs)
 
 -- ... and a page that is pinned already is read without another frame
-pub read_pinned_cause : (st : State) (first third : Backing) (session images frames block : ℕ) (fault : Fault)
+pub read_pinned_cause : (st : State) (first third : Backing) (session images frames : ℕ) (takes splits : Bool) (block : ℕ) (fault : Fault)
     → third.honest ≡ true → block < length st.pages → has_pin (pinned_blocks st.table) block ≡ true
-    → HasCause (where_read st first third block) fault → HasCause (where_working st first third session images frames) fault
-read_pinned_cause st first third session images frames block Io honest used pin h = h
-read_pinned_cause st first third session images frames block Stopped honest used pin h = or_here first.stopped (is_at_end st.acts) h
-read_pinned_cause st first third session images frames block NoFrame honest used pin h =
+    → HasCause (where_read st first third block) fault → HasCause (where_working st first third session images frames takes splits) fault
+read_pinned_cause st first third session images frames takes splits block Io honest used pin h = h
+read_pinned_cause st first third session images frames takes splits block Stopped honest used pin h = or_here first.stopped (is_at_end st.acts) h
+read_pinned_cause st first third session images frames takes splits block NoFrame honest used pin h =
     let few = apart_pinned block [] (pinned_blocks st.table) pin in
     let k : st.frames < count_apart (block ∷ pinned_blocks st.table) = ltb-true st.frames _ h in
     lt-ltb st.frames (frames + count_apart (pinned_blocks st.table)) (omega (arith, few, k))
-read_pinned_cause st first third session images frames block (PageDamaged b) honest used pin h =
+read_pinned_cause st first third session images frames takes splits block (PageDamaged b) honest used pin h =
     absurd (in_use_read block (length st.pages) third.honest honest used
     (let p = and_parts (b == block) (not third.honest || nat_le (length st.pages) block) h in p.1))
-read_pinned_cause st first third session images frames block (Blocked b) honest used pin h = absurd cc
-read_pinned_cause st first third session images frames block IndexFull honest used pin h = absurd cc
-read_pinned_cause st first third session images frames block LogFull honest used pin h = absurd cc
-read_pinned_cause st first third session images frames block TooTall honest used pin h = absurd cc
-read_pinned_cause st first third session images frames block fault honest used pin h = h
+read_pinned_cause st first third session images frames takes splits block (Blocked b) honest used pin h = absurd cc
+read_pinned_cause st first third session images frames takes splits block IndexFull honest used pin h = absurd cc
+read_pinned_cause st first third session images frames takes splits block LogFull honest used pin h = absurd cc
+read_pinned_cause st first third session images frames takes splits block TooTall honest used pin h = absurd cc
+read_pinned_cause st first third session images frames takes splits block fault honest used pin h = h
 
 -- ... where the calls before them left the state and the backing as they were
 pub rooms_kept : (st started mid : State) (first begun second third : Backing) → started ≡ st → mid ≡ started → begun ≡ first → IsLater begun second → second.durable ≤ mid.acts

@@ -114,15 +114,15 @@ is_out_of_blocks st =
     nat_le st.limits.pages (length st.pages) && not (any_is_reusable st (length st.pages))
 
 -- Why a step is refused that reads pages of a tree, and may do an act of so many images, and needs so many frames beside
--- those that are pinned.
-abbrev pub where_working : State → Backing → Backing → ℕ → ℕ → ℕ → Circumstances
-where_working st old new session images frames = record nothing_wrong {
+-- those that are pinned; and whether it may take a block, and split the root.
+abbrev pub where_working : State → Backing → Backing → ℕ → ℕ → ℕ → Bool → Bool → Circumstances
+where_working st old new session images frames takes splits = record nothing_wrong {
   device_failed = has_failed old new;
   is_stopped = old.stopped || is_at_end st.acts;
   is_held_by_another = λ b. is_held_by_another st.table session b Shared
       || is_held_by_another st.table session b Exclusive;
-  no_block_is_free = is_out_of_blocks st;
+  no_block_is_free = takes && is_out_of_blocks st;
   log_is_full = nat_le old.promised images;
   frames_are_pinned = nat_lt st.frames (frames + count_apart (pinned_blocks st.table));
-  root_is_at_31 = nat_le 31 (root_level st.pages);
+  root_is_at_31 = splits && nat_le 31 (root_level st.pages);
 }

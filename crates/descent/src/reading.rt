@@ -1,6 +1,6 @@
 //! Reading a page for a session.
 
-ghost use Rattle.std.specs.Prelude.{◌≡◌, ◌<◌, ◌≤◌, true, false, Err, IfOk, IfErr, OnOk, OnErr, Some, ℕ, length, slice_get};
+ghost use Rattle.std.specs.Prelude.{◌≡◌, ◌<◌, ◌≤◌, true, false, Err, IfOk, IfErr, OnOk, OnErr, Some, Bool, ℕ, length, slice_get};
 ghost use Rattle.index_model.specs.Faults.{HasCause};
 ghost use Rattle.latch_table.specs.Holdings.{HasRoom, is_held_by_another};
 ghost use Rattle.page_action.specs.States.{State, Continues};
@@ -30,9 +30,9 @@ pub fn look<S: PageStore>(store: &mut S, session: Session, block: u32) -> Result
         (S.backing store.new) session block)) }
     ensures works { (S.backing store.new).honest ≡ true
         → HasRoom (S.state store.old).table session → block < length (S.state store.old).pages
-        → (images frames : ℕ) → 1 ≤ frames
+        → (images frames : ℕ) (takes splits : Bool) → 1 ≤ frames
         → IfErr result (HasCause (where_working (S.state store.old) (S.backing store.old)
-        (S.backing store.new) session images frames)) }
+        (S.backing store.new) session images frames takes splits)) }
 {
     if store.is_stopped() {
         return Err(Fault::Stopped);
@@ -86,9 +86,9 @@ pub fn look_to_change<S: PageStore>(
     ensures stopped { (S.backing store.old).stopped ≡ true → result ≡ Err Fault.Stopped }
     ensures cause { (S.backing store.new).honest ≡ true
         → HasRoom (S.state store.old).table session → block < length (S.state store.old).pages
-        → (images frames : ℕ) → 1 ≤ frames
+        → (images frames : ℕ) (takes splits : Bool) → 1 ≤ frames
         → IfErr result (HasCause (where_working (S.state store.old) (S.backing store.old)
-        (S.backing store.new) session images frames)) }
+        (S.backing store.new) session images frames takes splits)) }
 {
     if store.is_stopped() {
         return Err(Fault::Stopped);
@@ -126,9 +126,9 @@ pub fn look_at_both<S: PageStore>(
     ensures cause { (S.backing store.new).honest ≡ true
         → HasRoom (S.state store.old).table session → first < length (S.state store.old).pages
         → second < length (S.state store.old).pages
-        → (images frames : ℕ) → 1 ≤ frames
+        → (images frames : ℕ) (takes splits : Bool) → 1 ≤ frames
         → IfErr result (HasCause (where_working (S.state store.old) (S.backing store.old)
-        (S.backing store.new) session images frames)) }
+        (S.backing store.new) session images frames takes splits)) }
 {
     if store.is_stopped() {
         return Err(Fault::Stopped);

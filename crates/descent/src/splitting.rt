@@ -1,6 +1,6 @@
 //! What a split needs beside the page.
 
-ghost use Rattle.std.specs.Prelude.{◌≡◌, ◌<◌, ◌≤◌, ◌+◌, true, false, Err, IfOk, IfErr, OnOk, OnErr, ℕ, suc, length};
+ghost use Rattle.std.specs.Prelude.{◌≡◌, ◌<◌, ◌≤◌, ◌+◌, true, false, Err, IfOk, IfErr, OnOk, OnErr, Bool, ℕ, suc, length};
 ghost use Rattle.index_model.specs.Faults.{HasCause};
 ghost use Rattle.latch_table.specs.Holdings.{HasRoom, is_held_by_another};
 ghost use Rattle.page_codec.specs.Grammar.{IsBlock};
@@ -36,9 +36,9 @@ pub fn read_right<S: PageStore>(
     ensures room { KeepsRoom (S.state store.old) (S.backing store.old) (S.backing store.new) }
     ensures cause { (S.backing store.new).honest ≡ true
         → HasRoom (S.state store.old).table session → RightIsMendable (S.state store.old) right
-        → (images frames : ℕ) → 1 ≤ frames
+        → (images frames : ℕ) (takes splits : Bool) → 1 ≤ frames
         → IfErr result (HasCause (where_working (S.state store.old) (S.backing store.old)
-        (S.backing store.new) session images frames)) }
+        (S.backing store.new) session images frames takes splits)) }
 {
     let Some(block) = right else {
         return Ok(None);
@@ -59,9 +59,10 @@ pub fn take_block<S: PageStore>(store: &mut S, session: Session) -> Result<u32, 
     ensures free { IfOk result (λ block.
         is_held_by_another (S.state store.old).table session block Mode.Exclusive ≡ false) }
     ensures block { 0 < length (S.state store.old).pages → IfOk result IsBlock }
-    ensures cause { HasRoom (S.state store.old).table session → (images frames : ℕ)
+    ensures cause { HasRoom (S.state store.old).table session
+        → (images frames : ℕ) (splits : Bool)
         → IfErr result (HasCause (where_working (S.state store.old) (S.backing store.old)
-        (S.backing store.new) session images frames)) }
+        (S.backing store.new) session images frames true splits)) }
 {
     let _limits = store.limits();
     match store.fresh() {

@@ -33,7 +33,7 @@ use Rattle.descent.proofs.Tables.{any_excluded}
 use Rattle.descent.proofs.Working.{working_later, read_pinned_cause}
 use Rattle.std.specs.Prelude.{IfOk, IfErr, OnErr}
 use Rattle.split_finish.specs.Targets.{OnlyTargetsAreFlagged, is_among_targets}
-use Rattle.insert_split.specs.Inserts.{leaf_held, IsLeafFor, InsertFits, InsertStands, InsertSteps, IsToCome, images_at, frames_at, targets_at, IsLeft, where_inserting}
+use Rattle.insert_split.specs.Inserts.{leaf_held, IsLeafFor, InsertFits, InsertStands, InsertSteps, IsToCome, images_at, frames_at, takes_block_at, targets_at, IsLeft, where_inserting}
 use Rattle.insert_split.specs.Straight.{straight_steps}
 use Rattle.insert_split.specs.Turns.{EntryPut, PutsEntry, PlaceRefused}
 use Rattle.insert_split.specs.declared.insert.InsertAt.{InsertAt}
@@ -112,20 +112,26 @@ not_the_leaf st session other block order held differ alone =
     let free : latches_exclude (holding_of st.table other).latches block Exclusive ≡ false = order.apart session other block (λ same. differ (sym same)) mine in
     true_false (sym (any_excluded (holding_of st.table other).latches block Exclusive alone) ∙ free)
 
--- how many images and frames a leaf takes that is full, or isn't
-pub full_is : (st : State) (block : ℕ) (page : Page) → slice_get st.pages block ≡ Some page → st.limits.items ≤ length (entries_of page.items) → (images_at st (Holds block) ≡ 3) × (frames_at st (Holds block) ≡ 2)
-full_is st block page found le = (rw (found, le-leb st.limits.items (length (entries_of page.items)) le) refl, rw (found, le-leb st.limits.items (length (entries_of page.items)) le) refl)
+-- how many images and frames a leaf takes that is full, or isn't, and whether a block
+pub full_is : (st : State) (block : ℕ) (page : Page) → slice_get st.pages block ≡ Some page → st.limits.items ≤ length (entries_of page.items) → (images_at st (Holds block) ≡ 3) × (frames_at st (Holds block) ≡ 2) × (takes_block_at st (Holds block) ≡ true)
+full_is st block page found le =
+    let full = le-leb st.limits.items (length (entries_of page.items)) le in
+    (rw (found, full) refl, rw (found, full) refl, rw (found, full) refl)
 
-pub roomy_is : (st : State) (block : ℕ) (page : Page) → slice_get st.pages block ≡ Some page → length (entries_of page.items) < st.limits.items → (images_at st (Holds block) ≡ 1) × (frames_at st (Holds block) ≡ 0)
-roomy_is st block page found lt = (rw (found, lt-leb st.limits.items (length (entries_of page.items)) lt) refl, rw (found, lt-leb st.limits.items (length (entries_of page.items)) lt) refl)
+pub roomy_is : (st : State) (block : ℕ) (page : Page) → slice_get st.pages block ≡ Some page → length (entries_of page.items) < st.limits.items → (images_at st (Holds block) ≡ 1) × (frames_at st (Holds block) ≡ 0) × (takes_block_at st (Holds block) ≡ false)
+roomy_is st block page found lt =
+    let roomy = lt-leb st.limits.items (length (entries_of page.items)) lt in
+    (rw (found, roomy) refl, rw (found, roomy) refl, rw (found, roomy) refl)
 
-pub holding_cause : (st : State) (old new : Backing) (op : InsertOp) (block images frames : ℕ) (fault : Fault) → op.at ≡ Holds block → (images_at st (Holds block) ≡ images) × (frames_at st (Holds block) ≡ frames)
-    → HasCause (where_working st old new op.session images frames) fault → HasCause (where_inserting st old new op.session op.entry op.at) fault
-holding_cause st old new op block images frames fault at_is counts h =
+pub holding_cause : (st : State) (old new : Backing) (op : InsertOp) (block images frames : ℕ) (takes : Bool) (fault : Fault) → op.at ≡ Holds block
+    → (images_at st (Holds block) ≡ images) × (frames_at st (Holds block) ≡ frames) × (takes_block_at st (Holds block) ≡ takes)
+    → HasCause (where_working st old new op.session images frames takes false) fault → HasCause (where_inserting st old new op.session op.entry op.at) fault
+holding_cause st old new op block images frames takes fault at_is counts h =
     subst (λ (a : InsertAt). HasCause (where_inserting st old new op.session op.entry a) fault) (sym at_is)
-    (as_inserting st old new op.session op.entry (Holds block) (images_at st (Holds block)) (frames_at st (Holds block)) fault refl
-    (subst (λ (n : ℕ). HasCause (where_working st old new op.session n (frames_at st (Holds block))) fault) (sym counts.0)
-    (subst (λ (n : ℕ). HasCause (where_working st old new op.session images n) fault) (sym counts.1) h)))
+    (as_inserting st old new op.session op.entry (Holds block) (images_at st (Holds block)) (frames_at st (Holds block)) (takes_block_at st (Holds block)) false fault refl
+    (subst (λ (n : ℕ). HasCause (where_working st old new op.session n (frames_at st (Holds block)) (takes_block_at st (Holds block)) false) fault) (sym counts.0)
+    (subst (λ (n : ℕ). HasCause (where_working st old new op.session images n (takes_block_at st (Holds block)) false) fault) (sym counts.1)
+    (subst (λ (b : Bool). HasCause (where_working st old new op.session images frames b false) fault) (sym counts.2) h))))
 
 -- what the leaf of an entry is, as it was read
 pub covers_there : (st : State) (start : ℕ) (e : Entry) (block : ℕ) (page : Page) → HasTree st → page.block ≡ block → slice_get st.pages block ≡ Some page → (leaf : IsLeafFor st start e block)
@@ -143,7 +149,7 @@ pub puts : {S : Type 0} (g : Ghosts S) (op : InsertOp) (old mid new : S) (block 
     → (g.backing old).failures ≤ (g.backing mid).failures → ((g.backing mid).stopped ≡ true → (g.backing old).stopped ≡ true) → (g.backing mid).promised ≡ (g.backing old).promised
     → is_among (entries_of page.items) op.entry ≡ false → length (entries_of page.items) < (g.state old).limits.items
     → IfOk result (PutsEntry page op.entry (g.state mid) (g.state new)) → OnErr result (g.state new ≡ g.state mid)
-    → (has_pin (pinned_blocks (g.state mid).table) page.block ≡ true → IfErr result (HasCause (where_working (g.state mid) (g.backing mid) (g.backing new) op.session 1 0)))
+    → (has_pin (pinned_blocks (g.state mid).table) page.block ≡ true → IfErr result (HasCause (where_working (g.state mid) (g.backing mid) (g.backing new) op.session 1 0 false false)))
     → InsertSteps g op op old new result
 puts g op old mid new block page (Ok Going) steps same alive at_is block_is found le later promised absent room told refused cause = absurd told
 puts g op old mid new block page (Ok (Added action unfinished)) steps same alive at_is block_is found le later promised absent room told refused cause = record {
@@ -210,9 +216,9 @@ puts g op old mid new block page (Err fault) steps same alive at_is block_is fou
     let there = leaf_there st op block at_is fits in
     let pin : has_pin (pinned_blocks (g.state mid).table) page.block ≡ true =
     subst (λ (s : State). has_pin (pinned_blocks s.table) page.block ≡ true) (sym same) (subst (λ (b : ℕ). has_pin (pinned_blocks st.table) b ≡ true) (sym block_is) (pinned_leaf st.table op.session block there.0)) in
-    holding_cause st (g.backing old) (g.backing new) op block 1 0 fault at_is (roomy_is st block page (found honest) room)
-    (working_later st (g.backing old) (g.backing mid) (g.backing new) op.session 1 0 fault le later promised
-    (subst (λ (s : State). HasCause (where_working s (g.backing mid) (g.backing new) op.session 1 0) fault) same (cause pin))))
+    holding_cause st (g.backing old) (g.backing new) op block 1 0 false fault at_is (roomy_is st block page (found honest) room)
+    (working_later st (g.backing old) (g.backing mid) (g.backing new) op.session 1 0 false false fault le later promised
+    (subst (λ (s : State). HasCause (where_working s (g.backing mid) (g.backing new) op.session 1 0 false false) fault) same (cause pin))))
   where
     st : State
     st = g.state old
@@ -223,8 +229,8 @@ pub reads_leaf : (st : State) (old new : Backing) (op : InsertOp) (block : ℕ) 
 reads_leaf st old new op block fault honest order at_is fits h =
     let there = leaf_there st op block at_is fits in
     let used = place_in_use st order.tree fits.start 0 (entry_aim op.entry) true block there.1.place in
-    holding_cause st old new op block (images_at st (Holds block)) (frames_at st (Holds block)) fault at_is (refl, refl)
-    (read_pinned_cause st old new op.session (images_at st (Holds block)) (frames_at st (Holds block)) block fault honest used.1 (pinned_leaf st.table op.session block there.0) h)
+    holding_cause st old new op block (images_at st (Holds block)) (frames_at st (Holds block)) (takes_block_at st (Holds block)) fault at_is (refl, refl, refl)
+    (read_pinned_cause st old new op.session (images_at st (Holds block)) (frames_at st (Holds block)) (takes_block_at st (Holds block)) false block fault honest used.1 (pinned_leaf st.table op.session block there.0) h)
 
 -- why the leaf gives no place: the entry is there
 pub no_place : (st : State) (old new : Backing) (op : InsertOp) (block : ℕ) (page : Page) (fault : Fault) → IsInOrder st → op.at ≡ Holds block → InsertFits st op

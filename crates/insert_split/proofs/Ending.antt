@@ -8,10 +8,11 @@ use Rattle.latch_table.specs.Holdings.{Table, holding_of, nothing_held}
 use Rattle.index_model.specs.declared.limits.Limits.{Limits}
 use Rattle.page_action.specs.States.{State, Backing}
 use Rattle.page_action.specs.declared.page_store.PageStore.{Ghosts}
-use Rattle.descent.specs.Shared.{IsInOrder, Does, is_flagged, where_working}
+use Rattle.descent.specs.Shared.{IsInOrder, Does, is_flagged}
 use Rattle.descent.proofs.Acting.{nothing_else}
-use Rattle.split_finish.specs.Finishes.{FinishSteps, OnlyShapes, images_of, frames_of}
+use Rattle.split_finish.specs.Finishes.{FinishSteps, OnlyShapes, images_of, frames_of, takes_block_of, where_finishing}
 use Rattle.split_finish.specs.Targets.{OnlyTargetsAreFlagged, FinishFits, finish_left}
+use Rattle.split_finish.specs.Turns.{splits_root_of}
 use Rattle.split_finish.specs.declared.finish.FinishOp.{FinishOp}
 use Rattle.split_finish.specs.declared.finish.FinishStep.TheVariants.{Going as FinishGoing, Done}
 use Rattle.insert_split.specs.Inserts.{InsertFits, InsertStands, InsertSteps, IsNoted, insert_left, targets_at, where_inserting}
@@ -36,11 +37,11 @@ notes_nothing effect acts e added (inr shape) = subst (λ (x : Option Effect). I
 
 -- the causes of a finishing step are those of an insert there
 pub finishing_cause : (st : State) (old new : Backing) (op : InsertOp) (splits : FinishOp) (fault : Fault) → op.at ≡ Finishing splits → splits.session ≡ op.session
-    → HasCause (where_working st old new splits.session (images_of splits.at) (frames_of splits.at)) fault → HasCause (where_inserting st old new op.session op.entry op.at) fault
+    → HasCause (where_finishing st old new splits.session splits.at) fault → HasCause (where_inserting st old new op.session op.entry op.at) fault
 finishing_cause st old new op splits fault at_is session h =
     subst (λ (a : InsertAt). HasCause (where_inserting st old new op.session op.entry a) fault) (sym at_is)
-    (as_inserting st old new op.session op.entry (Finishing splits) (images_of splits.at) (frames_of splits.at) fault refl
-    (subst (λ (s : ℕ). HasCause (where_working st old new s (images_of splits.at) (frames_of splits.at)) fault) session h))
+    (as_inserting st old new op.session op.entry (Finishing splits) (images_of splits.at) (frames_of splits.at) (takes_block_of splits.at) (splits_root_of splits.at) fault refl
+    (subst (λ (s : ℕ). HasCause (where_finishing st old new s splits.at) fault) session h))
 
 -- ... that goes on
 pub finish_goes : {S : Type 0} (g : Ghosts S) (before : InsertOp) (splits then_splits : FinishOp) (old new : S) → before.at ≡ Finishing splits → (g.backing old).stopped ≡ false

@@ -6,6 +6,7 @@ pub mod Meeting
 pub mod Taking
 pub mod Halving
 pub mod Adding
+pub mod Roomy
 pub mod Splitting
 pub mod Ending
 pub mod Lasting

@@ -158,7 +158,7 @@ takes g before after old mid new page way (Err fault) steps same backing alive a
     why honest order fits held =
         subst (HasCause (where_inserting st (g.backing old) (g.backing new) before.session before.entry before.at)) (sym held.0)
         (reading_cause st (g.backing old) (g.backing new) before way (Blocked page.block) at_is
-        (held_cause st (g.backing old) (g.backing new) before.session 0 1 page.block Exclusive (inr refl)
+        (held_cause st (g.backing old) (g.backing new) before.session 0 1 false false page.block Exclusive (inr refl)
         (subst (λ (s : State). is_held_by_another s.table before.session page.block Exclusive ≡ true) same held.1)))
 
 -- the page that a search ends at may hold the entry

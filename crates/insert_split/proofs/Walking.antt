@@ -45,13 +45,13 @@ pub room_free : (st : State) (session : ℕ) → holding_of st.table session ≡
 room_free st session free = subst (λ (h : Holding). length h.latches < 8) (sym free) (omega arith)
 
 -- the causes of a step that only reads are those of an insert there
-pub as_inserting : (st : State) (old new : Backing) (session : ℕ) (e : Entry) (at : InsertAt) (images frames : ℕ) (fault : Fault)
-    → where_inserting st old new session e at ≡ record (where_working st old new session images frames) { entry_was_there = (where_inserting st old new session e at).entry_was_there }
-    → HasCause (where_working st old new session images frames) fault → HasCause (where_inserting st old new session e at) fault
-as_inserting st old new session e at images frames fault same h = rw same (by fault h)
+pub as_inserting : (st : State) (old new : Backing) (session : ℕ) (e : Entry) (at : InsertAt) (images frames : ℕ) (takes splits : Bool) (fault : Fault)
+    → where_inserting st old new session e at ≡ record (where_working st old new session images frames takes splits) { entry_was_there = (where_inserting st old new session e at).entry_was_there }
+    → HasCause (where_working st old new session images frames takes splits) fault → HasCause (where_inserting st old new session e at) fault
+as_inserting st old new session e at images frames takes splits fault same h = rw same (by fault h)
   where
-    by : (f : Fault) → HasCause (where_working st old new session images frames) f
-        → HasCause (record (where_working st old new session images frames) { entry_was_there = (where_inserting st old new session e at).entry_was_there }) f
+    by : (f : Fault) → HasCause (where_working st old new session images frames takes splits) f
+        → HasCause (record (where_working st old new session images frames takes splits) { entry_was_there = (where_inserting st old new session e at).entry_was_there }) f
     by Exists h = absurd cc
     by Io h = h
     by Stopped h = h
@@ -89,8 +89,8 @@ pub to_come_there : (op : InsertOp) (way : Way) → op.at ≡ At way → IsToCom
 to_come_there op way at_is h = subst (λ (a : InsertAt). IsToCome a op.added) at_is h
 
 pub reading_cause : (st : State) (old new : Backing) (op : InsertOp) (way : Way) (fault : Fault) → op.at ≡ At way
-    → HasCause (where_working st old new op.session 0 1) fault → HasCause (where_inserting st old new op.session op.entry op.at) fault
-reading_cause st old new op way fault at_is h = rw at_is (as_inserting st old new op.session op.entry (At way) 0 1 fault refl h)
+    → HasCause (where_working st old new op.session 0 1 false false) fault → HasCause (where_inserting st old new op.session op.entry op.at) fault
+reading_cause st old new op way fault at_is h = rw at_is (as_inserting st old new op.session op.entry (At way) 0 1 false false fault refl h)
 
 true_false : true ≡ false → ⊥
 true_false h = cc

@@ -18,8 +18,9 @@ use Rattle.tree_acts.specs.Trees.{HasPlace}
 use Rattle.tree_acts.specs.Ways.{AreWhole}
 use Rattle.descent.specs.Onward.{IsOnWay}
 use Rattle.descent.specs.Shared.{IsInOrder, Does, IsOneStep, is_flagged, where_working}
-use Rattle.split_finish.specs.Finishes.{images_of, frames_of}
+use Rattle.split_finish.specs.Finishes.{images_of, frames_of, takes_block_of}
 use Rattle.split_finish.specs.Targets.{targets_of, OnlyTargetsAreFlagged, FinishFits, finish_left, walk_length, way_left}
+use Rattle.split_finish.specs.Turns.{splits_root_of}
 use Rattle.split_finish.specs.declared.finish.Target.{Target}
 use Rattle.insert_split.specs.Straight.{IsStraight, HasRoomFor, CountsDown}
 use Rattle.insert_split.specs.declared.insert.InsertAt.{InsertAt}
@@ -104,10 +105,25 @@ frames_at st (Holds block) =
     if is_full_page st.limits.items (slice_get st.pages block) then 2 else 0
 frames_at st (Finishing op) = frames_of op.at
 
+-- ... whether it may take a block: to split a full leaf, or to finish a split
+abbrev pub takes_block_at : State → InsertAt → Bool
+takes_block_at st Start = false
+takes_block_at st (At way) = false
+takes_block_at st (Holds block) = is_full_page st.limits.items (slice_get st.pages block)
+takes_block_at st (Finishing op) = takes_block_of op.at
+
+-- ... and whether it may split the root: only to finish a split
+abbrev pub splits_root_at : InsertAt → Bool
+splits_root_at Start = false
+splits_root_at (At way) = false
+splits_root_at (Holds block) = false
+splits_root_at (Finishing op) = splits_root_of op.at
+
 -- why a step of an insert is refused, on pages that are a tree and a device that keeps its model
 abbrev pub where_inserting : State → Backing → Backing → ℕ → Entry → InsertAt → Circumstances
 where_inserting st old new session e at =
-    record (where_working st old new session (images_at st at) (frames_at st at)) {
+    record (where_working st old new session (images_at st at) (frames_at st at)
+    (takes_block_at st at) (splits_root_at at)) {
       entry_was_there = entry_on_live_leaf st.pages e;
     }
 

@@ -94,7 +94,7 @@ impl InsertOp {
         ensures refused { OnErr result (S.state store.new ≡ S.state store.old) }
         ensures cause { has_pin (pinned_blocks (S.state store.old).table) page.block ≡ true
             → IfErr result (HasCause (where_working (S.state store.old) (S.backing store.old)
-            (S.backing store.new) self.now.session 1 0)) }
+            (S.backing store.new) self.now.session 1 0 false false)) }
     {
         let mut page = page;
         put(&mut page, at, self.entry);
@@ -130,7 +130,7 @@ impl InsertOp {
             → IsSplittable (S.state store.old) page
             → has_pin (pinned_blocks (S.state store.old).table) page.block ≡ true
             → IfErr result (HasCause (where_working (S.state store.old) (S.backing store.old)
-            (S.backing store.new) self.old.session 3 2)) }
+            (S.backing store.new) self.old.session 3 2 true false)) }
     {
         let right = match read_right(store, self.session, page.right) {
             Ok(right) => right,

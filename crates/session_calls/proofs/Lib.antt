@@ -9,3 +9,4 @@ pub mod Undisturbed
 pub mod Bounds
 pub mod Beginning
 pub mod Counting
+pub mod Hindering

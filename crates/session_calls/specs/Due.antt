@@ -1,10 +1,9 @@
 -- How many more steps a call makes until it answers, while the pages stay as they are.
-use Rattle.std.specs.Prelude.{◌≡◌, ℕ, suc, ◌+◌, ◌<◌, ◌≤◌, true, false, Option, Some, None, []}
+use Rattle.std.specs.Prelude.{◌≡◌, ℕ, suc, ◌+◌, ◌<◌, false, Option, Some, None, []}
 use Rattle.index_model.specs.declared.fault.Fault.{Fault}
-use Rattle.index_model.specs.declared.fault.Fault.TheVariants.{Io, Stopped, Blocked, IndexFull, LogFull, NoFrame, TooTall}
+use Rattle.index_model.specs.declared.fault.Fault.TheVariants.{Io, Stopped, Blocked, LogFull, NoFrame}
 use Rattle.page_action.specs.Contents.{entry_on_live_leaf}
 use Rattle.page_action.specs.States.{State}
-use Rattle.descent.specs.Shared.{is_out_of_blocks}
 use Rattle.descent.specs.Ways.{root_level, NoneIsFlagged}
 use Rattle.insert_split.specs.Straight.{straight_steps as insert_steps, IsStraight as IsOnEntryWay, HasRoomFor}
 use Rattle.insert_split.specs.declared.insert.InsertOp.{InsertOp}
@@ -54,15 +53,13 @@ IsAwaited (Some (Scan op)) (Ready count) = Unit {0}
 IsAwaited slot answer = ⊥
 
 -- the refusals of calls whose leaves give no cause: a latch that another session holds, which costs no step; and the
--- device, the log, the frames, the want of any block, and a root that can't be split, which end the call
+-- device, the log, and the frames, which end the call
 abbrev pub IsHindered : State → State → Option Op → ℕ → Fault → Type 0
 IsHindered old new slot steps (Blocked block) = StaysDue old new slot steps
 IsHindered old new slot steps Io = Unit {0}
 IsHindered old new slot steps Stopped = Unit {0}
 IsHindered old new slot steps LogFull = Unit {0}
 IsHindered old new slot steps NoFrame = Unit {0}
-IsHindered old new slot steps IndexFull = is_out_of_blocks old ≡ true
-IsHindered old new slot steps TooTall = 31 ≤ root_level old.pages
 IsHindered old new slot steps fault = ⊥
 
 -- A step of a call that is due, with so many steps left behind it: the last brings what is awaited, and each before it

@@ -17,7 +17,8 @@ use Rattle.descent.proofs.Acting.{one_act}
 use Rattle.descent.proofs.Working.{act_cause_of}
 use Rattle.split_finish.specs.Targets.{FinishFits, IsTarget}
 use Rattle.split_finish.specs.Turns.{Popped}
-use Rattle.split_finish.specs.Finishes.{FinishStepped, images_of, frames_of}
+use Rattle.split_finish.specs.Turns.{splits_root_of}
+use Rattle.split_finish.specs.Finishes.{FinishStepped, images_of, frames_of, takes_block_of}
 use Rattle.split_finish.specs.Acting.{FinishActs}
 use Rattle.split_finish.specs.declared.finish.FinishOp.{FinishOp}
 use Rattle.split_finish.specs.declared.finish.FinishStep.{FinishStep}
@@ -95,7 +96,7 @@ pub act_refused : {S : Type 0} (g : Ghosts S) (op : FinishOp) (old new : S) (fau
     → FinishActs g op op old new (Err fault)
 act_refused g op old new fault changed most steps same few images frames cause =
     acts_not g op old new fault steps same (λ honest order fits.
-    rw (images, frames) (act_cause_of (g.state old) (g.backing old) (g.backing old) (g.backing new) op.session most changed fault (omega arith) (λ h. h) refl few (cause honest order fits)))
+    rw (images, frames) (act_cause_of (g.state old) (g.backing old) (g.backing old) (g.backing new) op.session most (takes_block_of op.at) (splits_root_of op.at) changed fault (omega arith) (λ h. h) refl few (cause honest order fits)))
 
 pub popped_session : (op after : FinishOp) (step : FinishStep) → Popped op after step → after.session ≡ op.session
 popped_session op after Going popped = popped.session

@@ -8,13 +8,14 @@ use Rattle.index_model.specs.declared.fault.Fault.TheVariants.{NoMemory, Io, Sto
 use Rattle.page_action.specs.Causes.{is_at_end}
 use Rattle.page_action.specs.States.{State, Backing, Continues}
 use Rattle.page_action.specs.declared.page_store.PageStore.{Ghosts}
-use Rattle.descent.specs.Shared.{IsInOrder, IsOneStep, is_flagged, where_working}
+use Rattle.descent.specs.Shared.{IsInOrder, IsOneStep, is_flagged}
 use Rattle.descent.proofs.Acting.{one_nothing, nothing_else}
 use Rattle.split_finish.specs.Targets.{FinishFits, OnlyTargetsAreFlagged, targets_of, finish_left, walk_length}
 use Rattle.split_finish.specs.Turns.{Turned, where_turned}
-use Rattle.split_finish.specs.Finishes.{FinishSteps, FinishStays, FinishStepped, images_of, frames_of}
+use Rattle.split_finish.specs.Finishes.{FinishSteps, FinishStays, FinishStepped, images_of, where_finishing}
 use Rattle.page_codec.specs.declared.page.Page.{Page}
 use Rattle.split_finish.specs.Acting.{FinishActs, IsRead, MeetsParent}
+use Rattle.split_finish.specs.declared.finish.FinishAt.{FinishAt}
 use Rattle.split_finish.specs.declared.finish.FinishOp.{FinishOp}
 use Rattle.split_finish.specs.declared.finish.FinishStep.{FinishStep}
 use Rattle.split_finish.specs.declared.finish.FinishStep.TheVariants.{Going, Done}
@@ -23,7 +24,7 @@ use Rattle.split_finish.specs.declared.finish.FinishStep.TheVariants.{Going, Don
 pub refuses : {S : Type 0} (g : Ghosts S) (op : FinishOp) (old new : S) (fault : Fault) → Continues g.follows old new → g.state new ≡ g.state old
     → ((g.backing old).stopped ≡ true → fault ≡ Stopped)
     → ((g.backing new).honest ≡ true → IsInOrder (g.state old) → FinishFits (g.state old) op
-    → HasCause (where_working (g.state old) (g.backing old) (g.backing new) op.session (images_of op.at) (frames_of op.at)) fault)
+    → HasCause (where_finishing (g.state old) (g.backing old) (g.backing new) op.session op.at) fault)
     → FinishSteps g op op old new (Err fault)
 refuses g op old new fault steps same stops cause = record {
   steps = steps;
@@ -38,27 +39,27 @@ refuses g op old new fault steps same stops cause = record {
 }
 
 -- why a turn is refused, a step is
-pub turn_cause : (st : State) (first third : Backing) (session images frames : ℕ) (fault : Fault) → HasCause (where_turned st) fault → HasCause (where_working st first third session images frames) fault
-turn_cause st first third session images frames TooTall h = h
-turn_cause st first third session images frames NoMemory h = h
-turn_cause st first third session images frames Io h = absurd cc
-turn_cause st first third session images frames Stopped h = absurd cc
-turn_cause st first third session images frames (Blocked b) h = absurd cc
-turn_cause st first third session images frames Exists h = h
-turn_cause st first third session images frames KeyTooLong h = h
-turn_cause st first third session images frames BadRow h = h
-turn_cause st first third session images frames IndexFull h = absurd cc
-turn_cause st first third session images frames LogFull h = absurd cc
-turn_cause st first third session images frames NoFrame h = absurd cc
-turn_cause st first third session images frames VacuumRunning h = h
-turn_cause st first third session images frames NoSession h = h
-turn_cause st first third session images frames SessionBusy h = h
-turn_cause st first third session images frames BadSuper h = h
-turn_cause st first third session images frames BadVersion h = h
-turn_cause st first third session images frames LogDamaged h = h
-turn_cause st first third session images frames (PageDamaged b) h = h
-turn_cause st first third session images frames BadLimits h = h
-turn_cause st first third session images frames DeviceTooSmall h = h
+pub turn_cause : (st : State) (first third : Backing) (session : ℕ) (at : FinishAt) (fault : Fault) → HasCause (where_turned st at) fault → HasCause (where_finishing st first third session at) fault
+turn_cause st first third session at TooTall h = h
+turn_cause st first third session at NoMemory h = h
+turn_cause st first third session at Io h = absurd cc
+turn_cause st first third session at Stopped h = absurd cc
+turn_cause st first third session at (Blocked b) h = absurd cc
+turn_cause st first third session at Exists h = h
+turn_cause st first third session at KeyTooLong h = h
+turn_cause st first third session at BadRow h = h
+turn_cause st first third session at IndexFull h = absurd cc
+turn_cause st first third session at LogFull h = absurd cc
+turn_cause st first third session at NoFrame h = absurd cc
+turn_cause st first third session at VacuumRunning h = h
+turn_cause st first third session at NoSession h = h
+turn_cause st first third session at SessionBusy h = h
+turn_cause st first third session at BadSuper h = h
+turn_cause st first third session at BadVersion h = h
+turn_cause st first third session at LogDamaged h = h
+turn_cause st first third session at (PageDamaged b) h = h
+turn_cause st first third session at BadLimits h = h
+turn_cause st first third session at DeviceTooSmall h = h
 
 going_done : Going ≡ Done → ⊥
 going_done e = cc
@@ -112,7 +113,7 @@ turns g before after old new (Err fault) steps same session kept runs turned = r
   stopped = λ h. absurd (runs h);
   less = λ honest is. absurd cc;
   over = λ honest is. absurd cc;
-  stepped = λ honest order fits. turn_cause (g.state old) (g.backing old) (g.backing new) before.session (images_of before.at) (frames_of before.at) fault (turned honest order.tree fits);
+  stepped = λ honest order fits. turn_cause (g.state old) (g.backing old) (g.backing new) before.session before.at fault (turned honest order.tree fits);
 }
 
 or_first : (a b c : Bool) → (a ≡ true → c ≡ true) → (a || b) ≡ true → (c || b) ≡ true
@@ -121,30 +122,30 @@ or_first false b true f h = refl
 or_first false b false f h = h
 
 -- a cause behind the readings is one from the start
-pub earlier_cause : (st : State) (first second third : Backing) (session images frames : ℕ) (fault : Fault)
+pub earlier_cause : (st : State) (first second third : Backing) (session : ℕ) (at : FinishAt) (fault : Fault)
     → first.failures ≤ second.failures → (second.stopped ≡ true → first.stopped ≡ true) → second.promised ≡ first.promised
-    → HasCause (where_working st second third session images frames) fault → HasCause (where_working st first third session images frames) fault
-earlier_cause st first second third session images frames Io le alive promised h =
+    → HasCause (where_finishing st second third session at) fault → HasCause (where_finishing st first third session at) fault
+earlier_cause st first second third session at Io le alive promised h =
     (let k : second.failures < third.failures = ltb-true second.failures third.failures h in lt-ltb first.failures third.failures (omega arith))
-earlier_cause st first second third session images frames Stopped le alive promised h = or_first second.stopped (is_at_end st.acts) first.stopped alive h
-earlier_cause st first second third session images frames LogFull le alive promised h = subst (λ (n : ℕ). nat_le n images ≡ true) promised h
-earlier_cause st first second third session images frames NoFrame le alive promised h = h
-earlier_cause st first second third session images frames TooTall le alive promised h = h
-earlier_cause st first second third session images frames IndexFull le alive promised h = h
-earlier_cause st first second third session images frames (Blocked b) le alive promised h = h
-earlier_cause st first second third session images frames (PageDamaged b) le alive promised h = h
-earlier_cause st first second third session images frames NoMemory le alive promised h = h
-earlier_cause st first second third session images frames Exists le alive promised h = h
-earlier_cause st first second third session images frames KeyTooLong le alive promised h = h
-earlier_cause st first second third session images frames BadRow le alive promised h = h
-earlier_cause st first second third session images frames VacuumRunning le alive promised h = h
-earlier_cause st first second third session images frames NoSession le alive promised h = h
-earlier_cause st first second third session images frames SessionBusy le alive promised h = h
-earlier_cause st first second third session images frames BadSuper le alive promised h = h
-earlier_cause st first second third session images frames BadVersion le alive promised h = h
-earlier_cause st first second third session images frames LogDamaged le alive promised h = h
-earlier_cause st first second third session images frames BadLimits le alive promised h = h
-earlier_cause st first second third session images frames DeviceTooSmall le alive promised h = h
+earlier_cause st first second third session at Stopped le alive promised h = or_first second.stopped (is_at_end st.acts) first.stopped alive h
+earlier_cause st first second third session at LogFull le alive promised h = subst (λ (n : ℕ). nat_le n (images_of at) ≡ true) promised h
+earlier_cause st first second third session at NoFrame le alive promised h = h
+earlier_cause st first second third session at TooTall le alive promised h = h
+earlier_cause st first second third session at IndexFull le alive promised h = h
+earlier_cause st first second third session at (Blocked b) le alive promised h = h
+earlier_cause st first second third session at (PageDamaged b) le alive promised h = h
+earlier_cause st first second third session at NoMemory le alive promised h = h
+earlier_cause st first second third session at Exists le alive promised h = h
+earlier_cause st first second third session at KeyTooLong le alive promised h = h
+earlier_cause st first second third session at BadRow le alive promised h = h
+earlier_cause st first second third session at VacuumRunning le alive promised h = h
+earlier_cause st first second third session at NoSession le alive promised h = h
+earlier_cause st first second third session at SessionBusy le alive promised h = h
+earlier_cause st first second third session at BadSuper le alive promised h = h
+earlier_cause st first second third session at BadVersion le alive promised h = h
+earlier_cause st first second third session at LogDamaged le alive promised h = h
+earlier_cause st first second third session at BadLimits le alive promised h = h
+earlier_cause st first second third session at DeviceTooSmall le alive promised h = h
 
 -- what a step did behind its readings, it did from the start
 earlier_stepped : (old new : State) (first second third : Backing) (before after : FinishOp) (result : Result FinishStep Fault)
@@ -153,7 +154,7 @@ earlier_stepped : (old new : State) (first second third : Backing) (before after
 earlier_stepped old new first second third before after (Ok Going) le alive promised h = h
 earlier_stepped old new first second third before after (Ok Done) le alive promised h = h
 earlier_stepped old new first second third before after (Err fault) le alive promised h =
-    earlier_cause old first second third before.session (images_of before.at) (frames_of before.at) fault le alive promised h
+    earlier_cause old first second third before.session before.at fault le alive promised h
 
 -- the readings before
 pub record HasRead {S : Type 0} (g : Ghosts S) (old mid : S) : Type 0 where
@@ -201,7 +202,7 @@ behind g before after old mid new result read runs acts =
 -- a step behind its readings that is refused, with nothing changed
 pub acts_not : {S : Type 0} (g : Ghosts S) (op : FinishOp) (old new : S) (fault : Fault) → Continues g.follows old new → g.state new ≡ g.state old
     → ((g.backing new).honest ≡ true → IsInOrder (g.state old) → FinishFits (g.state old) op
-    → HasCause (where_working (g.state old) (g.backing old) (g.backing new) op.session (images_of op.at) (frames_of op.at)) fault)
+    → HasCause (where_finishing (g.state old) (g.backing old) (g.backing new) op.session op.at) fault)
     → FinishActs g op op old new (Err fault)
 acts_not g op old new fault steps same cause = record {
   steps = steps;
@@ -260,7 +261,7 @@ turns_behind g before after old (Err fault) session kept turned = record {
   refused = record { state = refl; op = kept };
   less = λ honest is. absurd cc;
   over = λ honest is. absurd cc;
-  stepped = λ honest order fits. turn_cause (g.state old) (g.backing old) (g.backing old) before.session (images_of before.at) (frames_of before.at) fault (turned honest order.tree fits);
+  stepped = λ honest order fits. turn_cause (g.state old) (g.backing old) (g.backing old) before.session before.at fault (turned honest order.tree fits);
 }
 
 -- a page as it was read, after a further reading

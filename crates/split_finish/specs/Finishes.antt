@@ -1,13 +1,14 @@
 -- What a step does by which splits are finished.
-use Rattle.std.specs.Prelude.{◌≡◌, ◌⊎◌, ℕ, suc, ◌*◌, ◌<◌, ◌≤◌, true, false, Option, Some, None, Result, Ok, Err, OnErr}
+use Rattle.std.specs.Prelude.{◌≡◌, ◌⊎◌, ℕ, suc, ◌*◌, ◌<◌, ◌≤◌, Bool, true, false, Option, Some, None, Result, Ok, Err, OnErr}
 use Rattle.index_model.specs.Actions.{Effect, Shape}
-use Rattle.index_model.specs.Faults.{HasCause}
+use Rattle.index_model.specs.Faults.{Circumstances, HasCause}
 use Rattle.index_model.specs.declared.fault.Fault.{Fault}
 use Rattle.index_model.specs.declared.fault.Fault.TheVariants.{Stopped}
 use Rattle.page_action.specs.States.{State, Backing, Continues}
 use Rattle.page_action.specs.declared.page_store.PageStore.{Ghosts}
 use Rattle.descent.specs.Shared.{IsInOrder, Does, IsOneStep, is_flagged, where_working}
 use Rattle.split_finish.specs.Targets.{targets_of, OnlyTargetsAreFlagged, FinishFits, finish_left, walk_length}
+use Rattle.split_finish.specs.Turns.{splits_root_of}
 use Rattle.split_finish.specs.declared.finish.FinishAt.{FinishAt}
 use Rattle.split_finish.specs.declared.finish.FinishAt.TheVariants.{Start, Down, Link, Root}
 use Rattle.split_finish.specs.declared.finish.FinishOp.{FinishOp}
@@ -51,6 +52,19 @@ frames_of (Down way) = 1
 frames_of (Link way) = 4
 frames_of Root = 3
 
+-- ... and whether it may take a block
+abbrev pub takes_block_of : FinishAt → Bool
+takes_block_of Start = false
+takes_block_of (Down way) = false
+takes_block_of (Link way) = true
+takes_block_of Root = true
+
+-- why a step of a call that stands there is refused, on pages that are a tree and a device that keeps its model
+abbrev pub where_finishing : State → Backing → Backing → ℕ → FinishAt → Circumstances
+where_finishing st old new session at =
+    where_working st old new session (images_of at) (frames_of at) (takes_block_of at)
+    (splits_root_of at)
+
 -- what a step does, by what it answers
 abbrev pub FinishStepped : State → Backing → State → Backing → FinishOp → FinishOp
     → Result FinishStep Fault → Type 0
@@ -58,8 +72,7 @@ FinishStepped old old_backing new new_backing before after (Ok Going) =
     FinishGoesOn old new before after
 FinishStepped old old_backing new new_backing before after (Ok Done) = FinishIsDone old new before
 FinishStepped old old_backing new new_backing before after (Err fault) =
-    HasCause (where_working old old_backing new_backing before.session (images_of before.at)
-    (frames_of before.at)) fault
+    HasCause (where_finishing old old_backing new_backing before.session before.at) fault
 
 -- a refused step changes neither the pages, nor who holds what, nor the call
 pub record FinishStays (old new : State) (before after : FinishOp) : Type 0 where

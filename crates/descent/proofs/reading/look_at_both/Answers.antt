@@ -30,7 +30,7 @@ returns-in-Err-clause-room g c =
     c.page.ensures.room c.page-2.ensures.room
 
 pub returns-in-Err-clause-cause : goal.returns-in-Err-clause-cause
-returns-in-Err-clause-cause g c honest room one two images frames some =
+returns-in-Err-clause-cause g c honest room one two images frames takes splits some =
     let st : State = g.S.PageStore.state c.args.store.now in
     let first : Backing = g.S.PageStore.backing c.args.store.now in
     let second : Backing = g.S.PageStore.backing c.page.new.self in
@@ -39,6 +39,6 @@ returns-in-Err-clause-cause g c honest room one two images frames some =
     let before = c.page.ensures.state ∙ c.ask_for-2.ensures.state ∙ c.ask_for.ensures.state in
     let was = c.ask_for-2.ensures.backing ∙ c.ask_for.ensures.backing in
     let earlier : IsLater first second = subst (λ (b : Backing). IsLater b second) was later in
-    read_cause st first second third c.args.session images frames c.args.second c.in-Err.fault earlier.failures
+    read_cause st first second third c.args.session images frames takes splits c.args.second c.in-Err.fault earlier.failures
     (λ h. ap (λ (b : Backing). b.stopped) (sym was) ∙ c.in_ok-page.ensures.alive h) honest two some
     (subst (λ (s : State). HasCause (where_read s second third c.args.second) c.in-Err.fault) before c.in-Err.ensures.cause)

@@ -1,4 +1,4 @@
-use Rattle.std.proofs.Common.{arith, ◌≡◌, ◌<◌, ◌≤◌, ap, sym, subst}
+use Rattle.std.proofs.Common.{arith, true, ◌≡◌, ◌<◌, ◌≤◌, ap, sym, subst}
 use Rattle.index_model.specs.Faults.{HasCause}
 use Rattle.index_model.specs.declared.limits.Limits.{Limits}
 use Rattle.page_action.specs.States.{State}
@@ -17,8 +17,8 @@ returns-in-Ok-ask_for-clause-block g c some =
     (fresh_past_meta st c.in-Ok.block (g.met.S.PageStore.laws.stored c.args.store.now) some fresh, omega (arith, most))
 
 pub returns-in-Err-clause-cause : goal.returns-in-Err-clause-cause
-returns-in-Err-clause-cause g c room images frames =
+returns-in-Err-clause-cause g c room images frames splits =
     let st : State = g.S.PageStore.state c.args.store.now in
     let old = g.S.PageStore.backing c.args.store.now in
-    subst (HasCause (where_working st old old c.args.session images frames)) (sym c.in-Err.ensures.fault)
-    (full_cause st old old c.args.session images frames c.in-Err.ensures.full)
+    subst (HasCause (where_working st old old c.args.session images frames true splits)) (sym c.in-Err.ensures.fault)
+    (full_cause st old old c.args.session images frames splits c.in-Err.ensures.full)

@@ -20,7 +20,7 @@ use Rattle.insert_split.proofs.Halving.{halves_may, few_changed, frames_for}
 use Rattle.insert_split.proofs.insert.InsertOp.split.Goals as goal
 
 pub returns-in-Err-clause-cause : goal.returns-in-Err-clause-cause
-returns-in-Err-clause-cause g c honest room fits pinned = c.in-Err.ensures.cause honest room fits.mendable 3 2 (omega arith)
+returns-in-Err-clause-cause g c honest room fits pinned = c.in-Err.ensures.cause honest room fits.mendable 3 2 true false (omega arith)
 
 pub returns-in-Err-take_block-clause-cause : goal.returns-in-Err-take_block-clause-cause
 returns-in-Err-take_block-clause-cause g c honest room fits pinned =
@@ -31,9 +31,9 @@ returns-in-Err-take_block-clause-cause g c honest room fits pinned =
     let third : Backing = g.S.PageStore.backing c.take_block.new.store in
     let same = c.read_right.ensures.state in
     let later : IsLater first second = g.met.S.PageStore.laws.follows_later _ _ (c.read_right.ensures.steps _ (g.met.S.PageStore.laws.follows_same _)) in
-    working_later st first second third session 3 2 c.in-Err-take_block.fault later.failures c.in-Ok.ensures.alive c.read_right.ensures.room.promised
-    (subst (λ (s : State). HasCause (where_working s second third session 3 2) c.in-Err-take_block.fault) same
-    (c.in-Err-take_block.ensures.cause (subst (λ (s : State). HasRoom s.table session) (sym same) room) 3 2))
+    working_later st first second third session 3 2 true false c.in-Err-take_block.fault later.failures c.in-Ok.ensures.alive c.read_right.ensures.room.promised
+    (subst (λ (s : State). HasCause (where_working s second third session 3 2 true false) c.in-Err-take_block.fault) same
+    (c.in-Err-take_block.ensures.cause (subst (λ (s : State). HasRoom s.table session) (sym same) room) 3 2 false))
 
 pub returns-in-Ok-act_on_halves-clause-splits : goal.returns-in-Ok-act_on_halves-clause-splits
 returns-in-Ok-act_on_halves-clause-splits g c =
@@ -106,7 +106,7 @@ returns-in-Err-act_on_halves-clause-cause g c honest room fits pinned =
     (subst (λ (s : State). HasCause (where_acted s (g.S.PageStore.backing c.take_block.new.store) third changed) c.in-Err-act_on_halves.fault) same
     (c.in-Err-act_on_halves.ensures.cause (subst (λ (s : State). AreActable s.limits (length s.pages) changed) (sym same) may))) in
     let later : IsLater first second = g.met.S.PageStore.laws.follows_later _ _ (c.read_right.ensures.steps _ (g.met.S.PageStore.laws.follows_same _)) in
-    act_cause st first second third session 3 2 changed c.in-Err-act_on_halves.fault later.failures c.in-Ok.ensures.alive c.read_right.ensures.room.promised
+    act_cause st first second third session 3 2 true false changed c.in-Err-act_on_halves.fault later.failures c.in-Ok.ensures.alive c.read_right.ensures.room.promised
     (few_changed left half half.block right)
     (frames_for st.table left half half.block right (subst (λ (b : ℕ). has_pin (pinned_blocks st.table) b ≡ true) (sym left_block) pinned))
     why

@@ -5,6 +5,7 @@ use Rattle.session_calls.specs.Ops.{OpFits}
 use Rattle.session_calls.specs.Sessions.{CallFits}
 use Rattle.session_calls.specs.declared.op.Op.{Op}
 use Rattle.session_calls.proofs.Counting.{insert_counts, scan_counts}
+use Rattle.session_calls.proofs.Hindering.{insert_hindered}
 use Rattle.session_calls.proofs.Inserting.{insert_goes_on, insert_ends, insert_is_refused}
 use Rattle.session_calls.proofs.Scanning.{moving_goes, ready_goes, done_goes}
 use Rattle.session_calls.proofs.op.Op.step.Goals as goal
@@ -57,6 +58,14 @@ returns-in-Ok-Going-clause-due g c honest order fits left due =
     let counted = rw c.in-Ok-Going.field-0-is at (all.straight honest order mine mine_due.whole mine_due.way mine_due.room) in
     insert_counts old (g.S.PageStore.state c.step.new.store) c.in-Insert.op c.step.new.self left mine_due c.step.ensures.all.entry
     (rw c.in-Ok-Going.field-0-is at (all.stepped honest order mine)) counted.0 counted.1
+
+pub returns-in-Err-clause-due : goal.returns-in-Err-clause-due
+returns-in-Err-clause-due g c honest order fits left due =
+    let old = g.S.PageStore.state c.args.store.now in
+    let mine = subst (λ (op : Op). OpFits old op) c.in-Insert.is fits in
+    let mine_due = subst (λ (op : Op). IsDueIn old (Some op) (suc left)) c.in-Insert.is due in
+    insert_hindered old (g.S.PageStore.state c.step.new.store) (g.S.PageStore.backing c.args.store.now) (g.S.PageStore.backing c.step.new.store) c.in-Insert.op c.step.new.self left c.in-Err.fault
+    order mine mine_due c.in-Err.ensures.all.refused (c.in-Err.ensures.all.stepped honest order mine)
 
 pub returns-in-Ok-Going-step-clause-due : goal.returns-in-Ok-Going-step-clause-due
 returns-in-Ok-Going-step-clause-due g c honest order fits left due =

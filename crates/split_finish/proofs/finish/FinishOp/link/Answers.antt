@@ -1,9 +1,8 @@
-use Rattle.std.proofs.Common.{true, sym, subst, ◌∙◌, arith}
+use Rattle.std.proofs.Common.{true, false, sym, subst, ◌∙◌, arith}
 use Rattle.index_model.specs.Faults.{HasCause}
 use Rattle.page_action.specs.States.{IsLater}
-use Rattle.descent.specs.Shared.{where_working}
 use Rattle.split_finish.specs.Targets.{FinishStands}
-use Rattle.split_finish.specs.Finishes.{images_of, frames_of}
+use Rattle.split_finish.specs.Finishes.{where_finishing}
 use Rattle.split_finish.specs.declared.finish.FinishAt.{FinishAt}
 use Rattle.split_finish.proofs.Standing.{place_inside, has_room}
 use Rattle.split_finish.proofs.Stepping.{refuses, behind}
@@ -32,6 +31,6 @@ returns-in-Err g c =
     (λ h. (let k = sym c.in-Err.is ∙ c.look_at_both.ensures.stopped h in cc))
     (λ honest order fits.
     let stands = subst (FinishStands st fits.start op.target) c.requires fits.stands in
-    subst (λ (a : FinishAt). HasCause (where_working st (g.S.PageStore.backing c.args.store.now) (g.S.PageStore.backing c.look_at_both.new.store) op.session (images_of a) (frames_of a)) c.in-Err.fault) (sym c.requires)
+    subst (λ (a : FinishAt). HasCause (where_finishing st (g.S.PageStore.backing c.args.store.now) (g.S.PageStore.backing c.look_at_both.new.store) op.session a) c.in-Err.fault) (sym c.requires)
     (c.in-Err.ensures.cause honest (has_room st op fits) (place_inside st fits.start op.target.level _ true op.target.block order.tree fits.newest.place)
-    (place_inside st fits.start c.args.way.level _ true c.args.way.block order.tree stands.1.place) 4 4 (omega arith)))
+    (place_inside st fits.start c.args.way.level _ true c.args.way.block order.tree stands.1.place) 4 4 true false (omega arith)))

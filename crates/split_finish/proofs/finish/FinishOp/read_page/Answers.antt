@@ -1,9 +1,8 @@
-use Rattle.std.proofs.Common.{◌≤◌, ℕ, true, length, slice_get, sym, ap, subst, ◌∙◌, arith}
+use Rattle.std.proofs.Common.{◌≤◌, ℕ, true, false, length, slice_get, sym, ap, subst, ◌∙◌, arith}
 use Rattle.index_model.specs.Faults.{HasCause}
 use Rattle.page_action.specs.States.{State}
-use Rattle.descent.specs.Shared.{where_working}
 use Rattle.split_finish.specs.Targets.{FinishStands}
-use Rattle.split_finish.specs.Finishes.{images_of, frames_of}
+use Rattle.split_finish.specs.Finishes.{where_finishing}
 use Rattle.split_finish.specs.declared.finish.FinishAt.{FinishAt}
 use Rattle.split_finish.proofs.Standing.{place_inside, has_room}
 use Rattle.split_finish.proofs.Stepping.{refuses, turns}
@@ -28,5 +27,5 @@ returns-in-Err g c =
     (λ h. (let k = sym c.in-Err.is ∙ c.look.ensures.stopped h in cc))
     (λ honest order fits.
     let on = subst (FinishStands st fits.start op.target) c.requires fits.stands in
-    subst (λ (a : FinishAt). HasCause (where_working st (g.S.PageStore.backing c.args.store.now) (g.S.PageStore.backing c.look.new.store) op.session (images_of a) (frames_of a)) c.in-Err.fault) (sym c.requires)
-    (c.in-Err.ensures.works honest (has_room st op fits) (place_inside st fits.start c.args.way.level _ true c.args.way.block order.tree on.place) 0 1 (omega arith)))
+    subst (λ (a : FinishAt). HasCause (where_finishing st (g.S.PageStore.backing c.args.store.now) (g.S.PageStore.backing c.look.new.store) op.session a) c.in-Err.fault) (sym c.requires)
+    (c.in-Err.ensures.works honest (has_room st op fits) (place_inside st fits.start c.args.way.level _ true c.args.way.block order.tree on.place) 0 1 false false (omega arith)))

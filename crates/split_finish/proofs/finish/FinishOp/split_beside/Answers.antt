@@ -10,9 +10,8 @@ use Rattle.page_action.specs.Reuse.{IsFresh}
 use Rattle.page_action.specs.States.{State, Backing, IsLater, after_act}
 use Rattle.page_action.specs.Stored.{AreActable}
 use Rattle.tree_acts.proofs.Overlays.{inside}
-use Rattle.descent.specs.Shared.{where_working}
 use Rattle.descent.proofs.Working.{act_cause_of}
-use Rattle.split_finish.specs.Finishes.{images_of, frames_of}
+use Rattle.split_finish.specs.Finishes.{where_finishing}
 use Rattle.split_finish.specs.Parting.{halves_and}
 use Rattle.split_finish.specs.declared.finish.FinishAt.{FinishAt}
 use Rattle.split_finish.proofs.Parting.{PartsParent, parts, parts_may, beside_parent, few_parts, split_as_read}
@@ -26,8 +25,8 @@ returns-in-Err g c =
     let st : State = g.S.PageStore.state c.args.store.now in
     acts_not g.S.PageStore op c.args.store.now c.take_block.new.store c.in-Err.fault c.take_block.ensures.steps c.take_block.ensures.state
     (λ honest order fits.
-    subst (λ (a : FinishAt). HasCause (where_working st (g.S.PageStore.backing c.args.store.now) (g.S.PageStore.backing c.take_block.new.store) op.session (images_of a) (frames_of a)) c.in-Err.fault) (sym c.requires.meets.at)
-    (c.in-Err.ensures.cause (has_room st op fits) 4 4))
+    subst (λ (a : FinishAt). HasCause (where_finishing st (g.S.PageStore.backing c.args.store.now) (g.S.PageStore.backing c.take_block.new.store) op.session a) c.in-Err.fault) (sym c.requires.meets.at)
+    (c.in-Err.ensures.cause (has_room st op fits) 4 4 false))
 
 pub split_links-half-requires-clause-block : goal.split_links-half-requires-clause-block
 split_links-half-requires-clause-block g c = c.in-Ok.ensures.block c.requires.some
@@ -104,5 +103,5 @@ returns-in-Err-act_on_halves g c =
     subst (λ (b : Backing). HasCause (where_acted st b third (halves_and left half c.args.right clear)) c.in-Err-act_on_halves.fault) c.take_block.ensures.backing
     (subst (λ (s : State). HasCause (where_acted s (g.S.PageStore.backing c.take_block.new.store) third (halves_and left half c.args.right clear)) c.in-Err-act_on_halves.fault) same
     (c.in-Err-act_on_halves.ensures.cause (subst (λ (s : State). AreActable s.limits (length s.pages) (halves_and left half c.args.right clear)) (sym same) may))) in
-    subst (λ (a : FinishAt). HasCause (where_working st first third op.session (images_of a) (frames_of a)) c.in-Err-act_on_halves.fault) (sym c.requires.meets.at)
-    (act_cause_of st first first third op.session 4 (halves_and left half c.args.right clear) c.in-Err-act_on_halves.fault (omega arith) (λ h. h) refl (few_parts left half clear c.args.right) why))
+    subst (λ (a : FinishAt). HasCause (where_finishing st first third op.session a) c.in-Err-act_on_halves.fault) (sym c.requires.meets.at)
+    (act_cause_of st first first third op.session 4 true false (halves_and left half c.args.right clear) c.in-Err-act_on_halves.fault (omega arith) (λ h. h) refl (few_parts left half clear c.args.right) why))

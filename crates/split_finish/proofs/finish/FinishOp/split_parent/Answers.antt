@@ -1,8 +1,7 @@
-use Rattle.std.proofs.Common.{arith, sym, subst}
+use Rattle.std.proofs.Common.{arith, true, false, sym, subst}
 use Rattle.index_model.specs.Faults.{HasCause}
 use Rattle.page_action.specs.States.{State, IsLater}
-use Rattle.descent.specs.Shared.{where_working}
-use Rattle.split_finish.specs.Finishes.{images_of, frames_of}
+use Rattle.split_finish.specs.Finishes.{where_finishing}
 use Rattle.split_finish.specs.declared.finish.FinishAt.{FinishAt}
 use Rattle.split_finish.proofs.Parting.{beside_parent}
 use Rattle.split_finish.proofs.Standing.{has_room}
@@ -36,5 +35,5 @@ returns-in-Err g c =
     acts_not g.S.PageStore op c.args.store.now c.read_right.new.store c.in-Err.fault c.read_right.ensures.steps c.read_right.ensures.state
     (λ honest order fits.
     let beside = beside_parent st op.session (g.S.PageStore.backing c.args.store.now).honest op c.requires.meets.way c.args.page c.args.parent order fits c.requires.meets.at (later.honest honest) c.requires.meets.read c.requires.meets.read_parent c.requires.meets.ready in
-    subst (λ (a : FinishAt). HasCause (where_working st (g.S.PageStore.backing c.args.store.now) (g.S.PageStore.backing c.read_right.new.store) op.session (images_of a) (frames_of a)) c.in-Err.fault) (sym c.requires.meets.at)
-    (c.in-Err.ensures.cause honest (has_room st op fits) beside.mendable 4 4 (omega arith)))
+    subst (λ (a : FinishAt). HasCause (where_finishing st (g.S.PageStore.backing c.args.store.now) (g.S.PageStore.backing c.read_right.new.store) op.session a) c.in-Err.fault) (sym c.requires.meets.at)
+    (c.in-Err.ensures.cause honest (has_room st op fits) beside.mendable 4 4 true false (omega arith)))

@@ -1,0 +1,27 @@
+-- An insert on its straight way to a leaf that has room.
+use Rattle.std.proofs.Common.{◌≡◌, ℕ, false, Some, slice_get, refl, sym, subst}
+use Rattle.page_action.proofs.StoredPages.{stored_page}
+use Rattle.page_action.specs.States.{State}
+use Rattle.descent.specs.Shared.{IsInOrder}
+use Rattle.insert_split.specs.Inserts.{InsertFits, takes_block_at, splits_root_at}
+use Rattle.insert_split.specs.Straight.{IsStraight, HasRoomFor}
+use Rattle.insert_split.specs.declared.insert.InsertAt.{InsertAt}
+use Rattle.insert_split.specs.declared.insert.InsertAt.TheVariants.{Start, At, Holding as Holds, Finishing}
+use Rattle.insert_split.specs.declared.insert.InsertOp.{InsertOp}
+use Rattle.insert_split.proofs.Adding.{leaf_there, covers_there, roomy_is}
+
+-- no step of it takes a block, or splits the root
+pub straight_takes_none : (st : State) (op : InsertOp) → IsInOrder st → InsertFits st op → IsStraight st op.entry op.at → HasRoomFor st op.entry
+    → (takes_block_at st op.at ≡ false) × (splits_root_at op.at ≡ false)
+straight_takes_none st op order fits way room = by op.at refl way
+  where
+    by : (at : InsertAt) → op.at ≡ at → IsStraight st op.entry at → (takes_block_at st at ≡ false) × (splits_root_at at ≡ false)
+    by Start is way = (refl, refl)
+    by (At on) is way = (refl, refl)
+    by (Holds block) is way =
+        let leaf = (leaf_there st op block is fits).1 in
+        let block_is = (stored_page st.limits block st.pages leaf.page order.tree.stored leaf.found).block_is in
+        let covers = covers_there st fits.start op.entry block leaf.page order.tree block_is leaf.found leaf in
+        let few = room leaf.page (subst (λ (b : ℕ). slice_get st.pages b ≡ Some leaf.page) (sym block_is) leaf.found) covers in
+        ((roomy_is st block leaf.page leaf.found few).2, refl)
+    by (Finishing splits) is way = absurd way

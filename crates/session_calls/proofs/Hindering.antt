@@ -1,0 +1,55 @@
+-- Why an insert that is due is refused.
+use Rattle.std.proofs.Common.{◌≡◌, ℕ, suc, Bool, true, false, nat_le, sym, ap, subst}
+use Rattle.std.proofs.lemmas.Bool.{and_parts}
+use Rattle.index_model.specs.Faults.{HasCause}
+use Rattle.index_model.specs.declared.fault.Fault.{Fault}
+use Rattle.index_model.specs.declared.fault.Fault.TheVariants.{NoMemory, Io, Stopped, Blocked, Exists, KeyTooLong, BadRow, IndexFull, LogFull, NoFrame, VacuumRunning, NoSession, SessionBusy, BadSuper, BadVersion, LogDamaged, PageDamaged, BadLimits, TooTall, DeviceTooSmall}
+use Rattle.page_action.specs.States.{State, Backing}
+use Rattle.descent.specs.Shared.{IsInOrder, is_out_of_blocks}
+use Rattle.descent.specs.Ways.{root_level}
+use Rattle.insert_split.specs.Inserts.{InsertFits, InsertStays, takes_block_at, splits_root_at, where_inserting}
+use Rattle.insert_split.specs.declared.insert.InsertOp.{InsertOp}
+use Rattle.insert_split.proofs.Roomy.{straight_takes_none}
+use Rattle.session_calls.specs.Due.{InsertIsDue, IsHindered}
+use Rattle.session_calls.specs.Sessions.{slot_after}
+use Rattle.session_calls.specs.declared.answer.Answer.TheVariants.{Refused}
+use Rattle.session_calls.specs.declared.op.Op.TheVariants.{Insert}
+
+-- what isn't so can't be so
+not_so : {b : Bool} → b ≡ false → b ≡ true → ⊥
+not_so is h = cc
+
+-- an insert that is due is refused neither for what is on its leaf, nor for the want of a block, nor for a root that can't
+-- be split
+pub insert_hindered : (old new : State) (first second : Backing) (before after : InsertOp) (left : ℕ) (fault : Fault) → IsInOrder old → InsertFits old before → InsertIsDue old before (suc left)
+    → InsertStays old new before after → HasCause (where_inserting old first second before.session before.entry before.at) fault
+    → IsHindered old new (slot_after (Refused fault) (Insert after)) (suc left) fault
+insert_hindered old new first second before after left fault order fits due stays cause = by fault cause
+  where
+    none : (takes_block_at old before.at ≡ false) × (splits_root_at before.at ≡ false)
+    none = straight_takes_none old before order fits due.way due.room
+
+    still : InsertIsDue new after (suc left)
+    still = subst (λ (st : State). InsertIsDue st after (suc left)) (sym stays.state) (subst (λ (op : InsertOp). InsertIsDue old op (suc left)) (sym stays.op) due)
+
+    by : (f : Fault) → HasCause (where_inserting old first second before.session before.entry before.at) f → IsHindered old new (slot_after (Refused f) (Insert after)) (suc left) f
+    by (Blocked b) h = record { pages = ap (λ (st : State). st.pages) stays.state; limits = ap (λ (st : State). st.limits) stays.state; due = still }
+    by Io h = tt
+    by Stopped h = tt
+    by LogFull h = tt
+    by NoFrame h = tt
+    by IndexFull h = absurd (not_so none.0 (and_parts (takes_block_at old before.at) (is_out_of_blocks old) h).0)
+    by TooTall h = absurd (not_so none.1 (and_parts (splits_root_at before.at) (nat_le 31 (root_level old.pages)) h).0)
+    by Exists h = absurd (not_so due.absent h)
+    by NoMemory h = absurd cc
+    by VacuumRunning h = absurd cc
+    by NoSession h = absurd cc
+    by SessionBusy h = absurd cc
+    by (PageDamaged b) h = absurd cc
+    by KeyTooLong h = absurd h
+    by BadRow h = absurd h
+    by BadSuper h = absurd h
+    by BadVersion h = absurd h
+    by LogDamaged h = absurd h
+    by BadLimits h = absurd h
+    by DeviceTooSmall h = absurd h
