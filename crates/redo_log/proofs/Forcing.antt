@@ -15,10 +15,11 @@ use Rattle.page_codec.specs.declared.page.Page.{Page}
 use Rattle.redo_log.specs.Images.{SameImages, images_bytes, images_of}
 use Rattle.redo_log.specs.Groups.{IsGroup, body}
 use Rattle.redo_log.specs.Publish.{IsShutOrWhole}
-use Rattle.redo_log.specs.Kept.{Keeps, IsSettled, Restarts}
+use Rattle.redo_log.specs.Kept.{Keeps, IsSettled, Restarts, waiting_blocks, waiting_count}
 use Rattle.redo_log.specs.declared.log.Log.{Log}
 use Rattle.redo_log.proofs.Leaving.{publishing, published}
 use Rattle.redo_log.proofs.ImageLists.{none, same_eq, same_trans, images_of-push}
+use Rattle.redo_log.proofs.Laying.{none_laid}
 use Rattle.redo_log.proofs.Keeping.{keeps_all}
 
 pub whole_list : {A : Type 0} (xs : List A) → take (length xs) xs ≡ xs
@@ -37,7 +38,7 @@ sealed_piece v given sealed read c waiting was long is laid counted buffered =
     ∙ ap (λ (n : ℕ). to_le_bytes w32 n ++ images_bytes waiting ++ 0 ∷ []) (sym counted)
 
 -- with no image waiting all actions are on the disk
-pub all_forced : (log : Log) (m : Moment) (acts : List (List Page)) (forced : ℕ) → Keeps log m acts forced → log.count ≡ 0 → Keeps log m acts (length acts)
+pub all_forced : (log : Log) (m : Moment) (acts : List (List Page)) (forced : ℕ) → Keeps log m acts forced → waiting_count log ≡ 0 → Keeps log m acts (length acts)
 all_forced log m acts forced k idle =
     let no_more : k.waiting ≡ [] = none k.waiting (k.waits.counted ∙ idle) in
     record {
@@ -53,7 +54,7 @@ all_forced log m acts forced k idle =
       unforced = same_eq k.waiting _ (no_more ∙ sym (ap images_of (drop-length acts)));
     }
 
-module _ (log : Log) (b : List ℕ) (old new : Trace) (acts : List (List Page)) (forced : ℕ) (k : Keeps log old.now acts forced) (some : 0 < log.count)
+module _ (log : Log) (b : List ℕ) (old new : Trace) (acts : List (List Page)) (forced : ℕ) (k : Keeps log old.now acts forced) (some : 0 < waiting_count log)
     (piece : b ≡ body k.waiting ++ 0 ∷ []) (gone : Goes (IsShutOrWhole (4096 + log.at) b old.now) old new) where
   is : IsGroup log.limits k.waiting
   is = record { some = omega (arith, k.waits.counted); few = omega (arith, k.waits.counted, log.fits some, log.most); images = k.waits.images }
@@ -79,9 +80,9 @@ module _ (log : Log) (b : List ℕ) (old new : Trace) (acts : List (List Page)) 
   now_is : IsShutOrWhole (4096 + log.at) b old.now new.now
   now_is = goes_now _ old new gone (record { only = same_only _ _ old.now; either = λ shut. inl shut })
 
-  pub forced_keeps : (log' : Log) → log'.limits ≡ log.limits → log'.at ≡ log.at + (5 + 4096 * log.count) → log'.count ≡ 0 → log'.stopped ≡ false
+  pub forced_keeps : (log' : Log) → log'.limits ≡ log.limits → log'.at ≡ log.at + (5 + 4096 * waiting_count log) → waiting_blocks log' ≡ [] → log'.stopped ≡ false
       → OnDisk (4096 + log.at) (1 ∷ b) new.now → Keeps log' new.now acts (length acts)
-  forced_keeps log' limits at count stopped on =
+  forced_keeps log' limits at none_waits stopped on =
       let end : log.at + (5 + 4096 * length k.waiting) ≡ log'.at = omega (arith, at, k.waits.counted) in
       let settled : IsSettled log.limits 4096 log'.at (k.groups ++ k.waiting ∷ []) new.now =
       subst (λ (a : ℕ). IsSettled log.limits 4096 a (k.groups ++ k.waiting ∷ []) new.now) end
@@ -92,18 +93,14 @@ module _ (log : Log) (b : List ℕ) (old new : Trace) (acts : List (List Page)) 
         groups = k.groups ++ k.waiting ∷ [];
         settled = subst (λ (l : Limits). IsSettled l 4096 log'.at (k.groups ++ k.waiting ∷ []) new.now) (sym limits) settled;
         waiting = [];
-        waits = record {
-          counted = sym count;
-          images = tt;
-          buffered = ap (λ (n : ℕ). take (4096 * n) (drop 4 log'.buffer.items)) count;
-        };
+        waits = none_laid log'.limits (waiting_blocks log') log'.buffer.items none_waits;
         few = omega arith;
         durable = all_there;
         unforced = same_eq [] _ (sym (ap images_of (drop-length acts)));
       }
 
 -- a publication changes the log's range alone
-pub publish_only : (log : Log) (b : List ℕ) (old new : Trace) → length b ≡ 5 + 4096 * log.count → 0 < log.count → Goes (IsShutOrWhole (4096 + log.at) b old.now) old new
+pub publish_only : (log : Log) (b : List ℕ) (old new : Trace) → length b ≡ 5 + 4096 * waiting_count log → 0 < waiting_count log → Goes (IsShutOrWhole (4096 + log.at) b old.now) old new
     → Goes (ChangesOnly 4096 log.limits.log_bytes old.now) old new
 publish_only log b old new long some gone = goes_weaker _ _ old new (λ n p.
     only_wider (4096 + log.at) (length b + 1) 4096 log.limits.log_bytes old.now n (omega arith) (omega (arith, long, log.fits some)) p.only) gone

@@ -1,6 +1,6 @@
 -- Images in order: their bytes, and which is a block's last.
-use Rattle.std.proofs.Common.{◌≡◌, ℕ, ◌+◌, ◌*◌, ◌<◌, ◌≤◌, List, [], ◌∷◌, ◌++◌, length, take, drop, get_or, Option, Some, None, refl, sym, ◌∙◌, ap, arith, append_assoc, length-append, length-take-le}
-use Rattle.std.proofs.lemmas.List.{take_more, append-nil, drop-take, drop-append-le}
+use Rattle.std.proofs.Common.{◌≡◌, ℕ, ◌+◌, ◌*◌, ◌≤◌, List, [], ◌∷◌, ◌++◌, length, take, drop, Option, Some, None, refl, sym, ◌∙◌, ap, arith, append_assoc, length-append, length-take-le}
+use Rattle.std.proofs.lemmas.List.{append-nil, drop-take, drop-append-le}
 use Rattle.std.specs.List.{AllByRecursion}
 use Rattle.index_model.specs.declared.limits.Limits.{Limits}
 use Rattle.page_codec.specs.declared.page.Page.{Page}
@@ -17,13 +17,6 @@ none (x ∷ xs) e = absurd (omega arith)
 pub images_bytes-append : (xs ys : List Page) → images_bytes (xs ++ ys) ≡ images_bytes xs ++ images_bytes ys
 images_bytes-append [] ys = refl
 images_bytes-append (x ∷ xs) ys = ap (λ (l : List ℕ). page_bytes x ++ l) (images_bytes-append xs ys) ∙ sym (append_assoc (page_bytes x) (images_bytes xs) (images_bytes ys))
-
--- one image more
-pub images_bytes-more : (xs : List Page) (i : ℕ) (p : Page) → i < length xs → p ≡ get_or xs i p → images_bytes (take (i + 1) xs) ≡ images_bytes (take i xs) ++ page_bytes p
-images_bytes-more xs i p lt is =
-    ap images_bytes (take_more xs i p lt)
-    ∙ images_bytes-append (take i xs) (get_or xs i p ∷ [])
-    ∙ ap (λ (l : List ℕ). images_bytes (take i xs) ++ l) (append-nil (page_bytes (get_or xs i p)) ∙ ap page_bytes (sym is))
 
 pub length-images_bytes : (limits : Limits) (ps : List Page) → AreImages limits ps → length (images_bytes ps) ≡ 4096 * length ps
 length-images_bytes limits [] are = refl

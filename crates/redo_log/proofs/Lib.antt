@@ -1,7 +1,9 @@
 mod Appending
+pub mod BlockLists
 mod Forcing
 pub mod ImageLists
 pub mod Keeping
+mod Laying
 pub mod Leaving
 mod Parsing
 mod Replaying

@@ -1,5 +1,5 @@
 -- From what was read to a log that keeps it.
-use Rattle.std.proofs.Common.{◌≡◌, ℕ, ◌+◌, ◌-◌, ◌*◌, ◌≤◌, List, [], ◌∷◌, ◌++◌, length, take, drop, get_or, false, sym, ◌∙◌, ap, subst, arith, append_assoc, length-append, length-drop, length-take-le}
+use Rattle.std.proofs.Common.{◌≡◌, ℕ, ◌+◌, ◌-◌, ◌≤◌, List, [], ◌∷◌, ◌++◌, length, take, drop, get_or, false, sym, ◌∙◌, ap, subst, arith, append_assoc, length-append, length-drop, length-take-le}
 use Rattle.std.proofs.Math.Seq.{drop-length}
 use Rattle.std.proofs.lemmas.List.{get_or-drop, get_or-take, get_or_append_left}
 use Rattle.std.specs.Prelude.{slice_range}
@@ -9,10 +9,11 @@ use Rattle.index_model.specs.declared.limits.Limits.{Limits}
 use Rattle.page_codec.specs.declared.page.Page.{Page}
 use Rattle.redo_log.specs.Images.{images_of}
 use Rattle.redo_log.specs.Groups.{IsImage, AreImages, AreGroups, spelled, SpellsGroups, log_range}
-use Rattle.redo_log.specs.Kept.{IsSettled}
+use Rattle.redo_log.specs.Kept.{IsSettled, waiting_blocks}
 use Rattle.redo_log.specs.Reading.{AreAllImages, Replays}
 use Rattle.redo_log.specs.declared.log.Log.{Log}
 use Rattle.redo_log.proofs.ImageLists.{same_eq, all-append}
+use Rattle.redo_log.proofs.Laying.{none_laid}
 use Rattle.redo_log.proofs.Forcing.{whole_list}
 
 -- what was read is the log's range
@@ -35,7 +36,7 @@ has_range start size file q rest is fits =
     }
 
 pub replayed : (limits : Limits) (m : Moment) (log : Log) (bytes : List ℕ) (images : List Page) (at : ℕ) → bytes ≡ log_range limits m.seen → 4096 + limits.log_bytes ≤ length m.seen → AreAllImages limits bytes images at
-    → log.limits ≡ limits → log.at ≡ at → log.count ≡ 0 → log.stopped ≡ false → Replays limits m log images
+    → log.limits ≡ limits → log.at ≡ at → waiting_blocks log ≡ [] → log.stopped ≡ false → Replays limits m log images
 replayed limits m log bytes images at are fits r limits_are at_is idle alive =
     let s = r.spells in
     let there : take limits.log_bytes (drop 4096 m.seen) ≡ (spelled r.groups ++ s.gate ∷ []) ++ s.rest = sym are ∙ (s.is ∙ sym (append_assoc (spelled r.groups) (s.gate ∷ []) s.rest)) in
@@ -64,7 +65,7 @@ replayed limits m log bytes images at are fits r limits_are at_is idle alive =
           on_disk = record { has = has; firm = λ i lt. firm.firm i (omega (arith, lt, long)) };
         });
         waiting = [];
-        waits = record { counted = sym idle; images = tt; buffered = ap (λ (n : ℕ). take (4096 * n) (drop 4 log.buffer.items)) idle };
+        waits = none_laid log.limits (waiting_blocks log) log.buffer.items idle;
         few = omega arith;
         durable = same_eq _ _ (ap images_of (sym (whole_list r.groups)));
         unforced = same_eq [] _ (sym (ap images_of (drop-length r.groups)));

@@ -8,8 +8,9 @@ use Rattle.index_model.specs.declared.fault.Fault.{Fault}
 use Rattle.index_model.specs.declared.fault.Fault.TheVariants.{Io, Stopped}
 use Rattle.index_model.specs.declared.limits.Limits.{Limits}
 use Rattle.page_codec.specs.declared.page.Page.{Page}
-use Rattle.redo_log.specs.Images.{SameImages, images_bytes, images_of}
-use Rattle.redo_log.specs.Groups.{AreImages, AreGroups, spelled, SpellsGroups, log_range}
+use Rattle.redo_log.specs.Images.{SameImages, images_of}
+use Rattle.redo_log.specs.Groups.{AreGroups, spelled, SpellsGroups, log_range}
+use Rattle.redo_log.specs.Blocks.{AreLaid}
 use Rattle.redo_log.specs.declared.log.Log.{Log}
 
 -- the sizes that it was made with
@@ -24,9 +25,13 @@ is_stopped log = log.stopped
 abbrev pub actions_of : Log → ℕ
 actions_of log = log.actions
 
+-- the blocks whose images wait for a force, in the order of their images
+abbrev pub waiting_blocks : Log → List ℕ
+waiting_blocks log = log.waiting.blocks.items
+
 -- how many images wait for a force
 abbrev pub waiting_count : Log → ℕ
-waiting_count log = log.count
+waiting_count log = length (waiting_blocks log)
 
 -- where its open groups end, in its range
 abbrev pub groups_end : Log → ℕ
@@ -34,7 +39,7 @@ groups_end log = log.at
 
 -- where the group that waits would end with n images more, the closed gate behind it among them
 abbrev pub end_with : Log → ℕ → ℕ
-end_with log n = log.at + (6 + 4096 * (log.count + n))
+end_with log n = log.at + (6 + 4096 * (waiting_count log + n))
 
 -- n images more would fit
 abbrev pub ImagesFit : Log → ℕ → Type 0
@@ -64,11 +69,9 @@ pub record IsSettled (limits : Limits) (start at : ℕ) (groups : List (List Pag
   pub closed : gate ≢ 1
   pub on_disk : OnDisk start (spelled groups ++ gate ∷ []) m
 
--- these images wait in its buffer
-pub record Waits (log : Log) (waiting : List Page) : Type 0 where
-  pub counted : length waiting ≡ log.count
-  pub images : AreImages log.limits waiting
-  pub buffered : take (4096 * log.count) (drop 4 log.buffer.items) ≡ images_bytes waiting
+-- these images wait in its buffer, one of each block that waits
+abbrev pub Waits : Log → List Page → Type 0
+Waits log waiting = AreLaid log.limits (waiting_blocks log) log.buffer.items waiting
 
 -- the log keeps these actions, of which the first so many are forced: on the disk stand the last
 -- images of these, and the last images of the others wait

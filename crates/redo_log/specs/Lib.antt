@@ -1,5 +1,6 @@
 pub mod Images
 pub mod Groups
+pub mod Blocks
 pub mod Publish
 pub mod Kept
 pub mod Reading

@@ -1,23 +1,56 @@
 //! Images and their number in a buffer.
 
-ghost use Rattle.std.specs.Prelude.{◌≡◌, ◌+◌, ◌*◌, ◌≤◌, ◌<◌, ◌^◌, [], ◌∷◌, ◌++◌, length, take, drop};
+ghost use Rattle.std.specs.Prelude.{◌≡◌, ◌+◌, ◌*◌, ◌≤◌, ◌<◌, ◌^◌, List, [], ◌∷◌, ◌++◌, length, take, drop, vec_capacity};
 ghost use Rattle.std.specs.Int.{w32, to_le_bytes};
-ghost use Rattle.redo_log.specs.Images.{images_bytes};
+ghost use Rattle.index_model.specs.declared.limits.Limits.{Limits};
+ghost use Rattle.page_codec.specs.declared.page.Page.{Page};
 ghost use Rattle.page_codec.specs.Spelling.{page_bytes};
+ghost use Rattle.redo_log.specs.Groups.{IsImage, AreImages};
+ghost use Rattle.redo_log.specs.Blocks.{with_block, with_blocks, with_image, with_images, AreInside, AreLaid};
 
+use crate::waiting::Waiting;
 use page_codec::{Page, encode};
 
-/// Lays images behind one another.
-pub(crate) fn lay_images(buffer: &mut [u8], at: usize, images: &[Page])
-    requires { at + 4096 * length images.now ≤ length buffer.old }
-    ensures { take (at + 4096 * length images.now) buffer.new
-        ≡ take at buffer.old ++ images_bytes images.now }
+/// Lays images one after the other, each in the place of the image of its block, or behind those
+/// that wait where none is of its block.
+pub(crate) fn lay_images(waiting: &mut Waiting, buffer: &mut [u8], images: &[Page])
+    requires inside { AreInside (length waiting.old.places.items) images.now }
+    requires room { length (with_blocks waiting.old.blocks.items images.now)
+        ≤ vec_capacity waiting.old.blocks }
+    requires buffer { 4 + 4096 * length (with_blocks waiting.old.blocks.items images.now)
+        ≤ length buffer.old }
+    ensures laid { (limits : Limits) (laid : List Page) → AreImages limits images.now
+        → AreLaid limits waiting.old.blocks.items buffer.old laid
+        → AreLaid limits waiting.new.blocks.items buffer.new (with_images laid images.now) }
+    ensures blocks { waiting.new.blocks.items
+        ≡ with_blocks waiting.old.blocks.items images.now }
+    ensures places { length waiting.new.places.items ≡ length waiting.old.places.items }
+    ensures capacity { vec_capacity waiting.new.blocks ≡ vec_capacity waiting.old.blocks }
 {
-    let mut end = at;
-    for image in images {
-        put_image(&mut buffer[end..end + 4096], image);
-        end += 4096;
+    let mut rest = images;
+    while let [image, behind @ ..] = rest {
+        lay_image(waiting, buffer, image);
+        rest = behind;
     }
+}
+
+/// Lays one image so.
+fn lay_image(waiting: &mut Waiting, buffer: &mut [u8], image: &Page)
+    requires inside { image.now.block < length waiting.old.places.items }
+    requires room { length (with_block waiting.old.blocks.items image.now.block)
+        ≤ vec_capacity waiting.old.blocks }
+    requires buffer { 4 + 4096 * length (with_block waiting.old.blocks.items image.now.block)
+        ≤ length buffer.old }
+    ensures laid { (limits : Limits) (laid : List Page) → IsImage limits image.now
+        → AreLaid limits waiting.old.blocks.items buffer.old laid
+        → AreLaid limits waiting.new.blocks.items buffer.new (with_image laid image.now) }
+    ensures blocks { waiting.new.blocks.items
+        ≡ with_block waiting.old.blocks.items image.now.block }
+    ensures places { length waiting.new.places.items ≡ length waiting.old.places.items }
+    ensures capacity { vec_capacity waiting.new.blocks ≡ vec_capacity waiting.old.blocks }
+{
+    let at = 4 + 4096 * waiting.take(image.block);
+    put_image(&mut buffer[at..at + 4096], image);
 }
 
 /// Writes one image, of which this is the place.

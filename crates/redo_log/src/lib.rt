@@ -7,6 +7,7 @@ mod lay;
 mod log;
 mod publish;
 mod reading;
+mod waiting;
 
 pub use image::are_images;
 pub use log::{Log, Replayed};

@@ -1,13 +1,16 @@
 //! The log.
 
-ghost use Rattle.std.specs.Prelude.{◌⊎◌, ◌≡◌, ◌≤◌, ◌<◌, ◌+◌, ◌*◌, ◌^◌, ℕ, suc, true, Err, IsTrue, IsErrOf, OnOk, OnErr, IfOk, IfErr, is_err, length};
+ghost use Rattle.std.specs.Prelude.{◌⊎◌, ◌≡◌, ◌≤◌, ◌<◌, ◌+◌, ◌*◌, ◌/◌, ◌^◌, ℕ, suc, true, Err, IsTrue, IsErrOf, OnOk, OnErr, IfOk, IfErr, is_err, length, vec_capacity};
+ghost use Rattle.std.specs.Bool.{OnTrue, OnFalse};
 ghost use Rattle.index_model.specs.Limits.{AreLimits};
 ghost use Rattle.device_layout.specs.Layout.{log_end};
 ghost use Rattle.redo_log.specs.Groups.{AreImages};
+ghost use Rattle.redo_log.specs.Blocks.{with_blocks, new_count};
 
 use crate::lay::{lay_images, seal};
 use crate::publish::{publish, shut};
 use crate::reading::read_groups;
+use crate::waiting::Waiting;
 use device::Device;
 use device_layout::LOG_START;
 use index_model::{Fault, Limits};
@@ -21,21 +24,24 @@ pub struct Log {
     limits: Limits,
     /// Where the next group goes.
     at: usize,
-    /// How many images wait.
-    count: u32,
     actions: u64,
     stopped: bool,
+    /// The blocks whose images wait, one image for each.
+    waiting: Waiting,
     /// The group that waits: room for the number, and its images.
     buffer: Vec<u8>,
     ghost least: { 65536 ≤ limits.log_bytes },
     ghost most: { limits.log_bytes ≤ 16777216 },
     ghost sized: { length buffer.items ≡ limits.log_bytes },
     ghost room: { at + 1 ≤ limits.log_bytes },
-    ghost fits: { 0 < count → at + (6 + 4096 * count) ≤ limits.log_bytes },
+    ghost fits: { 0 < length waiting.blocks.items
+        → at + (6 + 4096 * length waiting.blocks.items) ≤ limits.log_bytes },
+    ghost tabled: { length waiting.places.items ≡ limits.pages },
+    ghost listed: { limits.log_bytes / 4096 ≤ vec_capacity waiting.blocks },
 }
 
 impl Log {
-    ghost use Rattle.redo_log.specs.Kept.{limits_of, is_stopped, actions_of, waiting_count, groups_end, end_with, ImagesFit, TakesNoMore};
+    ghost use Rattle.redo_log.specs.Kept.{limits_of, is_stopped, actions_of, waiting_count, waiting_blocks, groups_end, end_with, ImagesFit, TakesNoMore};
     ghost use Rattle.redo_log.specs.Kept.{AddsAction, ForcesAll, ForgetsForced, RestartsThroughout, RestartsOrEmptyThroughout, SameLog, ChangesItsRange, KeepsWhileUntouched, WhatItKeepsRestarts, IoOrStopped};
     ghost use Rattle.redo_log.specs.Reading.{Replays, IsOpened, IsDamaged, ReplayFails};
 
@@ -53,21 +59,35 @@ impl Log {
         self.stopped
     }
 
-    /// How many images one more action could hold now.
+    /// How many images one more action could hold now, of blocks of which none waits.
     pub fn room(&self) -> u32
         ensures fit { (n : ℕ) → 0 < n → n ≤ result → ImagesFit self.now n }
         ensures no_more { (n : ℕ) → result < n → ¬ ImagesFit self.now n }
     {
         let left = self.limits.log_bytes - self.at as u32;
-        left.saturating_sub(6) / 4096 - self.count
+        left.saturating_sub(6) / 4096 - self.waiting.count()
     }
 
-    /// Takes the images of one action, which wait for the next `force`. It answers the action's
-    /// number, counted from 1 since the log was opened.
+    /// Whether the images fit beside those that wait, one for each block. Those of blocks that wait
+    /// take no room.
+    fn fits(&self, images: &[Page]) -> bool
+        requires { AreImages (limits_of self.now) images.now }
+        ensures fit { OnTrue result (0 < new_count (waiting_blocks self.now) images.now
+            → ImagesFit self.now (new_count (waiting_blocks self.now) images.now)) }
+        ensures full { OnFalse result
+            (¬ ImagesFit self.now (new_count (waiting_blocks self.now) images.now)) }
+    {
+        let room = self.room() as usize;
+        images.len() <= room || self.waiting.count_new(images) <= room
+    }
+
+    /// Takes the images of one action, which wait for the next `force`: each in the place of the
+    /// image of its block, where one waits. It answers the action's number, counted from 1 since
+    /// the log was opened.
     ///
     /// Refused, with nothing changed: on a stopped log, or where the greatest number was given
-    /// (`Stopped`); where the images don't fit behind those that wait (`LogFull`), which is never so
-    /// up to `room()` of them.
+    /// (`Stopped`); where the images of blocks that don't wait don't fit behind those that wait
+    /// (`LogFull`), which is never so up to `room()` of them.
     pub fn append(&mut self, images: &[Page]) -> Result<u64, Fault>
         requires images { AreImages (limits_of self.old) images.now }
 
@@ -76,6 +96,11 @@ impl Log {
         ensures actions { OnOk result (actions_of self.new ≡ suc (actions_of self.old)) }
         ensures room { OnOk result ((n : ℕ)
             → end_with self.new n ≤ end_with self.old (length images.now + n)) }
+        ensures blocks { OnOk result
+            (waiting_blocks self.new ≡ with_blocks (waiting_blocks self.old) images.now) }
+        // An image of a block that waits takes no room.
+        ensures waiting { OnOk result (waiting_count self.new
+            ≡ waiting_count self.old + new_count (waiting_blocks self.old) images.now) }
         ensures limits { limits_of self.new ≡ limits_of self.old }
         ensures stopped { is_stopped self.new ≡ is_stopped self.old }
 
@@ -83,15 +108,16 @@ impl Log {
         ensures stopped_first { is_stopped self.old ≡ true → result ≡ Err Fault.Stopped }
         ensures cause { IfErr result (λ e. ((e ≡ Fault.Stopped) × TakesNoMore self.old)
             ⊎ ((e ≡ Fault.LogFull) × (¬ ImagesFit self.old (length images.now)))) }
+        ensures full { IsErrOf result Fault.LogFull
+            → ¬ ImagesFit self.old (new_count (waiting_blocks self.old) images.now) }
     {
         if self.stopped || self.actions == u64::MAX {
             return Err(Fault::Stopped);
         }
-        if images.len() > self.room() as usize {
+        if !self.fits(images) {
             return Err(Fault::LogFull);
         }
-        lay_images(&mut self.buffer, 4 + 4096 * self.count as usize, images);
-        self.count += images.len() as u32;
+        lay_images(&mut self.waiting, &mut self.buffer, images);
         self.actions += 1;
         Ok(self.actions)
     }
@@ -104,7 +130,7 @@ impl Log {
     {}
 
     /// Makes every action durable that was appended, and answers how many were since the log was
-    /// opened. With nothing to write the device isn't called.
+    /// opened. It writes one image of each block that waits; with none the device isn't called.
     ///
     /// At `Io` the log is stopped; a stopped log answers `Stopped`.
     pub fn force<D: Device>(&mut self, device: &mut D) -> Result<u64, Fault>
@@ -134,15 +160,16 @@ impl Log {
         if self.stopped {
             return Err(Fault::Stopped);
         }
-        if self.count == 0 {
+        let count = self.waiting.count();
+        if count == 0 {
             return Ok(self.actions);
         }
-        let len = 5 + 4096 * self.count as usize;
-        seal(&mut self.buffer, self.count);
+        let len = 5 + 4096 * count as usize;
+        seal(&mut self.buffer, count);
         self.stopped = true;
         publish(device, LOG_START + self.at as u64, &self.buffer[..len])?;
         self.at += len;
-        self.count = 0;
+        self.waiting.clear();
         self.stopped = false;
         Ok(self.actions)
     }
@@ -161,6 +188,7 @@ impl Log {
             (D.trace device.old) (D.trace device.new) }
         ensures closed { OnOk result (groups_end self.new ≡ 0) }
         ensures waiting { waiting_count self.new ≡ waiting_count self.old }
+        ensures blocks { waiting_blocks self.new ≡ waiting_blocks self.old }
         ensures room { OnOk result ((n : ℕ)
             → end_with self.new n ≡ 6 + 4096 * (waiting_count self.old + n)) }
         ensures refused { OnErr result ((n : ℕ) → end_with self.new n ≡ end_with self.old n) }
@@ -218,6 +246,9 @@ impl Log {
         let Ok(mut buffer) = vec![in alloc; 0u8; limits.log_bytes as usize] else {
             return Err(Fault::NoMemory);
         };
+        let Ok(waiting) = Waiting::new(alloc, limits.pages, limits.log_bytes / 4096) else {
+            return Err(Fault::NoMemory);
+        };
         let Ok(()) = device.read_at(LOG_START, &mut buffer) else {
             return Err(Fault::Io);
         };
@@ -226,9 +257,9 @@ impl Log {
                 log: Log {
                     limits,
                     at,
-                    count: 0,
                     actions: 0,
                     stopped: false,
+                    waiting,
                     buffer,
                 },
                 images,

@@ -9,7 +9,7 @@ use std::test::{Fail, *};
 
 const LIMITS: Limits = Limits {
     items: 4,
-    pages: 8,
+    pages: 32,
     log_bytes: 65_536,
 };
 
@@ -192,20 +192,84 @@ fn a_crash_leaves_a_first_part(rt: HostRuntime) -> Result<(), Fail> {
     Ok(())
 }
 
+// One group of n images takes 6 + 4096 n bytes, so 65,536 bytes have room for 15.
 #[test]
 fn a_fresh_log_holds_fifteen_images(rt: HostRuntime) -> Result<(), Fail> {
     let mut device = MemDevice::new(rt.alloc(), LEN)?;
     let mut log = replay(rt.alloc(), &mut device)?.log;
     assert_eq!(rt; log.room(), 15);
     for k in 0..15 {
-        assert_eq!(rt; append(&mut log, &[page(1, k)]), Ok(u64::from(k) + 1));
+        assert_eq!(rt; append(&mut log, &[page(k + 1, k)]), Ok(u64::from(k) + 1));
         assert_eq!(rt; log.room(), 14 - k);
     }
-    assert_eq!(rt; append(&mut log, &[page(1, 15)]), Err(Fault::LogFull));
+    assert_eq!(rt; append(&mut log, &[page(16, 15)]), Err(Fault::LogFull));
     assert_eq!(rt; force(&mut log, &mut device), Ok(15));
     assert_eq!(rt; replay(rt.alloc(), &mut device)?.images.len(), 15);
     assert_eq!(rt; reset(&mut log, &mut device), Ok(()));
     assert_eq!(rt; log.room(), 15);
+    Ok(())
+}
+
+#[test]
+fn a_second_image_of_a_block_takes_no_room(rt: HostRuntime) -> Result<(), Fail> {
+    let mut device = MemDevice::new(rt.alloc(), LEN)?;
+    let mut log = replay(rt.alloc(), &mut device)?.log;
+    assert_eq!(rt; log.room(), 15);
+    assert_eq!(rt; append(&mut log, &[page(1, 1)]), Ok(1));
+    assert_eq!(rt; append(&mut log, &[page(1, 2)]), Ok(2));
+    assert_eq!(rt; log.room(), 14);
+    // Twice in one action, and one of another block.
+    assert_eq!(rt;
+        append(&mut log, &[page(2, 3), page(1, 4), page(2, 5)]),
+        Ok(3)
+    );
+    assert_eq!(rt; log.room(), 13);
+    assert_eq!(rt; force(&mut log, &mut device), Ok(3));
+    let images = replay(rt.alloc(), &mut device)?.images;
+    assert_eq!(rt; images.len(), 2);
+    assert_eq!(rt; found(&images), [0, 4, 5, 0, 0, 0, 0, 0]);
+    Ok(())
+}
+
+// A group has one image of the block, though there is room for 15 alone; the next one has it again.
+#[test]
+fn forty_images_of_a_block_are_one(rt: HostRuntime) -> Result<(), Fail> {
+    let mut device = MemDevice::new(rt.alloc(), LEN)?;
+    let mut log = replay(rt.alloc(), &mut device)?.log;
+    for k in 1..41 {
+        assert_eq!(rt; append(&mut log, &[page(7, k)]), Ok(u64::from(k)));
+    }
+    assert_eq!(rt; force(&mut log, &mut device), Ok(40));
+    let images = replay(rt.alloc(), &mut device)?.images;
+    assert_eq!(rt; images.len(), 1);
+    assert_eq!(rt; found(&images), [0, 0, 0, 0, 0, 0, 0, 40]);
+    assert_eq!(rt; append(&mut log, &[page(7, 41)]), Ok(41));
+    assert_eq!(rt; force(&mut log, &mut device), Ok(41));
+    let images = replay(rt.alloc(), &mut device)?.images;
+    assert_eq!(rt; images.len(), 2);
+    assert_eq!(rt; found(&images), [0, 0, 0, 0, 0, 0, 0, 41]);
+    Ok(())
+}
+
+// Behind a group of 13 images two fit: an action with a later image of a block that waits and two
+// of blocks that don't is refused, and the image that waits is the old one still.
+#[test]
+fn a_refused_append_replaces_no_image(rt: HostRuntime) -> Result<(), Fail> {
+    let mut device = MemDevice::new(rt.alloc(), LEN)?;
+    let mut log = replay(rt.alloc(), &mut device)?.log;
+    for k in 0..13 {
+        assert_eq!(rt; append(&mut log, &[page(k + 1, 1)]), Ok(u64::from(k) + 1));
+    }
+    assert_eq!(rt; force(&mut log, &mut device), Ok(13));
+    assert_eq!(rt; log.room(), 2);
+    assert_eq!(rt; append(&mut log, &[page(1, 2)]), Ok(14));
+    let refused = [page(1, 3), page(2, 3), page(3, 3)];
+    assert_eq!(rt; append(&mut log, &refused), Err(Fault::LogFull));
+    assert_eq!(rt; log.room(), 1);
+    assert_eq!(rt; force(&mut log, &mut device), Ok(14));
+    let images = replay(rt.alloc(), &mut device)?.images;
+    assert_eq!(rt; images.len(), 14);
+    assert_eq!(rt; found(&images), [0, 2, 1, 1, 1, 1, 1, 1]);
     Ok(())
 }
 

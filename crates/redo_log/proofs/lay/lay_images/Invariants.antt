@@ -1,9 +1,19 @@
-use Rattle.std.proofs.Common.{◌≡◌, ◌+◌, ◌*◌, ◌++◌, take}
-use Rattle.redo_log.specs.Images.{images_bytes}
+use Rattle.std.proofs.Common.{◌≡◌, List, length, vec_capacity}
+use Rattle.index_model.specs.declared.limits.Limits.{Limits}
+use Rattle.page_codec.specs.declared.page.Page.{Page}
+use Rattle.redo_log.specs.Groups.{AreImages}
+use Rattle.redo_log.specs.Blocks.{with_blocks, with_images, AreInside, AreLaid}
 use Rattle.redo_log.proofs.lay.lay_images.Given as goal
 
-abbrev pub invariant-loop-image : goal.invariant-loop-image
-invariant-loop-image l = record {
-  end : l.end ≡ l.at + 4096 * l.image-index;
-  laid : take l.end l.buffer ≡ take l.at l.fn.buffer ++ images_bytes (take l.image-index l.images);
+abbrev pub invariant-loop-rest : goal.invariant-loop-rest
+invariant-loop-rest l = record {
+  blocks : with_blocks l.waiting.blocks.items l.rest ≡ with_blocks l.fn.waiting.blocks.items l.images;
+  places : length l.waiting.places.items ≡ length l.fn.waiting.places.items;
+  capacity : vec_capacity l.waiting.blocks ≡ vec_capacity l.fn.waiting.blocks;
+  inside : AreInside (length l.waiting.places.items) l.rest;
+  laid : (limits : Limits) (laid : List Page) → AreImages limits l.images → AreLaid limits l.fn.waiting.blocks.items l.fn.buffer laid
+      → (now : List Page) × AreImages limits l.rest × AreLaid limits l.waiting.blocks.items l.buffer now × (with_images now l.rest ≡ with_images laid l.images);
 }
+
+abbrev pub decreases-loop-rest : goal.decreases-loop-rest
+decreases-loop-rest l = length l.rest

@@ -1,14 +1,55 @@
-use Rattle.std.proofs.Common.{◌+◌, ◌*◌, ◌++◌, ℕ, List, take, length, refl, ◌∙◌, ap, arith}
+use Rattle.std.proofs.Common.{◌+◌, ◌*◌, ◌≤◌, ◌<◌, List, ℕ, length, inr, refl, sym, ap, subst, ◌∙◌, arith}
+use Rattle.std.proofs.lemmas.Bool.{OnTrue_at, OnFalse_at}
 use Rattle.std.proofs.lemmas.List.{with_items_is}
-use Rattle.redo_log.specs.Images.{images_bytes}
-use Rattle.redo_log.proofs.Appending.{keeps_more, fits_now}
+use Rattle.redo_log.specs.Blocks.{with_images, AreInside, AreLaid}
+use Rattle.redo_log.specs.Kept.{waiting_blocks}
+use Rattle.redo_log.proofs.BlockLists.{images_inside, length-with_blocks, new_count-most}
+use Rattle.redo_log.proofs.Appending.{keeps_more, fits_with, fits_now, fits_listed}
 use Rattle.redo_log.proofs.log.Log.append.Goals as goal
+
+pub returns-then-not-fits-clause-cause : goal.returns-then-not-fits-clause-cause
+returns-then-not-fits-clause-cause c =
+    inr (refl, λ fit. OnFalse_at c.if-not-fits.true c.fits.ensures.full (omega (arith, fit, new_count-most (waiting_blocks c.args.self.now) c.args.images.now)))
+
+pub lay_images-requires-clause-inside : goal.lay_images-requires-clause-inside
+lay_images-requires-clause-inside c =
+    let s = c.args.self.now in
+    subst (λ (n : ℕ). AreInside n c.args.images.now) (sym s.tabled) (images_inside s.limits c.args.images.now c.requires.images)
+
+pub lay_images-requires-clause-room : goal.lay_images-requires-clause-room
+lay_images-requires-clause-room c =
+    let s = c.args.self.now in
+    fits_listed s.at _ s.limits.log_bytes _ s.listed (fits_with s c.args.images.now (OnTrue_at c.if-not-fits.false c.fits.ensures.fit))
+
+pub lay_images-requires-clause-buffer : goal.lay_images-requires-clause-buffer
+lay_images-requires-clause-buffer c =
+    let s = c.args.self.now in
+    omega (arith, s.sized, ap length c.deref_mut.ensures.value, fits_now s.at _ s.limits.log_bytes s.least (fits_with s c.args.images.now (OnTrue_at c.if-not-fits.false c.fits.ensures.fit)))
+
+pub invariant_of-self-clause-sized : goal.invariant_of-self-clause-sized
+invariant_of-self-clause-sized c =
+    let s = c.args.self.now in
+    let long = c.lay_images.auto.buffer ∙ c.deref_mut.ensures.len in
+    ap length (with_items_is s.buffer c.lay_images.new.buffer long) ∙ omega (arith, long, s.sized, s.buffer.ok.0)
+
+pub invariant_of-self-clause-fits : goal.invariant_of-self-clause-fits
+invariant_of-self-clause-fits c =
+    let s = c.args.self.now in
+    subst (λ (l : List ℕ). 0 < length l → s.at + (6 + 4096 * length l) ≤ s.limits.log_bytes) (sym c.lay_images.ensures.blocks) (fits_with s c.args.images.now (OnTrue_at c.if-not-fits.false c.fits.ensures.fit))
 
 pub returns-clause-keeps : goal.returns-clause-keeps
 returns-clause-keeps c =
     let s = c.args.self.now in
     let images = c.args.images.now in
     let is = with_items_is s.buffer c.lay_images.new.buffer (c.lay_images.auto.buffer ∙ c.deref_mut.ensures.len) in
-    keeps_more s _ images refl refl refl refl (omega (arith, s.sized, fits_now s.at s.count s.limits.log_bytes s.least s.fits))
-    (ap (take (4 + 4096 * s.count + 4096 * length images)) is ∙ (c.lay_images.ensures ∙ ap (λ (l : List ℕ). take (4 + 4096 * s.count) l ++ images_bytes images) c.deref_mut.ensures.value))
-    c.requires.images
+    keeps_more s _ images refl refl refl (λ laid a.
+    subst (λ (l : List ℕ). AreLaid s.limits c.lay_images.new.waiting.blocks.items l (with_images laid images)) (sym is)
+    (c.lay_images.ensures.laid s.limits laid c.requires.images (subst (λ (l : List ℕ). AreLaid s.limits (waiting_blocks s) l laid) (sym c.deref_mut.ensures.value) a)))
+
+pub returns-clause-room : goal.returns-clause-room
+returns-clause-room c = λ n.
+    let s = waiting_blocks c.args.self.now in
+    omega (arith, ap length c.lay_images.ensures.blocks, length-with_blocks s c.args.images.now, new_count-most s c.args.images.now)
+
+pub returns-clause-waiting : goal.returns-clause-waiting
+returns-clause-waiting c = ap length c.lay_images.ensures.blocks ∙ length-with_blocks (waiting_blocks c.args.self.now) c.args.images.now

@@ -1,21 +1,23 @@
-use Rattle.std.proofs.Common.{◌≡◌, ◌+◌, ◌*◌, ◌<◌, ◌++◌, [], ◌∷◌, List, ℕ, take, refl, ◌∙◌, arith, length-take-le}
+use Rattle.std.proofs.Common.{◌≡◌, ◌+◌, ◌*◌, ◌<◌, ◌++◌, [], ◌∷◌, List, ℕ, take, drop, refl, sym, ◌∙◌, ap, arith, length-take-le}
 use Rattle.page_codec.specs.declared.page.Page.{Page}
 use Rattle.redo_log.specs.Groups.{body}
-use Rattle.redo_log.specs.Kept.{Keeps, RestartsThroughout, ChangesItsRange, limits_of}
+use Rattle.redo_log.specs.Kept.{Keeps, RestartsThroughout, ChangesItsRange, limits_of, waiting_count}
 use Rattle.redo_log.proofs.Forcing.{all_forced, sealed_piece, forced_goes, forced_keeps, publish_only}
 use Rattle.redo_log.proofs.log.Log.force.Given.{Over}
 use Rattle.redo_log.proofs.log.Log.force.Goals.{After-publish}
 use Rattle.redo_log.proofs.log.Log.force.Goals as goal
 
-pub returns-then-self-eq0-clause-keeps : goal.returns-then-self-eq0-clause-keeps
-returns-then-self-eq0-clause-keeps g c = λ acts forced k. all_forced c.args.self.now _ acts forced k c.if-self-eq0.true
+pub returns-then-count-eq0-clause-keeps : goal.returns-then-count-eq0-clause-keeps
+returns-then-count-eq0-clause-keeps g c = λ acts forced k. all_forced c.args.self.now _ acts forced k (omega arith)
 
 -- the group that waits is published
 module _ (g : Over) (c : After-publish g) where
   piece : (acts : List (List Page)) (forced : ℕ) (k : Keeps c.args.self.now (g.D.Device.trace c.args.device.now).now acts forced)
-      → take (5 + 4096 * c.args.self.now.count) c.deref.result.now ≡ body k.waiting ++ 0 ∷ []
+      → take (5 + 4096 * c.count-count.result) c.deref.result.now ≡ body k.waiting ++ 0 ∷ []
   piece acts forced k =
-      sealed_piece c.args.self.now.buffer _ _ _ c.args.self.now.count k.waiting c.deref_mut.ensures.value (c.seal.auto.buffer ∙ c.deref_mut.ensures.len) c.deref.ensures.value c.seal.ensures k.waits.counted k.waits.buffered
+      let s = c.args.self.now in
+      sealed_piece s.buffer _ _ _ c.count-count.result k.waiting c.deref_mut.ensures.value (c.seal.auto.buffer ∙ c.deref_mut.ensures.len) c.deref.ensures.value c.seal.ensures
+      (k.waits.counted ∙ sym c.count-count.ensures) (ap (λ (n : ℕ). take (4096 * n) (drop 4 s.buffer.items)) c.count-count.ensures ∙ k.waits.buffered)
 
   moments : RestartsThroughout c.args.self.now (g.D.Device.trace c.args.device.now) (g.D.Device.trace c.publish.new.device)
   moments acts forced k = forced_goes c.args.self.now _ _ _ acts forced k (omega arith) (piece acts forced k) c.publish.ensures.moments
@@ -23,8 +25,8 @@ module _ (g : Over) (c : After-publish g) where
   outside : ChangesItsRange (limits_of c.args.self.now) (g.D.Device.trace c.args.device.now) (g.D.Device.trace c.publish.new.device)
   outside =
       let s = c.args.self.now in
-      let some : 0 < s.count = omega arith in
-      publish_only s _ _ _ (length-take-le (5 + 4096 * s.count) c.deref.result.now (omega (arith, s.fits some))) some c.publish.ensures.moments
+      let some : 0 < waiting_count s = omega arith in
+      publish_only s _ _ _ (length-take-le (5 + 4096 * c.count-count.result) c.deref.result.now (omega (arith, s.fits some)) ∙ ap (λ (n : ℕ). 5 + 4096 * n) c.count-count.ensures) some c.publish.ensures.moments
 
 pub returns-in_err-publish-clause-moments : goal.returns-in_err-publish-clause-moments
 returns-in_err-publish-clause-moments g c = moments g (goal.at.returns-in_err-publish-clause-moments g c).After-publish
@@ -34,7 +36,7 @@ returns-in_err-publish-clause-outside g c = outside g (goal.at.returns-in_err-pu
 
 pub returns-clause-keeps : goal.returns-clause-keeps
 returns-clause-keeps g c = λ acts forced k.
-    forced_keeps c.args.self.now _ _ _ acts forced k (omega arith) (piece g (goal.at.returns-clause-keeps g c).After-publish acts forced k) c.publish.ensures.moments _ refl refl refl refl c.in_ok-publish.ensures.ok
+    forced_keeps c.args.self.now _ _ _ acts forced k (omega arith) (piece g (goal.at.returns-clause-keeps g c).After-publish acts forced k) c.publish.ensures.moments _ refl (omega arith) c.clear.ensures.blocks refl c.in_ok-publish.ensures.ok
 
 pub returns-clause-moments : goal.returns-clause-moments
 returns-clause-moments g c = moments g (goal.at.returns-clause-moments g c).After-publish

@@ -1,4 +1,4 @@
-use Rattle.std.proofs.Common.{◌≡◌, ◌∙◌, IsTrue, List, ℕ, length, refl, sym, subst, ap, arith, Err}
+use Rattle.std.proofs.Common.{◌≡◌, ◌∙◌, IsTrue, List, ℕ, length, refl, sym, subst, ap, arith, rules, Err}
 use Rattle.std.proofs.lemmas.List.{with_items_is}
 use Rattle.index_model.specs.declared.fault.Fault.TheVariants.{LogDamaged}
 use Rattle.redo_log.specs.Groups.{AreImages, SpellsGroups, log_range}
@@ -16,7 +16,7 @@ read g c honest =
 
 pub returns-in-Ok-read_groups-clause-ok : goal.returns-in-Ok-read_groups-clause-ok
 returns-in-Ok-read_groups-clause-ok g c = λ honest.
-    replayed c.args.limits _ _ _ _ _ (read g (goal.at.returns-in-Ok-read_groups-clause-ok g c).After-read_groups honest) c.requires.range c.in-Ok-read_groups.ensures.ok refl refl refl refl
+    replayed c.args.limits _ _ _ _ _ (read g (goal.at.returns-in-Ok-read_groups-clause-ok g c).After-read_groups honest) c.requires.range c.in-Ok-read_groups.ensures.ok refl refl (search rules) refl
 
 pub returns-in-Err-clause-damaged : goal.returns-in-Err-clause-damaged
 returns-in-Err-clause-damaged g c = λ damaged honest groups spells.

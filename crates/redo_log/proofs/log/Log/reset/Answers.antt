@@ -13,7 +13,7 @@ returns-in_err-shut-clause-outside g c = in_range c.args.self.now _ _ c.shut.ens
 
 pub returns-clause-keeps : goal.returns-clause-keeps
 returns-clause-keeps g c = λ acts forced k.
-    reset_keeps c.args.self.now _ acts forced k _ _ refl refl (record { counted = k.waits.counted; images = k.waits.images; buffered = k.waits.buffered }) c.in_ok-shut.ensures.ok
+    reset_keeps c.args.self.now _ acts forced k _ _ refl refl k.waits c.in_ok-shut.ensures.ok
 
 pub returns-clause-moments : goal.returns-clause-moments
 returns-clause-moments g c = λ acts forced k. reset_goes c.args.self.now _ _ acts forced k (omega arith) c.shut.ensures.moments

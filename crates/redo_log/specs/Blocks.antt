@@ -1,0 +1,54 @@
+-- The blocks of images, and lists that have one image for each block.
+use Rattle.std.specs.Prelude.{◌≡◌, ℕ, suc, ◌*◌, ◌<◌, ◌==◌, ◌||◌, Bool, false, if◌then◌else◌, List, [], ◌∷◌, ◌++◌, length, take, drop}
+use Rattle.std.specs.List.{AllByRecursion}
+use Rattle.index_model.specs.declared.limits.Limits.{Limits}
+use Rattle.page_codec.specs.declared.page.Page.{Page}
+use Rattle.redo_log.specs.Images.{images_bytes}
+use Rattle.redo_log.specs.Groups.{AreImages}
+
+-- the blocks of these images, in order
+abbrev pub blocks_of : List Page → List ℕ
+blocks_of [] = []
+blocks_of (p ∷ ps) = p.block ∷ blocks_of ps
+
+-- the block is one of these
+abbrev pub is_among : List ℕ → ℕ → Bool
+is_among [] block = false
+is_among (b ∷ blocks) block = (b == block) || is_among blocks block
+
+-- these blocks, and behind them this one where it isn't among them
+abbrev pub with_block : List ℕ → ℕ → List ℕ
+with_block blocks block = if is_among blocks block then blocks else blocks ++ block ∷ []
+
+-- these blocks, and behind them those of the images that aren't among them, each once
+abbrev pub with_blocks : List ℕ → List Page → List ℕ
+with_blocks blocks [] = blocks
+with_blocks blocks (p ∷ ps) = with_blocks (with_block blocks p.block) ps
+
+-- how many blocks of these images aren't among those, each counted once
+abbrev pub new_count : List ℕ → List Page → ℕ
+new_count blocks [] = 0
+new_count blocks (p ∷ ps) =
+    if is_among blocks p.block || is_among (blocks_of ps) p.block
+    then new_count blocks ps else suc (new_count blocks ps)
+
+-- each of them is of a block below this number
+abbrev pub AreInside : ℕ → List Page → Type 0
+AreInside pages ps = AllByRecursion (λ p. p.block < pages) ps
+
+-- these images, with this one in the place of its block's, or behind them where there is none
+abbrev pub with_image : List Page → Page → List Page
+with_image [] p = p ∷ []
+with_image (q ∷ qs) p = if q.block == p.block then p ∷ qs else q ∷ with_image qs p
+
+-- these images, with those taken in so, one after the other
+abbrev pub with_images : List Page → List Page → List Page
+with_images laid [] = laid
+with_images laid (p ∷ ps) = with_images (with_image laid p) ps
+
+-- these images, one of each of the blocks, stand in the buffer behind the room for their number
+pub record AreLaid (limits : Limits) (order buffer : List ℕ) (laid : List Page) : Type 0 where
+  pub counted : length laid ≡ length order
+  pub images : AreImages limits laid
+  pub blocks : blocks_of laid ≡ order
+  pub buffered : take (4096 * length order) (drop 4 buffer) ≡ images_bytes laid
