@@ -1,0 +1,6 @@
+pub mod Placing
+pub mod Changing
+pub mod Lists
+pub mod Putting
+pub mod Noting
+pub mod Sound

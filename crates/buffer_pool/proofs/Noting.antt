@@ -1,0 +1,207 @@
+-- What a pool holds, and what is changed of it, where a page was changed or written.
+use Rattle.std.proofs.Common.{◌≡◌, ℕ, suc, ◌+◌, ◌<◌, ◌≤◌, Bool, true, false, ◌||◌, cond, ltb, eqb, Option, Some, None, List, [], ◌∷◌, ◌++◌, length, get_or, set, take, drop, slice_get, refl, sym, ap, subst, inl, inr, ◌∙◌, arith, length-set}
+use Rattle.std.specs.Option.{IsSome, is_some, option_and_then}
+use Rattle.std.specs.List.{remove}
+use Rattle.std.proofs.lemmas.Bool.{cases_lt, cases_Bool, ltb-true, ltb-false, le-ltb, eqb-true, cond-true, cond-false, false_from_ne_true}
+use Rattle.std.proofs.lemmas.List.{length-map, map-set, set-get_or, take-append-drop, get_or-take, get_or-drop, get_or_default, length-take, length-drop}
+use Rattle.std.proofs.lemmas.List.Folds.{list_any-append, Any-from_list_any}
+use Rattle.page_codec.specs.declared.page.Page.{Page}
+use Rattle.buffer_pool.specs.declared.pool.Pool.{Pool}
+use Rattle.buffer_pool.specs.Frames.{blocks_in, has_block, AreApart, frame_in, act_in, AreChanged}
+use Rattle.buffer_pool.specs.Pools.{most_of, reach_of, count_of, page_at, frame_of, held_page, act_of, changed_of, HasSamePages, IsChanged, IsWritten, AreWritten}
+use Rattle.buffer_pool.proofs.Placing.{as_frame, frame_is}
+use Rattle.buffer_pool.proofs.Changing.{frame_cases, act_at, act_none, act_same, act_other, changed_first, changed_again, changed_act, count_short, has_block-at}
+use Rattle.buffer_pool.proofs.Lists.{slice_get-set_same, slice_get-set_other}
+use Rattle.buffer_pool.proofs.Putting.{held_at, place_from, same_frame, same_page}
+
+pub frame_some : (o : Option ℕ) → IsSome o → (at : ℕ) × (o ≡ Some at)
+frame_some None h = absurd cc
+frame_some (Some at) h = (at, refl)
+
+pub frame_within : (pool : Pool) (block at : ℕ) → frame_of pool block ≡ Some at → at < length pool.pages.items
+frame_within pool block at is = omega (arith, pool.placed.within block at (place_from pool block at is), length-map pool.pages.items (λ (p : Page). p.block))
+
+pub block_there : (pool : Pool) (block at : ℕ) → frame_of pool block ≡ Some at → get_or (blocks_in pool.pages.items) at 0 ≡ block
+block_there pool block at is = pool.placed.same block at (place_from pool block at is)
+
+pub frame_at_place : (pool : Pool) (block at : ℕ) → get_or pool.places.items block 0 ≡ suc at → frame_in (blocks_in pool.pages.items) block ≡ Some at
+frame_at_place pool block at is = frame_is pool.places.items (blocks_in pool.pages.items) pool.placed block ∙ ap as_frame is
+
+pub frame_plain : (pool : Pool) (block at : ℕ) → frame_of pool block ≡ Some at → frame_in (blocks_in pool.pages.items) block ≡ Some at
+unfolding frame_of
+frame_plain pool block at is = is
+
+pub frame_back : (pool : Pool) (block at : ℕ) → frame_in (blocks_in pool.pages.items) block ≡ Some at → frame_of pool block ≡ Some at
+unfolding frame_of
+frame_back pool block at is = is
+
+-- a changed block is held
+pub changed_held : (pool : Pool) (block : ℕ) → has_block pool.changed.items block ≡ true → IsSome (frame_of pool block)
+unfolding frame_of
+changed_held pool block is =
+    let blocks = blocks_in pool.pages.items in
+    elim (frame_cases (frame_in blocks block)) [
+      | inl e ↦ absurd (omega (arith, changed_act pool.changed.items blocks pool.acts.items block pool.ordered is, act_none blocks pool.acts.items block e))
+      | inr p ↦ ap {B = Bool} (λ (o : Option ℕ). is_some o) p.1
+    ]
+
+-- and has a place
+pub changed_placed : (pool : Pool) (block : ℕ) → has_block pool.changed.items block ≡ true → (0 < get_or pool.places.items block 0) × (get_or pool.places.items block 0 ≤ length pool.acts.items)
+changed_placed pool block is =
+    let at = frame_some (frame_of pool block) (changed_held pool block is) in
+    let place = place_from pool block at.0 at.1 in
+    let within = frame_within pool block at.0 at.1 in
+    (omega (arith, place), omega (arith, place, within, pool.many_acts))
+
+pub held_act : (pool : Pool) (block at : ℕ) → frame_of pool block ≡ Some at → act_of pool block ≡ get_or pool.acts.items at 0
+unfolding act_of frame_of
+held_act pool block at is = act_at (blocks_in pool.pages.items) pool.acts.items block at is
+
+pub changed_some : (pool : Pool) (block : ℕ) → has_block pool.changed.items block ≡ true → 0 < act_of pool block
+unfolding act_of
+changed_some pool block is = changed_act pool.changed.items (blocks_in pool.pages.items) pool.acts.items block pool.ordered is
+
+-- where a clean page is held, there is room for one changed page more
+pub change_fits : (pool : Pool) (at : ℕ) → at < length pool.pages.items → get_or pool.acts.items at 0 ≡ 0 → length pool.changed.items < pool.most
+change_fits pool at less clean = omega (arith, pool.ordered.counted, pool.few, pool.many_acts, count_short pool.acts.items at (omega (arith, less, pool.many_acts)) clean)
+
+-- a page of the same block leaves the blocks of the frames as they were
+pub same_blocks : (pages : List Page) (at : ℕ) (page : Page) → get_or (blocks_in pages) at 0 ≡ page.block → blocks_in (set pages at page) ≡ blocks_in pages
+same_blocks pages at page is =
+    map-set (λ (p : Page). p.block) pages at page
+    ∙ (ap (set (blocks_in pages) at) (sym is) ∙ set-get_or (blocks_in pages) at 0)
+
+-- a held page is changed, for the first time or again
+pub changed_either : (changed blocks acts : List ℕ) (block at act before : ℕ) → AreChanged changed blocks acts → frame_in blocks block ≡ Some at → at < length acts
+    → before ≡ get_or acts at 0 → 0 < act → AreChanged (cond (ltb 0 before) changed (changed ++ block ∷ [])) blocks (set acts at act)
+changed_either changed blocks acts block at act before h is less before_is some =
+    elim (cases_Bool (ltb 0 before)) [
+      | inl one ↦
+          subst (λ (xs : List ℕ). AreChanged xs blocks (set acts at act)) (sym (cond-true (ltb 0 before) changed (changed ++ block ∷ []) one))
+          (changed_again changed blocks acts block at act h is less (omega (arith, before_is, ltb-true 0 before one)) some)
+      | inr off ↦
+          subst (λ (xs : List ℕ). AreChanged xs blocks (set acts at act)) (sym (cond-false (ltb 0 before) changed (changed ++ block ∷ []) off))
+          (changed_first changed blocks acts block at act h is less (omega (arith, before_is, ltb-false 0 before off)) some)
+    ]
+
+-- pages and places as they were hold the same
+pub same_pages : (old new : Pool) → new.most ≡ old.most → new.pages.items ≡ old.pages.items → new.places.items ≡ old.places.items → HasSamePages old new
+unfolding most_of reach_of count_of page_at frame_of held_page
+same_pages old new most pages places = record {
+  most = most;
+  reach = ap (λ (ps : List ℕ). length ps) places;
+  count = ap (λ (ps : List Page). length ps) pages;
+  frames = λ at. ap (λ (ps : List Page). slice_get ps at) pages;
+  places = λ block. ap (λ (ps : List Page). frame_in (blocks_in ps) block) pages;
+  held = λ block. ap (λ (ps : List Page). option_and_then (slice_get ps) (frame_in (blocks_in ps) block)) pages;
+}
+
+-- a held page was changed by an act
+pub changed_is : (old new : Pool) (page : Page) (act at before : ℕ) → frame_of old page.block ≡ Some at → before ≡ get_or old.acts.items at 0 → 0 < act
+    → new.most ≡ old.most → new.pages.items ≡ set old.pages.items at page → new.acts.items ≡ set old.acts.items at act → new.places.items ≡ old.places.items
+    → new.changed.items ≡ cond (ltb 0 before) old.changed.items (old.changed.items ++ page.block ∷ []) → IsChanged old new page act
+unfolding most_of reach_of count_of page_at act_of changed_of
+changed_is old new page act at before is before_is some most pages acts places changed =
+    let blocks = blocks_in old.pages.items in
+    let within = frame_within old page.block at is in
+    let plain = frame_plain old page.block at is in
+    let frames = λ (block : ℕ). same_frame old new block (ap (λ (ps : List ℕ). get_or ps block 0) places) in
+    let there : slice_get new.pages.items at ≡ Some page = ap (λ (ps : List Page). slice_get ps at) pages ∙ slice_get-set_same old.pages.items at page within in
+    let same : blocks_in new.pages.items ≡ blocks = ap blocks_in pages ∙ same_blocks old.pages.items at page (block_there old page.block at is) in
+    let now = λ (block : ℕ). ap (λ (bs : List ℕ). act_in bs new.acts.items block) same ∙ ap (λ (xs : List ℕ). act_in blocks xs block) acts in
+    let first : has_block old.changed.items page.block ≡ ltb 0 before = old.ordered.told page.block ∙ ap (ltb 0) (act_at blocks old.acts.items page.block at plain ∙ sym before_is) in
+    record {
+      most = most;
+      reach = ap (λ (ps : List ℕ). length ps) places;
+      count = ap (λ (ps : List Page). length ps) pages ∙ length-set old.pages.items at page;
+      places = frames;
+      held = held_at new page.block at (frames page.block ∙ is) ∙ there;
+      others = λ block other. same_page old new block (frames block)
+          (λ k held. ap (λ (ps : List Page). slice_get ps k) pages ∙ slice_get-set_other old.pages.items at k page
+          (λ e. other (sym (block_there old block k held) ∙ (ap (λ (n : ℕ). get_or blocks n 0) e ∙ block_there old page.block at is))));
+      changed = now page.block ∙ act_same blocks old.acts.items page.block at act plain (omega (arith, within, old.many_acts));
+      acts = λ block other. now block ∙ act_other blocks old.acts.items block at act
+          (λ held. other (sym (block_there old block at (frame_back old block at held)) ∙ block_there old page.block at is));
+      order = changed ∙ ap (λ (t : Bool). cond t old.changed.items (old.changed.items ++ page.block ∷ [])) (sym first);
+    }
+
+-- one changed page was written
+pub written_is : (old new : Pool) (place at : ℕ) → place < length old.changed.items → frame_of old (get_or old.changed.items place 0) ≡ Some at
+    → new.most ≡ old.most → new.pages.items ≡ old.pages.items → new.places.items ≡ old.places.items → new.acts.items ≡ set old.acts.items at 0
+    → new.changed.items ≡ remove old.changed.items place → IsWritten old new place
+unfolding act_of changed_of
+written_is old new place at less is most pages places acts changed =
+    let blocks = blocks_in old.pages.items in
+    let block = get_or old.changed.items place 0 in
+    let now = λ (b : ℕ). ap (λ (ps : List Page). act_in (blocks_in ps) new.acts.items b) pages ∙ ap (λ (xs : List ℕ). act_in blocks xs b) acts in
+    record {
+      pages = same_pages old new most pages places;
+      order = changed;
+      written = now block ∙ act_same blocks old.acts.items block at 0 (frame_plain old block at is) (omega (arith, frame_within old block at is, old.many_acts));
+      others = λ b other. now b ∙ act_other blocks old.acts.items b at 0
+          (λ held. other (sym (block_there old b at (frame_back old b at held)) ∙ block_there old block at is));
+    }
+
+-- a block that stands once isn't both among the first so many and behind them
+pub take_drop_apart : (blocks : List ℕ) (n block : ℕ) → AreApart blocks → has_block (take n blocks) block ≡ true → has_block (drop n blocks) block ≡ false
+take_drop_apart blocks n block apart first =
+    false_from_ne_true (has_block (drop n blocks) block) (λ second.
+    let a = Any-from_list_any (λ b. eqb b block) (take n blocks) first in
+    let b = Any-from_list_any (λ b. eqb b block) (drop n blocks) second in
+    let short : a.0 < n = omega (arith, a.2, length-take n blocks) in
+    let less : n + b.0 < length blocks = omega (arith, b.2, length-drop n blocks) in
+    let one : get_or blocks a.0 block ≡ block =
+    sym (get_or-take n blocks a.0 block short) ∙ (get_or_default (take n blocks) a.0 block a.1 a.2 ∙ (a.3 ∙ eqb-true a.1 block a.4)) in
+    let two : get_or blocks (n + b.0) block ≡ block =
+    sym (get_or-drop n blocks b.0 block) ∙ (get_or_default (drop n blocks) b.0 block b.1 b.2 ∙ (b.3 ∙ eqb-true b.1 block b.4)) in
+    apart a.0 (n + b.0) block (omega (arith, short)) less (one ∙ sym two))
+
+-- a block that isn't among the first so many, is among all or none where it is behind them
+pub behind_is : (blocks : List ℕ) (n block : ℕ) → has_block (take n blocks) block ≡ false → has_block (drop n blocks) block ≡ has_block blocks block
+behind_is blocks n block off =
+    sym (ap (λ (xs : List ℕ). has_block xs block) (sym (take-append-drop n blocks))
+    ∙ (list_any-append (λ b. eqb b block) (take n blocks) (drop n blocks) ∙ ap (λ (t : Bool). t || has_block (drop n blocks) block) off))
+
+none_below : (n : ℕ) → ltb 0 n ≡ false → n ≡ 0
+none_below n off = omega (arith, ltb-false 0 n off)
+
+-- an act that is kept where it isn't 0, and is 0 only where it was, is kept
+either_act : (new old : ℕ) → (0 < new → new ≡ old) → ltb 0 new ≡ ltb 0 old → new ≡ old
+either_act new old kept same =
+    elim (cases_lt 0 new) [
+      | inl lt ↦ kept lt
+      | inr ge ↦ omega (arith, ge, ltb-false 0 old (sym same ∙ le-ltb 0 new ge))
+    ]
+
+-- the first so many changed pages were written
+pub many_written : (old new : Pool) (count : ℕ) → new.most ≡ old.most → new.pages.items ≡ old.pages.items → new.places.items ≡ old.places.items
+    → new.changed.items ≡ drop count old.changed.items
+    → ((at : ℕ) → 0 < get_or new.acts.items at 0 → get_or new.acts.items at 0 ≡ get_or old.acts.items at 0) → AreWritten old new count
+unfolding act_of changed_of
+many_written old new count most pages places changed kept =
+    let blocks = blocks_in old.pages.items in
+    let now = λ (b : ℕ). ap (λ (ps : List Page). act_in (blocks_in ps) new.acts.items b) pages in
+    let told = λ (b : ℕ). ap (λ (xs : List ℕ). has_block xs b) (sym changed) ∙ (new.ordered.told b ∙ ap (ltb 0) (now b)) in
+    record {
+      pages = same_pages old new most pages places;
+      order = changed;
+      written = λ b first. now b ∙ none_below (act_in blocks new.acts.items b) (sym (told b) ∙ take_drop_apart old.changed.items count b old.ordered.apart first);
+      others = λ b off. now b ∙ elim (frame_cases (frame_in blocks b)) [
+        | inl e ↦ act_none blocks new.acts.items b e ∙ sym (act_none blocks old.acts.items b e)
+        | inr p ↦
+            act_at blocks new.acts.items b p.0 p.1
+            ∙ (either_act (get_or new.acts.items p.0 0) (get_or old.acts.items p.0 0) (kept p.0)
+            (ap (ltb 0) (sym (act_at blocks new.acts.items b p.0 p.1)) ∙ (sym (told b) ∙ (behind_is old.changed.items count b off
+            ∙ (old.ordered.told b ∙ ap (ltb 0) (act_at blocks old.acts.items b p.0 p.1)))))
+            ∙ sym (act_at blocks old.acts.items b p.0 p.1))
+      ];
+    }
+
+-- each of the first so many changed pages has a place
+pub first_placed : (pool : Pool) (count : ℕ) (changed : List ℕ) (k d : ℕ) → changed ≡ pool.changed.items → k < length (take count changed)
+    → (0 < get_or pool.places.items (get_or (take count changed) k d) 0) × (get_or pool.places.items (get_or (take count changed) k d) 0 ≤ length pool.acts.items)
+first_placed pool count changed k d is less =
+    let same : get_or (take count changed) k d ≡ get_or changed k d = get_or-take count changed k d (omega (arith, less, length-take count changed)) in
+    let among = has_block-at changed k d (omega (arith, less, length-take count changed)) in
+    changed_placed pool (get_or (take count changed) k d)
+    (ap (λ (xs : List ℕ). has_block xs (get_or (take count changed) k d)) (sym is) ∙ (ap (has_block changed) same ∙ among))
