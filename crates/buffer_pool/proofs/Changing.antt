@@ -71,7 +71,7 @@ pub has_block-at : (blocks : List ℕ) (k d : ℕ) → k < length blocks → has
 has_block-at blocks k d less = list_any_at (λ b. eqb b (get_or blocks k d)) blocks k d less (eq-eqb (get_or blocks k d) (get_or blocks k d) refl)
 
 -- where one stands once, it isn't among the others
-has_block-remove_same : (blocks : List ℕ) (at : ℕ) → AreApart blocks → at < length blocks → has_block (remove blocks at) (get_or blocks at 0) ≡ false
+pub has_block-remove_same : (blocks : List ℕ) (at : ℕ) → AreApart blocks → at < length blocks → has_block (remove blocks at) (get_or blocks at 0) ≡ false
 has_block-remove_same blocks at apart less =
     let block = get_or blocks at 0 in
     let short = length-remove blocks at less in

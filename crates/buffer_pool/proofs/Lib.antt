@@ -3,4 +3,5 @@ pub mod Changing
 pub mod Lists
 pub mod Putting
 pub mod Noting
+pub mod Apart
 pub mod Sound

@@ -9,7 +9,7 @@ use Rattle.buffer_pool.specs.declared.pool.Pool.{Pool}
 use Rattle.buffer_pool.specs.Frames.{blocks_in, act_in, ArePlaces, AreChanged}
 use Rattle.buffer_pool.specs.Pools.{most_of, reach_of, count_of, page_at, frame_of, held_page, act_of, changed_of, HasSameChanges, CanBeTaken, IsPut}
 use Rattle.buffer_pool.proofs.Placing.{as_frame, act_by, act_is, frame_is, place_cases, place_of_frame, place_of_none, placed_push, placed_set, placed_within}
-use Rattle.buffer_pool.proofs.Changing.{frame_cases, act_at}
+use Rattle.buffer_pool.proofs.Changing.{frame_cases, act_at, act_none}
 use Rattle.buffer_pool.proofs.Lists.{block_of_page, slice_get-set_same, slice_get-set_other, slice_get-push_same, slice_get-push_other}
 
 -- the page of a block that a frame holds is the frame's
@@ -56,6 +56,20 @@ same_page old new block same pages =
       | inr p ↦ held_at new block p.0 (same ∙ p.1) ∙ (pages p.0 p.1 ∙ sym (held_at old block p.0 p.1))
     ]
 
+pub no_act : (pool : Pool) (block : ℕ) → frame_of pool block ≡ None → act_of pool block ≡ 0
+unfolding frame_of act_of
+no_act pool block is = act_none (blocks_in pool.pages.items) pool.acts.items block is
+
+-- what is held where a page came into a frame, was held before
+was_held : (old new : Pool) (at block : ℕ) (other : Page)
+    → (frame_of old block ≢ Some at → held_page new block ≡ held_page old block) → (frame_of old block ≡ Some at → held_page new block ≡ None)
+    → held_page new block ≡ Some other → held_page old block ≡ Some other
+was_held old new at block other same gone is =
+    elim (cases_eq (get_or old.places.items block 0) (suc at)) [
+      | inl there ↦ let both : None ≡ Some other = sym (gone (frame_from old block at there)) ∙ is in absurd cc
+      | inr not ↦ sym (same (λ there. not (place_from old block at there))) ∙ is
+    ]
+
 -- a page came into a frame, by the places
 pub put_from : (old new : Pool) (at : ℕ) (page : Page)
     → new.most ≡ old.most → length new.places.items ≡ length old.places.items → length new.pages.items ≡ max (length old.pages.items) (suc at)
@@ -64,11 +78,15 @@ pub put_from : (old new : Pool) (at : ℕ) (page : Page)
     → get_or new.places.items page.block 0 ≡ suc at
     → ((block : ℕ) → get_or old.places.items block 0 ≡ suc at → get_or new.places.items block 0 ≡ 0)
     → ((block : ℕ) → block ≢ page.block → get_or old.places.items block 0 ≢ suc at → get_or new.places.items block 0 ≡ get_or old.places.items block 0)
+    → frame_of old page.block ≡ None → ((block : ℕ) → 0 < act_of old block → frame_of old block ≢ Some at)
     → HasSameChanges old new → IsPut old new at page
 unfolding most_of reach_of count_of page_at
-put_from old new at page most reach count there pages came left stayed changes =
+put_from old new at page most reach count there pages came left stayed absent taken changes =
     let elsewhere = λ (block : ℕ) (other : block ≢ page.block) (not : frame_of old block ≢ Some at).
     same_frame old new block (stayed block other (λ is. not (frame_from old block at is))) in
+    let others = λ (block : ℕ) (other : block ≢ page.block) (not : frame_of old block ≢ Some at).
+    same_page old new block (elsewhere block other not) (λ k is. pages k (λ same. not (is ∙ ap (λ (n : ℕ). Some n) same))) in
+    let gone = λ (block : ℕ) (is : frame_of old block ≡ Some at). held_none new block (no_frame_from new block (left block (place_from old block at is))) in
     record {
       most = most;
       reach = reach;
@@ -76,11 +94,12 @@ put_from old new at page most reach count there pages came left stayed changes =
       frame = frame_from new page.block at came;
       there = there;
       held = held_at new page.block at (frame_from new page.block at came) ∙ there;
-      gone = λ block is. held_none new block (no_frame_from new block (left block (place_from old block at is)));
+      gone = gone;
       frames = pages;
       places = elsewhere;
-      others = λ block other not. same_page old new block (elsewhere block other not)
-          (λ k is. pages k (λ same. not (is ∙ ap (λ (n : ℕ). Some n) same)));
+      others = others;
+      was = λ block other not. was_held old new at block other (others block not) (gone block);
+      kept = λ block some. others block (λ e. omega (arith, some, ap (act_of old) e, no_act old page.block absent)) (taken block some);
       changes = changes;
     }
 
@@ -232,6 +251,7 @@ module _ (pool : Pool) (at : ℕ) (was page : Page) (next : ℕ) (less : at < le
       (place page.block ∙ given_came pool.places.items blocks at page.block next pool.placed in_blocks (no_place_from pool page.block absent) within next_is)
       (λ block there. place block ∙ given_left pool.places.items blocks at page.block next pool.placed in_blocks (no_place_from pool page.block absent) within next_is block there)
       (λ block other not. place block ∙ given_stays pool.places.items blocks at page.block next pool.placed in_blocks (no_place_from pool page.block absent) within next_is block other not)
+      absent taken.clean
       (same_changes pool new changed (λ block. ap (λ (ps : List Page). act_in (blocks_in ps) new.acts.items block) pages
       ∙ (ap (λ (xs : List ℕ). act_in (blocks_in (set pool.pages.items at page)) xs block) acts ∙ replaced_acts block)))
 
@@ -278,5 +298,6 @@ module _ (pool : Pool) (page : Page) (next : ℕ) (next_is : next ≡ suc (lengt
       (place page.block ∙ (get_or-set_same pool.places.items page.block next 0 within ∙ next_is))
       (λ block there. absurd (omega (arith, many_held, pool.placed.within block end there)))
       (λ block other not. place block ∙ get_or-set_other pool.places.items page.block block next 0 other)
+      absent (λ block some there. omega (arith, many_held, pool.placed.within block end (place_from pool block end there)))
       (same_changes pool new changed (λ block. ap (λ (ps : List Page). act_in (blocks_in ps) new.acts.items block) pages
       ∙ (ap (λ (xs : List ℕ). act_in (blocks_in (pool.pages.items ++ page ∷ [])) xs block) acts ∙ pushed_acts block)))

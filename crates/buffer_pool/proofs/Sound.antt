@@ -12,12 +12,13 @@ use Rattle.std.proofs.lemmas.Bool.{eqb-true}
 use Rattle.std.proofs.lemmas.Option.{slice_get_within, get_or_from_slice_get, slice_get_read}
 use Rattle.page_codec.specs.declared.page.Page.{Page}
 use Rattle.buffer_pool.specs.declared.pool.Pool.{Pool}
-use Rattle.buffer_pool.specs.Frames.{blocks_in, has_block}
+use Rattle.buffer_pool.specs.Frames.{blocks_in, has_block, AreApart}
 use Rattle.buffer_pool.specs.Pools.{most_of, reach_of, count_of, blocks_of, page_at, frame_of, held_page, act_of, changed_of, HasSameChanges, HasSamePages, IsPool}
 use Rattle.buffer_pool.specs.Choices.{AreCleanPinned, IsFree, IsOldest, AreAllPinned}
 use Rattle.buffer_pool.proofs.Placing.{placed_within}
-use Rattle.buffer_pool.proofs.Changing.{frame_cases, has_block-at, act_none, all_changed}
-use Rattle.buffer_pool.proofs.Putting.{held_at, held_none, frame_from, place_from, place_of_page}
+use Rattle.buffer_pool.proofs.Changing.{frame_cases, has_block-at, all_changed}
+use Rattle.buffer_pool.proofs.Putting.{no_act, held_at, held_none, frame_from, place_from, place_of_page}
+use Rattle.buffer_pool.proofs.Apart.{pinned_more}
 use Rattle.buffer_pool.proofs.Noting.{frame_within, block_there, held_act}
 
 some_within : {A : Type 0} (xs : List A) (k : ℕ) → k < length xs → IsSome (slice_get xs k)
@@ -61,10 +62,6 @@ held_among pool block page is =
     let less : h.0 < length blocks = omega (arith, frame_within pool block h.0 h.1, many_blocks pool) in
     ap (has_block blocks) (sym (block_there pool block h.0 h.1)) ∙ has_block-at blocks h.0 0 less
 
-no_act : (pool : Pool) (block : ℕ) → frame_of pool block ≡ None → act_of pool block ≡ 0
-unfolding frame_of act_of
-no_act pool block is = act_none (blocks_in pool.pages.items) pool.acts.items block is
-
 changed_kept : (pool : Pool) (block : ℕ) → 0 < act_of pool block → IsSome (held_page pool block)
 unfolding page_at
 changed_kept pool block some =
@@ -73,16 +70,20 @@ changed_kept pool block some =
       | inr p ↦ ap {B = Bool} (λ (o : Option Page). is_some o) (held_at pool block p.0 p.1) ∙ some_within pool.pages.items p.0 (frame_within pool block p.0 p.1)
     ]
 
+-- no two frames hold one block
+blocks_apart : (pool : Pool) → AreApart (blocks_in pool.pages.items)
+blocks_apart pool = λ i j d less within same.
+    let blocks = blocks_in pool.pages.items in
+    let zero_i = get_or_default blocks i d 0 (omega (arith, less, within)) in
+    let zero_j = get_or_default blocks j d 0 within in
+    omega (arith, less, pool.placed.told i (omega (arith, less, within)), pool.placed.told j within, ap (λ (b : ℕ). get_or pool.places.items b 0) (sym zero_i ∙ (same ∙ zero_j)))
+
 pub pool_is : (pool : Pool) → IsPool pool
 unfolding most_of count_of blocks_of act_of changed_of
 pool_is pool = record {
   few = pool.few;
   count = many_blocks pool;
-  apart = λ i j d less within same.
-      let blocks = blocks_in pool.pages.items in
-      let zero_i = get_or_default blocks i d 0 (omega (arith, less, within)) in
-      let zero_j = get_or_default blocks j d 0 within in
-      omega (arith, less, pool.placed.told i (omega (arith, less, within)), pool.placed.told j within, ap (λ (b : ℕ). get_or pool.places.items b 0) (sym zero_i ∙ (same ∙ zero_j)));
+  apart = blocks_apart pool;
   own = own_frame pool;
   in_use = frame_within pool;
   held = held_at pool;
@@ -237,10 +238,14 @@ oldest_is pool pinned changed place block act same first is act_is many clean =
 
 pub none_free : (pool : Pool) (pinned changed : List ℕ) → changed ≡ pool.changed.items → position (λ b. not (has_block pinned b)) changed ≡ None
     → pool.most ≤ length pool.pages.items → AreCleanPinned pool pinned → AreAllPinned pool pinned
-none_free pool pinned changed same none many clean = record {
-  full = full_is pool many;
-  every = all_pinned pool pinned clean (ap (λ (xs : List ℕ). position (λ b. not (has_block pinned b)) xs) (sym same) ∙ none);
-}
+unfolding most_of blocks_of
+none_free pool pinned changed same none many clean =
+    let every = all_pinned pool pinned clean (ap (λ (xs : List ℕ). position (λ b. not (has_block pinned b)) xs) (sym same) ∙ none) in
+    record {
+      full = full_is pool many;
+      every = every;
+      more = λ block absent. omega (arith, pool.few, full_is pool many, pinned_more pool pinned block absent (blocks_apart pool) every);
+    }
 
 -- what a look finds is a frame in use, with the held page
 pub found_within : (pool : Pool) (block : ℕ) (found : Option ℕ) → found ≡ frame_of pool block → IfSome found (λ at. at < count_of pool)

@@ -1,5 +1,5 @@
 -- Which frame is taken for another page, or which page is written first.
-use Rattle.std.specs.Prelude.{◌≡◌, ◌≢◌, ℕ, true, false, not, Some, List, slice_get, position, All}
+use Rattle.std.specs.Prelude.{◌≡◌, ◌≢◌, ℕ, suc, ◌<◌, true, false, not, if◌then◌else◌, Some, None, List, [], ◌∷◌, slice_get, position, All}
 use Rattle.buffer_pool.specs.Frames.{has_block}
 use Rattle.buffer_pool.specs.Pools.{most_of, count_of, blocks_of, frame_of, act_of, changed_of, CanBeTaken}
 use Rattle.buffer_pool.specs.declared.pool.Pool.{Pool}
@@ -24,10 +24,16 @@ pub record IsOldest (pool : Pool) (pinned : List ℕ) (place block act : ℕ) : 
   pub unpinned : has_block pinned block ≡ false
   pub changed : act ≡ act_of pool block
 
--- each frame holds a pinned page
+-- how many different blocks these are
+abbrev pub count_apart : List ℕ → ℕ
+count_apart [] = 0
+count_apart (b ∷ blocks) = if has_block blocks b then count_apart blocks else suc (count_apart blocks)
+
+-- each frame holds a pinned page, so that the pinned blocks with one that isn't held are more than the frames
 pub record AreAllPinned (pool : Pool) (pinned : List ℕ) : Type 0 where
   pub full : count_of pool ≡ most_of pool
   pub every : All (λ b. has_block pinned b ≡ true) (blocks_of pool)
+  pub more : (block : ℕ) → frame_of pool block ≡ None → most_of pool < count_apart (block ∷ pinned)
 
 -- what is chosen where these blocks are pinned
 abbrev pub IsChoice : Pool → List ℕ → Choice → Type 0

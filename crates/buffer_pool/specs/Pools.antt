@@ -76,6 +76,9 @@ pub record IsPut (old new : Pool) (at : ℕ) (page : Page) : Type 0 where
       → frame_of new block ≡ frame_of old block
   pub others : (block : ℕ) → block ≢ page.block → frame_of old block ≢ Some at
       → held_page new block ≡ held_page old block
+  pub was : (block : ℕ) (other : Page) → block ≢ page.block → held_page new block ≡ Some other
+      → held_page old block ≡ Some other
+  pub kept : (block : ℕ) → 0 < act_of old block → held_page new block ≡ held_page old block
   pub changes : HasSameChanges old new
 
 -- the held page was changed by this act; its block comes last in the order, unless it stood there
@@ -96,13 +99,15 @@ pub record IsWritten (old new : Pool) (place : ℕ) : Type 0 where
   pub pages : HasSamePages old new
   pub order : changed_of new ≡ remove (changed_of old) place
   pub written : act_of new (slice_index (changed_of old) place) ≡ 0
-  pub others : (block : ℕ) → block ≢ slice_index (changed_of old) place → act_of new block ≡ act_of old block
+  pub others : (block : ℕ) → block ≢ slice_index (changed_of old) place
+      → act_of new block ≡ act_of old block
 
 -- so many pages, the first of the order, were written
 pub record AreWritten (old new : Pool) (count : ℕ) : Type 0 where
   pub pages : HasSamePages old new
   pub order : changed_of new ≡ drop count (changed_of old)
-  pub written : (block : ℕ) → has_block (take count (changed_of old)) block ≡ true → act_of new block ≡ 0
+  pub written : (block : ℕ) → has_block (take count (changed_of old)) block ≡ true
+      → act_of new block ≡ 0
   pub others : (block : ℕ) → has_block (take count (changed_of old)) block ≡ false
       → act_of new block ≡ act_of old block
 
@@ -117,7 +122,8 @@ pub record IsPool (pool : Pool) : Type 0 where
   pub absent : (block : ℕ) → frame_of pool block ≡ None → held_page pool block ≡ None
   pub same : (block : ℕ) (page : Page) → held_page pool block ≡ Some page → page.block ≡ block
   pub within : (block : ℕ) (page : Page) → held_page pool block ≡ Some page → block < reach_of pool
-  pub among : (block : ℕ) (page : Page) → held_page pool block ≡ Some page → has_block (blocks_of pool) block ≡ true
+  pub among : (block : ℕ) (page : Page) → held_page pool block ≡ Some page
+      → has_block (blocks_of pool) block ≡ true
   pub changed : (block : ℕ) → has_block (changed_of pool) block ≡ nat_lt 0 (act_of pool block)
   pub kept : (block : ℕ) → 0 < act_of pool block → IsSome (held_page pool block)
   pub once : AreApart (changed_of pool)
