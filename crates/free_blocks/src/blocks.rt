@@ -27,7 +27,7 @@ impl Model for FreeBlocks {
 }
 
 impl FreeBlocks {
-    ghost use Rattle.free_blocks.specs.Numbers.{IsLowest, AreBeyond};
+    ghost use Rattle.free_blocks.specs.Numbers.{number_at, IsLowest, AreBeyond};
 
     /// So many blocks, at most 65,536, none of them free. Refused where the memory for them is.
     pub fn new(alloc: Global, places: u32) -> Result<FreeBlocks, AllocError>
@@ -46,6 +46,13 @@ impl FreeBlocks {
         ensures { self.new ≡ slice_set self.old block number }
     {
         tree::put(&mut self.tree, self.shape, block, number);
+    }
+
+    /// Since when a block is free, in one look. None where it isn't, or there is no such block.
+    pub fn get(&self, block: u32) -> Option<u64>
+        ensures { result ≡ number_at self.now block }
+    {
+        tree::number_at(&self.tree, self.shape.size as usize + block as usize)
     }
 
     /// The lowest block whose number is at most this, in at most 17 looks. Where `most` is none, each number is.

@@ -10,7 +10,9 @@ fn lowest_of_three_blocks(rt: HostRuntime) -> Result<(), Fail> {
     assert_eq!(rt; free.lowest(Some(6)), None);
     assert_eq!(rt; free.lowest(Some(7)), Some(2));
     assert_eq!(rt; free.lowest(Some(9)), Some(1));
+    assert_eq!(rt; (free.get(1), free.get(2)), (Some(9), Some(7)));
     free.set(1, None);
     assert_eq!(rt; free.lowest(None), Some(2));
+    assert_eq!(rt; (free.get(1), free.get(3)), (None, None));
     Ok(())
 }

@@ -52,8 +52,8 @@ fn is_at_most(most: Option<u64>, number: Option<u64>) -> bool
     }
 }
 
-// The number of a node; none beyond the last.
-fn number_at(tree: &[Option<u64>], node: usize) -> Option<u64>
+/// The number of a node; none beyond the last.
+pub(crate) fn number_at(tree: &[Option<u64>], node: usize) -> Option<u64>
     ensures { result ≡ number_at tree.now node }
 {
     if node < tree.len() { tree[node] } else { None }

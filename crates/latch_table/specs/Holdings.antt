@@ -1,5 +1,5 @@
 -- Who holds what: latches and pins of pages, and which exclude each other.
-use Rattle.std.specs.Prelude.{ℕ, suc, ◌<◌, Bool, true, false, not, ◌&&◌, ◌||◌, ◌==◌, nat_lt, if◌then◌else◌, unwrap_or, List, [], ◌∷◌, length, slice_get, slice_set}
+use Rattle.std.specs.Prelude.{ℕ, suc, ◌<◌, Bool, true, false, not, ◌&&◌, ◌||◌, ◌==◌, nat_lt, if◌then◌else◌, unwrap_or, List, [], ◌∷◌, ◌++◌, length, slice_get, slice_set}
 use Rattle.latch_table.specs.declared.mode.Mode.{Mode}
 use Rattle.latch_table.specs.declared.mode.Mode.TheVariants.{Shared, Exclusive, Cleanup}
 use Rattle.latch_table.specs.declared.mode.Latch.{Latch}
@@ -117,3 +117,8 @@ unpinned table session block =
 -- the session may take one more latch
 abbrev pub HasRoom : Table → ℕ → Type 0
 HasRoom table session = length (holding_of table session).latches < 8
+
+-- the blocks that are pinned, each as often as it is
+abbrev pub pinned_blocks : Table → List ℕ
+pinned_blocks [] = []
+pinned_blocks (holding ∷ table) = holding.pins ++ pinned_blocks table

@@ -1,6 +1,6 @@
 //! What one session holds.
 
-ghost use Rattle.std.specs.Prelude.{◌≡◌, ◌∷◌, ◌<◌, ◌≤◌, ◌↔◌, ◌==◌, ◌&&◌, IsTrue, length, nat_lt, if◌then◌else◌};
+ghost use Rattle.std.specs.Prelude.{◌≡◌, ◌∷◌, ◌++◌, ◌+◌, ◌<◌, ◌≤◌, ◌↔◌, ◌==◌, ◌&&◌, IsTrue, length, nat_lt, if◌then◌else◌};
 ghost use Rattle.std.specs.List.{list_any, position};
 
 use crate::mode::{Latch, Mode};
@@ -23,6 +23,7 @@ impl Model for Held {
 }
 
 impl Held {
+    ghost use Rattle.arrayvec.specs.ArrayVec.{array_vec_len};
     ghost use Rattle.latch_table.specs.Holdings.{nothing_held, holding_excludes, without_latch, without_pin};
 
     /// Nothing.
@@ -92,6 +93,15 @@ impl Held {
         if let Some(at) = self.pins.iter().position(|pinned| *pinned == block) {
             self.pins.remove(at);
         }
+    }
+
+    /// Puts its pins, the newest first, behind these blocks, which have room for two more.
+    pub fn add_pins(&self, blocks: &mut ArrayVec<u32, 128>)
+        requires room { array_vec_len blocks.old ≤ 126 }
+        ensures added { blocks.new.items ≡ blocks.old.items ++ self.now.pins }
+        ensures few { array_vec_len blocks.new ≤ array_vec_len blocks.old + 2 }
+    {
+        let _ = blocks.try_extend_from_slice(self.pins.as_slice());
     }
 }
 

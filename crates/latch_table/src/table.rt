@@ -5,6 +5,7 @@ ghost use Rattle.std.specs.List.{list_any, enumerate_from};
 
 use crate::held::Held;
 use crate::mode::{Latch, Mode};
+use arrayvec::ArrayVec;
 use index_model::{Fault, Session};
 use std::array;
 use std::marker::Model;
@@ -28,7 +29,7 @@ impl Model for LatchTable {
 }
 
 impl LatchTable {
-    ghost use Rattle.latch_table.specs.Holdings.{nothing_held, is_held_by_another, latched, released, pinned, unpinned, with_holding, HasRoom};
+    ghost use Rattle.latch_table.specs.Holdings.{nothing_held, is_held_by_another, latched, released, pinned, unpinned, pinned_blocks, with_holding, HasRoom};
 
     /// A table in which nobody holds anything.
     pub fn new() -> LatchTable
@@ -91,6 +92,17 @@ impl LatchTable {
         ensures { self.new ≡ unpinned self.old session block }
     {
         self.holdings[session.number() as usize].unpin(block);
+    }
+
+    /// The blocks that are pinned, by all sessions together: each as often as it is, 128 pins at most.
+    pub fn pinned(&self) -> ArrayVec<u32, 128>
+        ensures { result.items ≡ pinned_blocks self.now }
+    {
+        let mut blocks = ArrayVec::new();
+        for held in &self.holdings {
+            held.add_pins(&mut blocks);
+        }
+        blocks
     }
 
     /// Lets go all that the session holds.

@@ -59,3 +59,21 @@ fn eight_latches(rt: HostRuntime) {
         Err(Fault::Blocked(9))
     );
 }
+
+// A block is listed for each pin of it; a third pin of a session isn't taken.
+#[test]
+fn pinned_by_two_sessions(rt: HostRuntime) {
+    let (Ok(first), Ok(last)) = (Session::new(0), Session::new(63)) else {
+        assert!(rt; false);
+        return;
+    };
+    let mut table = LatchTable::new();
+    assert!(rt; table.pinned().is_empty());
+    table.pin(first, 5);
+    table.pin(first, 9);
+    table.pin(first, 7);
+    table.pin(last, 5);
+    assert_eq!(rt; table.pinned().as_slice(), [9, 5, 5].as_slice());
+    table.unpin(first, 5);
+    assert_eq!(rt; table.pinned().as_slice(), [9, 5].as_slice());
+}

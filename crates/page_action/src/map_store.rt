@@ -195,7 +195,7 @@ impl PageStore for MapStore {
     }
 
     fn free_for(&self, session: Session, block: u32) -> Option<bool> {
-        self.calls.free_for(&self.pages, session, block)
+        self.calls.free_for(session, block)
     }
 
     fn cycle(&self) -> u32 {

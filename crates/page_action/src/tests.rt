@@ -96,7 +96,10 @@ fn reuse_waits_for_calls(rt: HostRuntime) -> Result<(), Fail> {
         (store.free_for(early, 1), store.free_for(late, 1)),
         (Some(true), Some(false))
     );
-    assert_eq!(rt; store.free_for(early, 0), None);
+    assert_eq!(rt;
+        (store.free_for(early, 0), store.free_for(early, 8)),
+        (None, None)
+    );
     assert_eq!(rt; store.fresh(), Ok(2));
     store.end(early);
     assert_eq!(rt; store.fresh(), Ok(1));
@@ -128,6 +131,25 @@ fn latches_pins_and_cycles(rt: HostRuntime) {
     assert_eq!(rt; store.cycle(), 0);
     store.start_cycle();
     assert_eq!(rt; store.cycle(), 2);
+}
+
+#[test]
+fn blocks_that_are_pinned(rt: HostRuntime) {
+    let (Ok(numbers), Ok(one), Ok(other)) = (
+        DeletionNumbers::new(rt.alloc(), 8),
+        Session::new(1),
+        Session::new(2),
+    ) else {
+        assert!(rt; false);
+        return;
+    };
+    let mut calls = CallTable::new(numbers, 0);
+    calls.pin(one, 5);
+    calls.pin(one, 3);
+    calls.pin(other, 5);
+    assert_eq!(rt; calls.pinned().as_slice(), [3, 5, 5].as_slice());
+    calls.end(one);
+    assert_eq!(rt; calls.pinned().as_slice(), [5].as_slice());
 }
 
 #[test]

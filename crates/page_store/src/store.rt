@@ -199,7 +199,7 @@ impl<D: Device> PageStore for Store<D> {
     }
 
     fn free_for(&self, session: Session, block: u32) -> Option<bool> {
-        self.calls.free_for(&self.held.pages, session, block)
+        self.calls.free_for(session, block)
     }
 
     fn cycle(&self) -> u32 {
