@@ -202,7 +202,7 @@ fn narrow_trees(rt: HostRuntime) -> Result<(), Fail> {
         }
     }
     assert!(rt;
-        total.index_full >= 400 && total.log_full >= 200 && total.unfinished >= 40,
+        total.index_full >= 400 && total.log_full >= 100 && total.unfinished >= 40,
         "{total:?}"
     );
     Ok(())

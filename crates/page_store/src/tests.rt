@@ -164,9 +164,26 @@ fn a_full_log_is_refused(rt: HostRuntime) -> Result<(), Fail> {
     for n in 0..15u32 {
         assert_eq!(rt; store.room(), 15 - n);
         assert!(rt; act(&mut store, leaf(1, n)).is_ok());
+        assert!(rt; store.force().is_ok());
     }
     assert_eq!(rt; act(&mut store, leaf(1, 15)), Err(Fault::LogFull));
     assert_eq!(rt; store.checkpoint(), Ok(15));
     assert_eq!(rt; act(&mut store, leaf(1, 15)), Ok(16));
+    Ok(())
+}
+
+#[test]
+fn acts_on_one_block_wait_as_one_image(rt: HostRuntime) -> Result<(), Fail> {
+    let mut store = store(rt.alloc(), 0)?;
+    assert_eq!(rt; act(&mut store, leaf(1, 1)), Ok(1));
+    assert_eq!(rt; act(&mut store, leaf(1, 2)), Ok(2));
+    assert_eq!(rt; store.room(), 14);
+    for n in 3..41u32 {
+        assert_eq!(rt; act(&mut store, leaf(1, n)), Ok(u64::from(n)));
+    }
+    assert_eq!(rt; store.force(), Ok(40));
+    let mut left = store.into_device().crash(rt.alloc(), CrashImage::Drop)?;
+    let images = logged(rt.alloc(), &mut left)?;
+    assert_eq!(rt; images.len(), 1);
     Ok(())
 }
