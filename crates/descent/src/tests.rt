@@ -58,12 +58,12 @@ fn page_is_read(rt: HostRuntime) {
         assert!(rt; false);
         return;
     };
-    assert_eq!(rt; look(&mut store, one, 1).map(|page| page.block), Ok(1));
+    match look(&mut store, one, 1) {
+        Ok(()) => assert_eq!(rt; store.view(1).block, 1),
+        Err(fault) => assert_eq!(rt; fault, Fault::Stopped),
+    }
     assert_eq!(rt; store.latch(other, 1, Mode::Exclusive), Ok(()));
-    assert_eq!(rt;
-        look(&mut store, one, 1).map(|page| page.block),
-        Err(Fault::Blocked(1))
-    );
+    assert_eq!(rt; look(&mut store, one, 1), Err(Fault::Blocked(1)));
 }
 
 #[test]
@@ -72,10 +72,7 @@ fn page_that_is_not_there(rt: HostRuntime) {
         assert!(rt; false);
         return;
     };
-    assert_eq!(rt;
-        look(&mut store, session, 0).map(|page| page.block),
-        Err(Fault::PageDamaged(0))
-    );
+    assert_eq!(rt; look(&mut store, session, 0), Err(Fault::PageDamaged(0)));
 }
 
 // Where the page of a way on this level leads to the leaf of an entry.
