@@ -194,16 +194,18 @@ impl InsertOp {
         requires alive { (S.backing store.old).stopped ≡ false }
         ensures { InsertSteps S.PageStore self.old self.new store.old store.new result }
     {
-        let page = match store.page(block) {
-            Ok(page) => page,
+        match store.fetch(block) {
+            Ok(()) => {}
             Err(fault) => return Err(fault),
-        };
-        let at = match place_in(&page, &self.entry) {
+        }
+        let found = store.view(block);
+        let at = match place_in(found, &self.entry) {
             Ok(at) => at,
             Err(fault) => return Err(fault),
         };
+        let mut page = found.copy();
         if entries_on(&page).len() < store.limits().items as usize {
-            self.put(store, page, at)
+            self.put(store, &mut page, at)
         } else {
             self.split(store, page, at)
         }

@@ -71,7 +71,7 @@ fn place_page(pages: &mut Vec<Page>, page: &Page)
 {
     let block = page.block as usize;
     if block < pages.len() {
-        pages[block] = page.copy();
+        page.copy_to(&mut pages[block]);
     } else {
         pages.push_reserved(page.copy());
     }
