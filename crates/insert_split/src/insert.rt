@@ -211,7 +211,8 @@ impl InsertOp {
         }
     }
 
-    // Makes a step by which splits are finished.
+    // Makes a step by which splits are finished. Few steps do: those that don't are spared the room for its pages.
+    #[inline(never)]
     fn finish<S: PageStore>(&mut self, store: &mut S) -> Result<InsertStep, Fault>
         requires at { IsFinishing self.old.at }
         requires alive { (S.backing store.old).stopped ≡ false }

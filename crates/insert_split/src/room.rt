@@ -106,7 +106,9 @@ impl InsertOp {
         }
     }
 
-    // Splits the leaf that it holds, with the entry put at this place, and lets it go.
+    // Splits the leaf that it holds, with the entry put at this place, and lets it go. Few inserts do: those that don't are
+    // spared the room for its pages.
+    #[inline(never)]
     pub fn split<S: PageStore>(
         &mut self,
         store: &mut S,
