@@ -55,6 +55,14 @@ fn copy_links(links: &ArrayVec<Downlink, 50>, target: &mut ArrayVec<Downlink, 50
     let _ = target.try_extend_from_slice(&source[kept..]);
 }
 
+// Makes the items those of another page. Few pages change their kind: those that don't are spared the room for a copy.
+#[inline(never)]
+fn replace_items(items: &Items, target: &mut Items)
+    ensures { target.new ≡ items.now }
+{
+    *target = same_items(items);
+}
+
 // Makes the items those of another page, in place where both are of one kind.
 fn copy_items(items: &Items, target: &mut Items)
     ensures { target.new ≡ items.now }
@@ -62,7 +70,7 @@ fn copy_items(items: &Items, target: &mut Items)
     match (items, &mut *target) {
         (Items::Entries(entries), Items::Entries(kept)) => copy_entries(entries, kept),
         (Items::Downlinks(links), Items::Downlinks(kept)) => copy_links(links, kept),
-        _ => *target = same_items(items),
+        _ => replace_items(items, target),
     }
 }
 
