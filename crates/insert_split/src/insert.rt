@@ -194,22 +194,25 @@ impl InsertOp {
         requires alive { (S.backing store.old).stopped ≡ false }
         ensures { InsertSteps S.PageStore self.old self.new store.old store.new result }
     {
-        let page = match store.page(block) {
-            Ok(page) => page,
+        match store.fetch(block) {
+            Ok(()) => {}
             Err(fault) => return Err(fault),
-        };
-        let at = match place_in(&page, &self.entry) {
+        }
+        let found = store.view(block);
+        let at = match place_in(found, &self.entry) {
             Ok(at) => at,
             Err(fault) => return Err(fault),
         };
+        let mut page = found.copy();
         if entries_on(&page).len() < store.limits().items as usize {
-            self.put(store, page, at)
+            self.put(store, &mut page, at)
         } else {
             self.split(store, page, at)
         }
     }
 
-    // Makes a step by which splits are finished.
+    // Makes a step by which splits are finished. Few steps do: those that don't are spared the room for its pages.
+    #[inline(never)]
     fn finish<S: PageStore>(&mut self, store: &mut S) -> Result<InsertStep, Fault>
         requires at { IsFinishing self.old.at }
         requires alive { (S.backing store.old).stopped ≡ false }

@@ -74,31 +74,30 @@ fn act_on_halves<S: PageStore>(
 }
 
 impl InsertOp {
-    // Puts the entry on the leaf that it holds, at this place.
+    // Puts the entry on this copy of the leaf that it holds, at this place, and then on the leaf.
     pub fn put<S: PageStore>(
         &self,
         store: &mut S,
-        page: Page,
+        page: &mut Page,
         at: usize,
     ) -> Result<InsertStep, Fault>
-        requires stored { IsStored (S.state store.old).limits page.block page }
-        requires used { page.block < length (S.state store.old).pages }
+        requires stored { IsStored (S.state store.old).limits page.old.block page.old }
+        requires used { page.old.block < length (S.state store.old).pages }
         requires inside { length (S.state store.old).pages ≤ (S.state store.old).limits.pages }
-        requires may { MayHold page self.now.entry }
-        requires place { IsPlaceOf self.now.entry (entries_of page.items) at }
-        requires room { length (entries_of page.items) < (S.state store.old).limits.items }
+        requires may { MayHold page.old self.now.entry }
+        requires place { IsPlaceOf self.now.entry (entries_of page.old.items) at }
+        requires room { length (entries_of page.old.items) < (S.state store.old).limits.items }
         requires few { (S.state store.old).limits.items ≤ 50 }
         ensures steps { Continues S.follows store.old store.new }
-        ensures puts { IfOk result (PutsEntry page self.now.entry
+        ensures puts { IfOk result (PutsEntry page.old self.now.entry
             (S.state store.old) (S.state store.new)) }
         ensures refused { OnErr result (S.state store.new ≡ S.state store.old) }
-        ensures cause { has_pin (pinned_blocks (S.state store.old).table) page.block ≡ true
+        ensures cause { has_pin (pinned_blocks (S.state store.old).table) page.old.block ≡ true
             → IfErr result (HasCause (where_working (S.state store.old) (S.backing store.old)
             (S.backing store.new) self.now.session 1 0 false false)) }
     {
-        let mut page = page;
-        put(&mut page, at, self.entry);
-        match store.act(slice::from_ref(&page)) {
+        put(page, at, self.entry);
+        match store.act(slice::from_ref(page)) {
             Ok(action) => Ok(InsertStep::Added {
                 action,
                 unfinished: None,
@@ -107,7 +106,9 @@ impl InsertOp {
         }
     }
 
-    // Splits the leaf that it holds, with the entry put at this place, and lets it go.
+    // Splits the leaf that it holds, with the entry put at this place, and lets it go. Few inserts do: those that don't are
+    // spared the room for its pages.
+    #[inline(never)]
     pub fn split<S: PageStore>(
         &mut self,
         store: &mut S,

@@ -1,6 +1,6 @@
 //! Pages that may be stored, and where they are put.
 
-ghost use Rattle.std.specs.Prelude.{◌≡◌, ◌≤◌, ◌<◌, vec_len, vec_capacity, IsTrue, ◌↔◌, IfNone, IfSome};
+ghost use Rattle.std.specs.Prelude.{◌≡◌, ◌≤◌, ◌<◌, [], ◌∷◌, ◌++◌, vec_len, vec_capacity, IsTrue, ◌↔◌, IfNone, IfSome};
 ghost use Rattle.page_codec.specs.Spelling.{count_of};
 ghost use Rattle.page_action.specs.Stored.{AreStored, IsStorable, IsApartFrom, IsPlaceable, AreActable};
 ghost use Rattle.page_action.specs.States.{with_page, with_pages};
@@ -62,6 +62,16 @@ pub fn find_misplaced(pages: &[Page], used: u32, limits: Limits) -> Option<u32>
     None
 }
 
+// Puts a copy of the page at the next unused block. Few pages are new: the others are spared the room for a copy.
+#[inline(never)]
+fn add_page(pages: &mut Vec<Page>, page: &Page)
+    requires { vec_len pages.old < vec_capacity pages.old }
+    ensures items { pages.new.items ≡ pages.old.items ++ page.now ∷ [] }
+    ensures capacity { vec_capacity pages.new ≡ vec_capacity pages.old }
+{
+    pages.push_reserved(page.copy());
+}
+
 // Puts a copy of the page at its block, which is in use or the next unused one.
 fn place_page(pages: &mut Vec<Page>, page: &Page)
     requires place { page.now.block ≤ vec_len pages.old }
@@ -71,9 +81,9 @@ fn place_page(pages: &mut Vec<Page>, page: &Page)
 {
     let block = page.block as usize;
     if block < pages.len() {
-        pages[block] = page.copy();
+        page.copy_to(&mut pages[block]);
     } else {
-        pages.push_reserved(page.copy());
+        add_page(pages, page);
     }
 }
 

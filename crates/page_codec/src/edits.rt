@@ -33,6 +33,47 @@ fn same_items(items: &Items) -> Items
     }
 }
 
+// Makes the entries in place those of another page.
+fn copy_entries(entries: &ArrayVec<Entry, 50>, target: &mut ArrayVec<Entry, 50>)
+    ensures { target.new ≡ entries.now }
+{
+    let source = entries.as_slice();
+    target.truncate(source.len());
+    let kept = target.len();
+    target.as_mut_slice().copy_from_slice(&source[..kept]);
+    let _ = target.try_extend_from_slice(&source[kept..]);
+}
+
+// Makes the downlinks in place those of another page.
+fn copy_links(links: &ArrayVec<Downlink, 50>, target: &mut ArrayVec<Downlink, 50>)
+    ensures { target.new ≡ links.now }
+{
+    let source = links.as_slice();
+    target.truncate(source.len());
+    let kept = target.len();
+    target.as_mut_slice().copy_from_slice(&source[..kept]);
+    let _ = target.try_extend_from_slice(&source[kept..]);
+}
+
+// Makes the items those of another page. Few pages change their kind: those that don't are spared the room for a copy.
+#[inline(never)]
+fn replace_items(items: &Items, target: &mut Items)
+    ensures { target.new ≡ items.now }
+{
+    *target = same_items(items);
+}
+
+// Makes the items those of another page, in place where both are of one kind.
+fn copy_items(items: &Items, target: &mut Items)
+    ensures { target.new ≡ items.now }
+{
+    match (items, &mut *target) {
+        (Items::Entries(entries), Items::Entries(kept)) => copy_entries(entries, kept),
+        (Items::Downlinks(links), Items::Downlinks(kept)) => copy_links(links, kept),
+        _ => replace_items(items, target),
+    }
+}
+
 impl Page {
     /// The same page again. It takes no memory, and about as long as a decode of an empty leaf.
     pub fn copy(&self) -> Page
@@ -50,6 +91,22 @@ impl Page {
             deletion: self.deletion,
             items: same_items(&self.items),
         }
+    }
+
+    /// Makes another page the same as this one, in its place: quicker than a copy where both are of one kind.
+    pub fn copy_to(&self, target: &mut Page)
+        ensures { target.new ≡ self.now }
+    {
+        target.block = self.block;
+        target.level = self.level;
+        target.state = self.state;
+        target.split = self.split;
+        target.left = self.left;
+        target.right = self.right;
+        target.high = self.high;
+        target.cycle = self.cycle;
+        target.deletion = self.deletion;
+        copy_items(&self.items, &mut target.items);
     }
 }
 

@@ -1,4 +1,4 @@
-//! How many pages a second are encoded and decoded on one core: `page_timing time` prints it to
+//! How many pages a second are encoded, decoded and copied on one core: `page_timing time` prints it to
 //! standard error. Without an argument it encodes and decodes each of its pages once.
 #![tactic(auto)]
 
@@ -85,6 +85,24 @@ fn nanos_to_decode(rt: &impl Clock, bytes: &mut [u8; 4096], good: &mut u32) -> i
     Ok(start.elapsed(rt)?.as_nanos())
 }
 
+fn nanos_to_copy(rt: &impl Clock, page: &mut Page, other: &mut Page) -> io::Result<u128> {
+    let start = Instant::now(rt)?;
+    for i in 0..ROUNDS {
+        page.block = 1 + i % 1_000;
+        *other = page.copy();
+    }
+    Ok(start.elapsed(rt)?.as_nanos())
+}
+
+fn nanos_to_copy_to(rt: &impl Clock, page: &mut Page, other: &mut Page) -> io::Result<u128> {
+    let start = Instant::now(rt)?;
+    for i in 0..ROUNDS {
+        page.block = 1 + i % 1_000;
+        page.copy_to(other);
+    }
+    Ok(start.elapsed(rt)?.as_nanos())
+}
+
 fn a_second(nanos: u128) -> u128 {
     1_000_000_000 * u128::from(ROUNDS) / nanos.max(1)
 }
@@ -96,7 +114,11 @@ fn time(rt: &(impl Clock + Eprint), name: &str, page: &mut Page) -> io::Result<(
     let read = nanos_to_decode(rt, &mut bytes, &mut good)?;
     let encoded = a_second(wrote);
     let decoded = a_second(read);
-    eprintln!(rt; "{name}: {encoded} encoded, {decoded} decoded a second ({good} of {ROUNDS} good)")
+    let mut other = leaf(20);
+    let copied = a_second(nanos_to_copy(rt, page, &mut other)?);
+    let copied_to = a_second(nanos_to_copy_to(rt, page, &mut other)?);
+    eprintln!(rt; "{name}: {encoded} encoded, {decoded} decoded a second ({good} of {ROUNDS} good)")?;
+    eprintln!(rt; "{name}: {copied} copied, {copied_to} copied in place")
 }
 
 fn main(rt: HostRuntime) -> io::Result<()> {
