@@ -117,7 +117,9 @@ fn time(rt: &(impl Clock + Eprint), name: &str, page: &mut Page) -> io::Result<(
     let mut other = leaf(20);
     let copied = a_second(nanos_to_copy(rt, page, &mut other)?);
     let copied_to = a_second(nanos_to_copy_to(rt, page, &mut other)?);
-    eprintln!(rt; "{name}: {encoded} encoded, {decoded} decoded a second ({good} of {ROUNDS} good)")?;
+    eprintln!(rt;
+        "{name}: {encoded} encoded, {decoded} decoded a second ({good} of {ROUNDS} good)"
+    )?;
     eprintln!(rt; "{name}: {copied} copied, {copied_to} copied in place")
 }
 
