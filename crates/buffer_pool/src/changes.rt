@@ -113,7 +113,7 @@ impl Pool {
         let at = self.frame(page.block);
         add_changed(&mut self.changed, page.block, self.acts[at]);
         self.acts[at] = act;
-        self.pages[at] = page.copy();
+        page.copy_to(&mut self.pages[at]);
     }
 
     /// The changed page at this place of the order was written: it is clean, and the others keep their order.

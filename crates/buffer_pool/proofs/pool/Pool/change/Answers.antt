@@ -24,13 +24,13 @@ index_mut-requires-2 c = omega (arith, frame_within c.args.self.now c.args.page.
 pub invariant_of-self-clause-many_acts : goal.invariant_of-self-clause-many_acts
 invariant_of-self-clause-many_acts c =
     let pool = c.args.self.now in
-    length-set pool.acts.items c.frame-at.result c.args.act ∙ (pool.many_acts ∙ sym (length-set pool.pages.items c.frame-at.result c.copy.result))
+    length-set pool.acts.items c.frame-at.result c.args.act ∙ (pool.many_acts ∙ sym (length-set pool.pages.items c.frame-at.result c.copy_to.new.target))
 
 pub invariant_of-self-clause-placed : goal.invariant_of-self-clause-placed
 invariant_of-self-clause-placed c =
     let pool = c.args.self.now in
     let there = block_there pool c.args.page.now.block c.frame-at.result c.frame-at.ensures in
-    let same = same_blocks pool.pages.items c.frame-at.result c.copy.result (there ∙ sym (ap (λ (p : Page). p.block) c.copy.ensures)) in
+    let same = same_blocks pool.pages.items c.frame-at.result c.copy_to.new.target (there ∙ sym (ap (λ (p : Page). p.block) c.copy_to.ensures)) in
     subst (λ (blocks : List ℕ). ArePlaces pool.places.items blocks) (sym same) pool.placed
 
 pub invariant_of-self-clause-ordered : goal.invariant_of-self-clause-ordered
@@ -40,7 +40,7 @@ invariant_of-self-clause-ordered c =
     let block = c.args.page.now.block in
     let blocks = blocks_in pool.pages.items in
     let within : at < length pool.acts.items = omega (arith, pool.many_acts, frame_within pool block at c.frame-at.ensures) in
-    let same = same_blocks pool.pages.items at c.copy.result (block_there pool block at c.frame-at.ensures ∙ sym (ap (λ (p : Page). p.block) c.copy.ensures)) in
+    let same = same_blocks pool.pages.items at c.copy_to.new.target (block_there pool block at c.frame-at.ensures ∙ sym (ap (λ (p : Page). p.block) c.copy_to.ensures)) in
     let is = get_or_read pool.acts.items at c.index.result.now within c.index.ensures 0 in
     subst (λ (bs : List ℕ). AreChanged c.add_changed.new.changed.items bs (set pool.acts.items at c.args.act)) (sym same)
     (subst (λ (xs : List ℕ). AreChanged xs blocks (set pool.acts.items at c.args.act)) (sym c.add_changed.ensures.items)
@@ -53,4 +53,4 @@ returns c =
     let within : at < length pool.acts.items = omega (arith, pool.many_acts, frame_within pool c.args.page.now.block at c.frame-at.ensures) in
     let is = get_or_read pool.acts.items at c.index.result.now within c.index.ensures 0 in
     changed_is pool _ c.args.page.now c.args.act at c.index.result.now c.frame-at.ensures is c.requires.act
-    refl (ap (set pool.pages.items at) c.copy.ensures) refl refl c.add_changed.ensures.items
+    refl (ap (set pool.pages.items at) c.copy_to.ensures) refl refl c.add_changed.ensures.items
