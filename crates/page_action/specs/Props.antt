@@ -94,7 +94,7 @@ IsOfKind-prop p (Downlinks v) = IsInternal-prop p v.items
 IsPage-prop : (p : Page) → IsProp (IsPage p)
 IsPage-prop p = hlevel (props, IsOfKind-prop p p.items)
 
-IsStored-prop : (limits : Limits) (block : ℕ) (p : Page) → IsProp (IsStored limits block p)
+pub IsStored-prop : (limits : Limits) (block : ℕ) (p : Page) → IsProp (IsStored limits block p)
 IsStored-prop limits block p = hlevel (props, IsPage-prop p)
 
 pub AreStored-prop : (limits : Limits) (block : ℕ) (pages : List Page)

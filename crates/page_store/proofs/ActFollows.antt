@@ -1,32 +1,32 @@
 -- Pages after an act follow those before it.
-use Rattle.std.proofs.Common.{◌≡◌, inl, ℕ, suc, ◌≤◌, Bool, Option, List, [], ◌∷◌, ◌++◌, length, take, drop, refl, sym, ap, subst, ◌∙◌, arith, length-append}
+use Rattle.std.proofs.Common.{◌≡◌, inl, inr, ℕ, suc, ◌<◌, ◌≤◌, Bool, true, Option, None, List, slice_get, [], ◌∷◌, ◌++◌, length, take, drop, refl, sym, ap, subst, ◌∙◌, arith, length-append}
 use Rattle.std.proofs.lemmas.List.{take-append-le, drop-append-le}
 use Rattle.std.specs.Prelude.{is_some}
+use Rattle.std.proofs.lemmas.Bool.{cases_lt}
 use Rattle.device.specs.Disk.{Moment}
-use Rattle.device.specs.Places.{OnDisk}
+use Rattle.device.specs.Places.{Has, OnDisk}
 use Rattle.device.proofs.Going.{stays}
 use Rattle.index_model.specs.declared.limits.Limits.{Limits}
+use Rattle.page_codec.specs.Spelling.{page_bytes}
 use Rattle.page_codec.specs.declared.page.Page.{Page}
-use Rattle.page_action.specs.States.{with_pages}
 use Rattle.page_action.specs.Stored.{AreStored, AreActable}
-use Rattle.redo_log.specs.Images.{last_image, images_of}
+use Rattle.redo_log.specs.Images.{last_image, later_of, images_of}
 use Rattle.redo_log.specs.Kept.{Keeps, limits_of, is_stopped}
 use Rattle.redo_log.specs.declared.log.Log.{Log}
 use Rattle.redo_log.proofs.ImageLists.{last_image-append, images_of-push}
-use Rattle.page_store.specs.Marks.{with_marks}
-use Rattle.page_store.specs.Histories.{with_act, after_acts, pages_after, AreActs}
+use Rattle.page_store.specs.Histories.{with_act, after_acts, pages_after, pages_now, AreActs}
 use Rattle.device_layout.specs.Layout.{superblock, place}
 use Rattle.page_store.specs.Restart.{LeavesPart}
-use Rattle.page_store.specs.Logged.{Held, AreHome, IsKept, IsOwn}
+use Rattle.page_store.specs.Logged.{Held, pages_held, is_named, AreHome, IsKept, IsOwn}
 use Rattle.page_store.specs.Following.{Follows}
 use Rattle.page_store.specs.declared.history.History.{History}
-use Rattle.page_store.proofs.Images.{acts-append, after_acts-append}
-use Rattle.page_store.proofs.Marking.{get-with_marks}
+use Rattle.page_store.proofs.Images.{acts-append, after_acts-append, get-with_pages, later_is_some, image_cases, all_dropped}
 use Rattle.page_store.specs.Crashing.{part_of_more}
 
 module _ (old : Held) (log : Log) (changed : List Page) (room promised : ℕ) (limits : limits_of log ≡ limits_of old.log) (stopped : is_stopped log ≡ is_stopped old.log)
     (keeps : (m : Moment) (acts : List (List Page)) (forced : ℕ) → Keeps old.log m acts forced → Keeps log m (acts ++ changed ∷ []) forced)
-    (actable : AreActable (limits_of old.log) (length old.pages) changed) (same_many : length old.marks ≡ length old.pages) where
+    (actable : AreActable (limits_of old.log) (length (pages_held old)) changed) (unwritten : ℕ → ℕ)
+    (acted : (block : ℕ) → is_some (last_image changed block) ≡ true → unwritten block ≡ suc old.acts) (others : (block : ℕ) → last_image changed block ≡ None → unwritten block ≡ old.unwritten block) where
   abbrev h : History
   h = old.history
 
@@ -37,8 +37,7 @@ module _ (old : Held) (log : Log) (changed : List Page) (room promised : ℕ) (l
   abbrev pub acted_held : Held
   acted_held = record old {
     log = log;
-    pages = with_pages old.pages changed;
-    marks = with_marks old.marks changed;
+    unwritten = unwritten;
     acts = suc old.acts;
     room = room;
     promised = promised;
@@ -47,12 +46,27 @@ module _ (old : Held) (log : Log) (changed : List Page) (room promised : ℕ) (l
 
   module _ (own : IsOwn old) where
     acts_more : AreActs (limits_of old.log) h.start (h.acts ++ one)
-    acts_more = acts-append (limits_of old.log) h.start h.acts one own.acts_are (subst (λ (ps : List Page). AreActable (limits_of old.log) (length ps) changed) own.pages_are actable, tt)
+    acts_more = acts-append (limits_of old.log) h.start h.acts one own.acts_are (actable, tt)
 
     leaves_more : LeavesPart (limits_of old.log) (with_act changed h) old.durable old.trace.now
     leaves_more image left = part_of_more (limits_of old.log) h (with_act changed h) one old.durable old.durable image refl refl (omega arith) (own.leaves image left)
 
-    kept_more : IsKept old.log old.trace.now old.marks h old.durable → IsKept log old.trace.now (with_marks old.marks changed) (with_act changed h) old.durable
+    -- an image among the acts is one of the act's, or one of those before
+    named_before : (since : List (List Page)) (block : ℕ) → last_image changed block ≡ None → last_image (images_of (since ++ one)) block ≡ last_image (images_of since) block
+    named_before since block none = ap (λ (ps : List Page). last_image ps block) (images_of-push since changed)
+        ∙ (last_image-append (images_of since) changed block ∙ ap (λ (o : Option Page). later_of (last_image (images_of since) block) o) none)
+
+    named_now : (since : List (List Page)) (block : ℕ) → is_some (last_image changed block) ≡ true → is_named (since ++ one) block ≡ true
+    named_now since block some = ap (λ (ps : List Page). is_some (last_image ps block)) (images_of-push since changed)
+        ∙ (ap is_some (last_image-append (images_of since) changed block) ∙ later_is_some (last_image (images_of since) block) (last_image changed block) some)
+
+    -- a block that the act doesn't name keeps its page
+    page_before : (block : ℕ) → last_image changed block ≡ None → slice_get (pages_now (with_act changed h)) block ≡ slice_get (pages_now h) block
+    page_before block none = ap (λ (ps : List Page). slice_get ps block) (after_acts-append h.start h.acts one)
+        ∙ (get-with_pages (limits_of old.log) (length (pages_now h)) (pages_now h) changed block actable (omega arith)
+        ∙ ap (λ (o : Option Page). later_of (slice_get (pages_now h) block) o) none)
+
+    kept_more : IsKept old.log old.trace.now old.unwritten h old.durable → IsKept log old.trace.now unwritten (with_act changed h) old.durable
     kept_more k =
         let since = drop k.base h.acts in
         let longer : drop k.base (h.acts ++ one) ≡ since ++ one = drop-append-le k.base h.acts one k.base_few in
@@ -68,10 +82,36 @@ module _ (old : Held) (log : Log) (changed : List Page) (room promised : ℕ) (l
               (subst (λ (as' : List (List Page)). AreHome (limits_of old.log) (images_of as') (pages_after (with_act changed h) k.base) old.trace.now) (sym front)
               (subst (λ (as' : List (List Page)). AreHome (limits_of old.log) (images_of (take k.forced since)) (after_acts h.start as') old.trace.now) (sym at_base) k.home));
           superblock_on = subst (λ (l : Limits). OnDisk 0 (superblock l) old.trace.now) (sym limits) k.superblock_on;
-          marked = λ block.
-              get-with_marks (limits_of old.log) (length old.pages) old.marks changed block (last_image (images_of since) block) actable (omega (arith, same_many)) (k.marked block)
-              ∙ ap (λ (o : Option Page). is_some o) (sym (last_image-append (images_of since) changed block) ∙ ap (λ (ps : List Page). last_image ps block) (sym (images_of-push since changed) ∙ ap images_of (sym longer)));
+          named = λ block some. subst (λ (as' : List (List Page)). is_named as' block ≡ true) (sym longer) (elim (image_cases (last_image changed block)) [
+            | inl none ↦
+                let before = k.named block (subst (λ (n : ℕ). 0 < n) (others block none) some) in
+                ap is_some (named_before since block none) ∙ before
+            | inr now ↦ named_now since block now
+          ]);
+          last = λ block some. elim (image_cases (last_image changed block)) [
+            | inl none ↦
+                let same = others block none in
+                let before = k.last block (subst (λ (n : ℕ). 0 < n) same some) in
+                ap (λ (n : ℕ). last_image (images_of (drop n (h.acts ++ one))) block) same ∙ none_behind block (old.unwritten block) none before
+            | inr now ↦
+                ap (λ (n : ℕ). last_image (images_of (drop n (h.acts ++ one))) block) (acted block now)
+                ∙ ap (λ (as' : List (List Page)). last_image (images_of as') block) (all_dropped (h.acts ++ one) (suc old.acts) (omega (arith, length-append h.acts one, own.counted)))
+          ];
+          written = λ block page found clean image. elim (image_cases (last_image changed block)) [
+            | inl none ↦
+                subst (λ (l : Limits). Has (place l block) (page_bytes page) old.trace.now.seen) (sym limits)
+                (k.written block page (sym (page_before block none) ∙ found) (sym (others block none) ∙ clean)
+                (sym (ap is_some (named_before since block none)) ∙ subst (λ (as' : List (List Page)). is_named as' block ≡ true) longer image))
+            | inr now ↦ absurd (let e : suc old.acts ≡ 0 = sym (acted block now) ∙ clean in cc)
+          ];
         }
+      where
+        -- what no act behind the first so many names isn't named with one more that doesn't name it
+        none_behind : (block n : ℕ) → last_image changed block ≡ None → last_image (images_of (drop n h.acts)) block ≡ None → last_image (images_of (drop n (h.acts ++ one))) block ≡ None
+        none_behind block n none before = elim (cases_lt (length h.acts) n) [
+          | inl past ↦ ap (λ (as' : List (List Page)). last_image (images_of as') block) (all_dropped (h.acts ++ one) n (omega (arith, length-append h.acts one)))
+          | inr le ↦ ap (λ (as' : List (List Page)). last_image (images_of as') block) (drop-append-le n h.acts one le) ∙ (named_before (drop n h.acts) block none ∙ before)
+        ]
 
     own_more : IsOwn acted_held
     own_more = record {
@@ -80,7 +120,6 @@ module _ (old : Held) (log : Log) (changed : List Page) (room promised : ℕ) (l
       long = subst (λ (l : Limits). place l l.pages ≤ length old.trace.now.seen) (sym limits) own.long;
       acts_are = subst (λ (l : Limits). AreActs l h.start (h.acts ++ one)) (sym limits) acts_more;
       counted = omega (arith, own.counted, length-append h.acts one);
-      pages_are = ap (λ (ps : List Page). with_pages ps changed) own.pages_are ∙ sym (after_acts-append h.start h.acts one);
       leaves = subst (λ (l : Limits). LeavesPart l (with_act changed h) old.durable old.trace.now) (sym limits) leaves_more;
       kept = λ alive. kept_more (own.kept (sym stopped ∙ alive));
     }
@@ -99,11 +138,9 @@ module _ (old : Held) (log : Log) (changed : List Page) (room promised : ℕ) (l
   }
 
   -- the same, with each part by another name
-  pub follows_act : (pages : List Page) (marks : List Bool) (acts : ℕ) (history : History) → pages ≡ with_pages old.pages changed → marks ≡ with_marks old.marks changed → acts ≡ suc old.acts → history ≡ with_act changed old.history
-      → Follows old (record old { log = log; pages = pages; marks = marks; acts = acts; room = room; promised = promised; history = history })
-  follows_act pages marks acts history p m a t =
-      subst (λ (x : List Page). Follows old (record old { log = log; pages = x; marks = marks; acts = acts; room = room; promised = promised; history = history })) (sym p)
-      (subst (λ (x : List Bool). Follows old (record old { log = log; pages = with_pages old.pages changed; marks = x; acts = acts; room = room; promised = promised; history = history })) (sym m)
-      (subst (λ (x : ℕ). Follows old (record old { log = log; pages = with_pages old.pages changed; marks = with_marks old.marks changed; acts = x; room = room; promised = promised; history = history })) (sym a)
-      (subst (λ (x : History). Follows old (record old { log = log; pages = with_pages old.pages changed; marks = with_marks old.marks changed; acts = suc old.acts; room = room; promised = promised; history = x })) (sym t)
-      follows_acted)))
+  pub follows_act : (acts : ℕ) (history : History) → acts ≡ suc old.acts → history ≡ with_act changed old.history
+      → Follows old (record old { log = log; unwritten = unwritten; acts = acts; room = room; promised = promised; history = history })
+  follows_act acts history a t =
+      subst (λ (x : ℕ). Follows old (record old { log = log; unwritten = unwritten; acts = x; room = room; promised = promised; history = history })) (sym a)
+      (subst (λ (x : History). Follows old (record old { log = log; unwritten = unwritten; acts = suc old.acts; room = room; promised = promised; history = x })) (sym t)
+      follows_acted)

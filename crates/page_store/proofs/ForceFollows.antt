@@ -3,10 +3,11 @@ use Rattle.std.proofs.Common.{◌≡◌, inr, ℕ, ◌<◌, ◌≤◌, Bool, tru
 use Rattle.std.proofs.lemmas.List.{append-nil}
 use Rattle.device.specs.Disk.{Moment, Trace}
 use Rattle.device.specs.Moments.{Goes}
-use Rattle.device.specs.Places.{OnDisk, ChangesOnly}
+use Rattle.device.specs.Places.{Has, OnDisk, ChangesOnly}
 use Rattle.device.proofs.Going.{goes_weaker, goes_both, goes_now}
-use Rattle.device.proofs.Standing.{same_only}
+use Rattle.device.proofs.Standing.{same_only, has_kept}
 use Rattle.index_model.specs.declared.limits.Limits.{Limits}
+use Rattle.page_codec.specs.Spelling.{page_bytes}
 use Rattle.page_codec.specs.declared.page.Page.{Page}
 use Rattle.page_action.specs.Stored.{AreStored}
 use Rattle.redo_log.specs.Images.{images_of}
@@ -30,9 +31,9 @@ home_of_more limits since pages n m at le home = record {
 }
 
 -- what is kept of a log leaves a first part
-pub leaves_kept : (held : Held) (own : IsOwn held) (log : Log) (m : Moment) (marks : List Bool) (durable : ℕ) → limits_of log ≡ limits_of held.log → place (limits_of held.log) (limits_of held.log).pages ≤ length m.seen
-    → IsKept log m marks held.history durable → LeavesPart (limits_of held.log) held.history durable m
-leaves_kept held own log m marks durable limits long k =
+pub leaves_kept : (held : Held) (own : IsOwn held) (log : Log) (m : Moment) (unwritten : ℕ → ℕ) (durable : ℕ) → limits_of log ≡ limits_of held.log → place (limits_of held.log) (limits_of held.log).pages ≤ length m.seen
+    → IsKept log m unwritten held.history durable → LeavesPart (limits_of held.log) held.history durable m
+leaves_kept held own log m unwritten durable limits long k =
     subst (λ (n : ℕ). LeavesPart (limits_of held.log) held.history n m) (sym k.durable_is)
     (leaves_part (limits_of held.log) held.history own.start_stored own.start_few own.acts_are k.base k.forced m k.base_few
     (subst (λ (l : Limits). OnDisk 0 (superblock l) m) limits k.superblock_on)
@@ -64,19 +65,18 @@ module _ (old : Held) (log : Log) (trace : Trace) (honest : Bool) (failures : �
         (omega (arith, own.long, both.1.same_length)) both.0)
         (goes_both _ _ old.trace trace (moments (drop k.base h.acts) k.forced k.log_keeps) outside))
 
-    own_between : (durable room : ℕ) → LeavesPart l h durable trace.now → (is_stopped log ≡ false → IsKept log trace.now old.marks h durable) → IsOwn (record old { log = log; trace = trace; honest = honest; failures = failures; durable = durable; room = room })
+    own_between : (durable room : ℕ) → LeavesPart l h durable trace.now → (is_stopped log ≡ false → IsKept log trace.now old.unwritten h durable) → IsOwn (record old { log = log; trace = trace; honest = honest; failures = failures; durable = durable; room = room })
     own_between durable room leaves kept = record {
       start_stored = subst (λ (x : Limits). AreStored x 0 h.start) (sym limits) own.start_stored;
       start_few = subst (λ (x : Limits). length h.start ≤ x.pages) (sym limits) own.start_few;
       long = subst (λ (x : Limits). place x x.pages ≤ length trace.now.seen) (sym limits) (omega (arith, own.long, len));
       acts_are = subst (λ (x : Limits). AreActs x h.start h.acts) (sym limits) own.acts_are;
       counted = own.counted;
-      pages_are = own.pages_are;
       leaves = subst (λ (x : Limits). LeavesPart x h durable trace.now) (sym limits) leaves;
       kept = kept;
     }
 
-    extends_to : (durable room : ℕ) → LeavesPart l h durable trace.now → (is_stopped log ≡ false → IsKept log trace.now old.marks h durable) → GrowsTo old (record old { log = log; trace = trace; honest = honest; failures = failures; durable = durable; room = room })
+    extends_to : (durable room : ℕ) → LeavesPart l h durable trace.now → (is_stopped log ≡ false → IsKept log trace.now old.unwritten h durable) → GrowsTo old (record old { log = log; trace = trace; honest = honest; failures = failures; durable = durable; room = room })
     extends_to durable room leaves kept = record {
       own = own_between durable room leaves kept;
       limits = limits;
@@ -97,7 +97,7 @@ module _ (old : Held) (log : Log) (trace : Trace) (honest : Bool) (failures : �
 
   -- it succeeded
   module _ (keeps : (acts : List (List Page)) (forced : ℕ) → Keeps old.log old.trace.now acts forced → Keeps log trace.now acts (length acts)) (behind : old.durable ≤ old.acts) (room : ℕ) where
-    kept_all : (own : IsOwn old) → IsKept log trace.now old.marks h old.acts
+    kept_all : (own : IsOwn old) → IsKept log trace.now old.unwritten h old.acts
     kept_all own =
         let k = own.kept alive in
         let since = drop k.base h.acts in
@@ -110,13 +110,17 @@ module _ (old : Held) (log : Log) (trace : Trace) (honest : Bool) (failures : �
           home = subst (λ (x : Limits). AreHome x (images_of (take (length since) since)) (pages_after h k.base) trace.now) (sym limits)
               (home_kept l _ _ old.trace.now trace.now only_now (home_of_more l since (pages_after h k.base) k.forced (length since) old.trace.now k.log_keeps.few k.home));
           superblock_on = subst (λ (x : Limits). OnDisk 0 (superblock x) trace.now) (sym limits) (superblock_kept l 4096 l.log_bytes old.trace.now trace.now (omega arith) only_now k.superblock_on);
-          marked = k.marked;
+          named = k.named;
+          last = k.last;
+          written = λ block page found clean image.
+              subst (λ (x : Limits). Has (place x block) (page_bytes page) trace.now.seen) (sym limits)
+              (has_kept 4096 l.log_bytes (place l block) (page_bytes page) old.trace.now trace.now only_now (inr (omega arith)) (k.written block page found clean image));
         }
 
     pub follows_force : is_stopped log ≡ false → Follows old (record old { log = log; trace = trace; honest = honest; failures = failures; durable = old.acts; room = room })
     follows_force living = record {
       later = record { failures = more_failures; durable = behind; stopped = λ s. (let both : true ≡ false = sym s ∙ alive in absurd cc); stop_has_cause = λ s. (let both : true ≡ false = sym s ∙ living in absurd cc); honest = λ s. sym same_honest ∙ s };
       grows = λ own. extends_to own old.acts room
-          (leaves_kept old own log trace.now old.marks old.acts limits (omega (arith, own.long, len)) (kept_all own))
+          (leaves_kept old own log trace.now old.unwritten old.acts limits (omega (arith, own.long, len)) (kept_all own))
           (λ still. kept_all own);
     }

@@ -1,5 +1,6 @@
 -- Acts change the pages as their images say: of each block in use the last image, or else the page that was there.
-use Rattle.std.proofs.Common.{◌≡◌, ◌≢◌, ℕ, zero, suc, ◌+◌, ◌<◌, ◌≤◌, Option, Some, None, List, [], ◌∷◌, ◌++◌, length, take, drop, slice_get, slice_set, refl, sym, ap, subst, inl, inr, ◌∙◌, arith}
+use Rattle.std.proofs.Common.{◌≡◌, ◌≢◌, ◌⊎◌, true, ℕ, zero, suc, ◌+◌, ◌<◌, ◌≤◌, Option, Some, None, List, [], ◌∷◌, ◌++◌, length, take, drop, slice_get, slice_set, refl, sym, ap, subst, inl, inr, ◌∙◌, arith}
+use Rattle.std.specs.Prelude.{is_some}
 use Rattle.std.proofs.lemmas.Bool.{lt-ltb, le-ltb, cases_lt, cases_eq, eq-eqb, ne_eqb}
 use Rattle.index_model.specs.declared.limits.Limits.{Limits}
 use Rattle.page_codec.specs.declared.page.Page.{Page}
@@ -73,7 +74,7 @@ get-with_page pages page b place = elim (cases_eq page.block b) [
   | inr ne ↦ rw (if_other b page ne) (is_other pages page b ne place)
 ]
 
-get-with_pages : (limits : Limits) (used : ℕ) (pages changed : List Page) (b : ℕ) → AreActable limits used changed → used ≤ length pages → slice_get (with_pages pages changed) b ≡ later_of (slice_get pages b) (last_image changed b)
+pub get-with_pages : (limits : Limits) (used : ℕ) (pages changed : List Page) (b : ℕ) → AreActable limits used changed → used ≤ length pages → slice_get (with_pages pages changed) b ≡ later_of (slice_get pages b) (last_image changed b)
 get-with_pages limits used pages [] b h few = refl
 get-with_pages limits used pages (page ∷ changed) b h few =
     let place : page.block ≤ length pages = omega (arith, h.1.0) in
@@ -151,3 +152,55 @@ none_among_fewer (x ∷ acts) (suc n) (suc m) b le e =
     rest_of : (o : Option Page) → o ≡ None → later_of None o ≡ None
     rest_of None h = refl
     rest_of (Some p) h = absurd cc
+
+-- a block without an image behind the first acts has none behind more of them
+pub none_among_later : (acts : List (List Page)) (n m b : ℕ) → n ≤ m → last_image (images_of (drop n acts)) b ≡ None → last_image (images_of (drop m acts)) b ≡ None
+none_among_later acts zero zero b le e = e
+none_among_later acts (suc n) zero b le e = absurd (omega arith)
+none_among_later [] zero (suc m) b le e = refl
+none_among_later [] (suc n) (suc m) b le e = refl
+none_among_later (x ∷ acts) zero (suc m) b le e =
+    let both = later_is_none (last_image x b) (last_image (images_of acts) b) (sym (last_image-append x (images_of acts) b) ∙ e) in
+    none_among_later acts zero m b (omega arith) both.1
+none_among_later (x ∷ acts) (suc n) (suc m) b le e = none_among_later acts n m b (omega arith) e
+
+-- with a later image there is one
+pub later_is_some : (a b : Option Page) → is_some b ≡ true → is_some (later_of a b) ≡ true
+later_is_some a (Some b) h = refl
+later_is_some a None h = absurd cc
+
+-- there is an image, or none
+pub image_cases : (o : Option Page) → (o ≡ None) ⊎ (is_some o ≡ true)
+image_cases None = inl refl
+image_cases (Some p) = inr refl
+
+-- nothing is left behind all acts
+pub all_dropped : {A : Type 0} (xs : List A) (n : ℕ) → length xs ≤ n → drop n xs ≡ []
+all_dropped [] zero le = refl
+all_dropped [] (suc n) le = refl
+all_dropped (x ∷ xs) zero le = absurd (omega arith)
+all_dropped (x ∷ xs) (suc n) le = all_dropped xs n (omega arith)
+
+none_later : (o : Option Page) → o ≡ None → later_of None o ≡ None
+none_later None h = refl
+none_later (Some p) h = absurd cc
+
+-- a block without an image in either part has none in the whole
+pub none_in_parts : (acts : List (List Page)) (n b : ℕ) → last_image (images_of (take n acts)) b ≡ None → last_image (images_of (drop n acts)) b ≡ None → last_image (images_of acts) b ≡ None
+none_in_parts acts zero b e f = f
+none_in_parts [] (suc n) b e f = e
+none_in_parts (x ∷ acts) (suc n) b e f =
+    let both = later_is_none (last_image x b) (last_image (images_of (take n acts)) b) (sym (last_image-append x (images_of (take n acts)) b) ∙ e) in
+    last_image-append x (images_of acts) b
+    ∙ (ap (λ (o : Option Page). later_of o (last_image (images_of acts) b)) both.0 ∙ none_later (last_image (images_of acts) b) (none_in_parts acts n b both.1 f))
+
+pub drop_both : {A : Type 0} (xs : List A) (n k : ℕ) → drop k (drop n xs) ≡ drop (n + k) xs
+drop_both xs zero k = let e : zero + k ≡ k = omega arith in ap (λ (m : ℕ). drop m xs) (sym e)
+drop_both [] (suc n) k = drop_none k ∙ sym (drop_none (suc n + k))
+  where
+    drop_none : {A : Type 0} (m : ℕ) → drop {A = A} m [] ≡ []
+    drop_none zero = refl
+    drop_none (suc m) = refl
+drop_both (x ∷ xs) (suc n) k =
+    let e : suc n + k ≡ suc (n + k) = omega arith in
+    drop_both xs n k ∙ ap (λ (m : ℕ). drop m (x ∷ xs)) (sym e)

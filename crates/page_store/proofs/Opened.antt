@@ -1,28 +1,36 @@
 -- Pages as they were opened are an own device's.
-use Rattle.std.proofs.Common.{◌≡◌, ℕ, ◌≤◌, false, [], length, get_or, refl, sym, subst, arith}
+use Rattle.std.proofs.Common.{◌≡◌, ℕ, ◌<◌, ◌≤◌, true, List, [], ◌∷◌, length, refl, sym, subst, arith}
+use Rattle.page_codec.specs.declared.page.Page.{Page}
 use Rattle.page_action.specs.Stored.{AreStored}
 use Rattle.redo_log.specs.Kept.{limits_of}
 use Rattle.redo_log.proofs.Keeping.{keeps_restarts}
-use Rattle.page_store.specs.Histories.{from_pages}
 use Rattle.device_layout.specs.Layout.{place}
-use Rattle.page_store.specs.Logged.{Held, StandsOpened, IsOwn}
+use Rattle.page_store.specs.Logged.{Held, is_named, StandsOpened, IsOwn}
 use Rattle.page_store.specs.declared.history.History.{History}
 use Rattle.page_store.proofs.Restarting.{leaves_part}
 
-module _ (held : Held) (before : History) (start : held.history ≡ from_pages held.pages before) (stored : AreStored (limits_of held.log) 0 held.pages) (few : length held.pages ≤ (limits_of held.log).pages)
-    (long : place (limits_of held.log) (limits_of held.log).pages ≤ length held.trace.now.seen) (unmarked : (block : ℕ) → get_or held.marks block false ≡ false) (none : held.acts ≡ 0) (none_durable : held.durable ≡ 0) where
-  abbrev opened : Held
-  opened = record held { history = from_pages held.pages before; durable = 0; acts = 0 }
+-- a list of no length
+pub none_of_length : {A : Type 0} (xs : List A) → length xs ≡ 0 → xs ≡ []
+none_of_length [] is = refl
+none_of_length (x ∷ xs) is = absurd cc
 
-  own_opened : StandsOpened held.log held.trace.now held.pages → IsOwn opened
+module _ (held : Held) (stored : AreStored (limits_of held.log) 0 held.history.start) (few : length held.history.start ≤ (limits_of held.log).pages)
+    (long : place (limits_of held.log) (limits_of held.log).pages ≤ length held.trace.now.seen) (clean : (block : ℕ) → held.unwritten block ≡ 0) (fresh : length held.history.acts ≡ 0) (none : held.acts ≡ 0)
+    (none_durable : held.durable ≡ 0) where
+  abbrev from_start : History
+  from_start = record held.history { acts = [] }
+
+  abbrev opened : Held
+  opened = record held { history = from_start; durable = 0; acts = 0 }
+
+  own_opened : StandsOpened held.log held.trace.now held.history.start → IsOwn opened
   own_opened stands = record {
     start_stored = stored;
     start_few = few;
     long = long;
     acts_are = tt;
     counted = refl;
-    pages_are = refl;
-    leaves = leaves_part (limits_of held.log) (from_pages held.pages before) stored few tt 0 0 held.trace.now (omega arith) stands.superblock_on stands.home long
+    leaves = leaves_part (limits_of held.log) from_start stored few tt 0 0 held.trace.now (omega arith) stands.superblock_on stands.home long
         (keeps_restarts held.log held.trace.now [] 0 stands.log_keeps);
     kept = λ alive. record {
       base = 0;
@@ -32,12 +40,14 @@ module _ (held : Held) (before : History) (start : held.history ≡ from_pages h
       log_keeps = stands.log_keeps;
       home = stands.home;
       superblock_on = stands.superblock_on;
-      marked = unmarked;
+      named = λ block some. absurd (omega (arith, clean block));
+      last = λ block some. absurd (omega (arith, clean block));
+      written = λ block page found is image. (let never : is_named [] block ≡ true = image in absurd cc);
     };
   }
 
-  pub is_own : StandsOpened held.log held.trace.now held.pages → IsOwn held
+  pub is_own : StandsOpened held.log held.trace.now held.history.start → IsOwn held
   is_own stands =
-      subst (λ (h : History). IsOwn (record held { history = h })) (sym start)
-      (subst (λ (n : ℕ). IsOwn (record held { history = from_pages held.pages before; acts = n })) (sym none)
-      (subst (λ (n : ℕ). IsOwn (record held { history = from_pages held.pages before; acts = 0; durable = n })) (sym none_durable) (own_opened stands)))
+      subst (λ (as' : List (List Page)). IsOwn (record held { history = record held.history { acts = as' } })) (sym (none_of_length held.history.acts fresh))
+      (subst (λ (n : ℕ). IsOwn (record held { history = from_start; acts = n })) (sym none)
+      (subst (λ (n : ℕ). IsOwn (record held { history = from_start; acts = 0; durable = n })) (sym none_durable) (own_opened stands)))

@@ -12,7 +12,7 @@ use Rattle.redo_log.specs.Kept.{limits_of}
 use Rattle.page_store.specs.Between.{left_between, left_early, left_late}
 use Rattle.page_store.specs.Histories.{after_acts, pages_after}
 use Rattle.page_store.specs.Restart.{RestartsTo, RestartsToPart, LeavesPart}
-use Rattle.page_store.specs.Logged.{Held, IsOwn}
+use Rattle.page_store.specs.Logged.{Held, pages_held, IsOwn}
 use Rattle.page_store.specs.Following.{Follows}
 use Rattle.page_store.specs.declared.history.History.{History}
 
@@ -46,9 +46,10 @@ all [] = refl
 all (x ∷ xs) = ap (λ l. x ∷ l) (all xs)
 
 -- all acts done, the pages are those of now
-pub pages_now : (held : Held) → IsOwn held → pages_after held.history held.acts ≡ held.pages
-pages_now held own = ap (λ (n : ℕ). pages_after held.history n) own.counted
-    ∙ (ap (λ (as' : List (List Page)). after_acts held.history.start as') (all held.history.acts) ∙ sym own.pages_are)
+pub past_is_now : (held : Held) → IsOwn held
+    → pages_after held.history held.acts ≡ pages_held held
+past_is_now held own = ap (λ (n : ℕ). pages_after held.history n) own.counted
+    ∙ ap (λ (as' : List (List Page)). after_acts held.history.start as') (all held.history.acts)
 
 module _ (first now : Held) (own : IsOwn first) (follows : Follows first now) where
   pub own_now : IsOwn now
@@ -83,8 +84,8 @@ module _ (first now : Held) (own : IsOwn first) (follows : Follows first now) wh
       let on = follows.grows own in
       pages_of_more first.history now.history on.more part on.start on.acts (omega (arith, own.counted, le))
 
-  pub pages_were : first.pages ≡ pages_after now.history first.acts
-  pages_were = sym (pages_stay first.acts (omega arith) ∙ pages_now first own)
+  pub pages_were : pages_held first ≡ pages_after now.history first.acts
+  pages_were = sym (pages_stay first.acts (omega arith) ∙ past_is_now first own)
 
 -- what a crash left since the first, it left up to the second, or since that one
 module _ (first second third : Held) (own : IsOwn first) (follows : Follows first second)

@@ -6,9 +6,9 @@ use Rattle.page_action.specs.States.{with_pages}
 use Rattle.page_action.specs.Stored.{AreActable}
 use Rattle.page_store.specs.declared.history.History.{History}
 
--- the history from these pages on
-abbrev pub from_pages : List Page → History → History
-from_pages pages h = record h { start = pages; acts = [] }
+-- the history that began with these pages too
+abbrev pub with_read : List Page → History → History
+with_read more h = record h { start = h.start ++ more; acts = [] }
 
 -- with one act more, which changes these pages
 abbrev pub with_act : List Page → History → History
@@ -22,6 +22,10 @@ after_acts pages (changed ∷ acts) = after_acts (with_pages pages changed) acts
 -- the pages after the first so many acts of a history
 abbrev pub pages_after : History → ℕ → List Page
 pages_after h part = after_acts h.start (take part h.acts)
+
+-- the pages after all acts
+abbrev pub pages_now : History → List Page
+pages_now h = after_acts h.start h.acts
 
 -- each of these acts could be done where it was
 abbrev pub AreActs : Limits → List Page → List (List Page) → Type 0

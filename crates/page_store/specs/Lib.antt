@@ -1,4 +1,3 @@
-pub mod Marks
 pub mod Histories
 pub mod Restart
 pub mod Logged
@@ -6,6 +5,4 @@ pub mod Following
 pub mod Between
 pub mod Crashing
 pub mod Writing
-pub mod Rooms
-pub mod Stores
-pub mod StoreLaws
+pub mod Holding

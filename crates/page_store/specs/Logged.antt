@@ -1,8 +1,9 @@
 -- What pages over a log and a device show, and which of them are an own device's.
-use Rattle.std.specs.Prelude.{◌≡◌, ℕ, ◌+◌, ◌<◌, ◌≤◌, Bool, false, Some, None, List, [], length, take, drop, replicate, slice_get, get_or, is_some}
+use Rattle.std.specs.Prelude.{◌≡◌, ℕ, ◌+◌, ◌<◌, ◌≤◌, Bool, true, false, Some, None, List, [], length, take, drop, replicate, slice_get, is_some}
 use Rattle.device.specs.Disk.{Moment, Trace}
-use Rattle.device.specs.Places.{OnDisk}
+use Rattle.device.specs.Places.{Has, OnDisk}
 use Rattle.device.specs.declared.device.Device.{Ghosts}
+use Rattle.buffer_pool.specs.Pools.{act_of}
 use Rattle.index_model.specs.declared.limits.Limits.{Limits}
 use Rattle.page_codec.specs.Spelling.{page_bytes}
 use Rattle.page_codec.specs.declared.page.Page.{Page}
@@ -11,7 +12,7 @@ use Rattle.page_action.specs.Stored.{AreStored}
 use Rattle.redo_log.specs.Images.{last_image, images_of}
 use Rattle.redo_log.specs.Kept.{Keeps, limits_of, is_stopped}
 use Rattle.redo_log.specs.declared.log.Log.{Log}
-use Rattle.page_store.specs.Histories.{after_acts, pages_after, AreActs}
+use Rattle.page_store.specs.Histories.{pages_after, pages_now, AreActs}
 use Rattle.device_layout.specs.Layout.{superblock, place}
 use Rattle.page_store.specs.Restart.{LeavesPart}
 use Rattle.page_store.specs.declared.history.History.{History}
@@ -23,13 +24,17 @@ pub record Held : Type 0 where
   pub trace : Trace
   pub honest : Bool
   pub failures : ℕ
-  pub pages : List Page
-  pub marks : List Bool
+  -- of each block the last act that changed its page and isn't written to its place, or 0
+  pub unwritten : ℕ → ℕ
   pub acts : ℕ
   pub durable : ℕ
   pub room : ℕ
   pub promised : ℕ
   pub history : History
+
+-- the pages in use
+abbrev pub pages_held : Held → List Page
+pages_held held = pages_now held.history
 
 -- ... as these are
 abbrev pub held_of : {D : Type 0} (g : Ghosts D) → LoggedPages D g → Held
@@ -38,8 +43,7 @@ held_of g logged = record {
   trace = g.trace logged.device;
   honest = g.is_honest logged.device;
   failures = g.failures logged.device;
-  pages = logged.pages.items;
-  marks = logged.changed.items;
+  unwritten = act_of logged.pool;
   acts = logged.acts;
   durable = logged.durable;
   room = logged.room;
@@ -50,7 +54,8 @@ held_of g logged = record {
 -- the pages and their acts are as they were
 pub record SamePages {D : Type 0} (g : Ghosts D) (old new : LoggedPages D g) : Type 0 where
   pub limits : new.limits ≡ old.limits
-  pub pages : new.pages ≡ old.pages
+  pub history : new.history ≡ old.history
+  pub used : new.used ≡ old.used
   pub acts : new.acts ≡ old.acts
 
 -- so is the room
@@ -58,12 +63,14 @@ pub record SameRoom {D : Type 0} (g : Ghosts D) (old new : LoggedPages D g) : Ty
   pub room : new.room ≡ old.room
   pub promised : new.promised ≡ old.promised
 
--- all is as it was but for the device
+-- all is as it was but for the device, which is honest if it was
 pub record SameButDevice {D : Type 0} (g : Ghosts D) (old new : LoggedPages D g) : Type 0 where
   pub log : new.log ≡ old.log
+  pub pool : new.pool ≡ old.pool
   pub pages : SamePages g old new
   pub durable : new.durable ≡ old.durable
   pub room : SameRoom g old new
+  pub honest : g.is_honest new.device ≡ g.is_honest old.device
 
 -- the log and the device
 abbrev pub backing_of : Held → Backing
@@ -85,8 +92,13 @@ pub record AreHome (limits : Limits) (images pages : List Page) (m : Moment) : T
       → last_image images block ≡ None
       → OnDisk (place limits block) (replicate 4096 0) m
 
--- the log keeps the acts behind the first so many, whose pages stand at home but for those that the log has an image of
-pub record IsKept (log : Log) (m : Moment) (marks : List Bool) (h : History) (durable : ℕ)
+-- the block has an image among these acts
+abbrev pub is_named : List (List Page) → ℕ → Bool
+is_named acts block = is_some (last_image (images_of acts) block)
+
+-- the log keeps the acts behind the first so many, whose pages stand at home but for those that the log has an image of;
+-- of these each is unwritten since its last act, or a read gives it at its place
+pub record IsKept (log : Log) (m : Moment) (unwritten : ℕ → ℕ) (h : History) (durable : ℕ)
     : Type 0 where
   pub base : ℕ
   pub forced : ℕ
@@ -96,8 +108,12 @@ pub record IsKept (log : Log) (m : Moment) (marks : List Bool) (h : History) (du
   pub home : AreHome (limits_of log) (images_of (take forced (drop base h.acts)))
       (pages_after h base) m
   pub superblock_on : OnDisk 0 (superblock (limits_of log)) m
-  pub marked : (block : ℕ)
-      → get_or marks block false ≡ is_some (last_image (images_of (drop base h.acts)) block)
+  pub named : (block : ℕ) → 0 < unwritten block → is_named (drop base h.acts) block ≡ true
+  pub last : (block : ℕ) → 0 < unwritten block
+      → last_image (images_of (drop (unwritten block) h.acts)) block ≡ None
+  pub written : (block : ℕ) (page : Page) → slice_get (pages_now h) block ≡ Some page
+      → unwritten block ≡ 0 → is_named (drop base h.acts) block ≡ true
+      → Has (place (limits_of log) block) (page_bytes page) m.seen
 
 -- the pages are those after all acts of the history, a crash leaves a first part of them with all durable ones, and
 -- while the log has not failed it keeps them
@@ -107,10 +123,9 @@ pub record IsOwn (held : Held) : Type 0 where
   pub long : place (limits_of held.log) (limits_of held.log).pages ≤ length held.trace.now.seen
   pub acts_are : AreActs (limits_of held.log) held.history.start held.history.acts
   pub counted : held.acts ≡ length held.history.acts
-  pub pages_are : held.pages ≡ after_acts held.history.start held.history.acts
   pub leaves : LeavesPart (limits_of held.log) held.history held.durable held.trace.now
   pub kept : is_stopped held.log ≡ false
-      → IsKept held.log held.trace.now held.marks held.history held.durable
+      → IsKept held.log held.trace.now held.unwritten held.history held.durable
 
 -- a device as it stands behind its opening: the log holds nothing, each page in use stands at its place, zeros at those
 -- of the other blocks, and no crash changes this

@@ -1,25 +1,50 @@
--- Changed pages are written to their places.
-use Rattle.std.specs.Prelude.{◌≡◌, ℕ, ◌*◌, ◌<◌, Bool, true, false, Some, List, length, slice_get, get_or}
+-- What the device and the pool have of the pages.
+use Rattle.std.specs.Prelude.{◌≡◌, ◌⊎◌, ℕ, suc, ◌<◌, ◌≤◌, Bool, true, Some, List, Result, MatchResult, length, take, slice_get}
+use Rattle.index_model.specs.declared.fault.Fault.{Fault}
+use Rattle.index_model.specs.declared.fault.Fault.TheVariants.{Io, PageDamaged}
 use Rattle.device.specs.Disk.{Moment}
-use Rattle.device.specs.Places.{Has, OnDisk, ChangesOnly}
+use Rattle.device.specs.Places.{Has}
+use Rattle.buffer_pool.specs.Frames.{has_block}
+use Rattle.buffer_pool.specs.Pools.{act_of, held_page, changed_of}
+use Rattle.buffer_pool.specs.declared.pool.Pool.{Pool}
 use Rattle.index_model.specs.declared.limits.Limits.{Limits}
 use Rattle.page_codec.specs.Spelling.{page_bytes}
 use Rattle.page_codec.specs.declared.page.Page.{Page}
+use Rattle.page_action.specs.Stored.{IsStored}
 use Rattle.device_layout.specs.Layout.{place}
 
--- nothing but places of marked blocks changed
-pub record ChangesMarked (limits : Limits) (marks : List Bool) (old m : Moment) : Type 0 where
-  pub only : ChangesOnly (place limits 0) (4096 * limits.pages) old m
-  pub others : (block : ℕ) (bytes : List ℕ) → length bytes ≡ 4096 → get_or marks block false ≡ false
-      → OnDisk (place limits block) bytes old → OnDisk (place limits block) bytes m
+-- a read gives each of these pages at its place
+abbrev pub AreSeen : Limits → List Page → Moment → Type 0
+AreSeen limits pages m = (block : ℕ) (page : Page) → slice_get pages block ≡ Some page
+    → Has (place limits block) (page_bytes page) m.seen
 
--- of the blocks up to there each that is marked has its page at its place
-abbrev pub AreWritten : Limits → List Bool → List Page → ℕ → Moment → Type 0
-AreWritten limits marks pages end m =
-    (block : ℕ) (page : Page) → block < end → slice_get pages block ≡ Some page
-    → get_or marks block false ≡ true → Has (place limits block) (page_bytes page) m.seen
+-- What the pool holds of these pages, after so many acts: changed pages as the acts have left them; and where the device
+-- kept its model, each as it is, and the others at their places.
+pub record HoldsPages (limits : Limits) (pages : List Page) (acts : ℕ) (pool : Pool) (honest : Bool)
+    (m : Moment) : Type 0 where
+  pub few : (block : ℕ) → act_of pool block ≤ acts
+  pub in_use : (block : ℕ) → 0 < act_of pool block → block < length pages
+  pub stored : (block : ℕ) (page : Page) → block < length pages → held_page pool block ≡ Some page
+      → IsStored limits block page
+  pub changed : (block : ℕ) (held page : Page) → 0 < act_of pool block
+      → held_page pool block ≡ Some held → slice_get pages block ≡ Some page
+      → page_bytes held ≡ page_bytes page
+  pub held : honest ≡ true → (block : ℕ) (held page : Page) → held_page pool block ≡ Some held
+      → slice_get pages block ≡ Some page → page_bytes held ≡ page_bytes page
+  pub seen : honest ≡ true → (block : ℕ) (page : Page) → slice_get pages block ≡ Some page
+      → act_of pool block ≡ 0 → Has (place limits block) (page_bytes page) m.seen
 
--- and no crash changes it
-abbrev pub AreOnDisk : Limits → List Bool → List Page → Moment → Type 0
-AreOnDisk limits marks pages m = (block : ℕ) (page : Page) → slice_get pages block ≡ Some page
-    → get_or marks block false ≡ true → OnDisk (place limits block) (page_bytes page) m
+-- the first so many of the changed pages stand at their places, as a read gives them
+abbrev pub AreWrittenUpTo : Limits → Pool → ℕ → Moment → Type 0
+AreWrittenUpTo limits pool count m = (block : ℕ) (page : Page)
+    → has_block (take count (changed_of pool)) block ≡ true → held_page pool block ≡ Some page
+    → Has (place limits block) (page_bytes page) m.seen
+
+-- a read gave this page, or the device failed
+abbrev pub GivesPage : Page → Result Page Fault → Type 0
+GivesPage page result = MatchResult result (λ p. p ≡ page) (λ e. e ≡ Io)
+
+-- a page isn't read: the device has failed, or no page stands there
+abbrev pub ReadingFails : {T : Type 0} → ℕ → Result T Fault → ℕ → ℕ → Type 0
+ReadingFails block result old new = MatchResult result (λ _. new ≡ old)
+    (λ e. ((e ≡ Io) × (new ≡ suc old)) ⊎ ((e ≡ PageDamaged block) × (new ≡ old)))

@@ -19,20 +19,20 @@ impl Model for History {
 }
 
 impl History {
-    ghost use Rattle.page_store.specs.Histories.{from_pages, with_act};
+    ghost use Rattle.page_store.specs.Histories.{with_read, with_act};
 
     /// No page, no act.
     pub fn new() -> History
-        ensures { result.acts ≡ [] }
+        ensures { (result.start ≡ []) × (result.acts ≡ []) }
     {
         History {
             marker: PhantomData,
         }
     }
 
-    /// From these pages on.
+    /// It was opened with these pages too.
     pub fn begin(&mut self, _pages: &[Page])
-        ensures { self.new ≡ from_pages _pages.now self.old }
+        ensures { self.new ≡ with_read _pages.now self.old }
     {}
 
     /// One act more, which changes these pages.

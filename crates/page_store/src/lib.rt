@@ -2,16 +2,6 @@
 //! first part of them.
 #![tactic(auto)]
 
-mod changed;
 mod history;
 mod logged_pages;
-mod memory;
-mod room;
-mod store;
 mod writing;
-
-pub use room::StoreRoom;
-pub use store::Store;
-
-#[cfg(test)]
-mod tests;

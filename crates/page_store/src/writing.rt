@@ -1,22 +1,22 @@
-//! Changed pages are written to their places.
+//! A page is written to its place, and read from there.
 
-ghost use Rattle.std.specs.Prelude.{◌≡◌, ◌+◌, ◌*◌, ◌≤◌, ◌<◌, ℕ, Some, true, false, length, slice_get, get_or, OnOk};
+ghost use Rattle.std.specs.Prelude.{◌≡◌, ◌⊎◌, ◌+◌, ◌<◌, ◌≤◌, IsTrue, true, length, IfOk, IfSome, IfNone, OnOk};
 ghost use Rattle.device.specs.Disk.{CountsFailures, Writes};
 ghost use Rattle.device.specs.Moments.{Goes};
 ghost use Rattle.device.specs.Places.{Has, ChangesOnly};
-ghost use Rattle.page_action.specs.Stored.{AreStored};
+ghost use Rattle.page_action.specs.Stored.{IsStored};
 ghost use Rattle.page_codec.specs.Spelling.{page_bytes};
-ghost use Rattle.page_codec.specs.declared.page.Page.{Page};
 ghost use Rattle.device_layout.specs.Layout.{place};
-ghost use Rattle.page_store.specs.Writing.{ChangesMarked, AreWritten, AreOnDisk};
+ghost use Rattle.page_store.specs.Writing.{ReadingFails, GivesPage};
 
 use device::Device;
 use device_layout::page_place;
 use index_model::{Fault, Limits};
-use page_codec::{Page, encode};
+use page_action::is_storable;
+use page_codec::{Page, decode, encode};
 
 /// Writes the bytes of the page.
-fn write_page<D: Device>(device: &mut D, at: u64, page: &Page) -> Result<(), Fault>
+fn put_page<D: Device>(device: &mut D, at: u64, page: &Page) -> Result<(), Fault>
     requires inside { at + 4096 ≤ length (D.trace device.old).now.seen }
     ensures trace { Writes at (page_bytes page.now) result
         (D.trace device.old) (D.trace device.new) }
@@ -30,76 +30,61 @@ fn write_page<D: Device>(device: &mut D, at: u64, page: &Page) -> Result<(), Fau
     device.write_at(at, &bytes)
 }
 
-/// Writes the page of the block, if it is marked.
-fn write_block<D: Device>(
+/// Writes the page to the place of this block, its own. At each moment only that place changes.
+pub(crate) fn write_page<D: Device>(
     device: &mut D,
     limits: Limits,
-    pages: &[Page],
-    marks: &[bool],
-    block: usize,
+    block: u32,
+    page: &Page,
 ) -> Result<(), Fault>
-    requires many { length marks.now ≡ length pages.now }
-    requires block { block < length pages.now }
-    requires few { length pages.now ≤ limits.pages }
+    requires block { block < limits.pages }
     requires inside { place limits limits.pages ≤ length (D.trace device.old).now.seen }
-    ensures moments { Goes (ChangesMarked limits marks.now (D.trace device.old).now)
-        (D.trace device.old) (D.trace device.new) }
-    ensures only { ChangesOnly (place limits block) 4096
-        (D.trace device.old).now (D.trace device.new).now }
-    ensures written { OnOk result ((page : Page) → slice_get pages.now block ≡ Some page
-        → get_or marks.now block false ≡ true
-        → Has (place limits block) (page_bytes page) (D.trace device.new).now.seen) }
-    ensures honest { D.is_honest device.new ≡ D.is_honest device.old }
-    ensures failures { CountsFailures result (D.failures device.old) (D.failures device.new) }
-{
-    if !marks[block] {
-        return Ok(());
-    }
-    let at = page_place(&limits, block as u32);
-    write_page(device, at, &pages[block])
-}
-
-/// Writes the pages of all marked blocks.
-fn write_blocks<D: Device>(
-    device: &mut D,
-    limits: Limits,
-    pages: &[Page],
-    marks: &[bool],
-) -> Result<(), Fault>
-    requires many { length marks.now ≡ length pages.now }
-    requires few { length pages.now ≤ limits.pages }
-    requires stored { AreStored limits 0 pages.now }
-    requires inside { place limits limits.pages ≤ length (D.trace device.old).now.seen }
-    ensures moments { Goes (ChangesMarked limits marks.now (D.trace device.old).now)
+    ensures moments { Goes (ChangesOnly (place limits block) 4096 (D.trace device.old).now)
         (D.trace device.old) (D.trace device.new) }
     ensures written { OnOk result
-        (AreWritten limits marks.now pages.now (length pages.now) (D.trace device.new).now) }
+        (Has (place limits block) (page_bytes page.now) (D.trace device.new).now.seen) }
+    ensures len { length (D.trace device.new).now.seen ≡ length (D.trace device.old).now.seen }
     ensures honest { D.is_honest device.new ≡ D.is_honest device.old }
     ensures failures { CountsFailures result (D.failures device.old) (D.failures device.new) }
 {
-    for block in 0..pages.len() {
-        write_block(device, limits, pages, marks, block)?;
-    }
-    Ok(())
+    put_page(device, page_place(&limits, block), page)
 }
 
-/// Writes the pages of all marked blocks, and syncs them. At each moment only places of marked blocks change.
-pub(crate) fn write_home<D: Device>(
+/// The page of these bytes, if they are those of one that may be stored at this block.
+fn page_of(bytes: &[u8; 4096], limits: Limits, block: u32) -> Option<Page>
+    ensures stored { IfSome result (IsStored limits block) }
+    ensures found { IfSome result (λ page. bytes.now ≡ page_bytes page) }
+    ensures none { IfNone result ((page : Page) → IsStored limits block page
+        → bytes.now ≡ page_bytes page → ⊥) }
+{
+    let page = decode(bytes)?;
+    if page.block != block || !is_storable(&page, limits) {
+        return None;
+    }
+    Some(page)
+}
+
+/// Reads the page of this block. Refused with `Io`, and with `PageDamaged` where no page stands there that may be stored
+/// at this block.
+pub(crate) fn read_page<D: Device>(
     device: &mut D,
     limits: Limits,
-    pages: &[Page],
-    marks: &[bool],
-) -> Result<(), Fault>
-    requires many { length marks.now ≡ length pages.now }
-    requires few { length pages.now ≤ limits.pages }
-    requires stored { AreStored limits 0 pages.now }
+    block: u32,
+) -> Result<Page, Fault>
+    requires block { block < limits.pages }
     requires inside { place limits limits.pages ≤ length (D.trace device.old).now.seen }
-    ensures moments { Goes (ChangesMarked limits marks.now (D.trace device.old).now)
-        (D.trace device.old) (D.trace device.new) }
-    ensures written { OnOk result (AreOnDisk limits marks.now pages.now (D.trace device.new).now) }
-    ensures honest { D.is_honest device.new ≡ D.is_honest device.old }
-    ensures failures { CountsFailures result (D.failures device.old) (D.failures device.new) }
+    ensures stored { IfOk result (IsStored limits block) }
+    ensures read { D.is_honest device.new ≡ true → (page : Page) → IsStored limits block page
+        → Has (place limits block) (page_bytes page) (D.trace device.old).now.seen
+        → GivesPage page result }
+    ensures trace { D.trace device.new ≡ D.trace device.old }
+    ensures honest { D.is_honest device.new ≡ true → D.is_honest device.old ≡ true }
+    ensures cause { ReadingFails block result (D.failures device.old) (D.failures device.new) }
 {
-    write_blocks(device, limits, pages, marks)?;
-    device.sync()
+    let mut bytes = [0; 4096];
+    device.read_at(page_place(&limits, block), &mut bytes)?;
+    match page_of(&bytes, limits, block) {
+        Some(page) => Ok(page),
+        None => Err(Fault::PageDamaged(block)),
+    }
 }

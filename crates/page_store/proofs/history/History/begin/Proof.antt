@@ -1,5 +1,5 @@
--- An empty body. The borrow is opened, and closed at these pages.
-use Rattle.device.proofs.Steps.{[], ◌∷◌, refl, proved, id⊢, ftrue, flft, named, vunit, ‵, ◌⊛◌, ◌$◌, ◌∵◌, !, qed, done, move, keep, use1, split, join, fsplit3, feq_i, suffices, frame, group, enter, of_opd, unit_lit, returns, alloc_all, pass_all, free_all, look_at, sets, yes, ShrSlice, shr_slice_vals, shr_slice_Tells, MutRef, mut_vals, mut_Tells, plain, opens, closes, says, Stays, walk_of, stay_ref, Goes-ref, stay_none_slice, Goes-none_slice, ends_at}
+-- An empty body. The borrow is opened, and closed with these pages more.
+use Rattle.device.proofs.Steps.{[], ◌∷◌, ◌++◌, refl, proved, id⊢, ftrue, flft, named, vunit, ‵, ◌⊛◌, ◌$◌, ◌∵◌, !, qed, done, move, keep, use1, split, join, fsplit3, feq_i, suffices, frame, group, enter, of_opd, unit_lit, returns, alloc_all, pass_all, free_all, look_at, sets, yes, ShrSlice, shr_slice_vals, shr_slice_Tells, MutRef, mut_vals, mut_Tells, plain, opens, closes, says, Stays, walk_of, stay_ref, Goes-ref, stay_none_slice, Goes-none_slice, ends_at}
 use Rattle.page_codec.specs.contracts.page.Page.{the_row as P}
 use Rattle.page_store.specs.contracts.history.History.{the_row as R}
 use Rattle.page_store.specs.contracts.history.History.begin as f
@@ -18,7 +18,7 @@ begin_spec 𝓤 𝓛 𝓜 𝓡 wired =
     (λ κs. (mut_Tells (named 0) κs.0 R, (shr_slice_Tells (named 1) κs.1.0 P, tt))) (λ κs qs bounds a _ are.
     let b = a.0.ref_ptr.0 in let o = a.0.ref_ptr.1 in let h = a.0.now in let vs = mut_vals a.0 in
     let s = a.1.0 in
-    let h' = record h { start = s.now; acts = [] } in
+    let h' = record h { start = h.start ++ s.now; acts = [] } in
     let y : W.Ghost = ((κs, qs, bounds, a, (vs, (shr_slice_vals s, tt))), tt) in
     qed 𝓛 (((‵ (flft κs.0 qs.0) ⊛ ‵ (flft κs.1.0 qs.1.0) ⊛ ‵ ftrue) ⊛ ‵ ((MutRef (named 0) κs.0 R).own_val a.0 vs)
     ⊛ ‵ ((ShrSlice (named 1) κs.1.0 P).own_val s (shr_slice_vals s)) ⊛ ‵ ftrue) ∷ ‵ ftrue ∷ []) ∵

@@ -1,4 +1,4 @@
-use Rattle.std.proofs.Common.{◌∙◌, ◌+◌, ◌<◌, ap, subst, sym, arith}
+use Rattle.std.proofs.Common.{rules, ◌∙◌, ◌+◌, ◌<◌, ap, subst, sym, arith}
 use Rattle.std.specs.Result.{is_err}
 use Rattle.index_model.specs.declared.limits.Limits.{Limits}
 use Rattle.redo_log.specs.Kept.{end_with}
@@ -7,8 +7,45 @@ use Rattle.page_store.specs.Following.{Follows, follows_same}
 use Rattle.page_store.proofs.Misfits.{misfit, promise_left}
 use Rattle.page_store.proofs.Acting.{failures_rise, stop_fails}
 use Rattle.page_store.proofs.ForceFollows.{follows_failed_force, follows_force}
-use Rattle.page_store.proofs.logged_pages.LoggedPages.force.Goals.{then-self+in_ok-force, else-self}
+use Rattle.device.specs.Places.{ChangesOnly}
+use Rattle.device.proofs.Going.{goes_now}
+use Rattle.device.proofs.Standing.{same_only}
+use Rattle.page_store.proofs.Keeping.{holds_logged}
+use Rattle.page_store.proofs.logged_pages.LoggedPages.force.Given.{Over}
+use Rattle.page_store.proofs.logged_pages.LoggedPages.force.Goals.{After-force, then-self+in_ok-force, else-self}
 use Rattle.page_store.proofs.logged_pages.LoggedPages.force.Goals as goal
+
+-- only the log's range changes
+only : (g : Over) (c : After-force g) → ChangesOnly 4096 c.args.self.now.limits.log_bytes (g.D.Device.trace c.args.self.now.device).now (g.D.Device.trace c.force.new.device).now
+only g c =
+    subst (λ (l : Limits). ChangesOnly 4096 l.log_bytes (g.D.Device.trace c.args.self.now.device).now (g.D.Device.trace c.force.new.device).now) c.args.self.now.log_limits
+    (goes_now _ (g.D.Device.trace c.args.self.now.device) (g.D.Device.trace c.force.new.device) c.force.ensures.outside (same_only 4096 _ _))
+
+pub invariant_of-self : goal.invariant_of-self
+invariant_of-self g c =
+    let held = c.args.self.now in
+    record {
+      allowed = held.allowed;
+      log_limits = c.force.ensures.same.limits ∙ held.log_limits;
+      sized = search rules;
+      stored = held.stored;
+      used_is = held.used_is;
+      few = held.few;
+      reach = held.reach;
+      holds = holds_logged held.limits _ held.acts held.pool _ (g.D.Device.trace held.device).now (g.D.Device.trace c.force.new.device).now held.holds _ c.force.ensures.honest (only g (goal.at.invariant_of-self g c).After-force);
+      counted = search rules;
+      not_ahead = held.not_ahead;
+      forced = search rules;
+      fits = search rules;
+      kept_promise = held.kept_promise;
+      new_promise = held.new_promise;
+      promise = held.promise;
+    }
+
+pub invariant_of-self-then-self-clause-holds : goal.invariant_of-self-then-self-clause-holds
+invariant_of-self-then-self-clause-holds g c =
+    let held = c.args.self.now in
+    holds_logged held.limits _ held.acts held.pool _ (g.D.Device.trace held.device).now (g.D.Device.trace c.force.new.device).now held.holds _ c.force.ensures.honest (only g (goal.at.invariant_of-self-then-self-clause-holds g c).After-force)
 
 pub returns-in_err-force-clause-steps : goal.returns-in_err-force-clause-steps
 returns-in_err-force-clause-steps g c =

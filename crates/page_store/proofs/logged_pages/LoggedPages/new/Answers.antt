@@ -1,21 +1,32 @@
-use Rattle.std.proofs.Common.{◌≤◌, List, length, refl, subst, sym, ap, ◌∙◌, arith}
+use Rattle.std.proofs.Common.{rules, ◌≡◌, ◌≤◌, ◌∙◌, List, length, refl, subst, sym, ap, arith}
 use Rattle.redo_log.specs.Kept.{end_with}
 use Rattle.index_model.specs.declared.limits.Limits.{Limits}
 use Rattle.page_codec.specs.declared.page.Page.{Page}
 use Rattle.page_action.specs.Stored.{AreStored}
-use Rattle.page_store.specs.Histories.{from_pages}
 use Rattle.device_layout.specs.Layout.{place}
+use Rattle.page_store.specs.Writing.{HoldsPages}
 use Rattle.page_store.proofs.Opened.{is_own}
+use Rattle.page_store.proofs.Keeping.{holds_opened, none_changed, pages_opened}
 use Rattle.page_store.proofs.logged_pages.LoggedPages.new.Goals as goal
 
 pub returns-clause-own : goal.returns-clause-own
 returns-clause-own g c =
     let log_limits = sym c.requires.log_limits in
-    is_own _ c.new-history.result (c.begin.ensures ∙ ap (λ (ps : List Page). from_pages ps c.new-history.result) c.deref.ensures.value)
-    (subst (λ (l : Limits). AreStored l 0 c.args.pages.items) log_limits c.requires.stored)
-    (subst (λ (l : Limits). length c.args.pages.items ≤ l.pages) log_limits c.requires.few)
+    is_own _ (subst (λ (l : Limits). AreStored l 0 c.args.history.start) log_limits c.requires.stored)
+    (subst (λ (l : Limits). length c.args.history.start ≤ l.pages) log_limits (subst (λ n. n ≤ c.args.limits.pages) c.requires.used c.requires.few))
     (subst (λ (l : Limits). place l l.pages ≤ length (g.D.Device.trace c.args.device).now.seen) log_limits c.requires.sized)
-    c.requires.unmarked refl refl
+    (none_changed c.args.pool c.law.ensures c.requires.empty) c.requires.begun refl refl
+
+pub invariant_of-result-clause-stored : goal.invariant_of-result-clause-stored
+invariant_of-result-clause-stored g c = subst (λ (ps : List Page). AreStored c.args.limits 0 ps) (sym (pages_opened c.args.history c.requires.begun)) c.requires.stored
+
+pub invariant_of-result-clause-used_is : goal.invariant_of-result-clause-used_is
+invariant_of-result-clause-used_is g c = c.requires.used ∙ ap length (sym (pages_opened c.args.history c.requires.begun))
+
+pub invariant_of-result-clause-holds : goal.invariant_of-result-clause-holds
+invariant_of-result-clause-holds g c =
+    subst (λ (ps : List Page). HoldsPages c.args.limits ps 0 c.args.pool (g.D.Device.is_honest c.args.device) (g.D.Device.trace c.args.device).now) (sym (pages_opened c.args.history c.requires.begun))
+    (holds_opened c.args.limits c.args.history.start c.args.pool (g.D.Device.is_honest c.args.device) (g.D.Device.trace c.args.device).now c.law.ensures c.requires.empty c.requires.seen)
 
 pub invariant_of-result-clause-fits : goal.invariant_of-result-clause-fits
 invariant_of-result-clause-fits g c =

@@ -1,22 +1,32 @@
-use Rattle.std.proofs.Common.{arith}
+use Rattle.std.proofs.Common.{sym, subst}
+use Rattle.device.specs.Moments.{Goes}
+use Rattle.device.specs.Places.{ChangesOnly}
 use Rattle.device.proofs.Going.{goes_now}
+use Rattle.device.proofs.Standing.{same_only}
+use Rattle.device_layout.specs.Layout.{place}
+use Rattle.index_model.specs.declared.limits.Limits.{Limits}
 use Rattle.page_store.specs.Logged.{held_of}
 use Rattle.page_store.proofs.Acting.{counts_rise}
-use Rattle.page_store.proofs.Places.{on_ok_map, same_marked}
-use Rattle.page_store.proofs.CloseFollows.{follows_written, goes_marked, home_after}
+use Rattle.page_store.proofs.Keeping.{holds_written}
+use Rattle.page_store.proofs.WriteFollows.{follows_written}
+use Rattle.page_store.proofs.logged_pages.LoggedPages.write_home.Given.{Over}
+use Rattle.page_store.proofs.logged_pages.LoggedPages.write_home.Goals.{After-write_page}
 use Rattle.page_store.proofs.logged_pages.LoggedPages.write_home.Goals as goal
 
-pub invariant_of-self-clause-sized : goal.invariant_of-self-clause-sized
-invariant_of-self-clause-sized g c =
-    let now = goes_now _ (g.D.Device.trace c.args.self.now.device) (g.D.Device.trace c.write_home.new.device) c.write_home.ensures.moments (same_marked _ _ _) in
-    omega (arith, now.only.same_length, c.args.self.now.sized)
+-- only the block's place changes
+only : (g : Over) (c : After-write_page g) → ChangesOnly (place c.args.self.now.limits c.args.block) 4096 (g.D.Device.trace c.args.self.now.device).now (g.D.Device.trace c.write_page.new.device).now
+only g c = goes_now _ (g.D.Device.trace c.args.self.now.device) (g.D.Device.trace c.write_page.new.device) c.write_page.ensures.moments (same_only _ 4096 _)
 
-pub returns-clause-steps : goal.returns-clause-steps
-returns-clause-steps g c =
-    follows_written (held_of g.D.Device c.args.self.now) (g.D.Device.trace c.write_home.new.device) (g.D.Device.is_honest c.write_home.new.device) (g.D.Device.failures c.write_home.new.device) c.requires.alive c.requires.all
-    (goes_marked _ _ _ _ _ _ c.args.self.now.log_limits c.deref-2.ensures.value c.write_home.ensures.moments) c.write_home.ensures.honest (counts_rise c.write_home.result _ _ c.write_home.ensures.failures)
+pub invariant_of-self-clause-holds : goal.invariant_of-self-clause-holds
+invariant_of-self-clause-holds g c =
+    let held = c.args.self.now in
+    holds_written held.limits _ held.acts held.pool _ (g.D.Device.trace held.device).now (g.D.Device.trace c.write_page.new.device).now held.holds _ c.args.block c.write_page.ensures.honest held.stored c.requires.changed (only g (goal.at.invariant_of-self-clause-holds g c).After-write_page)
 
-pub returns-clause-home : goal.returns-clause-home
-returns-clause-home g c =
-    on_ok_map c.write_home.result c.write_home.ensures.written (λ written own.
-    home_after _ c.args.self.now.limits c.deref-2.result.now c.deref.result.now c.requires.alive c.requires.all c.args.self.now.log_limits c.deref-2.ensures.value c.deref.ensures.value written own)
+pub returns-in-Some-clause-steps : goal.returns-in-Some-clause-steps
+returns-in-Some-clause-steps g c =
+    let held = c.args.self.now in
+    follows_written (held_of g.D.Device held) c.args.block (g.D.Device.trace c.write_page.new.device) (g.D.Device.is_honest c.write_page.new.device) (g.D.Device.failures c.write_page.new.device) c.requires.alive c.requires.changed c.requires.durable
+    (subst (λ (l : Limits). Goes (ChangesOnly (place l c.args.block) 4096 (g.D.Device.trace held.device).now) (g.D.Device.trace held.device) (g.D.Device.trace c.write_page.new.device)) (sym held.log_limits) c.write_page.ensures.moments) c.write_page.ensures.honest (counts_rise c.write_page.result _ _ c.write_page.ensures.failures)
+
+pub returns-in-Some-clause-only : goal.returns-in-Some-clause-only
+returns-in-Some-clause-only g c = only g (goal.at.returns-in-Some-clause-only g c).After-write_page

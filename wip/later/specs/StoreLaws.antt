@@ -4,7 +4,7 @@ use Rattle.device.specs.Moments.{MayHaveLeft}
 use Rattle.device.specs.declared.device.Device.{Ghosts}
 use Rattle.page_codec.specs.declared.page.Page.{Page}
 use Rattle.page_action.specs.Laws.{IsPageStore}
-use Rattle.page_store.specs.Crashing.{own_now, leaves_first, acts_later, pages_now, pages_stay, leaves_between, leaves_early, leaves_late}
+use Rattle.page_store.specs.Crashing.{own_now, leaves_first, acts_later, past_is_now, pages_stay, leaves_between, leaves_early, leaves_late}
 use Rattle.page_store.specs.Following.{Follows, follows_same}
 use Rattle.page_store.specs.Histories.{pages_after}
 use Rattle.page_store.specs.Logged.{backing_of}
@@ -37,10 +37,10 @@ module _ {D : Type 0} (g : Ghosts D) where
     durable_few = λ s. s.held.not_ahead;
     room_is_promised = λ s. record { most = s.held.promise; least = s.held.kept_promise };
     stored = λ s. s.held.stored;
-    few = λ s. s.held.few;
+    few = λ s. subst (λ (n : ℕ). n ≤ s.held.limits.pages) s.held.used_is s.held.few;
     own_stays = λ s t own h. own_now (held_by g s) (held_by g t) own h;
     acts_later = λ s t own h. acts_later (held_by g s) (held_by g t) own h;
-    past_now = λ s own. pages_now (held_by g s) own;
+    past_now = λ s own. past_is_now (held_by g s) own;
     past_stays = λ s t part own h le. pages_stay (held_by g s) (held_by g t) own h part le;
     leaves_first = λ s t image own h left.
         leaves_first (held_by g s) (held_by g t) own h t.held.limits image t.held.log_limits left;

@@ -1,10 +1,12 @@
 -- What a store over a device shows, and when it is an own device's.
 use Rattle.std.specs.Prelude.{ℕ, List}
 use Rattle.device.specs.declared.device.Device.{Ghosts}
+use Rattle.buffer_pool.specs.Pools.{most_of}
 use Rattle.index_model.specs.declared.limits.Limits.{Limits}
 use Rattle.page_codec.specs.declared.page.Page.{Page}
 use Rattle.page_action.specs.CallTables.{opened_calls, state_with}
 use Rattle.page_action.specs.States.{State}
+use Rattle.page_store.specs.Histories.{pages_now}
 use Rattle.page_store.specs.Logged.{Held, held_of, IsOwn}
 use Rattle.page_store.specs.declared.history.History.{History}
 use Rattle.page_store.specs.declared.store.Store.{Store}
@@ -12,7 +14,8 @@ use Rattle.page_store.specs.declared.store.Store.{Store}
 -- its pages and calls
 abbrev pub state_of : {D : Type 0} (g : Ghosts D) → Store D g → State
 state_of g store =
-    state_with store.held.limits store.frames store.held.pages.items store.held.acts store.calls
+    state_with store.held.limits (most_of store.held.pool) (pages_now store.held.history)
+    store.held.acts store.calls
 
 -- its pages, log and device, as plain data
 abbrev pub held_by : {D : Type 0} (g : Ghosts D) → Store D g → Held

@@ -1,5 +1,6 @@
 -- What was read into the room of a store.
 use Rattle.std.specs.Prelude.{ℕ, List}
+use Rattle.buffer_pool.specs.Pools.{most_of}
 use Rattle.index_model.specs.declared.limits.Limits.{Limits}
 use Rattle.page_codec.specs.declared.page.Page.{Page}
 use Rattle.page_store.specs.declared.room.StoreRoom.{StoreRoom}
@@ -10,7 +11,11 @@ limits_of_room room = room.limits
 
 -- the pages, by their blocks
 abbrev pub pages_of_room : StoreRoom → List Page
-pages_of_room room = room.pages.items
+pages_of_room room = room.history.start
+
+-- how many frames it has
+abbrev pub frames_of_room : StoreRoom → ℕ
+frames_of_room room = most_of room.pool
 
 -- for each of them the deletion number that counts
 abbrev pub counts_of_room : StoreRoom → List ℕ
