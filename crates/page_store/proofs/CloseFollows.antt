@@ -23,7 +23,7 @@ use Rattle.page_store.specs.declared.history.History.{History}
 use Rattle.page_store.proofs.Images.{get-after_acts, acts-drop, later_is_none, after_both, image_cases}
 use Rattle.page_store.proofs.Restarting.{home_kept, superblock_kept, part_restarts, home_restarts, past_of_none}
 
-whole_to : {A : Type 0} (xs : List A) (n : ℕ) → n ≡ length xs → take n xs ≡ xs
+pub whole_to : {A : Type 0} (xs : List A) (n : ℕ) → n ≡ length xs → take n xs ≡ xs
 whole_to xs n is = subst (λ (k : ℕ). take k xs ≡ xs) (sym is) (whole xs)
   where
     whole : {A : Type 0} (xs : List A) → take (length xs) xs ≡ xs

@@ -92,7 +92,7 @@ get-after_acts limits pages (changed ∷ acts) b h =
     ∙ ap (λ (o : Option Page). later_of (slice_get pages b) o) (sym (last_image-append changed (images_of acts) b))))
 
 -- and they are stored, and not too many
-stored-with_pages : (limits : Limits) (used : ℕ) (pages changed : List Page) → AreActable limits used changed → used ≤ length pages → AreStored limits 0 pages → length pages ≤ limits.pages
+pub stored-with_pages : (limits : Limits) (used : ℕ) (pages changed : List Page) → AreActable limits used changed → used ≤ length pages → AreStored limits 0 pages → length pages ≤ limits.pages
     → AreStored limits 0 (with_pages pages changed) × (length (with_pages pages changed) ≤ limits.pages)
 stored-with_pages limits used pages [] h more stored few = (stored, few)
 stored-with_pages limits used pages (page ∷ changed) h more stored few =

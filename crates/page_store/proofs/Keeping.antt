@@ -1,5 +1,5 @@
 -- What the pool holds of the pages, as the device and the pool change.
-use Rattle.std.proofs.Common.{◌≡◌, ◌≢◌, ◌⊎◌, inl, inr, ℕ, suc, ◌+◌, ◌*◌, ◌<◌, ◌≤◌, Bool, true, false, Option, Some, None, List, [], ◌∷◌, length, drop, take, slice_get, refl, sym, ap, subst, ◌∙◌, arith}
+use Rattle.std.proofs.Common.{◌≡◌, ◌≢◌, ◌⊎◌, inl, inr, ℕ, suc, ◌+◌, ◌*◌, ◌<◌, ◌≤◌, Bool, true, false, Option, Some, None, List, [], ◌∷◌, length, drop, take, slice_get, get_or, refl, sym, ap, subst, ◌∙◌, arith}
 use Rattle.std.proofs.lemmas.Bool.{cases_eq, cases_lt}
 use Rattle.std.specs.Prelude.{is_some, IsSome}
 use Rattle.buffer_pool.specs.Frames.{has_block}
@@ -20,6 +20,15 @@ use Rattle.page_store.specs.Writing.{HoldsPages, AreSeen}
 use Rattle.page_store.specs.declared.history.History.{History}
 use Rattle.page_store.proofs.Opened.{none_of_length}
 use Rattle.page_store.proofs.Places.{apart_long}
+use Rattle.page_store.proofs.CloseFollows.{whole_to}
+use Rattle.page_store.proofs.Images.{get-with_pages, stored-with_pages, image_cases}
+use Rattle.page_store.proofs.Pooling.{bool_cases, option_cases, some_of, none_isn't, has_next, has_all, changed_some, unchanged, changed_at}
+use Rattle.std.proofs.lemmas.Option.{slice_get_within, slice_get_cases, get_or_from_slice_get}
+use Rattle.page_action.specs.Stored.{AreActable}
+use Rattle.page_action.specs.States.{with_pages}
+use Rattle.redo_log.specs.Images.{last_image, later_of}
+use Rattle.page_store.specs.Changing.{AreActed}
+use Rattle.page_store.specs.Writing.{AreWrittenUpTo, IsClean}
 
 module _ (limits : Limits) (pages : List Page) (acts : ℕ) (pool : Pool) (honest : Bool) (m n : Moment) (holds : HoldsPages limits pages acts pool honest m) where
   -- where what a read gives stays at the places of clean pages
@@ -107,26 +116,21 @@ holds_put limits pages acts old new honest honest' m at page holds put was store
   seen = λ h block there found is. holds.seen (was h) block there found (sym (put.changes.acts block) ∙ is);
 }
 
--- a pool that holds nothing has no changed page
+-- a pool that holds nothing has no page of any block
 none_held : (pool : Pool) → IsPool pool → count_of pool ≡ 0 → (block : ℕ) → held_page pool block ≡ None
-none_held pool is none block = none_of (held_page pool block) (λ page found. is.among block page found)
-  where
-    empty : blocks_of pool ≡ []
-    empty = none_of_length (blocks_of pool) (is.count ∙ none)
-
-    none_of : (o : Option Page) → ((page : Page) → o ≡ Some page → has_block (blocks_of pool) block ≡ true) → o ≡ None
-    none_of None h = refl
-    none_of (Some page) h = (let there : has_block [] block ≡ true = subst (λ (bs : List ℕ). has_block bs block ≡ true) empty (h page refl) in absurd cc)
+none_held pool is none block = elim (option_cases (held_page pool block)) [
+  | inl absent ↦ absent
+  | inr some ↦
+      let there = some_of (held_page pool block) some in
+      let among : has_block [] block ≡ true = subst (λ (bs : List ℕ). has_block bs block ≡ true) (none_of_length (blocks_of pool) (is.count ∙ none)) (is.among block there.0 there.1) in
+      absurd cc
+]
 
 pub none_changed : (pool : Pool) → IsPool pool → count_of pool ≡ 0 → (block : ℕ) → act_of pool block ≡ 0
 none_changed pool is none block = elim (cases_lt 0 (act_of pool block)) [
-  | inl some ↦ absurd (no_page (held_page pool block) (is.kept block some) (none_held pool is none block))
-  | inr zero ↦ omega arith
+  | inl some ↦ absurd (none_isn't (held_page pool block) (none_held pool is none block) (is.kept block some))
+  | inr none ↦ omega arith
 ]
-  where
-    no_page : (o : Option Page) → IsSome o → o ≡ None → ⊥
-    no_page (Some page) some e = cc
-    no_page None some e = some
 
 -- pages that were just read, of which the pool holds none
 pub holds_opened : (limits : Limits) (pages : List Page) (pool : Pool) (honest : Bool) (m : Moment) → IsPool pool → count_of pool ≡ 0 → (honest ≡ true → AreSeen limits pages m) → HoldsPages limits pages 0 pool honest m
@@ -142,3 +146,129 @@ holds_opened limits pages pool honest m is none seen = record {
 -- without acts the pages are those of the beginning
 pub pages_opened : (h : History) → length h.acts ≡ 0 → pages_now h ≡ h.start
 pages_opened h none = ap (λ (as' : List (List Page)). after_acts h.start as') (none_of_length h.acts none)
+
+-- the same pages and changes in another order of frames
+pub holds_same : (limits : Limits) (pages : List Page) (acts : ℕ) (old new : Pool) (honest : Bool) (m : Moment) → HoldsPages limits pages acts old honest m → HasSamePages old new → ((block : ℕ) → act_of new block ≡ act_of old block) → HoldsPages limits pages acts new honest m
+holds_same limits pages acts old new honest m holds same acts_same = holds_noted limits pages acts old new honest m holds same (λ block. inl (acts_same block))
+
+module _ (limits : Limits) (pages : List Page) (acts : ℕ) (pool : Pool) (honest : Bool) (m : Moment) (holds : HoldsPages limits pages acts pool honest m) (is : IsPool pool) where
+  -- a changed page that stands at its place as it is held, stands there as it is
+  at_home : (b : ℕ) → 0 < act_of pool b → ((held : Page) → held_page pool b ≡ Some held → Has (place limits b) (page_bytes held) m.seen) → (page : Page) → slice_get pages b ≡ Some page → Has (place limits b) (page_bytes page) m.seen
+  at_home b some has page found =
+      let there = some_of (held_page pool b) (is.kept b some) in
+      subst (λ (bytes : List ℕ). Has (place limits b) bytes m.seen) (holds.changed b there.0 page some there.1 found) (has there.0 there.1)
+
+  -- one page of the order is noted as written
+  pub written_noted : (new : Pool) (k block : ℕ) → slice_get (changed_of pool) k ≡ Some block → ((held : Page) → held_page pool block ≡ Some held → Has (place limits block) (page_bytes held) m.seen) → IsWritten pool new k
+      → (b : ℕ) → (act_of new b ≡ act_of pool b) ⊎ ((act_of new b ≡ 0) × ((page : Page) → slice_get pages b ≡ Some page → Has (place limits b) (page_bytes page) m.seen))
+  written_noted new k block at has written b =
+      let index : get_or (changed_of pool) k 0 ≡ block = get_or_from_slice_get (changed_of pool) k block 0 at in
+      elim (cases_eq b block) [
+        | inl same ↦
+            let here : b ≡ get_or (changed_of pool) k 0 = same ∙ sym index in
+            inr (ap (act_of new) here ∙ written.written,
+            at_home b (subst (λ (x : ℕ). 0 < act_of pool x) (sym same) (changed_at pool is k block at)) (λ held found. subst (λ (x : ℕ). Has (place limits x) (page_bytes held) m.seen) (sym same) (has held (ap (held_page pool) (sym same) ∙ found))))
+        | inr ne ↦ inl (written.others b (λ e. ne (e ∙ index)))
+      ]
+
+  -- the first so many are noted as written
+  pub first_noted : (new : Pool) (count : ℕ) → AreWrittenUpTo limits pool count m → AreWritten pool new count
+      → (b : ℕ) → (act_of new b ≡ act_of pool b) ⊎ ((act_of new b ≡ 0) × ((page : Page) → slice_get pages b ≡ Some page → Has (place limits b) (page_bytes page) m.seen))
+  first_noted new count home written b = elim (bool_cases (has_block (take count (changed_of pool)) b)) [
+    | inl among ↦ inr (written.written b among, at_home b (changed_some pool is b (has_all (changed_of pool) count b among)) (λ held found. home b held among found))
+    | inr other ↦ inl (written.others b other)
+  ]
+
+  -- where all are, no page is changed
+  pub all_clean : (new : Pool) (count : ℕ) → AreWritten pool new count → count ≡ length (changed_of pool) → IsClean new
+  all_clean new count written all b = elim (bool_cases (has_block (take count (changed_of pool)) b)) [
+    | inl among ↦ written.written b among
+    | inr other ↦
+        let whole : take count (changed_of pool) ≡ changed_of pool = whole_to (changed_of pool) count all in
+        written.others b other ∙ unchanged pool is b (sym (ap (λ (xs : List ℕ). has_block xs b) whole) ∙ other)
+  ]
+
+  -- a changed page has 4,096 bytes
+  long_changed : (b : ℕ) (held : Page) → has_block (changed_of pool) b ≡ true → held_page pool b ≡ Some held → length (page_bytes held) ≡ 4096
+  long_changed b held among found = length-page held (holds.stored b held (holds.in_use b (changed_some pool is b among)) found).storable.admitted
+
+  -- the next of the order is written too
+  pub up_to_next : (n : Moment) (k block : ℕ) → slice_get (changed_of pool) k ≡ Some block → AreWrittenUpTo limits pool k m → ((held : Page) → held_page pool block ≡ Some held → Has (place limits block) (page_bytes held) n.seen)
+      → ChangesOnly (place limits block) 4096 m n → AreWrittenUpTo limits pool (suc k) n
+  up_to_next n k block at home has only b held among found = elim (cases_eq b block) [
+    | inl same ↦ subst (λ (x : ℕ). Has (place limits x) (page_bytes held) n.seen) (sym same) (has held (ap (held_page pool) (sym same) ∙ found))
+    | inr ne ↦ elim (has_next (changed_of pool) k b among) [
+      | inl before ↦ has_kept (place limits block) 4096 (place limits b) (page_bytes held) m n only
+          (apart_long limits b block _ (long_changed b held (has_all (changed_of pool) k b before) found) ne) (home b held before found)
+      | inr here ↦ (let both : Some b ≡ Some block = sym here ∙ at in let e : b ≡ block = cc in absurd (ne e))
+    ]
+  ]
+
+-- an act changed pages that have frames
+module _ (limits : Limits) (pages : List Page) (acts : ℕ) (old new : Pool) (honest : Bool) (m : Moment) (changed : List Page) (holds : HoldsPages limits pages acts old honest m)
+    (stored : AreStored limits 0 pages) (few : length pages ≤ limits.pages) (actable : AreActable limits (length pages) changed) (acted : AreActed old new changed (suc acts)) where
+  abbrev after : List Page
+  after = with_pages pages changed
+
+  got : (b : ℕ) → slice_get after b ≡ later_of (slice_get pages b) (last_image changed b)
+  got b = get-with_pages limits (length pages) pages changed b actable (omega arith)
+
+  -- a block that the act doesn't name has its page as it was
+  as_before : (b : ℕ) → last_image changed b ≡ None → slice_get after b ≡ slice_get pages b
+  as_before b none = got b ∙ ap (λ (o : Option Page). later_of (slice_get pages b) o) none
+
+  -- one that it names has the page that it names
+  as_named : (b : ℕ) (page : Page) → last_image changed b ≡ Some page → slice_get after b ≡ Some page
+  as_named b page named = got b ∙ ap (λ (o : Option Page). later_of (slice_get pages b) o) named
+
+  used_before : (b : ℕ) → last_image changed b ≡ None → b < length after → b < length pages
+  used_before b none used = elim (slice_get_cases after b).1 [
+    | inl there ↦ slice_get_within pages b there.0 (sym (as_before b none) ∙ there.2)
+    | inr past ↦ absurd (omega (arith, past.0))
+  ]
+
+  pub holds_acted : HoldsPages limits after (suc acts) new honest m
+  holds_acted = record {
+    few = λ b. elim (image_cases (last_image changed b)) [
+      | inl none ↦ omega (arith, acted.before b none, holds.few b)
+      | inr named ↦ omega (arith, acted.acted b named)
+    ];
+    in_use = λ b some. elim (image_cases (last_image changed b)) [
+      | inl none ↦
+          let was : 0 < act_of old b = subst (λ (n : ℕ). 0 < n) (acted.before b none) some in
+          within_more b none (holds.in_use b was)
+      | inr named ↦ (let there = some_of (last_image changed b) named in slice_get_within after b there.0 (as_named b there.0 there.1))
+    ];
+    stored = λ b held used found. elim (image_cases (last_image changed b)) [
+      | inl none ↦ holds.stored b held (used_before b none used) (sym (acted.others b none) ∙ found)
+      | inr named ↦ (let there = some_of (last_image changed b) named in
+          let both : Some held ≡ Some there.0 = sym found ∙ acted.held b there.0 there.1 in
+          let e : held ≡ there.0 = cc in
+          subst (λ (p : Page). IsStored limits b p) (sym e) (stored_page limits b after there.0 (stored-with_pages limits (length pages) pages changed actable (omega arith) stored few).0 (as_named b there.0 there.1)))
+    ];
+    changed = λ b held page some found there. alike b held page found there
+        (λ none. holds.changed b held page (subst (λ (n : ℕ). 0 < n) (acted.before b none) some) (sym (acted.others b none) ∙ found) (sym (as_before b none) ∙ there));
+    held = λ h b held page found there. alike b held page found there
+        (λ none. holds.held h b held page (sym (acted.others b none) ∙ found) (sym (as_before b none) ∙ there));
+    seen = λ h b page found clean. elim (image_cases (last_image changed b)) [
+      | inl none ↦ holds.seen h b page (sym (as_before b none) ∙ found) (sym (acted.before b none) ∙ clean)
+      | inr named ↦ absurd (omega (arith, acted.acted b named, clean))
+    ];
+  }
+    where
+      within_more : (b : ℕ) → last_image changed b ≡ None → b < length pages → b < length after
+      within_more b none below = elim (slice_get_cases pages b).1 [
+        | inl there ↦ slice_get_within after b there.0 (as_before b none ∙ there.2)
+        | inr past ↦ absurd (omega (arith, past.0))
+      ]
+
+      alike : (b : ℕ) (held page : Page) → held_page new b ≡ Some held → slice_get after b ≡ Some page → (last_image changed b ≡ None → page_bytes held ≡ page_bytes page) → page_bytes held ≡ page_bytes page
+      alike b held page found there before = elim (image_cases (last_image changed b)) [
+        | inl none ↦ before none
+        | inr named ↦ (let image = some_of (last_image changed b) named in
+            let one : Some held ≡ Some image.0 = sym found ∙ acted.held b image.0 image.1 in
+            let two : Some page ≡ Some image.0 = sym there ∙ as_named b image.0 image.1 in
+            let e : held ≡ image.0 = cc in
+            let f : page ≡ image.0 = cc in
+            ap page_bytes (e ∙ sym f))
+      ]

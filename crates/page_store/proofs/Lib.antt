@@ -2,11 +2,14 @@ pub mod Acting
 pub mod Images
 pub mod Restarting
 pub mod FollowLaws
+pub mod Quieting
 pub mod ActFollows
 pub mod ForceFollows
 pub mod Places
 pub mod WriteFollows
 pub mod CloseFollows
 pub mod Opened
+pub mod Pooling
+pub mod Reading
 pub mod Keeping
 pub mod Misfits

@@ -149,11 +149,11 @@ follows_synced old trace honest failures alive moments same more =
     (kept_alike old own alive (synced old.trace.now) (synced_only (place (limits_of old.log) 0) 0 old.trace.now), refl)) moments)
 
 -- pages that stand at their places are noted as written
-pub follows_noted : (old : Held) (unwritten : ℕ → ℕ)
+noted_follows : (old : Held) (unwritten : ℕ → ℕ)
     → ((block : ℕ) → (unwritten block ≡ old.unwritten block)
     ⊎ ((unwritten block ≡ 0) × ((page : Page) → slice_get (pages_held old) block ≡ Some page → Has (place (limits_of old.log) block) (page_bytes page) old.trace.now.seen)))
     → Follows old (record old { unwritten = unwritten })
-follows_noted old unwritten noted = record {
+noted_follows old unwritten noted = record {
   later = record { failures = omega arith; durable = omega arith; stopped = λ s. s; stop_has_cause = λ s. inl s; honest = λ s. s };
   grows = λ own. record {
     own = record {
@@ -198,3 +198,39 @@ follows_noted old unwritten noted = record {
         | inr seen ↦ seen.1 page found
       ];
     }
+
+-- ... at their places under these limits
+pub follows_noted : (old : Held) (unwritten : ℕ → ℕ) (limits : Limits) → limits_of old.log ≡ limits
+    → ((block : ℕ) → (unwritten block ≡ old.unwritten block)
+    ⊎ ((unwritten block ≡ 0) × ((page : Page) → slice_get (pages_held old) block ≡ Some page → Has (place limits block) (page_bytes page) old.trace.now.seen)))
+    → Follows old (record old { unwritten = unwritten })
+follows_noted old unwritten limits is noted = noted_follows old unwritten
+    (subst (λ (l : Limits). (block : ℕ) → (unwritten block ≡ old.unwritten block) ⊎ ((unwritten block ≡ 0) × ((page : Page) → slice_get (pages_held old) block ≡ Some page → Has (place l block) (page_bytes page) old.trace.now.seen))) (sym is) noted)
+
+-- a read leaves what it finds
+read_follows : (old : Held) (honest : Bool) (failures : ℕ) → (honest ≡ true → old.honest ≡ true) → old.failures ≤ failures
+    → Follows old (record old { honest = honest; failures = failures })
+read_follows old honest failures was more = record {
+  later = record { failures = more; durable = omega arith; stopped = λ s. s; stop_has_cause = λ s. inl s; honest = was };
+  grows = λ own. record {
+    own = record {
+      start_stored = own.start_stored;
+      start_few = own.start_few;
+      long = own.long;
+      acts_are = own.acts_are;
+      counted = own.counted;
+      leaves = own.leaves;
+      kept = own.kept;
+    };
+    limits = refl;
+    start = refl;
+    more = [];
+    acts = sym (append-nil old.history.acts);
+    moments = record { since = []; is = refl; each = tt };
+  };
+}
+
+pub follows_read : (old : Held) (trace : Trace) (honest : Bool) (failures : ℕ) → trace ≡ old.trace → (honest ≡ true → old.honest ≡ true) → old.failures ≤ failures
+    → Follows old (record old { trace = trace; honest = honest; failures = failures })
+follows_read old trace honest failures same was more =
+    subst (λ (t : Trace). Follows old (record old { trace = t; honest = honest; failures = failures })) (sym same) (read_follows old honest failures was more)

@@ -6,3 +6,6 @@ pub mod Between
 pub mod Crashing
 pub mod Writing
 pub mod Holding
+pub mod Quiet
+pub mod Taking
+pub mod Changing

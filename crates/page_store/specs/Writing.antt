@@ -3,7 +3,7 @@ use Rattle.std.specs.Prelude.{◌≡◌, ◌⊎◌, ℕ, suc, ◌<◌, ◌≤◌
 use Rattle.index_model.specs.declared.fault.Fault.{Fault}
 use Rattle.index_model.specs.declared.fault.Fault.TheVariants.{Io, PageDamaged}
 use Rattle.device.specs.Disk.{Moment}
-use Rattle.device.specs.Places.{Has}
+use Rattle.device.specs.Places.{Has, OnDisk}
 use Rattle.buffer_pool.specs.Frames.{has_block}
 use Rattle.buffer_pool.specs.Pools.{act_of, held_page, changed_of}
 use Rattle.buffer_pool.specs.declared.pool.Pool.{Pool}
@@ -48,3 +48,11 @@ GivesPage page result = MatchResult result (λ p. p ≡ page) (λ e. e ≡ Io)
 abbrev pub ReadingFails : {T : Type 0} → ℕ → Result T Fault → ℕ → ℕ → Type 0
 ReadingFails block result old new = MatchResult result (λ _. new ≡ old)
     (λ e. ((e ≡ Io) × (new ≡ suc old)) ⊎ ((e ≡ PageDamaged block) × (new ≡ old)))
+
+-- no page is changed
+abbrev pub IsClean : Pool → Type 0
+IsClean pool = (block : ℕ) → act_of pool block ≡ 0
+
+-- what a read gives, a crash leaves
+abbrev pub IsFirm : Moment → Type 0
+IsFirm m = (at : ℕ) (bytes : List ℕ) → Has at bytes m.seen → OnDisk at bytes m

@@ -2,6 +2,9 @@
 //! first part of them.
 #![tactic(auto)]
 
+mod changing;
+mod forcing;
 mod history;
 mod logged_pages;
+mod taking;
 mod writing;

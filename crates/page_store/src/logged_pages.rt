@@ -13,8 +13,8 @@ ghost use Rattle.page_store.specs.Holding.{HoldsPages-prop};
 ghost use Rattle.page_store.specs.Writing.{HoldsPages};
 
 use crate::history::History;
-use crate::writing::{read_page, write_page};
-use buffer_pool::{Choice, Pool};
+use crate::changing::{change_all, used_after};
+use buffer_pool::Pool;
 use device::Device;
 use index_model::{Fault, Limits};
 use page_codec::Page;
@@ -59,18 +59,16 @@ pub(crate) struct LoggedPages<D: Device> {
 }
 
 impl<D: Device> LoggedPages<D> {
-    ghost use Rattle.std.specs.Prelude.{◌⊎◌, ◌^◌, Err, Some, IfOk, IfErr, OnOk, OnErr, IsTrue, IsSome, [], ℕ, true, All, is_err, slice_get};
-    ghost use Rattle.buffer_pool.specs.Pools.{act_of, changed_of, count_of, frame_of, held_page, IsWritten};
-    ghost use Rattle.device.specs.Disk.{CountsFailures};
-    ghost use Rattle.device.specs.Places.{Has, OnDisk, ChangesOnly};
-    ghost use Rattle.page_action.specs.Stored.{AreActable};
+    ghost use Rattle.std.specs.Prelude.{◌⊎◌, ◌^◌, ◌-◌, Err, Some, IfOk, IfErr, OnOk, OnErr, IsSome, is_some, ℕ, true, All, slice_get};
+    ghost use Rattle.buffer_pool.specs.Pools.{count_of, frame_of, held_page};
+    ghost use Rattle.page_action.specs.Stored.{AreActable, IsStored};
     ghost use Rattle.page_action.specs.Room.{HasWholeRoom};
-    ghost use Rattle.page_action.specs.States.{with_pages};
-    ghost use Rattle.page_codec.specs.Spelling.{page_bytes};
     ghost use Rattle.page_codec.specs.declared.page.Page.{Page};
-    ghost use Rattle.redo_log.specs.Kept.{IoOrStopped, groups_end};
+    ghost use Rattle.redo_log.specs.Kept.{groups_end};
+    ghost use Rattle.page_store.specs.Changing.{AreActed};
     ghost use Rattle.page_store.specs.Following.{Follows};
-    ghost use Rattle.page_store.specs.Logged.{held_of, backing_of, AreHome, IsOwn, SamePages, SameRoom, SameButDevice, StandsOpened};
+    ghost use Rattle.page_store.specs.Histories.{with_act};
+    ghost use Rattle.page_store.specs.Logged.{held_of, backing_of, IsOwn, StandsOpened};
     ghost use Rattle.page_store.specs.Writing.{AreSeen};
 
     /// The pages that `history` began with, over a device and a log that was just opened and closed. The pool holds none
@@ -125,107 +123,71 @@ impl<D: Device> LoggedPages<D> {
         }
     }
 
-    /// Makes all acts durable. Refused with `Io` and `Stopped`.
-    pub fn force(&mut self) -> Result<u64, Fault>
-        ensures steps { Follows (held_of D.Device self.old) (held_of D.Device self.new) }
-        ensures pages { SamePages D.Device self.old self.new }
-        ensures pool { self.new.pool ≡ self.old.pool }
-        ensures number { IfOk result (λ n. n ≡ self.old.acts) }
-        ensures durable { OnOk result (self.new.durable ≡ self.old.acts) }
-        ensures alive { OnOk result (is_stopped self.old.log ≡ false) }
-        ensures promised { self.new.promised ≡ self.old.promised }
-        ensures idle { self.old.durable ≡ self.old.acts → self.new.room ≡ self.old.room }
-        ensures stopped { is_stopped self.old.log ≡ true → result ≡ Err Fault.Stopped }
-        ensures failed { is_stopped self.new.log ≡ is_err result }
-        ensures honest { D.is_honest self.new.device ≡ D.is_honest self.old.device }
-        ensures cause { IoOrStopped result (is_stopped self.old.log)
-            (D.failures self.old.device) (D.failures self.new.device) }
+    /// Whether the page of this block is in memory.
+    pub fn holds(&self, block: u32) -> bool
+        ensures { result ≡ is_some (frame_of self.now.pool block) }
     {
-        if self.log.is_stopped() {
-            return Err(Fault::Stopped);
-        }
-        if self.durable < self.acts {
-            self.log.force(&mut self.device)?;
-            self.durable = self.acts;
-            // A force never gives room.
-            self.room = self.room.min(self.log.room());
-        }
-        Ok(self.acts)
+        self.pool.find(block).is_some()
     }
 
-    // Writes the page of a block whose last act is durable to its place. Refused with `Io`.
-    fn write_home(&mut self, block: u32) -> Result<(), Fault>
-        requires alive { is_stopped self.old.log ≡ false }
-        requires changed { 0 < act_of self.old.pool block }
-        requires durable { act_of self.old.pool block ≤ self.old.durable }
-        ensures steps { Follows (held_of D.Device self.old) (held_of D.Device self.new) }
-        ensures same { SameButDevice D.Device self.old self.new }
-        ensures written { OnOk result ((page : Page)
-            → held_page self.old.pool block ≡ Some page
-            → Has (place self.old.limits block) (page_bytes page)
-            (D.trace self.new.device).now.seen) }
-        ensures only { ChangesOnly (place self.old.limits block) 4096
-            (D.trace self.old.device).now (D.trace self.new.device).now }
-        ensures failures { CountsFailures result
-            (D.failures self.old.device) (D.failures self.new.device) }
+    /// Whether the pages of these blocks are all in memory.
+    pub fn holds_all(&self, pages: &[Page]) -> bool
+        ensures { result ≡ true
+            → All (λ page. IsSome (frame_of self.now.pool page.block)) pages.now }
+    {
+        for page in pages {
+            if !self.holds(page.block) {
+                return false;
+            }
+        }
+        true
+    }
+
+    /// The page of this block, which is in memory.
+    pub fn page(&self, block: u32) -> &Page
+        requires used { block < self.now.used }
+        requires has { IsSome (frame_of self.now.pool block) }
+        ensures page { D.is_honest self.now.device ≡ true
+            → slice_get (pages_now self.now.history) block ≡ Some result.now }
+        ensures stored { IsStored self.now.limits block result.now }
     {
         self.pool.law();
         match self.pool.find(block) {
-            Some(at) => {
-                let page = self.pool.page(at);
-                write_page(&mut self.device, self.limits, block, page)
-            }
-            None => Err(Fault::Io),
+            Some(at) => self.pool.page(at),
+            None => unreachable!(),
         }
     }
 
-    // Makes the acts up to this one durable. Refused with `Io` and `Stopped`.
-    fn make_durable(&mut self, act: u64) -> Result<(), Fault>
-        requires done { act ≤ self.old.acts }
+    /// Changes these pages, each of which is in memory or has a frame there, at once, or none, and answers the number of the
+    /// act. Refused with `Stopped` and `LogFull`.
+    pub fn act(&mut self, pages: &[Page]) -> Result<u64, Fault>
+        requires some { 1 ≤ length pages.now }
+        requires actable { AreActable self.old.limits (length (pages_now self.old.history)) pages.now }
+        requires held { All (λ page. IsSome (frame_of self.old.pool page.block)) pages.now }
         ensures steps { Follows (held_of D.Device self.old) (held_of D.Device self.new) }
-        ensures pages { SamePages D.Device self.old self.new }
-        ensures pool { self.new.pool ≡ self.old.pool }
-        ensures durable { OnOk result (act ≤ self.new.durable) }
-        ensures promised { self.new.promised ≡ self.old.promised }
-        ensures idle { self.old.durable ≡ self.old.acts → self.new.room ≡ self.old.room }
-        ensures alive { OnOk result (is_stopped self.new.log ≡ false) }
-        ensures lived { OnOk result (is_stopped self.old.log ≡ false) }
-        ensures honest { D.is_honest self.new.device ≡ D.is_honest self.old.device }
-        ensures cause { IoOrStopped result (is_stopped self.old.log)
-            (D.failures self.old.device) (D.failures self.new.device) }
+        ensures limits { self.new.limits ≡ self.old.limits }
+        ensures history { OnOk result (self.new.history ≡ with_act pages.now self.old.history) }
+        ensures number { IfOk result (λ n. n ≡ suc self.old.acts) }
+        ensures acts { OnOk result (self.new.acts ≡ suc self.old.acts) }
+        ensures pool { OnOk result (AreActed self.old.pool self.new.pool pages.now (suc self.old.acts)) }
+        ensures room { OnOk result (self.old.room ≤ length pages.now + self.new.room) }
+        ensures promised { OnOk result (self.new.promised ≡ self.new.room) }
+        ensures durable { self.new.durable ≡ self.old.durable }
+        ensures stopped { is_stopped self.new.log ≡ is_stopped self.old.log }
+        ensures failures { D.failures self.new.device ≡ D.failures self.old.device }
+        ensures refused { OnErr result (self.new ≡ self.old) }
+        ensures cause { IfErr result (λ e.
+            ((e ≡ Fault.Stopped)
+            × ((is_stopped self.old.log ≡ true) ⊎ (self.old.acts ≡ 2 ^ 64 - 1)))
+            ⊎ ((e ≡ Fault.LogFull) × (self.old.room < length pages.now))) }
     {
-        if self.log.is_stopped() {
-            return Err(Fault::Stopped);
-        }
-        if act <= self.durable {
-            return Ok(());
-        }
-        match self.force() {
-            Ok(_) => Ok(()),
-            Err(fault) => Err(fault),
-        }
-    }
-
-    // Writes the changed page at this place of their order to its place, and makes its acts durable before. Refused with
-    // `Io` and `Stopped`; the page is changed then as before, at its place of the order.
-    fn write_changed(&mut self, place: usize, block: u32, act: u64) -> Result<(), Fault>
-        requires at { slice_get (changed_of self.old.pool) place ≡ Some block }
-        requires act { act ≡ act_of self.old.pool block }
-        requires changed { 0 < act }
-        ensures steps { Follows (held_of D.Device self.old) (held_of D.Device self.new) }
-        ensures pages { SamePages D.Device self.old self.new }
-        ensures written { OnOk result (IsWritten self.old.pool self.new.pool place) }
-        ensures refused { OnErr result (self.new.pool ≡ self.old.pool) }
-        ensures promised { self.new.promised ≡ self.old.promised }
-        ensures idle { self.old.durable ≡ self.old.acts → self.new.room ≡ self.old.room }
-        ensures alive { OnOk result (is_stopped self.new.log ≡ false) }
-        ensures honest { D.is_honest self.new.device ≡ D.is_honest self.old.device }
-        ensures cause { IoOrStopped result (is_stopped self.old.log)
-            (D.failures self.old.device) (D.failures self.new.device) }
-    {
-        self.make_durable(act)?;
-        self.write_home(block)?;
-        self.pool.note_written(place);
-        Ok(())
+        let number = self.log.append(pages)?;
+        change_all(&mut self.pool, pages, number);
+        self.used = used_after(self.used, pages);
+        self.acts = number;
+        self.room = self.log.room();
+        self.promised = self.room;
+        self.history.note(pages);
+        Ok(number)
     }
 }

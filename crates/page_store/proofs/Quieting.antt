@@ -1,0 +1,44 @@
+-- How calls that make no act follow one another.
+use Rattle.std.proofs.Common.{◌≡◌, ◌≤◌, ◌∙◌, refl, arith}
+use Rattle.device.specs.declared.device.Device.{Ghosts}
+use Rattle.page_store.specs.Following.{Follows, follows_same}
+use Rattle.page_store.specs.Logged.{held_of}
+use Rattle.page_store.specs.Quiet.{IsQuiet}
+use Rattle.page_store.specs.declared.logged_pages.LoggedPages.{LoggedPages}
+use Rattle.page_store.proofs.FollowLaws.{follows_both}
+
+pub quiet_same : {D : Type 0} (g : Ghosts D) (a : LoggedPages D g) → IsQuiet g a a
+quiet_same g a = record {
+  follows = follows_same (held_of g a);
+  pages = record { limits = refl; history = refl; used = refl; acts = refl };
+  promised = refl;
+  idle = λ all. refl;
+}
+
+pub quiet_both : {D : Type 0} (g : Ghosts D) (a b c : LoggedPages D g) → IsQuiet g a b → IsQuiet g b c → IsQuiet g a c
+quiet_both g a b c f s = record {
+  follows = follows_both (held_of g a) (held_of g b) (held_of g c) f.follows s.follows;
+  pages = record {
+    limits = s.pages.limits ∙ f.pages.limits;
+    history = s.pages.history ∙ f.pages.history;
+    used = s.pages.used ∙ f.pages.used;
+    acts = s.pages.acts ∙ f.pages.acts;
+  };
+  promised = s.promised ∙ f.promised;
+  idle = λ all.
+      let durable : a.durable ≤ b.durable = f.follows.later.durable in
+      let few : b.durable ≤ b.acts = b.not_ahead in
+      let same : b.acts ≡ a.acts = f.pages.acts in
+      let here : b.durable ≡ b.acts = omega arith in
+      s.idle here ∙ f.idle all;
+}
+
+-- where the store is as it was but for the pool, of which some changed pages are noted as written
+pub quiet_noted : {D : Type 0} (g : Ghosts D) (a b : LoggedPages D g) → b.limits ≡ a.limits → b.history ≡ a.history → b.used ≡ a.used → b.acts ≡ a.acts → b.promised ≡ a.promised → b.room ≡ a.room
+    → Follows (held_of g a) (held_of g b) → IsQuiet g a b
+quiet_noted g a b limits history used acts promised room follows = record {
+  follows = follows;
+  pages = record { limits = limits; history = history; used = used; acts = acts };
+  promised = promised;
+  idle = λ all. room;
+}

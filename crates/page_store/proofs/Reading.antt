@@ -1,0 +1,50 @@
+-- What a read page is, where the device kept its model.
+use Rattle.std.proofs.Common.{◌≡◌, ◌⊎◌, inl, inr, ℕ, ◌<◌, ◌≤◌, Bool, true, Option, Some, None, List, length, slice_get, Result, Ok, Err, refl, sym, ap, subst, ◌∙◌, arith}
+use Rattle.std.specs.Prelude.{IfOk, OnErr}
+use Rattle.std.proofs.lemmas.Option.{slice_get_cases}
+use Rattle.device.specs.Disk.{Moment}
+use Rattle.device.specs.Places.{Has}
+use Rattle.index_model.specs.declared.fault.Fault.{Fault}
+use Rattle.index_model.specs.declared.fault.Fault.TheVariants.{Io}
+use Rattle.index_model.specs.declared.limits.Limits.{Limits}
+use Rattle.buffer_pool.specs.Pools.{act_of, held_page}
+use Rattle.buffer_pool.specs.declared.pool.Pool.{Pool}
+use Rattle.page_codec.specs.Spelling.{page_bytes}
+use Rattle.page_codec.specs.declared.page.Page.{Page}
+use Rattle.page_codec.proofs.Laws.{one_page}
+use Rattle.page_action.specs.Stored.{IsStored, AreStored}
+use Rattle.page_action.proofs.StoredPages.{stored_page}
+use Rattle.device_layout.specs.Layout.{place}
+use Rattle.page_store.specs.Writing.{HoldsPages, GivesPage, ReadingFails}
+
+-- a block in use has its page
+pub page_in_use : (pages : List Page) (block : ℕ) → block < length pages → (page : Page) × (slice_get pages block ≡ Some page)
+page_in_use pages block used = elim (slice_get_cases pages block).1 [
+  | inl there ↦ (there.0, there.2)
+  | inr past ↦ absurd (omega (arith, past.0))
+]
+
+pub reading_rises : {T : Type 0} (block : ℕ) (r : Result T Fault) (old new : ℕ) → ReadingFails block r old new → old ≤ new
+reading_rises block (Ok x) old new same = omega arith
+reading_rises block (Err e) old new (inl io) = omega (arith, io.1)
+reading_rises block (Err e) old new (inr damaged) = omega (arith, damaged.1)
+
+module _ (limits : Limits) (pages : List Page) (acts : ℕ) (pool : Pool) (honest : Bool) (m : Moment) (holds : HoldsPages limits pages acts pool honest m) (stored : AreStored limits 0 pages) where
+  -- a read of a page that isn't held gives it, or the device failed
+  pub read_gives : (block : ℕ) (page : Page) (r : Result Page Fault) → slice_get pages block ≡ Some page → act_of pool block ≡ 0 → honest ≡ true
+      → ((there : Page) → IsStored limits block there → Has (place limits block) (page_bytes there) m.seen → GivesPage there r) → GivesPage page r
+  read_gives block page r found clean h gives = gives page (stored_page limits block pages page stored found) (holds.seen h block page found clean)
+
+  -- a held page is the one in use
+  pub held_is : (block : ℕ) (held : Page) → block < length pages → held_page pool block ≡ Some held → honest ≡ true → slice_get pages block ≡ Some held
+  held_is block held used found h =
+      let there = page_in_use pages block used in
+      there.1 ∙ ap Some (one_page there.0 held (stored_page limits block pages there.0 stored there.1).storable.admitted (holds.stored block held used found).storable.admitted (sym (holds.held h block held there.0 found there.1)))
+
+pub given_right : (pages : List Page) (block : ℕ) (page : Page) (honest : Bool) (r : Result Page Fault) → slice_get pages block ≡ Some page → (honest ≡ true → GivesPage page r) → IfOk r (λ p. honest ≡ true → slice_get pages block ≡ Some p)
+given_right pages block page honest (Ok p) found gives = λ h. found ∙ ap Some (sym (gives h))
+given_right pages block page honest (Err e) found gives = tt
+
+pub given_fails : (page : Page) (r : Result Page Fault) → GivesPage page r → OnErr r (r ≡ Err Io)
+given_fails page (Ok p) gives = tt
+given_fails page (Err e) gives = ap Err gives

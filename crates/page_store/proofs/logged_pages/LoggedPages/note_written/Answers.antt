@@ -1,0 +1,26 @@
+use Rattle.std.proofs.Common.{refl}
+use Rattle.page_store.specs.Histories.{pages_now}
+use Rattle.page_store.specs.Logged.{held_of}
+use Rattle.page_store.proofs.Keeping.{holds_noted, written_noted}
+use Rattle.page_store.proofs.Quieting.{quiet_noted}
+use Rattle.page_store.proofs.WriteFollows.{follows_noted}
+use Rattle.page_store.proofs.logged_pages.LoggedPages.note_written.Goals as goal
+
+pub invariant_of-self-clause-holds : goal.invariant_of-self-clause-holds
+invariant_of-self-clause-holds g c =
+    let held = c.args.self.now in
+    let pages = pages_now held.history in
+    let m = (g.D.Device.trace held.device).now in
+    let honest = g.D.Device.is_honest held.device in
+    holds_noted held.limits pages held.acts held.pool c.note_written.new.self honest m held.holds c.note_written.ensures.pages
+    (written_noted held.limits pages held.acts held.pool honest m held.holds c.law.ensures c.note_written.new.self c.args.place c.args.block c.requires.at c.requires.home c.note_written.ensures)
+
+pub returns-clause-quiet : goal.returns-clause-quiet
+returns-clause-quiet g c =
+    let held = c.args.self.now in
+    let pages = pages_now held.history in
+    let m = (g.D.Device.trace held.device).now in
+    let honest = g.D.Device.is_honest held.device in
+    let noted = written_noted held.limits pages held.acts held.pool honest m held.holds c.law.ensures c.note_written.new.self c.args.place c.args.block c.requires.at c.requires.home c.note_written.ensures in
+    quiet_noted g.D.Device held _ refl refl refl refl refl refl
+    (follows_noted (held_of g.D.Device held) _ held.limits held.log_limits noted)

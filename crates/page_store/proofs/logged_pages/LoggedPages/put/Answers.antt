@@ -1,0 +1,20 @@
+use Rattle.std.proofs.Common.{inl, refl, subst}
+use Rattle.page_store.specs.Histories.{pages_now}
+use Rattle.page_store.specs.Logged.{held_of}
+use Rattle.page_store.proofs.Keeping.{holds_put}
+use Rattle.page_store.proofs.Pooling.{clean_of_absent}
+use Rattle.page_store.proofs.Quieting.{quiet_noted}
+use Rattle.page_store.proofs.WriteFollows.{follows_noted}
+use Rattle.page_store.proofs.logged_pages.LoggedPages.put.Goals as goal
+
+pub invariant_of-self-clause-holds : goal.invariant_of-self-clause-holds
+invariant_of-self-clause-holds g c =
+    let held = c.args.self.now in
+    holds_put held.limits (pages_now held.history) held.acts held.pool c.put.new.self _ _ _ c.args.at c.args.page held.holds c.put.ensures (λ h. h) (λ used. c.requires.stored) c.requires.right
+    (clean_of_absent held.pool c.law.ensures c.args.page.block c.requires.absent)
+
+pub returns-clause-quiet : goal.returns-clause-quiet
+returns-clause-quiet g c =
+    let held = c.args.self.now in
+    quiet_noted g.D.Device held _ refl refl refl refl refl refl
+    (follows_noted (held_of g.D.Device held) _ held.limits held.log_limits (λ block. inl (c.put.ensures.changes.acts block)))

@@ -1,0 +1,40 @@
+-- What is held while frames are taken for other pages, and why none is had.
+use Rattle.std.specs.Prelude.{◌≡◌, ◌⊎◌, ℕ, ◌<◌, Bool, true, false, None, IsSome, List, ◌∷◌}
+use Rattle.index_model.specs.declared.fault.Fault.{Fault}
+use Rattle.index_model.specs.declared.fault.Fault.TheVariants.{Io, Stopped, NoFrame, PageDamaged}
+use Rattle.buffer_pool.specs.Choices.{count_apart}
+use Rattle.buffer_pool.specs.Frames.{has_block}
+use Rattle.buffer_pool.specs.Pools.{most_of, frame_of}
+use Rattle.buffer_pool.specs.declared.pool.Pool.{Pool}
+
+-- which of the pinned pages was held, is held still
+pub record KeepsFrames (pinned : List ℕ) (old new : Pool) : Type 0 where
+  pub most : most_of new ≡ most_of old
+  pub kept : (block : ℕ) → has_block pinned block ≡ true → IsSome (frame_of old block)
+      → IsSome (frame_of new block)
+
+-- the pinned blocks with one that isn't held are more than the frames
+abbrev pub AreTooMany : Pool → List ℕ → Type 0
+AreTooMany pool pinned =
+    (block : ℕ) → frame_of pool block ≡ None → most_of pool < count_apart (block ∷ pinned)
+
+-- a changed page could not be written: a device call failed, or the log had failed before
+abbrev pub WritingFails : Bool → ℕ → ℕ → Fault → Type 0
+WritingFails stopped old new fault =
+    ((fault ≡ Io) × (old < new)) ⊎ ((fault ≡ Stopped) × (stopped ≡ true))
+
+-- no frame is had for another page: all are pinned, or a changed page could not be written before
+abbrev pub FrameFails : Pool → List ℕ → Bool → ℕ → ℕ → Fault → Type 0
+FrameFails pool pinned stopped old new fault =
+    ((fault ≡ NoFrame) × AreTooMany pool pinned) ⊎ WritingFails stopped old new fault
+
+-- no frame is had beside so many blocks, or a device call failed, or the log had failed before
+abbrev pub TakingFails : Pool → List ℕ → Bool → ℕ → ℕ → Fault → Type 0
+TakingFails pool blocks stopped old new fault =
+    ((fault ≡ NoFrame) × (most_of pool < count_apart blocks)) ⊎ WritingFails stopped old new fault
+
+-- ... or the page isn't one of the format, which a device that keeps its model doesn't show
+abbrev pub FetchFails : Pool → List ℕ → Bool → ℕ → ℕ → ℕ → Bool → Fault → Type 0
+FetchFails pool pinned stopped old new block honest fault =
+    TakingFails pool (block ∷ pinned) stopped old new fault
+    ⊎ ((fault ≡ PageDamaged block) × (honest ≡ false))

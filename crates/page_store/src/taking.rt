@@ -1,0 +1,201 @@
+//! Pages are brought into memory, in the place of others where there is no room.
+
+ghost use Rattle.std.specs.Prelude.{◌≡◌, ◌≢◌, ◌<◌, ◌≤◌, Some, None, Err, OnErr, IfOk, IfErr, OnOk, IsSome, ℕ, true, false, length, slice_get, All};
+ghost use Rattle.buffer_pool.specs.Choices.{IsChoice};
+ghost use Rattle.buffer_pool.specs.Frames.{has_block};
+ghost use Rattle.buffer_pool.specs.Pools.{most_of, act_of, changed_of, frame_of, CanBeTaken, HasSamePages, IsPut};
+ghost use Rattle.page_action.specs.Stored.{IsStored, AreActable};
+ghost use Rattle.redo_log.specs.Kept.{IoOrStopped, is_stopped};
+ghost use Rattle.page_store.specs.Histories.{pages_now};
+ghost use Rattle.page_store.specs.Quiet.{IsQuiet};
+ghost use Rattle.page_store.specs.Taking.{KeepsFrames, FrameFails, TakingFails, FetchFails};
+ghost use Rattle.page_store.specs.Writing.{ReadingFails};
+ghost use Rattle.page_codec.specs.declared.page.Page.{Page};
+
+use crate::logged_pages::LoggedPages;
+use crate::writing::read_page;
+use buffer_pool::Choice;
+use device::Device;
+use index_model::Fault;
+use page_codec::Page;
+
+impl<D: Device> LoggedPages<D> {
+    // Which frame is taken for another page, or which page is written first, where the pages of these blocks are pinned.
+    fn choose(&mut self, pinned: &[u32]) -> Choice
+        ensures quiet { IsQuiet D.Device self.old self.new }
+        ensures choice { IsChoice self.new.pool pinned.now result }
+        ensures same { HasSamePages self.old.pool self.new.pool }
+        ensures log { self.new.log ≡ self.old.log }
+        ensures device { self.new.device ≡ self.old.device }
+    {
+        self.pool.choose(pinned)
+    }
+
+    // The frame of a changed page, which is written before. Refused with `Io` and `Stopped`.
+    fn write_over(&mut self, place: usize, block: u32, act: u64) -> Result<usize, Fault>
+        requires at { slice_get (changed_of self.old.pool) place ≡ Some block }
+        requires act { act ≡ act_of self.old.pool block }
+        requires changed { 0 < act }
+        ensures quiet { IsQuiet D.Device self.old self.new }
+        ensures same { HasSamePages self.old.pool self.new.pool }
+        ensures frame { IfOk result (λ at. frame_of self.old.pool block ≡ Some at) }
+        ensures free { IfOk result (CanBeTaken self.new.pool) }
+        ensures alive { OnOk result (is_stopped self.new.log ≡ false) }
+        ensures cause { IoOrStopped result (is_stopped self.old.log)
+            (D.failures self.old.device) (D.failures self.new.device) }
+    {
+        self.pool.law();
+        self.write_changed(place, block, act)?;
+        self.pool.law();
+        match self.pool.find(block) {
+            Some(at) => Ok(at),
+            None => unreachable!(),
+        }
+    }
+
+    // A frame for another page, where the pages of these blocks are pinned: where no clean one is there, the oldest changed
+    // page is written before. Refused with `NoFrame`, `Io` and `Stopped`.
+    fn free_frame(&mut self, pinned: &[u32]) -> Result<usize, Fault>
+        ensures quiet { IsQuiet D.Device self.old self.new }
+        ensures same { HasSamePages self.old.pool self.new.pool }
+        ensures free { IfOk result (CanBeTaken self.new.pool) }
+        ensures unpinned { IfOk result (λ at. (block : ℕ) → has_block pinned.now block ≡ true
+            → frame_of self.old.pool block ≢ Some at) }
+        ensures alive { OnOk result
+            (is_stopped self.new.log ≡ true → is_stopped self.old.log ≡ true) }
+        ensures cause { IfErr result (FrameFails self.old.pool pinned.now (is_stopped self.old.log)
+            (D.failures self.old.device) (D.failures self.new.device)) }
+    {
+        self.pool.law();
+        match self.choose(pinned) {
+            Choice::Free(at) => Ok(at),
+            Choice::Oldest(place, block, act) => self.write_over(place, block, act),
+            Choice::AllPinned => Err(Fault::NoFrame),
+        }
+    }
+
+    // Puts a page into a frame that can be taken. It is one that a device that keeps its model gave, or of a block that is
+    // not in use.
+    fn put(&mut self, at: usize, page: Page)
+        requires free { CanBeTaken self.old.pool at }
+        requires stored { IsStored self.old.limits page.block page }
+        requires below { page.block < self.old.limits.pages }
+        requires absent { frame_of self.old.pool page.block ≡ None }
+        requires right { D.is_honest self.old.device ≡ true → (there : Page)
+            → slice_get (pages_now self.old.history) page.block ≡ Some there → page ≡ there }
+        ensures quiet { IsQuiet D.Device self.old self.new }
+        ensures pool { IsPut self.old.pool self.new.pool at page }
+        ensures log { self.new.log ≡ self.old.log }
+        ensures device { self.new.device ≡ self.old.device }
+    {
+        self.pool.law();
+        self.pool.put(at, page);
+    }
+
+    // Reads the page of a block in use that is not in memory. Refused with `Io`, and with `PageDamaged` where the device
+    // breaks its model.
+    fn read(&mut self, block: u32) -> Result<Page, Fault>
+        requires used { block < self.old.used }
+        requires absent { frame_of self.old.pool block ≡ None }
+        ensures quiet { IsQuiet D.Device self.old self.new }
+        ensures pool { self.new.pool ≡ self.old.pool }
+        ensures log { self.new.log ≡ self.old.log }
+        ensures stored { IfOk result (IsStored self.old.limits block) }
+        ensures right { IfOk result (λ page. D.is_honest self.new.device ≡ true
+            → slice_get (pages_now self.old.history) block ≡ Some page) }
+        ensures honest { D.is_honest self.new.device ≡ true → OnErr result (result ≡ Err Fault.Io) }
+        ensures cause { ReadingFails block result
+            (D.failures self.old.device) (D.failures self.new.device) }
+    {
+        self.pool.law();
+        read_page(&mut self.device, self.limits, block)
+    }
+
+    /// Brings the page of a block in use into memory, where the pages of these blocks are pinned. Refused with `NoFrame`,
+    /// `Io` and `Stopped`, and with `PageDamaged` where the device breaks its model.
+    pub fn fetch(&mut self, block: u32, pinned: &[u32]) -> Result<(), Fault>
+        requires used { block < self.old.used }
+        ensures quiet { IsQuiet D.Device self.old self.new }
+        ensures has { OnOk result (IsSome (frame_of self.new.pool block)) }
+        ensures kept { KeepsFrames pinned.now self.old.pool self.new.pool }
+        ensures alive { OnOk result
+            (is_stopped self.new.log ≡ true → is_stopped self.old.log ≡ true) }
+        ensures cause { IfErr result (FetchFails self.old.pool pinned.now (is_stopped self.old.log)
+            (D.failures self.old.device) (D.failures self.new.device) block
+            (D.is_honest self.new.device)) }
+    {
+        if self.holds(block) {
+            return Ok(());
+        }
+        let at = self.free_frame(pinned)?;
+        let page = self.read(block)?;
+        self.put(at, page);
+        Ok(())
+    }
+
+    // Takes a frame for a page that isn't held, of a block that is not in use or that the device doesn't give. Nobody looks
+    // at it before the act that changes it is done.
+    fn take_blank(&mut self, page: &Page, pinned: &[u32]) -> Result<(), Fault>
+        requires stored { IsStored self.old.limits page.now.block page.now }
+        requires below { page.now.block < self.old.limits.pages }
+        requires blank { D.is_honest self.old.device ≡ true → self.old.used ≤ page.now.block }
+        requires pinned { has_block pinned.now page.now.block ≡ true }
+        ensures quiet { IsQuiet D.Device self.old self.new }
+        ensures has { OnOk result (IsSome (frame_of self.new.pool page.now.block)) }
+        ensures kept { KeepsFrames pinned.now self.old.pool self.new.pool }
+        ensures alive { OnOk result
+            (is_stopped self.new.log ≡ true → is_stopped self.old.log ≡ true) }
+        ensures cause { IfErr result (TakingFails self.old.pool pinned.now (is_stopped self.old.log)
+            (D.failures self.old.device) (D.failures self.new.device)) }
+    {
+        if self.holds(page.block) {
+            return Ok(());
+        }
+        let at = self.free_frame(pinned)?;
+        self.put(at, page.copy());
+        Ok(())
+    }
+
+    // Takes a frame for a page that an act is to change: with the page of its block, where that is in use and the device
+    // gives it; else with the page itself.
+    fn take_frame(&mut self, page: &Page, pinned: &[u32]) -> Result<(), Fault>
+        requires stored { IsStored self.old.limits page.now.block page.now }
+        requires below { page.now.block < self.old.limits.pages }
+        requires pinned { has_block pinned.now page.now.block ≡ true }
+        ensures quiet { IsQuiet D.Device self.old self.new }
+        ensures has { OnOk result (IsSome (frame_of self.new.pool page.now.block)) }
+        ensures kept { KeepsFrames pinned.now self.old.pool self.new.pool }
+        ensures alive { OnOk result
+            (is_stopped self.new.log ≡ true → is_stopped self.old.log ≡ true) }
+        ensures cause { IfErr result (TakingFails self.old.pool pinned.now (is_stopped self.old.log)
+            (D.failures self.old.device) (D.failures self.new.device)) }
+    {
+        if page.block >= self.used {
+            return self.take_blank(page, pinned);
+        }
+        match self.fetch(page.block, pinned) {
+            Err(Fault::PageDamaged(_)) => self.take_blank(page, pinned),
+            other => other,
+        }
+    }
+
+    /// Takes a frame for each of these pages, where the pages of these blocks are pinned, their own among them. Refused with
+    /// `NoFrame`, `Io` and `Stopped`.
+    pub fn take_frames(&mut self, pages: &[Page], pinned: &[u32]) -> Result<(), Fault>
+        requires actable { AreActable self.old.limits (length (pages_now self.old.history)) pages.now }
+        requires pinned { All (λ page. has_block pinned.now page.block ≡ true) pages.now }
+        ensures quiet { IsQuiet D.Device self.old self.new }
+        ensures has { OnOk result
+            (All (λ page. IsSome (frame_of self.new.pool page.block)) pages.now) }
+        ensures most { most_of self.new.pool ≡ most_of self.old.pool }
+        ensures alive { OnOk result
+            (is_stopped self.new.log ≡ true → is_stopped self.old.log ≡ true) }
+        ensures cause { IfErr result (TakingFails self.old.pool pinned.now (is_stopped self.old.log)
+            (D.failures self.old.device) (D.failures self.new.device)) }
+    {
+        for page in pages {
+            self.take_frame(page, pinned)?;
+        }
+        Ok(())
+    }
+}
