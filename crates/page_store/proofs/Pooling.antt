@@ -102,21 +102,21 @@ module _ (pool : Pool) (is : IsPool pool) where
     | inr there ↦ there
   ]
 
+  -- a changed page has its frame alone
+  pub same_block : (b k at : ℕ) → frame_of pool b ≡ Some at → frame_of pool k ≡ Some at → 0 < act_of pool k → k ≡ b
+  same_block b k at frame e some =
+      let there = some_of (held_page pool k) (is.kept k some) in
+      let page = there.0 in
+      let in_frame : page_at pool at ≡ Some page = sym (is.held k at e) ∙ there.1 in
+      let at_b : held_page pool b ≡ Some page = is.held b at frame ∙ in_frame in
+      sym (is.same k page there.1) ∙ is.same b page at_b
+
   -- the frame of a clean page can be taken
   pub can_be_taken : (b at : ℕ) → frame_of pool b ≡ Some at → act_of pool b ≡ 0 → CanBeTaken pool at
   can_be_taken b at frame clean = record {
     next = omega (arith, is.in_use b at frame);
     within = omega (arith, is.in_use b at frame, is.few);
-    clean = λ k some e. other k some e;
+    clean = λ k some e.
+        let none : act_of pool k ≡ 0 = ap (act_of pool) (same_block b k at frame e some) ∙ clean in
+        omega (arith, none, some);
   }
-    where
-      other : (k : ℕ) → 0 < act_of pool k → frame_of pool k ≡ Some at → ⊥
-      other k some e =
-          let there = some_of (held_page pool k) (is.kept k some) in
-          let page = there.0 in
-          let in_frame : page_at pool at ≡ Some page = sym (is.held k at e) ∙ there.1 in
-          let here : frame_of pool page.block ≡ Some at = is.own at page in_frame in
-          let at_b : held_page pool b ≡ Some page = is.held b at frame ∙ in_frame in
-          let same : k ≡ b = sym (is.same k page there.1) ∙ is.same b page at_b in
-          let none : act_of pool k ≡ 0 = ap (act_of pool) same ∙ clean in
-          omega arith

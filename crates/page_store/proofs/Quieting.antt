@@ -2,7 +2,7 @@
 use Rattle.std.proofs.Common.{◌≡◌, ◌≤◌, ◌∙◌, refl, arith}
 use Rattle.device.specs.declared.device.Device.{Ghosts}
 use Rattle.page_store.specs.Following.{Follows, follows_same}
-use Rattle.page_store.specs.Logged.{held_of}
+use Rattle.page_store.specs.Logged.{held_of, SameButDevice}
 use Rattle.page_store.specs.Quiet.{IsQuiet}
 use Rattle.page_store.specs.declared.logged_pages.LoggedPages.{LoggedPages}
 use Rattle.page_store.proofs.FollowLaws.{follows_both}
@@ -42,3 +42,7 @@ quiet_noted g a b limits history used acts promised room follows = record {
   promised = promised;
   idle = λ all. room;
 }
+
+-- where the device alone is another
+pub quiet_device : {D : Type 0} (g : Ghosts D) (a b : LoggedPages D g) → Follows (held_of g a) (held_of g b) → SameButDevice g a b → IsQuiet g a b
+quiet_device g a b follows same = record { follows = follows; pages = same.pages; promised = same.room.promised; idle = λ all. same.room.room }

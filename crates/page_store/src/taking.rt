@@ -66,8 +66,9 @@ impl<D: Device> LoggedPages<D> {
         ensures cause { IfErr result (FrameFails self.old.pool pinned.now (is_stopped self.old.log)
             (D.failures self.old.device) (D.failures self.new.device)) }
     {
+        let choice = self.choose(pinned);
         self.pool.law();
-        match self.choose(pinned) {
+        match choice {
             Choice::Free(at) => Ok(at),
             Choice::Oldest(place, block, act) => self.write_over(place, block, act),
             Choice::AllPinned => Err(Fault::NoFrame),
@@ -120,6 +121,8 @@ impl<D: Device> LoggedPages<D> {
         ensures kept { KeepsFrames pinned.now self.old.pool self.new.pool }
         ensures alive { OnOk result
             (is_stopped self.new.log ≡ true → is_stopped self.old.log ≡ true) }
+        ensures damaged { (b : ℕ) → result ≡ Err (Fault.PageDamaged b)
+            → is_stopped self.new.log ≡ true → is_stopped self.old.log ≡ true }
         ensures cause { IfErr result (FetchFails self.old.pool pinned.now (is_stopped self.old.log)
             (D.failures self.old.device) (D.failures self.new.device) block
             (D.is_honest self.new.device)) }

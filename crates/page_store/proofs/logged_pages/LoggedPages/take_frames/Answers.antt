@@ -1,0 +1,58 @@
+use Rattle.std.proofs.Common.{◌≡◌, ◌<◌, ◌+◌, inl, inr, ℕ, true, Some, slice_get, sym, ap, subst, ◌∙◌, arith}
+use Rattle.std.proofs.lemmas.Bool.{cases_lt}
+use Rattle.std.proofs.lemmas.Option.{slice_get_within}
+use Rattle.std.specs.Prelude.{IsSome}
+use Rattle.buffer_pool.specs.Frames.{has_block}
+use Rattle.buffer_pool.specs.Pools.{frame_of}
+use Rattle.index_model.specs.declared.limits.Limits.{Limits}
+use Rattle.page_codec.specs.declared.page.Page.{Page}
+use Rattle.page_action.specs.Stored.{IsStored}
+use Rattle.page_action.proofs.StoredPages.{slice_get_at}
+use Rattle.page_store.proofs.Frames.{actable_at, all_at, all_of, taking_on, if_err_map}
+use Rattle.page_store.proofs.Quieting.{quiet_both}
+use Rattle.page_store.proofs.logged_pages.LoggedPages.take_frames.Given.{Over}
+use Rattle.page_store.proofs.logged_pages.LoggedPages.take_frames.Goals.{After-page-item}
+use Rattle.page_store.proofs.logged_pages.LoggedPages.take_frames.Goals as goal
+
+-- the page stands at its place among the pages
+at : (g : Over) (c : After-page-item g) → slice_get c.args.pages.now c.loop-page.page-index ≡ Some c.page-item.result
+at g c = slice_get_at c.args.pages.now c.loop-page.page-index c.page-item.result c.loop-page-test.true c.page-item.is
+
+-- it may be stored, at a block below the limit
+may : (g : Over) (c : After-page-item g) → IsStored c.loop-page.self.limits c.page-item.result.block c.page-item.result × (c.page-item.result.block < c.loop-page.self.limits.pages)
+may g c =
+    subst (λ (l : Limits). IsStored l c.page-item.result.block c.page-item.result × (c.page-item.result.block < l.pages)) (sym c.loop-page.invariant.quiet.pages.limits)
+    (actable_at c.args.self.now.limits _ c.args.pages.now c.loop-page.page-index c.page-item.result c.requires.actable (at g c))
+
+pub take_frame-requires-clause-stored : goal.take_frame-requires-clause-stored
+take_frame-requires-clause-stored g c = (may g (goal.at.take_frame-requires-clause-stored g c).After-page-item).0
+
+pub take_frame-requires-clause-below : goal.take_frame-requires-clause-below
+take_frame-requires-clause-below g c = (may g (goal.at.take_frame-requires-clause-below g c).After-page-item).1
+
+pub returns-in_err-take_frame-clause-quiet : goal.returns-in_err-take_frame-clause-quiet
+returns-in_err-take_frame-clause-quiet g c =
+    quiet_both g.D.Device c.args.self.now c.loop-page.self c.take_frame.new.self c.loop-page.invariant.quiet c.take_frame.ensures.quiet
+
+pub loop-page-preserved : goal.loop-page-preserved
+loop-page-preserved g c =
+    let i = c.loop-page.invariant in
+    let here = (goal.at.loop-page-preserved g c).After-page-item in
+    record {
+      quiet = quiet_both g.D.Device c.args.self.now c.loop-page.self c.take_frame.new.self i.quiet c.take_frame.ensures.quiet;
+      most = c.take_frame.ensures.kept.most ∙ i.most;
+      has = λ k page below found. elim (cases_lt k c.loop-page.page-index) [
+        | inl before ↦ c.take_frame.ensures.kept.kept page.block (all_at (λ (p : Page). has_block c.args.pinned.now p.block ≡ true) c.args.pages.now k page c.requires.pinned found) (i.has k page before found)
+        | inr last ↦
+            let same : k ≡ c.loop-page.page-index = omega arith in
+            let both : Some page ≡ Some c.page-item.result = sym found ∙ (ap (slice_get c.args.pages.now) same ∙ at g here) in
+            let e : page ≡ c.page-item.result = cc in
+            subst (λ (p : Page). IsSome (frame_of c.take_frame.new.self.pool p.block)) (sym e) c.in_ok-take_frame.ensures.has
+      ];
+      alive = λ stopped. i.alive (c.in_ok-take_frame.ensures.alive stopped);
+    }
+
+pub returns-clause-has : goal.returns-clause-has
+returns-clause-has g c =
+    all_of (λ (p : Page). IsSome (frame_of c.loop-page.self.pool p.block)) c.args.pages.now
+    (λ k page found. c.loop-page.invariant.has k page (omega (arith, c.loop-page-test.false, slice_get_within c.args.pages.now k page found)) found)
