@@ -1,5 +1,5 @@
 -- Acts change the pages as their images say: of each block in use the last image, or else the page that was there.
-use Rattle.std.proofs.Common.{◌≡◌, ◌≢◌, ◌⊎◌, true, ℕ, zero, suc, ◌+◌, ◌<◌, ◌≤◌, Option, Some, None, List, [], ◌∷◌, ◌++◌, length, take, drop, slice_get, slice_set, refl, sym, ap, subst, inl, inr, ◌∙◌, arith}
+use Rattle.std.proofs.Common.{◌≡◌, ◌≢◌, ◌⊎◌, true, ℕ, zero, suc, ◌+◌, ◌<◌, ◌≤◌, Option, Some, None, List, [], ◌∷◌, ◌++◌, length, max, take, drop, slice_get, slice_set, length-set, length-append, refl, sym, ap, subst, inl, inr, ◌∙◌, arith}
 use Rattle.std.specs.Prelude.{is_some}
 use Rattle.std.proofs.lemmas.Bool.{lt-ltb, le-ltb, cases_lt, cases_eq, eq-eqb, ne_eqb}
 use Rattle.index_model.specs.declared.limits.Limits.{Limits}
@@ -81,6 +81,12 @@ get-with_pages limits used pages (page ∷ changed) b h few =
     get-with_pages limits used (with_page pages page) changed b h.3 (omega (arith, with_page-longer limits pages page h.0 place))
     ∙ (ap (λ (o : Option Page). later_of o (last_image changed b)) (get-with_page pages page b place)
     ∙ later_assoc (slice_get pages b) (if_of b page) (last_image changed b))
+
+pub length-with_page : (pages : List Page) (page : Page) → page.block ≤ length pages → length (with_page pages page) ≡ max (length pages) (suc page.block)
+length-with_page pages page place = elim (cases_lt page.block (length pages)) [
+  | inl lt ↦ rw (lt-ltb page.block (length pages) lt) (omega (arith, length-set pages page.block page))
+  | inr ge ↦ rw (le-ltb page.block (length pages) ge) (omega (arith, length-append pages (page ∷ [])))
+]
 
 -- of each block the last image of the acts, or else the page that was there
 pub get-after_acts : (limits : Limits) (pages : List Page) (acts : List (List Page)) (b : ℕ) → AreActs limits pages acts → slice_get (after_acts pages acts) b ≡ later_of (slice_get pages b) (last_image (images_of acts) b)

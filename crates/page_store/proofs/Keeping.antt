@@ -22,7 +22,7 @@ use Rattle.page_store.proofs.Opened.{none_of_length}
 use Rattle.page_store.proofs.Places.{apart_long}
 use Rattle.page_store.proofs.CloseFollows.{whole_to}
 use Rattle.page_store.proofs.Images.{get-with_pages, stored-with_pages, image_cases}
-use Rattle.page_store.proofs.Pooling.{bool_cases, option_cases, some_of, none_isn't, has_next, has_all, changed_some, unchanged, changed_at}
+use Rattle.page_store.proofs.Pooling.{bool_cases, option_cases, some_of, none_isn't, has_next, has_all, next_apart, changed_some, unchanged, changed_at}
 use Rattle.std.proofs.lemmas.Option.{slice_get_within, slice_get_cases, get_or_from_slice_get}
 use Rattle.page_action.specs.Stored.{AreActable}
 use Rattle.page_action.specs.States.{with_pages}
@@ -191,6 +191,13 @@ module _ (limits : Limits) (pages : List Page) (acts : ℕ) (pool : Pool) (hones
   -- a changed page has 4,096 bytes
   long_changed : (b : ℕ) (held : Page) → has_block (changed_of pool) b ≡ true → held_page pool b ≡ Some held → length (page_bytes held) ≡ 4096
   long_changed b held among found = length-page held (holds.stored b held (holds.in_use b (changed_some pool is b among)) found).storable.admitted
+
+  -- those before the next stay written, where its place changes
+  pub up_to_same : (n : Moment) (k block : ℕ) → slice_get (changed_of pool) k ≡ Some block → AreWrittenUpTo limits pool k m → ChangesOnly (place limits block) 4096 m n → AreWrittenUpTo limits pool k n
+  up_to_same n k block at home only b held among found =
+      has_kept (place limits block) 4096 (place limits b) (page_bytes held) m n only
+      (apart_long limits b block _ (long_changed b held (has_all (changed_of pool) k b among) found)
+      (λ e. next_apart (changed_of pool) k block is.once at (subst (λ (x : ℕ). has_block (take k (changed_of pool)) x ≡ true) e among))) (home b held among found)
 
   -- the next of the order is written too
   pub up_to_next : (n : Moment) (k block : ℕ) → slice_get (changed_of pool) k ≡ Some block → AreWrittenUpTo limits pool k m → ((held : Page) → held_page pool block ≡ Some held → Has (place limits block) (page_bytes held) n.seen)

@@ -10,6 +10,7 @@ pub mod WriteFollows
 pub mod CloseFollows
 pub mod Opened
 pub mod Pooling
+pub mod Acts
 pub mod Frames
 pub mod Reading
 pub mod Keeping

@@ -2,7 +2,8 @@
 use Rattle.std.proofs.Common.{◌≡◌, ◌≢◌, ◌⊎◌, inl, inr, ℕ, zero, suc, ◌+◌, ◌<◌, ◌≤◌, Bool, true, false, Option, Some, None, List, [], ◌∷◌, ◌++◌, length, take, slice_get, refl, sym, ap, subst, ◌∙◌, arith}
 use Rattle.std.proofs.lemmas.Bool.{cases_eq, cases_lt, eq-eqb, ne_eqb, lt-ltb, le-ltb}
 use Rattle.std.specs.Prelude.{◌==◌, ◌||◌, nat_lt, is_some, IsSome}
-use Rattle.buffer_pool.specs.Frames.{has_block}
+use Rattle.std.proofs.lemmas.Option.{slice_get_within, get_or_from_slice_get}
+use Rattle.buffer_pool.specs.Frames.{has_block, AreApart}
 use Rattle.buffer_pool.specs.Pools.{act_of, held_page, frame_of, page_at, most_of, count_of, changed_of, HasSamePages, IsWritten, AreWritten, CanBeTaken, IsPool}
 use Rattle.buffer_pool.specs.declared.pool.Pool.{Pool}
 use Rattle.page_codec.specs.declared.page.Page.{Page}
@@ -42,6 +43,20 @@ has_next (x ∷ xs) (suc k) b h = elim (cases_eq x b) [
   where
     rest : x ≢ b → has_block (x ∷ take (suc k) xs) b ≡ has_block (take (suc k) xs) b
     rest ne = rw (ne_eqb x b ne) refl
+
+-- one of the first so many stands at a place before
+before : (xs : List ℕ) (k b : ℕ) → has_block (take k xs) b ≡ true → (j : ℕ) × (j < k) × (slice_get xs j ≡ Some b)
+before xs zero b h = absurd cc
+before xs (suc k) b h = elim (has_next xs k b h) [
+  | inl early ↦ (let there = before xs k b early in (there.0, omega (arith, there.1), there.2))
+  | inr last ↦ (k, omega arith, last)
+]
+
+-- where no block stands twice, the next isn't one of those before
+pub next_apart : (xs : List ℕ) (k b : ℕ) → AreApart xs → slice_get xs k ≡ Some b → has_block (take k xs) b ≡ true → ⊥
+next_apart xs k b apart at h =
+    let there = before xs k b h in
+    apart there.0 k b there.1 (slice_get_within xs k b at) (get_or_from_slice_get xs there.0 b b there.2 ∙ sym (get_or_from_slice_get xs k b b at))
 
 -- of the first so many, one of all
 pub has_all : (xs : List ℕ) (k b : ℕ) → has_block (take k xs) b ≡ true → has_block xs b ≡ true

@@ -23,9 +23,9 @@ pub(crate) fn used_after(used: u32, pages: &[Page]) -> u32
     requires few { All (λ page. page.block < 65536) pages.now }
     ensures { result ≡ used_after used pages.now }
 {
-    let mut used = used;
+    let mut next = used;
     for page in pages {
-        used = used.max(page.block + 1);
+        next = next.max(page.block + 1);
     }
-    used
+    next
 }

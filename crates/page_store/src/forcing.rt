@@ -166,6 +166,7 @@ impl<D: Device> LoggedPages<D> {
         ensures failures { CountsFailures result
             (D.failures self.old.device) (D.failures self.new.device) }
     {
+        self.pool.law();
         let count = self.pool.changed();
         while *written < count {
             let Some((block, _)) = self.pool.changed_at(*written) else {

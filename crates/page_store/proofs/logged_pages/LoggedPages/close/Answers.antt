@@ -1,0 +1,94 @@
+use Rattle.std.proofs.Common.{rules, ◌≡◌, ◌≤◌, ◌∙◌, true, false, [], List, subst, sym, ap, arith}
+use Rattle.std.specs.Result.{is_err}
+use Rattle.device.specs.Places.{ChangesOnly}
+use Rattle.device.proofs.Going.{goes_now}
+use Rattle.device.proofs.Standing.{same_only}
+use Rattle.index_model.specs.declared.limits.Limits.{Limits}
+use Rattle.page_action.specs.Room.{whole_room}
+use Rattle.redo_log.specs.Kept.{is_stopped, limits_of, waiting_count}
+use Rattle.redo_log.proofs.Keeping.{forgets_all}
+use Rattle.page_store.specs.Histories.{pages_now}
+use Rattle.page_store.specs.Logged.{held_of, AreHome, IsOwn}
+use Rattle.page_store.proofs.Misfits.{whole_left}
+use Rattle.page_store.proofs.Acting.{failures_rise, stop_fails}
+use Rattle.page_store.proofs.CloseFollows.{IsClosing, follows_closed, home_firm}
+use Rattle.page_store.proofs.Keeping.{holds_logged}
+use Rattle.page_store.proofs.logged_pages.LoggedPages.close.Given.{Over}
+use Rattle.page_store.proofs.logged_pages.LoggedPages.close.Goals.{After-reset}
+use Rattle.page_store.proofs.logged_pages.LoggedPages.close.Goals as goal
+
+-- what is so behind the closing of the log, or behind one that failed
+closing : (g : Over) (c : After-reset g)
+    → IsClosing (held_of g.D.Device c.args.self.now) c.reset.new.self (g.D.Device.trace c.reset.new.device) (g.D.Device.is_honest c.reset.new.device) (g.D.Device.failures c.reset.new.device)
+closing g c =
+    let held = c.args.self.now in
+    record {
+      alive = c.requires.alive;
+      all = c.requires.all;
+      limits = c.reset.ensures.same.limits;
+      home = λ own. home_firm (held_of g.D.Device held) own c.requires.alive c.requires.all c.requires.clean c.requires.firm;
+      moments = c.reset.ensures.moments;
+      outside = c.reset.ensures.outside;
+      same = c.reset.ensures.honest;
+      more = failures_rise c.reset.result _ _ _ c.reset.ensures.cause;
+      failed = λ s. stop_fails c.reset.result _ _ _ c.reset.ensures.cause c.requires.alive (sym c.reset.ensures.stopped ∙ s);
+    }
+
+-- only the log's range changes
+only : (g : Over) (c : After-reset g) → ChangesOnly 4096 c.args.self.now.limits.log_bytes (g.D.Device.trace c.args.self.now.device).now (g.D.Device.trace c.reset.new.device).now
+only g c =
+    subst (λ (l : Limits). ChangesOnly 4096 l.log_bytes (g.D.Device.trace c.args.self.now.device).now (g.D.Device.trace c.reset.new.device).now) c.args.self.now.log_limits
+    (goes_now _ (g.D.Device.trace c.args.self.now.device) (g.D.Device.trace c.reset.new.device) c.reset.ensures.outside (same_only 4096 _ _))
+
+pub invariant_of-self : goal.invariant_of-self
+invariant_of-self g c =
+    let held = c.args.self.now in
+    record {
+      allowed = held.allowed;
+      log_limits = c.reset.ensures.same.limits ∙ held.log_limits;
+      sized = search rules;
+      stored = held.stored;
+      used_is = held.used_is;
+      few = held.few;
+      reach = held.reach;
+      holds = holds_logged held.limits (pages_now held.history) held.acts held.pool _ (g.D.Device.trace held.device).now (g.D.Device.trace c.reset.new.device).now held.holds _ c.reset.ensures.honest (only g (goal.at.invariant_of-self g c).After-reset);
+      counted = search rules;
+      not_ahead = held.not_ahead;
+      forced = search rules;
+      fits = search rules;
+      kept_promise = held.kept_promise;
+      new_promise = held.new_promise;
+      promise = held.promise;
+    }
+
+pub returns-in_err-reset-clause-steps : goal.returns-in_err-reset-clause-steps
+returns-in_err-reset-clause-steps g c =
+    let held = c.args.self.now in
+    let stopped : is_stopped c.reset.new.self ≡ true = c.reset.ensures.stopped ∙ ap is_err c.in_err-reset.was in
+    follows_closed (held_of g.D.Device held) _ _ _ _ (closing g (goal.at.returns-in_err-reset-clause-steps g c).After-reset) held.room held.promised
+    (λ still. c.requires.clean) (λ still. (let both : true ≡ false = sym stopped ∙ still in absurd cc))
+
+pub invariant_of-self-2-clause-log_limits : goal.invariant_of-self-2-clause-log_limits
+invariant_of-self-2-clause-log_limits g c = c.reset.ensures.same.limits ∙ c.args.self.now.log_limits
+
+pub invariant_of-self-2-clause-holds : goal.invariant_of-self-2-clause-holds
+invariant_of-self-2-clause-holds g c =
+    let held = c.args.self.now in
+    holds_logged held.limits (pages_now held.history) held.acts held.pool _ (g.D.Device.trace held.device).now (g.D.Device.trace c.reset.new.device).now held.holds _ c.reset.ensures.honest (only g (goal.at.invariant_of-self-2-clause-holds g c).After-reset)
+
+pub returns-clause-steps : goal.returns-clause-steps
+returns-clause-steps g c =
+    let held = c.args.self.now in
+    follows_closed (held_of g.D.Device held) _ _ _ _ (closing g (goal.at.returns-clause-steps g c).After-reset) c.room-self.result c.room-self.result
+    (λ still. c.requires.clean)
+    (λ still. forgets_all held.log _ c.reset.new.self _ c.in_ok-reset.ensures.keeps c.reset.ensures.waiting (held.forced c.requires.alive c.requires.all))
+
+pub returns-clause-room : goal.returns-clause-room
+returns-clause-room g c =
+    let own = c.args.self.now in
+    let limits = c.reset.ensures.same.limits ∙ own.log_limits in
+    let bytes : 6 ≤ (limits_of c.reset.new.self).log_bytes = subst (λ (l : Limits). 6 ≤ l.log_bytes) (sym limits) (omega (arith, own.allowed.log_from)) in
+    let whole : c.room-self.result ≡ whole_room own.limits =
+    whole_left c.reset.new.self c.room-self.result (λ n. omega (arith, c.in_ok-reset.ensures.room n, own.forced c.requires.alive c.requires.all)) c.room-self.ensures.fit c.room-self.ensures.no_more bytes
+    ∙ ap whole_room limits in
+    record { room = whole; promised = whole }
