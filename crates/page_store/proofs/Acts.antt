@@ -12,7 +12,9 @@ use Rattle.page_action.specs.States.{with_page, with_pages}
 use Rattle.redo_log.specs.Images.{last_image, later_of, if_of}
 use Rattle.redo_log.proofs.ImageLists.{last_image-append}
 use Rattle.page_store.specs.Changing.{AreActed, with_changed, used_after}
-use Rattle.page_store.proofs.Images.{if_same, if_other, later_is_none, image_cases, length-with_page}
+use Rattle.page_store.specs.Histories.{pages_now, with_act}
+use Rattle.page_store.specs.declared.history.History.{History}
+use Rattle.page_store.proofs.Images.{if_same, if_other, later_is_none, image_cases, length-with_page, after_acts-append}
 
 take_next : {A : Type 0} (xs : List A) (k : ℕ) (x : A) → slice_get xs k ≡ Some x → take (suc k) xs ≡ take k xs ++ x ∷ []
 take_next [] k x at = absurd cc
@@ -88,3 +90,7 @@ length_acted limits used pages (page ∷ changed) may more =
     let place : page.block ≤ length pages = omega (arith, may.1.0) in
     let long = length-with_page pages page place in
     length_acted limits used (with_page pages page) changed may.3 (omega (arith, long)) ∙ ap (λ (n : ℕ). used_after n changed) long
+
+-- the pages after one act more
+pub pages_acted : (h : History) (changed : List Page) → pages_now (with_act changed h) ≡ with_pages (pages_now h) changed
+pages_acted h changed = after_acts-append h.start h.acts (changed ∷ [])

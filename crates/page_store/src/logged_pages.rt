@@ -68,7 +68,7 @@ impl<D: Device> LoggedPages<D> {
     ghost use Rattle.page_store.specs.Changing.{AreActed};
     ghost use Rattle.page_store.specs.Following.{Follows};
     ghost use Rattle.page_store.specs.Histories.{with_act};
-    ghost use Rattle.page_store.specs.Logged.{held_of, backing_of, IsOwn, StandsOpened};
+    ghost use Rattle.page_store.specs.Logged.{held_of, backing_of, IsOwn, SamePages, SameRoom, StandsOpened};
     ghost use Rattle.page_store.specs.Writing.{AreSeen};
 
     /// The pages that `history` began with, over a device and a log that was just opened and closed. The pool holds none
@@ -175,7 +175,9 @@ impl<D: Device> LoggedPages<D> {
         ensures durable { self.new.durable ≡ self.old.durable }
         ensures stopped { is_stopped self.new.log ≡ is_stopped self.old.log }
         ensures failures { D.failures self.new.device ≡ D.failures self.old.device }
-        ensures refused { OnErr result (self.new ≡ self.old) }
+        ensures refused { OnErr result (SamePages D.Device self.old self.new) }
+        ensures kept { OnErr result (SameRoom D.Device self.old self.new) }
+        ensures frames { OnErr result (self.new.pool ≡ self.old.pool) }
         ensures cause { IfErr result (λ e.
             ((e ≡ Fault.Stopped)
             × ((is_stopped self.old.log ≡ true) ⊎ (self.old.acts ≡ 2 ^ 64 - 1)))

@@ -1,0 +1,108 @@
+use Rattle.std.proofs.Common.{◌≡◌, ◌≤◌, ◌<◌, ◌∙◌, ℕ, suc, List, ap, subst, sym, length, get_or, arith}
+use Rattle.std.proofs.lemmas.Option.{slice_get-get_or}
+use Rattle.index_model.specs.declared.limits.Limits.{Limits}
+use Rattle.page_codec.specs.declared.page.Page.{Page}
+use Rattle.page_action.specs.States.{with_pages}
+use Rattle.page_action.specs.Stored.{AreStored, AreActable}
+use Rattle.redo_log.specs.Groups.{AreImages}
+use Rattle.redo_log.specs.Kept.{end_with}
+use Rattle.page_store.specs.Changing.{AreActed, used_after}
+use Rattle.page_store.specs.Histories.{pages_now}
+use Rattle.page_store.specs.Logged.{held_of}
+use Rattle.page_store.specs.Writing.{HoldsPages}
+use Rattle.page_store.proofs.Acting.{are_images, alive_of}
+use Rattle.page_store.proofs.ActFollows.{follows_act}
+use Rattle.page_store.proofs.Acts.{pages_acted, length_acted}
+use Rattle.page_store.proofs.Frames.{actable_at}
+use Rattle.page_store.proofs.Images.{stored-with_pages}
+use Rattle.page_store.proofs.Keeping.{holds_acted}
+use Rattle.page_store.proofs.Misfits.{room_left}
+use Rattle.page_store.proofs.FollowLaws.{follows_log}
+use Rattle.page_store.proofs.logged_pages.LoggedPages.act.Given.{Over}
+use Rattle.page_store.proofs.logged_pages.LoggedPages.act.Goals.{After-note}
+use Rattle.page_store.proofs.logged_pages.LoggedPages.act.Goals as goal
+
+pub append-requires : goal.append-requires
+append-requires g c = record {
+  images = subst (λ (l : Limits). AreImages l c.args.pages.now) (sym c.args.self.now.log_limits) (are_images c.args.self.now.limits _ c.args.pages.now c.requires.actable);
+}
+
+pub returns-in_err-number-clause-steps : goal.returns-in_err-number-clause-steps
+returns-in_err-number-clause-steps g c = follows_log (held_of g.D.Device c.args.self.now) c.append.new.self c.in_err-number.ensures.err
+
+pub used_after-self-requires : goal.used_after-self-requires
+used_after-self-requires g c = record {
+  few = λ k d lt.
+      let page = get_or c.args.pages.now k d in
+      let below = (actable_at c.args.self.now.limits _ c.args.pages.now k page c.requires.actable (slice_get-get_or c.args.pages.now k d lt)).1 in
+      omega (arith, below, c.args.self.now.allowed.pages_to);
+}
+
+-- the pages after the act
+pages_are : (g : Over) (c : After-note g) → pages_now c.note.new.self ≡ with_pages (pages_now c.args.self.now.history) c.args.pages.now
+pages_are g c = ap pages_now c.note.ensures ∙ pages_acted c.args.self.now.history c.args.pages.now
+
+number_is : (g : Over) (c : After-note g) → c.in_ok-number.number ≡ suc c.args.self.now.acts
+number_is g c = c.in_ok-number.ensures.number ∙ ap suc (sym c.args.self.now.counted)
+
+-- they are stored, and not too many
+stored : (g : Over) (c : After-note g) → AreStored c.args.self.now.limits 0 (with_pages (pages_now c.args.self.now.history) c.args.pages.now)
+    × (length (with_pages (pages_now c.args.self.now.history) c.args.pages.now) ≤ c.args.self.now.limits.pages)
+stored g c =
+    let held = c.args.self.now in
+    stored-with_pages held.limits (length (pages_now held.history)) (pages_now held.history) c.args.pages.now c.requires.actable (omega arith) held.stored (subst (λ (n : ℕ). n ≤ held.limits.pages) held.used_is held.few)
+
+used : (g : Over) (c : After-note g) → c.used_after-self.result ≡ length (with_pages (pages_now c.args.self.now.history) c.args.pages.now)
+used g c =
+    let held = c.args.self.now in
+    let pages = pages_now held.history in
+    c.used_after-self.ensures ∙ (ap (λ (n : ℕ). used_after n c.args.pages.now) held.used_is ∙ sym (length_acted held.limits (length pages) pages c.args.pages.now c.requires.actable (omega arith)))
+
+pub invariant_of-self-2-clause-log_limits : goal.invariant_of-self-2-clause-log_limits
+invariant_of-self-2-clause-log_limits g c = c.in_ok-number.ensures.limits ∙ c.args.self.now.log_limits
+
+pub invariant_of-self-2-clause-stored : goal.invariant_of-self-2-clause-stored
+invariant_of-self-2-clause-stored g c =
+    let here = (goal.at.invariant_of-self-2-clause-stored g c).After-note in
+    subst (AreStored c.args.self.now.limits 0) (sym (pages_are g here)) (stored g here).0
+
+pub invariant_of-self-2-clause-used_is : goal.invariant_of-self-2-clause-used_is
+invariant_of-self-2-clause-used_is g c =
+    let here = (goal.at.invariant_of-self-2-clause-used_is g c).After-note in
+    used g here ∙ sym (ap length (pages_are g here))
+
+pub invariant_of-self-2-clause-few : goal.invariant_of-self-2-clause-few
+invariant_of-self-2-clause-few g c =
+    let here = (goal.at.invariant_of-self-2-clause-few g c).After-note in
+    subst (λ (n : ℕ). n ≤ c.args.self.now.limits.pages) (sym (used g here)) (stored g here).1
+
+pub invariant_of-self-2-clause-holds : goal.invariant_of-self-2-clause-holds
+invariant_of-self-2-clause-holds g c =
+    let here = (goal.at.invariant_of-self-2-clause-holds g c).After-note in
+    let held = c.args.self.now in
+    let pages = pages_now held.history in
+    let pool = c.change_all.new.pool in
+    let m = (g.D.Device.trace held.device).now in
+    let honest = g.D.Device.is_honest held.device in
+    subst (λ (ps : List Page). HoldsPages held.limits ps c.in_ok-number.number pool honest m) (sym (pages_are g here))
+    (subst (λ (n : ℕ). HoldsPages held.limits (with_pages pages c.args.pages.now) n pool honest m) (sym (number_is g here))
+    (holds_acted held.limits pages held.acts held.pool pool honest m c.args.pages.now held.holds held.stored (subst (λ (n : ℕ). n ≤ held.limits.pages) held.used_is held.few) c.requires.actable
+    (subst (λ (n : ℕ). AreActed held.pool pool c.args.pages.now n) (number_is g here) c.change_all.ensures)))
+
+pub returns-clause-steps : goal.returns-clause-steps
+returns-clause-steps g c =
+    let here = (goal.at.returns-clause-steps g c).After-note in
+    let held = c.args.self.now in
+    follows_act (held_of g.D.Device held) c.append.new.self c.args.pages.now c.room-self.result c.room-self.result c.append.ensures.limits c.append.ensures.stopped
+    (λ m acts forced k. c.in_ok-number.ensures.keeps m acts forced k)
+    (subst (λ (l : Limits). AreActable l (length (pages_now held.history)) c.args.pages.now) (sym held.log_limits) c.requires.actable)
+    _ (λ block named. c.change_all.ensures.acted block named ∙ number_is g here) (λ block none. c.change_all.ensures.before block none)
+    c.in_ok-number.number c.note.new.self (number_is g here) c.note.ensures
+
+pub returns-clause-room : goal.returns-clause-room
+returns-clause-room g c =
+    let own = c.args.self.now in
+    let limits = sym (c.append.ensures.limits ∙ own.log_limits) in
+    room_left own.log c.append.new.self (length c.args.pages.now) own.room c.room-self.result
+    (λ some. subst (λ (l : Limits). end_with own.log own.room ≤ l.log_bytes) limits (own.fits (alive_of c.append.result _ _ c.in_ok-number.was c.append.ensures.stopped_first) some))
+    c.in_ok-number.ensures.room c.room-self.ensures.no_more
