@@ -1,5 +1,5 @@
 -- Frames while pages are brought into memory, and why none is had.
-use Rattle.std.proofs.Common.{◌≡◌, ◌≢◌, ◌⊎◌, inl, inr, ℕ, zero, suc, ◌<◌, ◌≤◌, Bool, true, false, Option, Some, None, Result, Ok, Err, List, [], ◌∷◌, length, slice_get, get_or, refl, sym, ap, subst, ◌∙◌, arith}
+use Rattle.std.proofs.Common.{◌≡◌, ◌≢◌, ◌⊎◌, inl, inr, ℕ, zero, suc, ◌<◌, ◌≤◌, Bool, true, false, Option, Some, None, Result, Ok, Err, List, [], ◌∷◌, ◌++◌, map, length, slice_get, get_or, refl, sym, ap, subst, ◌∙◌, arith}
 use Rattle.std.proofs.lemmas.Bool.{cases_eq}
 use Rattle.std.proofs.lemmas.Option.{slice_get_within, slice_get-get_or, get_or_from_slice_get}
 use Rattle.std.specs.Prelude.{is_some, IsSome, IfErr, All}
@@ -12,6 +12,7 @@ use Rattle.index_model.specs.declared.limits.Limits.{Limits}
 use Rattle.page_codec.specs.declared.page.Page.{Page}
 use Rattle.page_action.specs.Stored.{IsStored, AreActable}
 use Rattle.page_action.proofs.StoredPages.{stored_at}
+use Rattle.page_store.proofs.Pooling.{first_has, later_has}
 use Rattle.page_store.specs.Taking.{KeepsFrames, AreTooMany, FrameFails, TakingFails, FetchFails, WritingFails}
 
 -- a page was put into a frame of no pinned one
@@ -80,3 +81,13 @@ all_of P xs each = λ k d lt. each k (get_or xs k d) (slice_get-get_or xs k d lt
 pub if_err_map : {T : Type 0} (r : Result T Fault) (P Q : Fault → Type 0) → IfErr r P → ((e : Fault) → P e → Q e) → IfErr r Q
 if_err_map (Ok x) P Q h f = tt
 if_err_map (Err e) P Q h f = f e h
+
+-- the blocks of pages are among them and others
+has_own : (pages : List Page) (rest : List ℕ) (k : ℕ) (page : Page) → slice_get pages k ≡ Some page → has_block (map (λ p. p.block) pages ++ rest) page.block ≡ true
+has_own [] rest k page at = absurd cc
+has_own (p ∷ pages) rest zero page at = let e : p ≡ page = cc in first_has p.block page.block (map (λ p. p.block) pages ++ rest) (ap (λ x. x.block) e)
+has_own (p ∷ pages) rest (suc k) page at = later_has p.block page.block (map (λ p. p.block) pages ++ rest) (has_own pages rest k page at)
+
+pub own_pinned : (pages : List Page) (rest pinned : List ℕ) → pinned ≡ map (λ p. p.block) pages ++ rest → All (λ page. has_block pinned page.block ≡ true) pages
+own_pinned pages rest pinned is = all_of (λ (page : Page). has_block pinned page.block ≡ true) pages
+    (λ k page at. ap (λ (bs : List ℕ). has_block bs page.block) is ∙ has_own pages rest k page at)

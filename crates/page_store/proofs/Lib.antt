@@ -12,6 +12,8 @@ pub mod Opened
 pub mod Pooling
 pub mod Acts
 pub mod Frames
+pub mod Causes
+pub mod Stating
 pub mod Reading
 pub mod Keeping
 pub mod Misfits

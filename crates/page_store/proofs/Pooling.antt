@@ -13,10 +13,10 @@ or_true true = refl
 or_true false = refl
 
 -- the first is the block
-first_has : (x b : ℕ) (xs : List ℕ) → x ≡ b → has_block (x ∷ xs) b ≡ true
+pub first_has : (x b : ℕ) (xs : List ℕ) → x ≡ b → has_block (x ∷ xs) b ≡ true
 first_has x b xs e = rw (eq-eqb x b e) refl
 
-later_has : (x b : ℕ) (xs : List ℕ) → has_block xs b ≡ true → has_block (x ∷ xs) b ≡ true
+pub later_has : (x b : ℕ) (xs : List ℕ) → has_block xs b ≡ true → has_block (x ∷ xs) b ≡ true
 later_has x b xs h = rw h (or_true (x == b))
 
 -- what stands in a list is in it

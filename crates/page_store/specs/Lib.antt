@@ -9,3 +9,6 @@ pub mod Holding
 pub mod Quiet
 pub mod Taking
 pub mod Changing
+pub mod Rooms
+pub mod Stores
+pub mod StoreLaws

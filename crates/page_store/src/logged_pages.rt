@@ -63,6 +63,7 @@ impl<D: Device> LoggedPages<D> {
     ghost use Rattle.buffer_pool.specs.Pools.{count_of, frame_of, held_page};
     ghost use Rattle.page_action.specs.Stored.{AreActable, IsStored};
     ghost use Rattle.page_action.specs.Room.{HasWholeRoom};
+    ghost use Rattle.page_action.specs.States.{with_pages};
     ghost use Rattle.page_codec.specs.declared.page.Page.{Page};
     ghost use Rattle.redo_log.specs.Kept.{groups_end};
     ghost use Rattle.page_store.specs.Changing.{AreActed};
@@ -167,6 +168,8 @@ impl<D: Device> LoggedPages<D> {
         ensures steps { Follows (held_of D.Device self.old) (held_of D.Device self.new) }
         ensures limits { self.new.limits ≡ self.old.limits }
         ensures history { OnOk result (self.new.history ≡ with_act pages.now self.old.history) }
+        ensures pages { OnOk result (pages_now self.new.history
+            ≡ with_pages (pages_now self.old.history) pages.now) }
         ensures number { IfOk result (λ n. n ≡ suc self.old.acts) }
         ensures acts { OnOk result (self.new.acts ≡ suc self.old.acts) }
         ensures pool { OnOk result (AreActed self.old.pool self.new.pool pages.now (suc self.old.acts)) }

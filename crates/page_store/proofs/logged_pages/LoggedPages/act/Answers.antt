@@ -106,3 +106,6 @@ returns-clause-room g c =
     room_left own.log c.append.new.self (length c.args.pages.now) own.room c.room-self.result
     (λ some. subst (λ (l : Limits). end_with own.log own.room ≤ l.log_bytes) limits (own.fits (alive_of c.append.result _ _ c.in_ok-number.was c.append.ensures.stopped_first) some))
     c.in_ok-number.ensures.room c.room-self.ensures.no_more
+
+pub returns-clause-pages : goal.returns-clause-pages
+returns-clause-pages g c = pages_are g (goal.at.returns-clause-pages g c).After-note

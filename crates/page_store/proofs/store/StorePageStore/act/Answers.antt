@@ -1,0 +1,86 @@
+use Rattle.std.proofs.Common.{◌≡◌, ◌≤◌, ◌∙◌, ℕ, suc, List, length, refl, ap, sym, subst, arith}
+use Rattle.buffer_pool.specs.Pools.{most_of}
+use Rattle.index_model.specs.declared.limits.Limits.{Limits}
+use Rattle.page_codec.specs.declared.page.Page.{Page}
+use Rattle.page_action.specs.CallTables.{TableOfCalls}
+use Rattle.page_action.specs.States.{with_pages, with_counts}
+use Rattle.page_action.specs.Stored.{AreActable}
+use Rattle.page_action.specs.Waiting.{AreWaiting, with_all_waiting}
+use Rattle.page_action.proofs.Waiting.{write_waits, length-with_all_waiting}
+use Rattle.page_action.proofs.StoredPages.{length-with_counts}
+use Rattle.page_store.specs.Following.{Follows}
+use Rattle.page_store.specs.Histories.{pages_now}
+use Rattle.page_store.specs.Logged.{backing_of, held_of}
+use Rattle.page_store.specs.Stores.{state_of, held_by}
+use Rattle.page_store.specs.declared.history.History.{History}
+use Rattle.page_store.proofs.Causes.{taking_cause, acting_cause}
+use Rattle.page_store.proofs.FollowLaws.{follows_both}
+use Rattle.page_store.proofs.Frames.{if_err_map}
+use Rattle.page_store.proofs.Stating.{state_alike}
+use Rattle.page_store.proofs.store.StorePageStore.act.Given.{Over}
+use Rattle.page_store.proofs.store.StorePageStore.act.Goals.{After-take_frames, After-act, After-note}
+use Rattle.page_store.proofs.store.StorePageStore.act.Goals as goal
+
+-- a frame for each page leaves the pages as they were
+same_pages : (g : Over) (c : After-take_frames g) → pages_now c.take_frames.new.self.held.history ≡ pages_now c.args.self.now.held.history
+same_pages g c = ap pages_now c.take_frames.ensures.quiet.pages.history
+
+-- frames were taken and the act was logged or not
+steps : (g : Over) (c : After-act g) → Follows (held_by g.D.Device c.args.self.now) (held_of g.D.Device c.act.new.self)
+steps g c = follows_both _ (held_by g.D.Device c.take_frames.new.self) _ c.take_frames.ensures.quiet.follows c.act.ensures.steps
+
+-- the pages after the act
+pages_are : (g : Over) (c : After-note g) → pages_now c.act.new.self.history ≡ with_pages (pages_now c.args.self.now.held.history) c.args.pages.now
+pages_are g c = c.in_ok-number.ensures.pages ∙ ap (λ (ps : List Page). with_pages ps c.args.pages.now) (same_pages g (goal.at.After-note g c).After-take_frames)
+
+-- the calls after it
+calls_are : (g : Over) (c : After-note g) → c.note.new.self ≡ record c.args.self.now.calls { counted = with_counts c.args.self.now.calls.counted c.args.pages.now; waiting = with_all_waiting c.args.self.now.calls.waiting c.args.pages.now }
+calls_are g c = c.note.ensures ∙ ap (λ (t : TableOfCalls). record t { counted = with_counts t.counted c.args.pages.now; waiting = with_all_waiting t.waiting c.args.pages.now }) c.take_frames.ensures.calls
+
+limits_are : (g : Over) (c : After-note g) → c.act.new.self.limits ≡ c.args.self.now.held.limits
+limits_are g c = c.act.ensures.limits ∙ c.take_frames.ensures.quiet.pages.limits
+
+pub invariant_of-self-2-clause-counts : goal.invariant_of-self-2-clause-counts
+invariant_of-self-2-clause-counts g c =
+    let here = (goal.at.invariant_of-self-2-clause-counts g c).After-note in
+    let store = c.args.self.now in
+    ap (λ (t : TableOfCalls). length t.counted) (calls_are g here)
+    ∙ (length-with_counts store.calls.counted (pages_now store.held.history) c.args.pages.now store.counts ∙ sym (ap length (pages_are g here)))
+
+pub invariant_of-self-2-clause-waiting : goal.invariant_of-self-2-clause-waiting
+invariant_of-self-2-clause-waiting g c =
+    let here = (goal.at.invariant_of-self-2-clause-waiting g c).After-note in
+    let store = c.args.self.now in
+    let pages = pages_now store.held.history in
+    let changed = c.args.pages.now in
+    subst (λ (after : List Page). AreWaiting c.note.new.self.waiting after c.note.new.self.counted) (sym (pages_are g here))
+    (subst (λ (calls : TableOfCalls). AreWaiting calls.waiting (with_pages pages changed) calls.counted) (sym (calls_are g here))
+    (write_waits store.held.limits (length pages) store.calls.waiting pages store.calls.counted changed c.requires.actable (omega arith)
+    store.count_room store.counts store.waiting))
+
+pub invariant_of-self-2-clause-count_room : goal.invariant_of-self-2-clause-count_room
+invariant_of-self-2-clause-count_room g c =
+    let here = (goal.at.invariant_of-self-2-clause-count_room g c).After-note in
+    let store = c.args.self.now in
+    let same = ap (λ (t : TableOfCalls). length t.waiting) (calls_are g here) in
+    let limits = ap (λ (l : Limits). l.pages) (limits_are g here) in
+    omega (arith, same, limits, store.count_room, length-with_all_waiting store.calls.waiting c.args.pages.now)
+
+pub returns-in_err-number-clause-steps : goal.returns-in_err-number-clause-steps
+returns-in_err-number-clause-steps g c = λ first before. follows_both _ (held_by g.D.Device c.args.self.now) _ before (steps g (goal.at.returns-in_err-number-clause-steps g c).After-act)
+
+pub returns-clause-steps : goal.returns-clause-steps
+returns-clause-steps g c = λ first before. follows_both _ (held_by g.D.Device c.args.self.now) _ before (steps g (goal.at.returns-clause-steps g c).After-act)
+
+pub returns-clause-done : goal.returns-clause-done
+returns-clause-done g c =
+    let here = (goal.at.returns-clause-done g c).After-note in
+    state_alike _ _ _ _ _ _ _ _ _ _ (limits_are g here) (c.in_ok-number.ensures.pool.most ∙ c.take_frames.ensures.most) (pages_are g here) (c.in_ok-number.ensures.acts ∙ ap suc c.take_frames.ensures.quiet.pages.acts) (calls_are g here)
+
+pub returns-in-Err-clause-steps : goal.returns-in-Err-clause-steps
+returns-in-Err-clause-steps g c = λ first before. follows_both _ (held_by g.D.Device c.args.self.now) _ before c.take_frames.ensures.quiet.follows
+
+pub returns-in-Err-clause-cause : goal.returns-in-Err-clause-cause
+returns-in-Err-clause-cause g c =
+    let store = c.args.self.now in
+    taking_cause (state_of g.D.Device store) (backing_of (held_by g.D.Device store)) (backing_of (held_by g.D.Device c.take_frames.new.self)) store.held.pool c.args.pages.now c.in-Err.fault refl c.in-Err.ensures.cause
