@@ -1,9 +1,9 @@
 -- Pages that an act changes one after the other.
-use Rattle.std.proofs.Common.{◌≡◌, ◌≢◌, inl, inr, ℕ, zero, suc, ◌+◌, ◌<◌, ◌≤◌, max, Bool, true, Option, Some, None, List, [], ◌∷◌, ◌++◌, length, drop, take, slice_get, refl, sym, ap, subst, ◌∙◌, arith}
-use Rattle.std.proofs.lemmas.Bool.{cases_eq, cases_lt}
+use Rattle.std.proofs.Common.{◌≡◌, ◌≢◌, inl, inr, ℕ, zero, suc, ◌≤◌, Some, None, List, [], ◌∷◌, ◌++◌, length, take, slice_get, refl, sym, ap, subst, ◌∙◌, arith}
+use Rattle.std.proofs.lemmas.Bool.{cases_eq}
 use Rattle.std.specs.Prelude.{is_some, if◌then◌else◌}
 use Rattle.buffer_pool.specs.Frames.{has_block}
-use Rattle.buffer_pool.specs.Pools.{most_of, frame_of, held_page, act_of, changed_of, IsChanged}
+use Rattle.buffer_pool.specs.Pools.{held_page, act_of, changed_of, IsChanged}
 use Rattle.buffer_pool.specs.declared.pool.Pool.{Pool}
 use Rattle.index_model.specs.declared.limits.Limits.{Limits}
 use Rattle.page_codec.specs.declared.page.Page.{Page}
@@ -14,7 +14,7 @@ use Rattle.redo_log.proofs.ImageLists.{last_image-append}
 use Rattle.page_store.specs.Changing.{AreActed, with_changed, used_after}
 use Rattle.page_store.specs.Histories.{pages_now, with_act}
 use Rattle.page_store.specs.declared.history.History.{History}
-use Rattle.page_store.proofs.Images.{if_same, if_other, later_is_none, image_cases, length-with_page, after_acts-append}
+use Rattle.page_store.proofs.Images.{if_same, if_other, length-with_page, after_acts-append}
 
 take_next : {A : Type 0} (xs : List A) (k : ℕ) (x : A) → slice_get xs k ≡ Some x → take (suc k) xs ≡ take k xs ++ x ∷ []
 take_next [] k x at = absurd cc

@@ -14,7 +14,7 @@ use Rattle.page_codec.specs.declared.page.Page.{Page}
 use Rattle.page_action.specs.Causes as causes
 use Rattle.page_action.specs.Causes.{where_read, where_acted, are_frames_pinned, has_failed, is_at_end}
 use Rattle.page_action.specs.States.{State, Backing}
-use Rattle.page_store.specs.Taking.{WritingFails, TakingFails, FetchFails}
+use Rattle.page_store.specs.Taking.{TakingFails, FetchFails}
 
 has_pin-is : (blocks : List ℕ) (b : ℕ) → has_block blocks b ≡ has_pin blocks b
 has_pin-is [] b = refl

@@ -1,8 +1,8 @@
 -- Frames while pages are brought into memory, and why none is had.
-use Rattle.std.proofs.Common.{◌≡◌, ◌≢◌, ◌⊎◌, inl, inr, ℕ, zero, suc, ◌<◌, ◌≤◌, Bool, true, false, Option, Some, None, Result, Ok, Err, List, [], ◌∷◌, ◌++◌, map, length, slice_get, get_or, refl, sym, ap, subst, ◌∙◌, arith}
+use Rattle.std.proofs.Common.{◌≡◌, ◌≢◌, inl, inr, ℕ, zero, suc, ◌<◌, ◌≤◌, Bool, true, Some, None, Result, Ok, Err, List, [], ◌∷◌, ◌++◌, map, slice_get, get_or, refl, sym, ap, subst, ◌∙◌, arith}
 use Rattle.std.proofs.lemmas.Bool.{cases_eq}
 use Rattle.std.proofs.lemmas.Option.{slice_get_within, slice_get-get_or, get_or_from_slice_get}
-use Rattle.std.specs.Prelude.{is_some, IsSome, IfErr, All}
+use Rattle.std.specs.Prelude.{is_some, IfErr, All}
 use Rattle.buffer_pool.specs.Choices.{count_apart}
 use Rattle.buffer_pool.specs.Frames.{has_block}
 use Rattle.buffer_pool.specs.Pools.{most_of, frame_of, HasSamePages, IsPut}
@@ -13,7 +13,7 @@ use Rattle.page_codec.specs.declared.page.Page.{Page}
 use Rattle.page_action.specs.Stored.{IsStored, AreActable}
 use Rattle.page_action.proofs.StoredPages.{stored_at}
 use Rattle.page_store.proofs.Pooling.{first_has, later_has}
-use Rattle.page_store.specs.Taking.{KeepsFrames, AreTooMany, FrameFails, TakingFails, FetchFails, WritingFails}
+use Rattle.page_store.specs.Taking.{KeepsFrames, AreTooMany, FrameFails, TakingFails, WritingFails}
 
 -- a page was put into a frame of no pinned one
 pub kept_put : (old mid new : Pool) (pinned : List ℕ) (at : ℕ) (page : Page) → HasSamePages old mid → ((block : ℕ) → has_block pinned block ≡ true → frame_of old block ≢ Some at) → IsPut mid new at page → KeepsFrames pinned old new

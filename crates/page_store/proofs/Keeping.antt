@@ -1,9 +1,8 @@
 -- What the pool holds of the pages, as the device and the pool change.
-use Rattle.std.proofs.Common.{◌≡◌, ◌≢◌, ◌⊎◌, inl, inr, ℕ, suc, ◌+◌, ◌*◌, ◌<◌, ◌≤◌, Bool, true, false, Option, Some, None, List, [], ◌∷◌, length, drop, take, slice_get, get_or, refl, sym, ap, subst, ◌∙◌, arith}
+use Rattle.std.proofs.Common.{◌≡◌, ◌≢◌, ◌⊎◌, inl, inr, ℕ, suc, ◌<◌, ◌≤◌, Bool, true, Option, Some, None, List, [], length, take, slice_get, get_or, sym, ap, subst, ◌∙◌, arith}
 use Rattle.std.proofs.lemmas.Bool.{cases_eq, cases_lt}
-use Rattle.std.specs.Prelude.{is_some, IsSome}
 use Rattle.buffer_pool.specs.Frames.{has_block}
-use Rattle.buffer_pool.specs.Pools.{act_of, held_page, frame_of, changed_of, count_of, blocks_of, HasSamePages, IsPut, IsWritten, AreWritten, IsPool}
+use Rattle.buffer_pool.specs.Pools.{act_of, held_page, changed_of, count_of, blocks_of, HasSamePages, IsPut, IsWritten, AreWritten, IsPool}
 use Rattle.buffer_pool.specs.declared.pool.Pool.{Pool}
 use Rattle.device.specs.Disk.{Moment}
 use Rattle.device.specs.Places.{Has, ChangesOnly}
@@ -166,8 +165,10 @@ module _ (limits : Limits) (pages : List Page) (acts : ℕ) (pool : Pool) (hones
       elim (cases_eq b block) [
         | inl same ↦
             let here : b ≡ get_or (changed_of pool) k 0 = same ∙ sym index in
-            inr (ap (act_of new) here ∙ written.written,
-            at_home b (subst (λ (x : ℕ). 0 < act_of pool x) (sym same) (changed_at pool is k block at)) (λ held found. subst (λ (x : ℕ). Has (place limits x) (page_bytes held) m.seen) (sym same) (has held (ap (held_page pool) (sym same) ∙ found))))
+            inr (
+              ap (act_of new) here ∙ written.written,
+              at_home b (subst (λ (x : ℕ). 0 < act_of pool x) (sym same) (changed_at pool is k block at)) (λ held found. subst (λ (x : ℕ). Has (place limits x) (page_bytes held) m.seen) (sym same) (has held (ap (held_page pool) (sym same) ∙ found))),
+            )
         | inr ne ↦ inl (written.others b (λ e. ne (e ∙ index)))
       ]
 

@@ -1,5 +1,5 @@
 -- What a read page is, where the device kept its model.
-use Rattle.std.proofs.Common.{◌≡◌, ◌⊎◌, inl, inr, ℕ, ◌<◌, ◌≤◌, Bool, true, Option, Some, None, List, length, slice_get, Result, Ok, Err, refl, sym, ap, subst, ◌∙◌, arith}
+use Rattle.std.proofs.Common.{◌≡◌, inl, inr, ℕ, ◌<◌, ◌≤◌, Bool, true, Some, List, length, slice_get, Result, Ok, Err, sym, ap, ◌∙◌, arith}
 use Rattle.std.specs.Prelude.{IfOk, OnErr}
 use Rattle.std.proofs.lemmas.Option.{slice_get_cases}
 use Rattle.device.specs.Disk.{Moment}

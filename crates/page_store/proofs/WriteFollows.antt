@@ -4,21 +4,19 @@ use Rattle.std.proofs.lemmas.List.{append-nil, length-replicate}
 use Rattle.std.specs.Prelude.{is_some}
 use Rattle.device.specs.Disk.{Moment, Trace, synced}
 use Rattle.device.specs.Moments.{Goes}
-use Rattle.device.specs.Places.{Has, OnDisk, ChangesOnly}
+use Rattle.device.specs.Places.{Has, ChangesOnly}
 use Rattle.device.proofs.Going.{goes_weaker, goes_now}
-use Rattle.device.proofs.Standing.{same_only, has_kept, kept, synced_only}
+use Rattle.device.proofs.Standing.{has_kept, kept, synced_only}
 use Rattle.index_model.specs.declared.limits.Limits.{Limits}
 use Rattle.page_codec.specs.Spelling.{page_bytes}
 use Rattle.page_codec.specs.declared.page.Page.{Page}
 use Rattle.page_codec.proofs.Laws.{length-page}
-use Rattle.page_action.specs.Stored.{AreStored}
 use Rattle.page_action.proofs.StoredPages.{stored_page}
 use Rattle.redo_log.specs.Images.{last_image, images_of}
 use Rattle.redo_log.specs.Kept.{limits_of, is_stopped}
 use Rattle.redo_log.proofs.Keeping.{keeps_elsewhere}
 use Rattle.device_layout.specs.Layout.{place}
 use Rattle.page_store.specs.Histories.{pages_after, pages_now}
-use Rattle.page_store.specs.Restart.{LeavesPart}
 use Rattle.page_store.specs.Logged.{Held, pages_held, is_named, IsKept, IsOwn}
 use Rattle.page_store.specs.Following.{Follows}
 use Rattle.page_store.specs.declared.history.History.{History}

@@ -1,7 +1,6 @@
 -- What the pool holds of the pages has one proof at most, so a store may keep it.
-use Rattle.std.specs.Prelude.{◌≡◌, ℕ, Bool, List}
+use Rattle.std.specs.Prelude.{ℕ, Bool, List}
 use Rattle.std.proofs.Props.{props}
-use Rattle.std.specs.Coded.{×_prop}
 use Rattle.device.specs.Disk.{Moment}
 use Rattle.device.specs.Places.{Has}
 use Rattle.buffer_pool.specs.declared.pool.Pool.{Pool}

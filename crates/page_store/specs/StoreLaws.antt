@@ -1,5 +1,5 @@
 -- A store over a device has the laws of a store of pages.
-use Rattle.std.specs.Prelude.{ℕ, ◌≤◌, List, length}
+use Rattle.std.specs.Prelude.{ℕ, ◌≤◌, List}
 use Rattle.std.proofs.Common.{subst}
 use Rattle.device.specs.Moments.{MayHaveLeft}
 use Rattle.device.specs.declared.device.Device.{Ghosts}

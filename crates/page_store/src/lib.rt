@@ -14,6 +14,3 @@ mod writing;
 
 pub use room::StoreRoom;
 pub use store::Store;
-
-#[cfg(test)]
-mod tests;

@@ -12,8 +12,8 @@ ghost use Rattle.page_store.specs.Histories.{pages_now};
 ghost use Rattle.page_store.specs.Holding.{HoldsPages-prop};
 ghost use Rattle.page_store.specs.Writing.{HoldsPages};
 
-use crate::history::History;
 use crate::changing::{change_all, used_after};
+use crate::history::History;
 use buffer_pool::Pool;
 use device::Device;
 use index_model::{Fault, Limits};
@@ -40,14 +40,12 @@ pub(crate) struct LoggedPages<D: Device> {
     ghost allowed: { AreLimits limits },
     ghost log_limits: { limits_of log ≡ limits } by { Coded-set limits-code (limits_of log) limits },
     ghost sized: { place limits limits.pages ≤ length (D.trace device).now.seen },
-    ghost stored: { AreStored limits 0 (pages_now history) }
-        by { AreStored-prop limits 0 (pages_now history) },
+    ghost stored: { AreStored limits 0 (pages_now history) } by { AreStored-prop limits 0 (pages_now history) },
     ghost used_is: { used ≡ length (pages_now history) },
     ghost few: { used ≤ limits.pages },
     ghost reach: { reach_of pool ≡ limits.pages },
     ghost holds: { HoldsPages limits (pages_now history) acts pool (D.is_honest device)
-        (D.trace device).now }
-        by { HoldsPages-prop limits (pages_now history) acts pool (D.is_honest device)
+        (D.trace device).now } by { HoldsPages-prop limits (pages_now history) acts pool (D.is_honest device)
             (D.trace device).now },
     ghost counted: { acts ≡ actions_of log },
     ghost not_ahead: { durable ≤ acts },

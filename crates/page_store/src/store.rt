@@ -69,14 +69,7 @@ impl<D: Device> Store<D> {
             → IsOwnStore D.Device result }
     {
         Store {
-            held: LoggedPages::new(
-                room.limits,
-                device,
-                log,
-                room.pool,
-                room.used,
-                room.history,
-            ),
+            held: LoggedPages::new(room.limits, device, log, room.pool, room.used, room.history),
             calls: CallTable::new(room.numbers, counter),
         }
     }
@@ -186,7 +179,7 @@ impl<D: Device> PageStore for Store<D> {
     }
 
     fn act(&mut self, pages: &[Page]) -> Result<u64, Fault> {
-        if self.held.log.is_stopped() {
+        if self.is_stopped() {
             return Err(Fault::Stopped);
         }
         if let Err(fault) = self.take_frames(pages) {
@@ -198,8 +191,7 @@ impl<D: Device> PageStore for Store<D> {
     }
 
     fn fresh(&self) -> Result<u32, Fault> {
-        self.calls
-            .fresh(self.held.used, self.held.limits)
+        self.calls.fresh(self.held.used, self.held.limits)
     }
 
     fn latch(&mut self, session: Session, block: u32, mode: Mode) -> Result<(), Fault> {

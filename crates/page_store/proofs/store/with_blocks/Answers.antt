@@ -1,4 +1,4 @@
-use Rattle.std.proofs.Common.{◌≡◌, ◌++◌, ◌∷◌, [], ◌+◌, List, map, drop, sym, ap, ◌∙◌, append_assoc, arith}
+use Rattle.std.proofs.Common.{◌++◌, ◌∷◌, [], ◌+◌, List, map, drop, sym, ap, ◌∙◌, append_assoc, arith}
 use Rattle.page_codec.specs.declared.page.Page.{Page}
 use Rattle.page_action.proofs.StoredPages.{drop_at_item}
 use Rattle.page_store.proofs.store.with_blocks.Goals as goal

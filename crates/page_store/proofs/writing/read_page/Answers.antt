@@ -1,13 +1,9 @@
-use Rattle.std.proofs.Common.{◌≡◌, ℕ, ◌+◌, true, List, sym, ◌∙◌, ap}
+use Rattle.std.proofs.Common.{ℕ, ◌+◌, sym, ◌∙◌, ap}
 use Rattle.std.specs.Prelude.{slice_range}
-use Rattle.device.specs.Places.{Has}
 use Rattle.page_codec.specs.Spelling.{page_bytes}
-use Rattle.page_codec.specs.declared.page.Page.{Page}
 use Rattle.page_codec.proofs.Laws.{length-page, one_page}
-use Rattle.page_action.specs.Stored.{IsStored}
 use Rattle.device_layout.specs.Layout.{place}
 use Rattle.page_store.proofs.Places.{range_has}
-use Rattle.page_store.proofs.writing.read_page.Given.{Over}
 use Rattle.page_store.proofs.writing.read_page.Goals.{In-Some, In-None}
 use Rattle.page_store.proofs.writing.read_page.Goals as goal
 

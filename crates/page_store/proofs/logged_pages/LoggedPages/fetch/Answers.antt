@@ -1,4 +1,4 @@
-use Rattle.std.proofs.Common.{subst, sym}
+use Rattle.std.proofs.Common.{subst}
 use Rattle.buffer_pool.specs.Pools.{IsPut}
 use Rattle.buffer_pool.specs.declared.pool.Pool.{Pool}
 use Rattle.page_store.specs.Quiet.{IsQuiet}

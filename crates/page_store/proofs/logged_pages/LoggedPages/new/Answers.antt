@@ -1,4 +1,4 @@
-use Rattle.std.proofs.Common.{rules, ◌≡◌, ◌≤◌, ◌∙◌, List, length, refl, subst, sym, ap, arith}
+use Rattle.std.proofs.Common.{◌≤◌, ◌∙◌, List, length, refl, subst, sym, ap, arith}
 use Rattle.redo_log.specs.Kept.{end_with}
 use Rattle.index_model.specs.declared.limits.Limits.{Limits}
 use Rattle.page_codec.specs.declared.page.Page.{Page}

@@ -1,4 +1,3 @@
-use Rattle.std.proofs.Common.{refl}
 use Rattle.page_store.specs.Histories.{pages_now}
 use Rattle.page_store.specs.Logged.{held_of}
 use Rattle.page_store.proofs.Keeping.{holds_noted, first_noted, all_clean}

@@ -1,5 +1,4 @@
-use Rattle.std.proofs.Common.{◌≡◌, ◌<◌, ℕ, Some, length, sym, subst, ◌∙◌}
-use Rattle.buffer_pool.specs.Pools.{held_page}
+use Rattle.std.proofs.Common.{◌<◌, ℕ, sym, subst, ◌∙◌}
 use Rattle.page_store.specs.Histories.{pages_now}
 use Rattle.page_store.proofs.Reading.{held_is}
 use Rattle.page_store.proofs.logged_pages.LoggedPages.page.Goals as goal

@@ -1,4 +1,4 @@
-use Rattle.std.proofs.Common.{◌≡◌, ◌<◌, ◌+◌, inl, inr, ℕ, true, Some, slice_get, sym, ap, subst, ◌∙◌, arith}
+use Rattle.std.proofs.Common.{◌≡◌, ◌<◌, inl, inr, true, Some, slice_get, sym, ap, subst, ◌∙◌, arith}
 use Rattle.std.proofs.lemmas.Bool.{cases_lt}
 use Rattle.std.proofs.lemmas.Option.{slice_get_within}
 use Rattle.std.specs.Prelude.{IsSome}
@@ -8,7 +8,7 @@ use Rattle.index_model.specs.declared.limits.Limits.{Limits}
 use Rattle.page_codec.specs.declared.page.Page.{Page}
 use Rattle.page_action.specs.Stored.{IsStored}
 use Rattle.page_action.proofs.StoredPages.{slice_get_at}
-use Rattle.page_store.proofs.Frames.{actable_at, all_at, all_of, taking_on, if_err_map}
+use Rattle.page_store.proofs.Frames.{actable_at, all_at, all_of}
 use Rattle.page_store.proofs.Quieting.{quiet_both}
 use Rattle.page_store.proofs.logged_pages.LoggedPages.take_frames.Given.{Over}
 use Rattle.page_store.proofs.logged_pages.LoggedPages.take_frames.Goals.{After-page-item}

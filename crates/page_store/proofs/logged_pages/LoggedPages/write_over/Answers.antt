@@ -1,4 +1,4 @@
-use Rattle.std.proofs.Common.{◌≡◌, ℕ, get_or, ap, sym, ◌∙◌}
+use Rattle.std.proofs.Common.{◌≡◌, get_or, ap, sym, ◌∙◌}
 use Rattle.std.proofs.lemmas.Option.{get_or_from_slice_get}
 use Rattle.buffer_pool.specs.Pools.{act_of, changed_of}
 use Rattle.page_store.proofs.Pooling.{can_be_taken}

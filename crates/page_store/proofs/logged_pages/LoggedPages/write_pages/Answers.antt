@@ -1,14 +1,10 @@
-use Rattle.std.proofs.Common.{◌≡◌, ◌<◌, ◌≤◌, ◌+◌, ℕ, suc, true, false, Some, None, List, [], length, take, slice_get, get_or, refl, sym, ap, subst, ◌∙◌, arith}
+use Rattle.std.proofs.Common.{◌≡◌, ◌<◌, ◌+◌, ℕ, suc, true, Some, None, List, [], length, take, slice_get, get_or, refl, sym, ap, subst, ◌∙◌, arith}
 use Rattle.std.proofs.lemmas.Option.{slice_get-get_or}
 use Rattle.buffer_pool.specs.Frames.{has_block}
-use Rattle.buffer_pool.specs.Pools.{changed_of, held_page, IsPool}
+use Rattle.buffer_pool.specs.Pools.{changed_of, IsPool}
 use Rattle.buffer_pool.specs.declared.pool.Pool.{Pool}
 use Rattle.device.specs.Disk.{Moment}
-use Rattle.device.specs.Places.{Has, ChangesOnly}
 use Rattle.index_model.specs.declared.limits.Limits.{Limits}
-use Rattle.device_layout.specs.Layout.{place}
-use Rattle.page_codec.specs.Spelling.{page_bytes}
-use Rattle.page_codec.specs.declared.page.Page.{Page}
 use Rattle.page_store.specs.Following.{follows_same}
 use Rattle.page_store.specs.Histories.{pages_now}
 use Rattle.page_store.specs.Logged.{held_of}

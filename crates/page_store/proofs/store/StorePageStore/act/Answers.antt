@@ -1,10 +1,8 @@
-use Rattle.std.proofs.Common.{◌≡◌, ◌≤◌, ◌∙◌, ℕ, suc, List, length, refl, ap, sym, subst, arith}
-use Rattle.buffer_pool.specs.Pools.{most_of}
+use Rattle.std.proofs.Common.{◌≡◌, ◌∙◌, suc, List, length, refl, ap, sym, subst, arith}
 use Rattle.index_model.specs.declared.limits.Limits.{Limits}
 use Rattle.page_codec.specs.declared.page.Page.{Page}
 use Rattle.page_action.specs.CallTables.{TableOfCalls}
 use Rattle.page_action.specs.States.{with_pages, with_counts}
-use Rattle.page_action.specs.Stored.{AreActable}
 use Rattle.page_action.specs.Waiting.{AreWaiting, with_all_waiting}
 use Rattle.page_action.proofs.Waiting.{write_waits, length-with_all_waiting}
 use Rattle.page_action.proofs.StoredPages.{length-with_counts}
@@ -12,10 +10,8 @@ use Rattle.page_store.specs.Following.{Follows}
 use Rattle.page_store.specs.Histories.{pages_now}
 use Rattle.page_store.specs.Logged.{backing_of, held_of}
 use Rattle.page_store.specs.Stores.{state_of, held_by}
-use Rattle.page_store.specs.declared.history.History.{History}
-use Rattle.page_store.proofs.Causes.{taking_cause, acting_cause}
+use Rattle.page_store.proofs.Causes.{taking_cause}
 use Rattle.page_store.proofs.FollowLaws.{follows_both}
-use Rattle.page_store.proofs.Frames.{if_err_map}
 use Rattle.page_store.proofs.Stating.{state_alike}
 use Rattle.page_store.proofs.store.StorePageStore.act.Given.{Over}
 use Rattle.page_store.proofs.store.StorePageStore.act.Goals.{After-take_frames, After-act, After-note}

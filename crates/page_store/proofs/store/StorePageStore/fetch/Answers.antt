@@ -1,5 +1,4 @@
 use Rattle.std.proofs.Common.{List, ℕ, refl, subst, ◌∙◌}
-use Rattle.buffer_pool.specs.Pools.{most_of}
 use Rattle.page_store.specs.Logged.{backing_of, held_of}
 use Rattle.page_store.specs.Stores.{state_of, held_by}
 use Rattle.page_store.specs.Taking.{FetchFails}
