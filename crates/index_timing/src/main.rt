@@ -1,10 +1,13 @@
-//! How many entries a second an index takes and gives on one core: `index_timing time` prints it to standard error. Without an
-//! argument it fills two small indexes and scans them.
+//! How many entries a second an index takes and gives on one core, and how long an open takes over a full log: `index_timing
+//! time` prints it to standard error. Without an argument it fills two small indexes and scans them.
 #![tactic(auto)]
+
+mod opening;
 
 use access_method::Index;
 use device::MemDevice;
 use index_model::{Entry, Fault, Key, Limits, Range, RowAddr};
+use opening::time_open;
 use page_store::Store;
 use recovery::create;
 use std::alloc::Global;
@@ -157,6 +160,9 @@ fn main(rt: HostRuntime) -> io::Result<()> {
         }
     }
     if env::args(&rt)?.count() > 1 {
+        for _ in 0..3 {
+            time_open(&rt, alloc)?;
+        }
         for count in [1_000, 10_000, 100_000] {
             time_all(&rt, alloc, count)?;
         }

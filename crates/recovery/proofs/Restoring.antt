@@ -2,6 +2,8 @@
 use Rattle.std.proofs.Common.{◌≡◌, ◌⊎◌, ⊎_elim, inl, inr, ℕ, suc, ◌+◌, ◌*◌, ◌<◌, ◌≤◌, Some, None, Result, List, [], length, take, replicate, slice_get, refl, sym, ◌∙◌, ap, subst, arith}
 use Rattle.std.proofs.lemmas.List.{take_all, length-replicate}
 use Rattle.std.proofs.lemmas.Grind.{same_number_lists}
+use Rattle.std.proofs.lemmas.Option.{slice_get_within}
+use Rattle.std.specs.Option.{option_map}
 use Rattle.device.specs.Disk.{Moment, Trace, MayLeave, Syncs, synced}
 use Rattle.device.specs.Moments.{Goes}
 use Rattle.device.specs.Places.{Has, OnDisk, ChangesOnly}
@@ -22,8 +24,9 @@ use Rattle.page_store.proofs.Restarting.{superblock_kept}
 use Rattle.redo_log.specs.Groups.{SpellsGroups, log_range}
 use Rattle.redo_log.specs.Images.{last_image, images_of, SameImages}
 use Rattle.redo_log.specs.Kept.{Keeps, Restarts, RestartsOrEmpty, RestartsOrEmptyThroughout, ChangesItsRange, ForgetsForced, KeepsWhileUntouched, WhatItKeepsRestarts, limits_of, waiting_count}
-use Rattle.redo_log.specs.Reading.{Replays, IsOpened, IsDamaged}
+use Rattle.redo_log.specs.Reading.{Replays, IsOpened, IsDamaged, KeepsLast, kept_image}
 use Rattle.redo_log.specs.declared.log.Log.{Log}
+use Rattle.redo_log.specs.declared.log.Replayed.{Replayed}
 use Rattle.redo_log.proofs.Keeping.{forgets_all}
 use Rattle.recovery.specs.Homing.{ChangesNamed, AreHomed}
 use Rattle.recovery.specs.Opening.{IsSynced, IsNoMemoryOrIo}
@@ -67,16 +70,20 @@ stands_leaves limits images pages m s image left groups spells same = record {
   unused = λ block past small. (let home = s.unused block past small in record { unnamed = same block ∙ home.0; has = on_image (place limits block) (replicate 4096 0) m image home.1 left });
 }
 
+-- what is kept of a block without an image
+unkept : (found : Replayed) (images : List Page) (block : ℕ) → KeepsLast found images → last_image images block ≡ None → kept_image found block ≡ None
+unkept found images block lasts none = lasts.each block ∙ ap (option_map page_bytes) none
+
 -- it stays while places of blocks with an image are written
-pub stands_named : (limits : Limits) (images pages : List Page) (a b : Moment) → ChangesNamed limits images a b → Stands limits images pages a → Stands limits images pages b
-stands_named limits images pages a b change s = record {
+pub stands_named : (limits : Limits) (images pages : List Page) (found : Replayed) (a b : Moment) → KeepsLast found images → ChangesNamed limits found a b → Stands limits images pages a → Stands limits images pages b
+stands_named limits images pages found a b lasts change s = record {
   superblock_on = superblock_kept limits (place limits 0) (4096 * limits.pages) a b (omega arith) change.only s.superblock_on;
   long = omega (arith, s.long, change.only.same_length);
   few = s.few;
   stored = s.stored;
-  used = λ block page found. ⊎_elim (λ late. inl late)
-      (λ home. inr (home.0, change.others block (page_bytes page) (length-page page (stored_page limits block pages page s.stored found).storable.admitted) home.0 home.1)) (s.used block page found);
-  unused = λ block past small. (let home = s.unused block past small in (home.0, change.others block (replicate 4096 0) (length-replicate {A = ℕ} 4096 0) home.0 home.1));
+  used = λ block page is. ⊎_elim (λ late. inl late)
+      (λ home. inr (home.0, change.others block (page_bytes page) (length-page page (stored_page limits block pages page s.stored is).storable.admitted) (unkept found images block lasts home.0) home.1)) (s.used block page is);
+  unused = λ block past small. (let home = s.unused block past small in (home.0, change.others block (replicate 4096 0) (length-replicate {A = ℕ} 4096 0) (unkept found images block lasts home.0) home.1));
 }
 
 -- and while the log's range changes
@@ -91,13 +98,15 @@ stands_logged limits images pages a b only s = record {
 }
 
 -- once the images are written all pages stand at home
-pub stands_home : (limits : Limits) (images pages : List Page) (m : Moment) → AreHomed limits images m → Stands limits images pages m → Stands limits [] pages m
-stands_home limits images pages m homed s = record {
+pub stands_home : (limits : Limits) (images pages : List Page) (found : Replayed) (m : Moment) → KeepsLast found images → AreHomed limits found m → Stands limits images pages m → Stands limits [] pages m
+stands_home limits images pages found m lasts homed s = record {
   superblock_on = s.superblock_on;
   long = s.long;
   few = s.few;
   stored = s.stored;
-  used = λ block page found. ⊎_elim (λ late. inr (refl, homed block page late)) (λ home. inr (refl, home.1)) (s.used block page found);
+  used = λ block page is. ⊎_elim
+      (λ late. inr (refl, homed block (page_bytes page) (omega (arith, slice_get_within pages block page is, s.few)) (lasts.each block ∙ ap (option_map page_bytes) late)))
+      (λ home. inr (refl, home.1)) (s.used block page is);
   unused = λ block past small. (refl, (s.unused block past small).1);
 }
 
@@ -115,21 +124,24 @@ pub sync_leaves : {T E : Type 0} (limits : Limits) (pages : List Page) (r : Resu
 sync_leaves limits pages r t u restarts s =
     syncs_goes (LeavesPages limits pages) r t u s (λ image left. subst (λ (file : List ℕ). RestartsTo limits file pages) (sym (left_synced (synced t.now) image (λ i. refl) left)) restarts)
 
--- the same from an equal start, of equal images
-pub named_from : (limits : Limits) (images images' : List Page) (t t' u : Trace) → t' ≡ t → images' ≡ images → Goes (ChangesNamed limits images' t'.now) t' u → Goes (ChangesNamed limits images t.now) t u
-named_from limits images images' t t' u e f moments =
-    subst (λ (l : List Page). Goes (ChangesNamed limits l t.now) t u) f (subst (λ (x : Trace). Goes (ChangesNamed limits images' x.now) x u) e moments)
+-- the same from an equal start
+pub named_from : (limits : Limits) (found : Replayed) (t t' u : Trace) → t' ≡ t → Goes (ChangesNamed limits found t'.now) t' u → Goes (ChangesNamed limits found t.now) t u
+named_from limits found t t' u e moments = subst (λ (x : Trace). Goes (ChangesNamed limits found x.now) x u) e moments
 
 -- a log that was just replayed over an index
-pub record IsReplayed (limits : Limits) (images pages : List Page) (log : Log) (t : Trace) : Type 0 where
+pub record IsReplayed (limits : Limits) (images pages : List Page) (found : Replayed) (t : Trace) : Type 0 where
   pub firm : IsSynced t.now
   pub restarts : RestartsTo limits t.now.seen pages
-  pub opened : IsOpened limits log
-  pub replays : Replays limits t.now log images
-  pub law : KeepsWhileUntouched log
-  pub leaves : WhatItKeepsRestarts log
+  pub opened : IsOpened limits found.log
+  pub lasts : KeepsLast found images
+  pub replays : Replays limits t.now found.log images
+  pub law : KeepsWhileUntouched found.log
+  pub leaves : WhatItKeepsRestarts found.log
 
-module _ (limits : Limits) (images pages : List Page) (log : Log) (t : Trace) (r : IsReplayed limits images pages log t) where
+module _ (limits : Limits) (images pages : List Page) (found : Replayed) (t : Trace) (r : IsReplayed limits images pages found t) where
+  abbrev log : Log
+  log = found.log
+
   abbrev gs : List (List Page)
   gs = r.replays.groups
 
@@ -145,26 +157,26 @@ module _ (limits : Limits) (images pages : List Page) (log : Log) (t : Trace) (r
   same_images part groups all same block =
       same.each block ∙ ap (λ (l : List Page). last_image l block) (ap images_of (take_all part gs all) ∙ sym r.replays.images_are)
 
-  keeps_written : (m : Moment) → ChangesNamed limits images t.now m → Keeps log m gs (length gs)
+  keeps_written : (m : Moment) → ChangesNamed limits found t.now m → Keeps log m gs (length gs)
   keeps_written m change =
       r.law t.now m gs (length gs) (elsewhere_untouched (place limits 0) (4096 * limits.pages) 4096 (limits_of log).log_bytes t.now m change.only (inl (omega (arith, ap (λ (l : Limits). l.log_bytes) r.opened.limits_are)))) keeps
 
   -- while its images are written
-  pub written_leaves : (m : Moment) → ChangesNamed limits images t.now m → LeavesPages limits pages m
+  pub written_leaves : (m : Moment) → ChangesNamed limits found t.now m → LeavesPages limits pages m
   written_leaves m change image left =
       let h = subst (λ (l : Limits). Restarts l gs (length gs) m) r.opened.limits_are (r.leaves m gs (length gs) (keeps_written m change)) image left in
-      stands_leaves limits images pages m (stands_named limits images pages t.now m change started) image left h.holds.groups h.holds.spells (same_images h.part h.holds.groups h.from h.holds.same)
+      stands_leaves limits images pages m (stands_named limits images pages found t.now m r.lasts change started) image left h.holds.groups h.holds.spells (same_images h.part h.holds.groups h.from h.holds.same)
 
   -- once they are written and synced, and while the log is closed
-  module _ (u v : Trace) (moments : Goes (ChangesNamed limits images t.now) t u) (homed : AreHomed limits images u.now) where
-    now_named : ChangesNamed limits images t.now u.now
-    now_named = goes_now _ t u moments (same_named limits images t.now)
+  module _ (u v : Trace) (moments : Goes (ChangesNamed limits found t.now) t u) (homed : AreHomed limits found u.now) where
+    now_named : ChangesNamed limits found t.now u.now
+    now_named = goes_now _ t u moments (same_named limits found t.now)
 
     both : Stands limits images pages u.now
-    both = stands_named limits images pages t.now u.now now_named started
+    both = stands_named limits images pages found t.now u.now r.lasts now_named started
 
     pub at_home : Stands limits [] pages u.now
-    at_home = stands_home limits images pages u.now homed both
+    at_home = stands_home limits images pages found u.now r.lasts homed both
 
     closing_leaves : (m : Moment) → RestartsOrEmpty limits (take (length gs) gs) m → ChangesOnly 4096 limits.log_bytes u.now m → LeavesPages limits pages m
     closing_leaves m either only image left = ⊎_elim

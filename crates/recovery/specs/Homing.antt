@@ -1,25 +1,24 @@
 -- The images of a log are written to their places.
-use Rattle.std.specs.Prelude.{◌≡◌, ℕ, ◌*◌, Some, None, List, length}
+use Rattle.std.specs.Prelude.{◌≡◌, ℕ, ◌*◌, ◌<◌, Some, None, List, length}
 use Rattle.device.specs.Disk.{Moment}
 use Rattle.device.specs.Places.{Has, OnDisk, ChangesOnly}
 use Rattle.index_model.specs.declared.limits.Limits.{Limits}
-use Rattle.page_codec.specs.Spelling.{page_bytes}
-use Rattle.page_codec.specs.declared.page.Page.{Page}
 use Rattle.device_layout.specs.Layout.{place}
-use Rattle.redo_log.specs.Images.{last_image}
+use Rattle.redo_log.specs.Reading.{kept_image}
+use Rattle.redo_log.specs.declared.log.Replayed.{Replayed}
 
--- nothing but places of blocks that have an image among these changed
-pub record ChangesNamed (limits : Limits) (images : List Page) (old m : Moment) : Type 0 where
+-- nothing but places of blocks that have an image in the log changed
+pub record ChangesNamed (limits : Limits) (found : Replayed) (old m : Moment) : Type 0 where
   pub only : ChangesOnly (place limits 0) (4096 * limits.pages) old m
-  pub others : (block : ℕ) (bytes : List ℕ) → length bytes ≡ 4096 → last_image images block ≡ None
+  pub others : (block : ℕ) (bytes : List ℕ) → length bytes ≡ 4096 → kept_image found block ≡ None
       → OnDisk (place limits block) bytes old → OnDisk (place limits block) bytes m
 
 -- the last image of each block stands at its place
-abbrev pub HasImages : Limits → List Page → List ℕ → Type 0
-HasImages limits images file = (block : ℕ) (page : Page) → last_image images block ≡ Some page
-    → Has (place limits block) (page_bytes page) file
+abbrev pub HasImages : Limits → Replayed → List ℕ → Type 0
+HasImages limits found file = (block : ℕ) (bytes : List ℕ) → block < limits.pages
+    → kept_image found block ≡ Some bytes → Has (place limits block) bytes file
 
 -- and no crash changes it
-abbrev pub AreHomed : Limits → List Page → Moment → Type 0
-AreHomed limits images m = (block : ℕ) (page : Page) → last_image images block ≡ Some page
-    → OnDisk (place limits block) (page_bytes page) m
+abbrev pub AreHomed : Limits → Replayed → Moment → Type 0
+AreHomed limits found m = (block : ℕ) (bytes : List ℕ) → block < limits.pages
+    → kept_image found block ≡ Some bytes → OnDisk (place limits block) bytes m

@@ -53,7 +53,7 @@ fn first_leaf() -> Page
 }
 
 /// Writes bytes at a place of the device. Nothing else changes, even at `Io`.
-fn place<D: Device>(device: &mut D, at: u64, bytes: &[u8]) -> Result<(), Fault>
+pub(crate) fn place<D: Device>(device: &mut D, at: u64, bytes: &[u8]) -> Result<(), Fault>
     requires inside { at + length bytes.now ≤ length (D.trace device.old).now.seen }
     ensures there { OnOk result (Has at bytes.now (D.trace device.new).now.seen) }
     ensures moments { Goes (ChangesOnly at (length bytes.now) (D.trace device.old).now)
@@ -82,11 +82,7 @@ fn place_zeros<D: Device>(device: &mut D, limits: &Limits) -> Result<(), Fault>
 }
 
 /// Writes the page at its block.
-pub(crate) fn place_page<D: Device>(
-    device: &mut D,
-    limits: &Limits,
-    page: &Page,
-) -> Result<(), Fault>
+fn place_page<D: Device>(device: &mut D, limits: &Limits, page: &Page) -> Result<(), Fault>
     requires allowed { AreLimits limits.now }
     requires below { page.now.block < limits.now.pages }
     requires inside { needed_length limits.now ≤ length (D.trace device.old).now.seen }

@@ -101,7 +101,7 @@ fn restore_log<D: Device>(alloc: Global, device: &mut D, limits: Limits) -> Resu
         Err(fault) => return Err(fault),
     };
     found.log.keeping_law();
-    bring_home(device, limits, &found.images)?;
+    bring_home(device, limits, &found)?;
     let mut log = found.log;
     log.reset(device)?;
     Ok(log)
@@ -157,8 +157,8 @@ fn read_index<D: Device>(alloc: Global, device: &mut D, frames: u32) -> Result<P
 }
 
 /// Opens the index on the device, after any crash, for so many pages in memory at once (16 to 1,024), its frames. It
-/// reads the superblock, syncs the device, reads the log, writes each image of an open group to the place of its block,
-/// syncs them, closes the log, and reads the pages of the blocks in use. Its room is then that of an empty log,
+/// reads the superblock, syncs the device, reads the log, writes the last image of each block in its open groups to its
+/// place, syncs them, closes the log, and reads the pages of the blocks in use. Its room is then that of an empty log,
 /// (`log_bytes` - 6) / 4,096 images. After it, nothing takes memory.
 ///
 /// Refused, tested in this order, with the device given back: with `BadLimits` (18) for other numbers of frames; with

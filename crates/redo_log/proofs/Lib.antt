@@ -5,6 +5,7 @@ pub mod ImageLists
 pub mod Keeping
 mod Laying
 pub mod Leaving
+mod Noting
 mod Parsing
 mod Replaying
 mod Resetting

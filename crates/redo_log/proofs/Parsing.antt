@@ -1,9 +1,7 @@
 -- What has been read so far, and that it is the only reading.
-use Rattle.std.proofs.Common.{◌≡◌, ◌≢◌, ℕ, zero, suc, ◌+◌, ◌-◌, ◌*◌, ◌^◌, ◌<◌, ◌≤◌, List, [], ◌∷◌, ◌++◌, length, take, drop, get_or, Result, Err, false, Fits, w8, refl, sym, ◌∙◌, ap, subst, arith, append_assoc, length-append, length-drop, length-take-le, take-append-drop}
+use Rattle.std.proofs.Common.{◌≡◌, ◌≢◌, ℕ, zero, suc, ◌+◌, ◌-◌, ◌*◌, ◌^◌, ◌<◌, List, [], ◌∷◌, ◌++◌, length, take, drop, get_or, Result, Err, Fits, w8, refl, sym, ◌∙◌, ap, subst, arith, append_assoc, length-append, length-drop, length-take-le, take-append-drop}
 use Rattle.std.proofs.lemmas.List.{take_at, drop_at, append-nil, drop-drop}
 use Rattle.std.proofs.lemmas.Nat.{from_le_bytes-to_le_bytes_4, le_bytes_4}
-use Rattle.std.proofs.lemmas.Bool.Decides.{nat_tests}
-use Rattle.std.specs.Prelude.{◌==◌}
 use Rattle.std.specs.Int.{w32, to_le_bytes, from_le_bytes}
 use Rattle.index_model.specs.declared.limits.Limits.{Limits}
 use Rattle.page_codec.specs.declared.page.Page.{Page}
@@ -11,26 +9,20 @@ use Rattle.page_codec.specs.Spelling.{page_bytes}
 use Rattle.page_codec.proofs.Laws.{length-page, one_page}
 use Rattle.redo_log.specs.Images.{images_bytes, images_of}
 use Rattle.redo_log.specs.Groups.{IsImage, AreImages, IsGroup, AreGroups, body, spelled, SpellsGroups}
-use Rattle.redo_log.specs.Reading.{AddsImages, AddsGroup, AreAllImages}
+use Rattle.redo_log.specs.Reading.{NotesImages, NotesGroup, AreAllImages}
 use Rattle.redo_log.proofs.ImageLists.{images_bytes-append, length-images_bytes, all-append, images_of-push}
 use Rattle.redo_log.proofs.Leaving.{spelled-push}
 
--- images were read up to here, and whatever images the bytes are, the rest is images
-pub record ImagesSoFar (limits : Limits) (bytes rest : List ℕ) (old now : List Page) : Type 0 where
-  pub images : List Page
+-- these images were read up to here, and whatever images the bytes are, the rest is images
+pub record ImagesSoFar (limits : Limits) (bytes rest : List ℕ) (images : List Page) : Type 0 where
   pub good : AreImages limits images
   pub is : bytes ≡ images_bytes images ++ rest
-  pub added : now ≡ old ++ images
-  pub whole : (n : ℕ) × (length rest ≡ 4096 * n)
   pub only : (others : List Page) → AreImages limits others → bytes ≡ images_bytes others → (t : List Page) × AreImages limits t × (rest ≡ images_bytes t)
 
-pub images_start : (limits : Limits) (bytes : List ℕ) (old : List Page) → (n : ℕ) × (length bytes ≡ 4096 * n) → ImagesSoFar limits bytes bytes old old
-images_start limits bytes old whole = record {
-  images = [];
+pub images_start : (limits : Limits) (bytes : List ℕ) → ImagesSoFar limits bytes bytes []
+images_start limits bytes = record {
   good = tt;
   is = refl;
-  added = sym (append-nil old);
-  whole = whole;
   only = λ others good e. (others, good, e);
 }
 
@@ -47,21 +39,14 @@ first_image limits rest (p ∷ q) good e some = (
   ap (drop 4096) e ∙ drop_at (page_bytes p) (images_bytes q) 4096 (length-page p good.0.page),
 )
 
-pub enough : (rest : List ℕ) → (n : ℕ) × (length rest ≡ 4096 * n) → 0 < length rest → 4096 ≤ length rest
-enough rest (zero, e) some = absurd (omega (arith, e, some))
-enough rest (suc n, e) some = omega (arith, e)
-
-module _ (limits : Limits) (bytes rest : List ℕ) (old now : List Page) (s : ImagesSoFar limits bytes rest old now) (some : 0 < length rest) where
-  pub image_read : (p : Page) → IsImage limits p → take 4096 rest ≡ page_bytes p → ImagesSoFar limits bytes (drop 4096 rest) old (now ++ p ∷ [])
+module _ (limits : Limits) (bytes rest : List ℕ) (images : List Page) (s : ImagesSoFar limits bytes rest images) (some : 0 < length rest) where
+  pub image_read : (p : Page) → IsImage limits p → take 4096 rest ≡ page_bytes p → ImagesSoFar limits bytes (drop 4096 rest) (images ++ p ∷ [])
   image_read p is e = record {
-    images = s.images ++ p ∷ [];
-    good = all-append (IsImage limits) s.images (p ∷ []) s.good (is, tt);
+    good = all-append (IsImage limits) images (p ∷ []) s.good (is, tt);
     is = s.is
-        ∙ (ap (λ (l : List ℕ). images_bytes s.images ++ l) (sym (take-append-drop 4096 rest))
-        ∙ (sym (append_assoc (images_bytes s.images) (take 4096 rest) (drop 4096 rest))
-        ∙ ap (λ (l : List ℕ). l ++ drop 4096 rest) (ap (λ (l : List ℕ). images_bytes s.images ++ l) (e ∙ sym (append-nil (page_bytes p))) ∙ sym (images_bytes-append s.images (p ∷ [])))));
-    added = ap (λ (l : List Page). l ++ p ∷ []) s.added ∙ append_assoc old s.images (p ∷ []);
-    whole = (s.whole.0 - 1, omega (arith, length-drop 4096 rest, s.whole.1, enough rest s.whole some));
+        ∙ (ap (λ (l : List ℕ). images_bytes images ++ l) (sym (take-append-drop 4096 rest))
+        ∙ (sym (append_assoc (images_bytes images) (take 4096 rest) (drop 4096 rest))
+        ∙ ap (λ (l : List ℕ). l ++ drop 4096 rest) (ap (λ (l : List ℕ). images_bytes images ++ l) (e ∙ sym (append-nil (page_bytes p))) ∙ sym (images_bytes-append images (p ∷ [])))));
     only = λ others good is'.
         let t = s.only others good is' in
         let f = first_image limits rest t.0 t.1 t.2 some in
@@ -74,17 +59,8 @@ module _ (limits : Limits) (bytes rest : List ℕ) (old now : List Page) (s : Im
       let f = first_image limits rest t.0 t.1 t.2 some in
       refused f.0 f.2 f.4
 
-pub images_end : (limits : Limits) (bytes rest : List ℕ) (old now : List Page) → ImagesSoFar limits bytes rest old now → rest ≡ [] → AddsImages limits bytes old now
-images_end limits bytes rest old now s e = record {
-  images = s.images;
-  good = s.good;
-  is = s.is ∙ (ap (λ (l : List ℕ). images_bytes s.images ++ l) e ∙ append-nil (images_bytes s.images));
-  added = s.added;
-}
-
--- a number that isn't 0
-pub not_zero : (n : ℕ) → false ≡ (n == 0) → 0 < n
-not_zero n e = grind (arith, nat_tests)
+pub images_end : (limits : Limits) (bytes rest : List ℕ) (images : List Page) → ImagesSoFar limits bytes rest images → rest ≡ [] → bytes ≡ images_bytes images
+images_end limits bytes rest images s e = s.is ∙ (ap (λ (l : List ℕ). images_bytes images ++ l) e ∙ append-nil (images_bytes images))
 
 -- the number in front, and the images behind it
 parts : (head images rest behind : List ℕ) → length head ≡ 4 → behind ≡ head ++ images ++ rest → (take 4 behind ≡ head) × (drop 4 behind ≡ images ++ rest)
@@ -114,10 +90,12 @@ module _ (limits : Limits) (behind rest : List ℕ) (group : List Page) (count :
   group_rest = sym (drop-drop (4096 * count) 4 behind) ∙ (ap (drop (4096 * count)) two.1 ∙ drop_at (images_bytes group) rest (4096 * count) (omega (arith, length-images_bytes limits group good.images, group_count)))
 
 -- a group was read
-pub group_added : (limits : Limits) (behind bodies number : List ℕ) (count : ℕ) (old new : List Page) → number ≡ take 4 behind → bodies ≡ drop 4 behind → length number ≡ 4 → ((i : ℕ) → get_or number i 0 < 256) → count ≡ from_le_bytes w32 number
-    → 0 < count → count < 2 ^ 32 → 4096 * count < length bodies → AddsImages limits (take (4096 * count) bodies) old new → AddsGroup limits behind count old new
-group_added limits behind bodies number count old new head tail four fit read some few long a =
-    let counted : count ≡ length a.images = omega (arith, ap length a.is, length-take-le (4096 * count) bodies (omega (arith, long)), length-images_bytes limits a.images a.good) in
+pub group_noted : (limits : Limits) (log bodies number : List ℕ) (at count : ℕ) (old new : List ℕ) → number ≡ take 4 (drop at log) → bodies ≡ drop 4 (drop at log) → length number ≡ 4 → ((i : ℕ) → get_or number i 0 < 256) → count ≡ from_le_bytes w32 number
+    → 0 < count → count < 2 ^ 32 → 4096 * count < length bodies → NotesImages limits log (at + 4) count old new → NotesGroup limits log at count old new
+group_noted limits log bodies number at count old new head tail four fit read some few long a =
+    let behind = drop at log in
+    let images_are : take (4096 * count) bodies ≡ images_bytes a.images = ap (take (4096 * count)) (tail ∙ drop-drop 4 at log) ∙ a.is in
+    let counted : count ≡ length a.images = omega (arith, ap length images_are, length-take-le (4096 * count) bodies (omega (arith, long)), length-images_bytes limits a.images a.good) in
     let behind_is : drop (4 + 4096 * count) behind ≡ drop (4096 * count) bodies = sym (drop-drop (4096 * count) 4 behind) ∙ ap (drop (4096 * count)) (sym tail) in
     record {
       group = a.images;
@@ -126,11 +104,11 @@ group_added limits behind bodies number count old new head tail four fit read so
       is = sym (take-append-drop 4 behind)
           ∙ (ap (λ (l : List ℕ). take 4 behind ++ l) (sym tail ∙ sym (take-append-drop (4096 * count) bodies))
           ∙ (sym (append_assoc (take 4 behind) (take (4096 * count) bodies) (drop (4096 * count) bodies))
-          ∙ (ap (λ (l : List ℕ). take 4 behind ++ l ++ drop (4096 * count) bodies) a.is
+          ∙ (ap (λ (l : List ℕ). take 4 behind ++ l ++ drop (4096 * count) bodies) images_are
           ∙ (ap (λ (l : List ℕ). l ++ images_bytes a.images ++ drop (4096 * count) bodies) (sym head ∙ (sym (le_bytes_4 number count four fit read) ∙ ap (to_le_bytes w32) counted))
           ∙ ap (λ (l : List ℕ). body a.images ++ l) (sym behind_is)))));
       more = omega (arith, ap length behind_is, length-drop (4096 * count) bodies, long);
-      added = a.added;
+      noted = a.noted;
     }
 
 -- the first bytes are bytes
@@ -209,24 +187,24 @@ next_group limits rest (g ∷ q) is_open s = record {
 }
 
 module _ (limits : Limits) (bytes rest : List ℕ) (now : List Page) (s : GroupsSoFar limits bytes rest now) (is_open : get_or rest 0 0 ≡ 1) where
-  pub group_read : (new : List Page) (count : ℕ) → AddsGroup limits (drop 1 rest) count now new → GroupsSoFar limits bytes (drop (5 + 4096 * count) rest) new
-  group_read new count a =
+  pub group_read : (group : List Page) (count : ℕ) → IsGroup limits group → drop 1 rest ≡ body group ++ drop (4 + 4096 * count) (drop 1 rest) → 0 < length (drop (4 + 4096 * count) (drop 1 rest)) → GroupsSoFar limits bytes (drop (5 + 4096 * count) rest) (now ++ group)
+  group_read group count good here more =
       let left = drop (4 + 4096 * count) (drop 1 rest) in
       let e : left ≡ drop (5 + 4096 * count) rest = drop-drop (4 + 4096 * count) 1 rest ∙ ap (λ (n : ℕ). drop n rest) (let f : 1 + (4 + 4096 * count) ≡ 5 + 4096 * count = omega arith in f) in
-      subst (λ (l : List ℕ). GroupsSoFar limits bytes l new) e (record {
-        groups = s.groups ++ a.group ∷ [];
-        good = all-append (IsGroup limits) s.groups (a.group ∷ []) s.good (a.good, tt);
+      subst (λ (l : List ℕ). GroupsSoFar limits bytes l (now ++ group)) e (record {
+        groups = s.groups ++ group ∷ [];
+        good = all-append (IsGroup limits) s.groups (group ∷ []) s.good (good, tt);
         is = s.is
-            ∙ (ap (λ (l : List ℕ). spelled s.groups ++ l) (open_gate rest s.some is_open ∙ ap (λ (l : List ℕ). 1 ∷ l) a.is)
-            ∙ sym (spelled-push s.groups a.group left));
-        images_are = a.added ∙ (ap (λ (l : List Page). l ++ a.group) s.images_are ∙ sym (images_of-push s.groups a.group));
-        some = a.more;
+            ∙ (ap (λ (l : List ℕ). spelled s.groups ++ l) (open_gate rest s.some is_open ∙ ap (λ (l : List ℕ). 1 ∷ l) here)
+            ∙ sym (spelled-push s.groups group left));
+        images_are = ap (λ (l : List Page). l ++ group) s.images_are ∙ sym (images_of-push s.groups group);
+        some = more;
         only = λ others is.
             let t = s.only others is in
             let n = next_group limits rest t.0 is_open t.2 in
-            let same = same_group limits (drop 1 rest) n.behind left n.group a.group n.good a.good n.is a.is in (
+            let same = same_group limits (drop 1 rest) n.behind left n.group group n.good good n.is here in (
               n.others,
-              t.1 ∙ (ap (λ (l : List (List Page)). s.groups ++ l) (n.are ∙ ap (λ (g : List Page). g ∷ n.others) same.0) ∙ sym (append_assoc s.groups (a.group ∷ []) n.others)),
+              t.1 ∙ (ap (λ (l : List (List Page)). s.groups ++ l) (n.are ∙ ap (λ (g : List Page). g ∷ n.others) same.0) ∙ sym (append_assoc s.groups (group ∷ []) n.others)),
               subst (λ (l : List ℕ). SpellsGroups limits l n.others) same.1 n.spells,
             );
       })

@@ -1,5 +1,5 @@
 -- From what was read to a log that keeps it.
-use Rattle.std.proofs.Common.{◌≡◌, ℕ, ◌+◌, ◌-◌, ◌≤◌, List, [], ◌∷◌, ◌++◌, length, take, drop, get_or, false, sym, ◌∙◌, ap, subst, arith, append_assoc, length-append, length-drop, length-take-le}
+use Rattle.std.proofs.Common.{◌≡◌, ℕ, ◌+◌, ◌-◌, ◌≤◌, List, [], ◌∷◌, ◌++◌, length, take, drop, get_or, Bool, IsTrue, false, sym, ◌∙◌, ap, subst, arith, append_assoc, length-append, length-drop, length-take-le}
 use Rattle.std.proofs.Math.Seq.{drop-length}
 use Rattle.std.proofs.lemmas.List.{get_or-drop, get_or-take, get_or_append_left}
 use Rattle.std.specs.Prelude.{slice_range}
@@ -10,8 +10,9 @@ use Rattle.page_codec.specs.declared.page.Page.{Page}
 use Rattle.redo_log.specs.Images.{images_of}
 use Rattle.redo_log.specs.Groups.{IsImage, AreImages, AreGroups, spelled, SpellsGroups, log_range}
 use Rattle.redo_log.specs.Kept.{IsSettled, waiting_blocks}
-use Rattle.redo_log.specs.Reading.{AreAllImages, Replays}
+use Rattle.redo_log.specs.Reading.{AreAllImages, AreAllNoted, Replays, IsReplay, bytes_at}
 use Rattle.redo_log.specs.declared.log.Log.{Log}
+use Rattle.redo_log.specs.declared.log.Replayed.{Replayed}
 use Rattle.redo_log.proofs.ImageLists.{same_eq, all-append}
 use Rattle.redo_log.proofs.Laying.{none_laid}
 use Rattle.redo_log.proofs.Forcing.{whole_list}
@@ -76,3 +77,17 @@ replayed limits m log bytes images at are fits r limits_are at_is idle alive =
 pub images_good : (limits : Limits) (groups : List (List Page)) → AreGroups limits groups → AreImages limits (images_of groups)
 images_good limits [] good = tt
 images_good limits (group ∷ groups) good = all-append (IsImage limits) group (images_of groups) good.0.images (images_good limits groups good.1)
+
+-- what was noted of the bytes that were read is what a replay finds
+pub replay_found : (limits : Limits) (honest : Bool) (m : Moment) (found : Replayed) (log lasts : List ℕ) (end : ℕ) → AreAllNoted limits log lasts end → log ≡ found.log.buffer.items → lasts ≡ found.lasts.items → (IsTrue honest → log ≡ log_range limits m.seen) → 4096 + limits.log_bytes ≤ length m.seen
+    → found.log.limits ≡ limits → found.log.at ≡ end → waiting_blocks found.log ≡ [] → found.log.stopped ≡ false → IsReplay limits honest m found
+replay_found limits honest m found log lasts end n log_is lasts_are read fits limits_are at_is idle alive = record {
+  images = n.images;
+  good = subst (AreImages limits) (sym n.all.images_are) (images_good limits n.all.groups n.all.spells.good);
+  lasts = record {
+    each = λ block.
+        ap (λ (l : List ℕ). bytes_at l (get_or found.lasts.items block 0)) (sym log_is)
+        ∙ (ap (λ (l : List ℕ). bytes_at log (get_or l block 0)) (sym lasts_are) ∙ n.noted.each block);
+  };
+  replays = λ h. replayed limits m found.log log n.images end (read h) fits n.all limits_are at_is idle alive;
+}

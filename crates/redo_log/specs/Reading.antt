@@ -1,33 +1,51 @@
 -- What reading a log finds.
-use Rattle.std.specs.Prelude.{◌≡◌, ◌⊎◌, ℕ, suc, Result, MatchResult, ◌+◌, ◌*◌, ◌<◌, ◌≤◌, false, List, ◌++◌, length, drop}
+use Rattle.std.specs.Prelude.{◌≡◌, ◌⊎◌, ℕ, suc, Result, MatchResult, ◌+◌, ◌*◌, ◌<◌, ◌≤◌, ◌==◌, if◌then◌else◌, Bool, IsTrue, false, Option, Some, None, List, ◌++◌, length, take, drop, get_or, slice_range}
+use Rattle.std.specs.Option.{option_map}
 use Rattle.device.specs.Disk.{Moment}
 use Rattle.device_layout.specs.Layout.{log_start}
 use Rattle.index_model.specs.declared.fault.Fault.{Fault}
 use Rattle.index_model.specs.declared.fault.Fault.TheVariants.{Io, NoMemory, LogDamaged}
 use Rattle.index_model.specs.declared.limits.Limits.{Limits}
 use Rattle.page_codec.specs.declared.page.Page.{Page}
-use Rattle.redo_log.specs.Images.{images_bytes, images_of}
+use Rattle.page_codec.specs.Spelling.{page_bytes}
+use Rattle.redo_log.specs.Images.{images_bytes, images_of, last_image}
 use Rattle.redo_log.specs.Groups.{AreImages, IsGroup, body, spelled, SpellsGroups, log_range}
 use Rattle.redo_log.specs.Kept.{Keeps, limits_of, actions_of, waiting_count, is_stopped}
 use Rattle.redo_log.specs.declared.log.Log.{Log}
+use Rattle.redo_log.specs.declared.log.Replayed.{Replayed}
 
--- the images that these bytes are were added
-pub record AddsImages (limits : Limits) (bytes : List ℕ) (old new : List Page) : Type 0 where
+-- the bytes at a place that was noted, and none at 0
+abbrev pub bytes_at : List ℕ → ℕ → Option (List ℕ)
+bytes_at log at = if at == 0 then None else Some (slice_range log at (at + 4096))
+
+-- of each block the bytes of the last of these images are noted, and none where there is no image
+-- of it
+pub record AreNoted (limits : Limits) (log : List ℕ) (images : List Page) (lasts : List ℕ)
+    : Type 0 where
+  pub many : length lasts ≡ limits.pages
+  pub inside : (block : ℕ) → get_or lasts block 0 + 4096 ≤ length log
+  pub each : (block : ℕ)
+      → bytes_at log (get_or lasts block 0) ≡ option_map page_bytes (last_image images block)
+
+-- so many images stand there, and were noted behind any others
+pub record NotesImages (limits : Limits) (log : List ℕ) (at count : ℕ) (old new : List ℕ)
+    : Type 0 where
   pub images : List Page
   pub good : AreImages limits images
-  pub is : bytes ≡ images_bytes images
-  pub added : new ≡ old ++ images
+  pub is : take (4096 * count) (drop at log) ≡ images_bytes images
+  pub noted : (before : List Page) → AreNoted limits log before old
+      → AreNoted limits log (before ++ images) new
 
--- the images of the group of so many that these bytes begin with were added, and something stands
--- behind it
-pub record AddsGroup (limits : Limits) (bytes : List ℕ) (count : ℕ) (old new : List Page)
+-- a group of so many images stands there, with something behind it, and they were noted so
+pub record NotesGroup (limits : Limits) (log : List ℕ) (at count : ℕ) (old new : List ℕ)
     : Type 0 where
   pub group : List Page
   pub good : IsGroup limits group
   pub counted : count ≡ length group
-  pub is : bytes ≡ body group ++ drop (4 + 4096 * count) bytes
-  pub more : 0 < length (drop (4 + 4096 * count) bytes)
-  pub added : new ≡ old ++ group
+  pub is : drop at log ≡ body group ++ drop (4 + 4096 * count) (drop at log)
+  pub more : 0 < length (drop (4 + 4096 * count) (drop at log))
+  pub noted : (before : List Page) → AreNoted limits log before old
+      → AreNoted limits log (before ++ group) new
 
 -- these are all images that the bytes stand for, and the open groups end there
 pub record AreAllImages (limits : Limits) (bytes : List ℕ) (images : List Page) (end : ℕ)
@@ -39,6 +57,12 @@ pub record AreAllImages (limits : Limits) (bytes : List ℕ) (images : List Page
   pub within : end + 1 ≤ length bytes
   -- the bytes are no other groups
   pub only : (others : List (List Page)) → SpellsGroups limits bytes others → others ≡ groups
+
+-- all images that the bytes stand for were noted, and the open groups end there
+pub record AreAllNoted (limits : Limits) (bytes lasts : List ℕ) (end : ℕ) : Type 0 where
+  pub images : List Page
+  pub all : AreAllImages limits bytes images end
+  pub noted : AreNoted limits bytes images lasts
 
 -- no crash changes the log's range
 pub record IsFirm (limits : Limits) (m : Moment) : Type 0 where
@@ -53,6 +77,25 @@ pub record Replays (limits : Limits) (m : Moment) (log : Log) (images : List Pag
   pub only : (others : List (List Page)) → SpellsGroups limits (log_range limits m.seen) others
       → others ≡ groups
   pub keeps : IsFirm limits m → Keeps log m groups (length groups)
+
+-- the bytes that a replay kept of the block, if it has an image
+abbrev pub kept_image : Replayed → ℕ → Option (List ℕ)
+kept_image found block = bytes_at found.log.buffer.items (get_or found.lasts.items block 0)
+
+-- it kept of each block the bytes of the last of these images, and none where there is no image of
+-- it
+pub record KeepsLast (found : Replayed) (images : List Page) : Type 0 where
+  pub each : (block : ℕ)
+      → kept_image found block ≡ option_map page_bytes (last_image images block)
+
+-- what a replay kept are the last ones of these images, whatever the device answered; and an honest
+-- device has them
+pub record IsReplay (limits : Limits) (honest : Bool) (m : Moment) (found : Replayed)
+    : Type 0 where
+  pub images : List Page
+  pub good : AreImages limits images
+  pub lasts : KeepsLast found images
+  pub replays : IsTrue honest → Replays limits m found.log images
 
 -- a log as it is opened: nothing waits, and no action was appended
 pub record IsOpened (limits : Limits) (log : Log) : Type 0 where

@@ -1,6 +1,6 @@
 //! The log.
 
-ghost use Rattle.std.specs.Prelude.{◌⊎◌, ◌≡◌, ◌≤◌, ◌<◌, ◌+◌, ◌*◌, ◌/◌, ◌^◌, ℕ, suc, true, Err, IsTrue, IsErrOf, OnOk, OnErr, IfOk, IfErr, is_err, length, vec_capacity};
+ghost use Rattle.std.specs.Prelude.{◌⊎◌, ◌≡◌, ◌≤◌, ◌<◌, ◌+◌, ◌*◌, ◌/◌, ◌^◌, ℕ, suc, true, Err, IsTrue, IsErrOf, OnOk, OnErr, IfOk, IfErr, is_err, length, slice_index, vec_capacity};
 ghost use Rattle.std.specs.Bool.{OnTrue, OnFalse};
 ghost use Rattle.index_model.specs.Limits.{AreLimits};
 ghost use Rattle.device_layout.specs.Layout.{log_end};
@@ -9,7 +9,7 @@ ghost use Rattle.redo_log.specs.Blocks.{with_blocks, new_count};
 
 use crate::lay::{lay_images, seal};
 use crate::publish::{publish, shut};
-use crate::reading::read_groups;
+use crate::reading::note_groups;
 use crate::waiting::Waiting;
 use device::Device;
 use device_layout::LOG_START;
@@ -43,7 +43,7 @@ pub struct Log {
 impl Log {
     ghost use Rattle.redo_log.specs.Kept.{limits_of, is_stopped, actions_of, waiting_count, waiting_blocks, groups_end, end_with, ImagesFit, TakesNoMore};
     ghost use Rattle.redo_log.specs.Kept.{AddsAction, ForcesAll, ForgetsForced, RestartsThroughout, RestartsOrEmptyThroughout, SameLog, ChangesItsRange, KeepsWhileUntouched, WhatItKeepsRestarts, IoOrStopped};
-    ghost use Rattle.redo_log.specs.Reading.{Replays, IsOpened, IsDamaged, ReplayFails};
+    ghost use Rattle.redo_log.specs.Reading.{IsReplay, IsOpened, IsDamaged, ReplayFails};
 
     /// The sizes that it was opened with.
     pub fn limits(&self) -> Limits
@@ -218,8 +218,8 @@ impl Log {
         Ok(())
     }
 
-    /// Opens the log that lies on a device, and gives the images of its open groups, in order. It
-    /// reads the log's range once.
+    /// Opens the log that lies on a device, and keeps of each block the bytes of its last image in the
+    /// open groups. It reads the log's range once, and judges each image once.
     ///
     /// Refused: where the device fails (`Io`), where memory is refused (`NoMemory`), and with
     /// `LogDamaged` exactly where an open group is none.
@@ -231,13 +231,11 @@ impl Log {
         requires limits { AreLimits limits }
         requires range { log_end limits ≤ length (D.trace device.old).now.seen }
 
-        ensures ok { IfOk result (λ r. IsTrue (D.is_honest device.new)
-            → Replays limits (D.trace device.old).now r.log r.images.items) }
+        ensures ok { IfOk result
+            (IsReplay limits (D.is_honest device.new) (D.trace device.old).now) }
         ensures damaged { IsErrOf result Fault.LogDamaged → IsTrue (D.is_honest device.new)
             → IsDamaged limits (D.trace device.old).now }
         ensures opened { IfOk result (λ r. IsOpened limits r.log) }
-        // Whatever the device answered, these are images.
-        ensures images { IfOk result (λ r. AreImages limits r.images.items) }
 
         ensures trace { D.trace device.new ≡ D.trace device.old }
         ensures honest { IsTrue (D.is_honest device.new) → IsTrue (D.is_honest device.old) }
@@ -249,30 +247,54 @@ impl Log {
         let Ok(waiting) = Waiting::new(alloc, limits.pages, limits.log_bytes / 4096) else {
             return Err(Fault::NoMemory);
         };
+        let Ok(mut lasts) = vec![in alloc; 0u32; limits.pages as usize] else {
+            return Err(Fault::NoMemory);
+        };
         let Ok(()) = device.read_at(LOG_START, &mut buffer) else {
             return Err(Fault::Io);
         };
-        match read_groups(alloc, &limits, &buffer) {
-            Ok((images, at)) => Ok(Replayed {
-                log: Log {
-                    limits,
-                    at,
-                    actions: 0,
-                    stopped: false,
-                    waiting,
-                    buffer,
-                },
-                images,
-            }),
-            Err(fault) => Err(fault),
-        }
+        let Some(at) = note_groups(&limits, &mut lasts, &buffer) else {
+            return Err(Fault::LogDamaged);
+        };
+        Ok(Replayed {
+            log: Log {
+                limits,
+                at,
+                actions: 0,
+                stopped: false,
+                waiting,
+                buffer,
+            },
+            lasts,
+        })
     }
 }
 
-/// A log as it was found.
+/// A log as it was found, with the last image of each block in its open groups.
 #[derive(Drop)]
 pub struct Replayed {
+    /// Its buffer has the bytes that were read: nothing waits in it as yet.
     pub log: Log,
-    /// The images of its open groups, in order.
-    pub images: Vec<Page>,
+    /// For each block where its last image lies in these bytes, 0 for a block without one.
+    lasts: Vec<u32>,
+    ghost inside: { (k : ℕ) → k < length lasts.items
+        → slice_index lasts.items k + 4096 ≤ length log.buffer.items },
+}
+
+impl Replayed {
+    ghost use Rattle.std.specs.Prelude.{IfSome};
+    ghost use Rattle.std.specs.Option.{option_map};
+    ghost use Rattle.redo_log.specs.Reading.{kept_image};
+
+    /// The 4,096 bytes of the block's last image, if an open group has one.
+    pub fn image(&self, block: u32) -> Option<&[u8]>
+        ensures kept { option_map (λ bytes. bytes.now) result ≡ kept_image self.now block }
+        ensures len { IfSome result (λ bytes. length bytes.now ≡ 4096) }
+    {
+        let at = *self.lasts.get(block as usize)? as usize;
+        if at == 0 {
+            return None;
+        }
+        Some(&self.log.buffer[at..at + 4096])
+    }
 }

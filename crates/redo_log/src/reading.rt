@@ -1,17 +1,17 @@
 //! Groups are read from bytes.
 
-ghost use Rattle.std.specs.Prelude.{◌≡◌, ◌⊎◌, ℕ, ◌+◌, ◌*◌, ◌<◌, ◌≤◌, List, ◌∷◌, ◌++◌, length, take, drop, IsErrOf, IsTrue, Some, ◌↔◌, IfSome, OnOk, IfOk, IfErr};
+ghost use Rattle.std.specs.Prelude.{◌≡◌, ℕ, ◌+◌, ◌*◌, ◌<◌, ◌≤◌, List, ◌∷◌, ◌++◌, length, take, drop, replicate, slice_range, Some, IfSome, IsNone};
+ghost use Rattle.std.specs.Bool.{OnTrue, OnFalse};
 ghost use Rattle.page_codec.specs.declared.page.Page.{Page};
 ghost use Rattle.page_codec.specs.Spelling.{page_bytes};
 ghost use Rattle.page_codec.specs.Grammar.{IsPage};
 ghost use Rattle.redo_log.specs.Images.{images_bytes};
 ghost use Rattle.redo_log.specs.Groups.{IsImage, AreImages, IsGroup, body, SpellsGroups};
-ghost use Rattle.redo_log.specs.Reading.{AddsImages, AddsGroup, AreAllImages};
+ghost use Rattle.redo_log.specs.Reading.{NotesImages, NotesGroup, AreAllNoted};
 
 use crate::image::is_within;
-use index_model::{Fault, Limits};
+use index_model::Limits;
 use page_codec::{Page, decode};
-use std::alloc::Global;
 
 /// The page of these bytes, if they are those of a page.
 fn page_of(bytes: &[u8]) -> Option<Page>
@@ -22,99 +22,98 @@ fn page_of(bytes: &[u8]) -> Option<Page>
     decode(bytes.as_array()?)
 }
 
-/// The image of these bytes, if an index of these limits may have it.
-fn image_of(limits: &Limits, bytes: &[u8]) -> Option<Page>
+/// The block of the image of these bytes, if an index of these limits may have it.
+fn block_of(limits: &Limits, bytes: &[u8]) -> Option<u32>
     requires { length bytes.now ≡ 4096 }
-    ensures found { IfSome result (λ p. IsImage limits.now p × (bytes.now ≡ page_bytes p)) }
-    ensures only { (p : Page) → IsImage limits.now p → bytes.now ≡ page_bytes p → result ≡ Some p }
+    ensures found { IfSome result (λ b.
+        (p : Page) × IsImage limits.now p × (bytes.now ≡ page_bytes p) × (p.block ≡ b)) }
+    ensures only { (p : Page) → IsImage limits.now p → bytes.now ≡ page_bytes p
+        → result ≡ Some p.block }
 {
     let page = page_of(bytes)?;
     if !is_within(limits, &page) {
         return None;
     }
-    Some(page)
+    Some(page.block)
 }
 
-/// The bytes up to there.
-fn front(bytes: &[u8], len: usize) -> &[u8]
-    requires { len ≤ length bytes.now }
-    ensures value { result.now ≡ take len bytes.now }
-    ensures len { length result.now ≡ len }
+/// The 4,096 bytes that stand there.
+fn piece(log: &[u8], at: usize) -> &[u8]
+    requires { at + 4096 ≤ length log.now }
+    ensures value { result.now ≡ slice_range log.now at (at + 4096) }
+    ensures len { length result.now ≡ 4096 }
 {
-    &bytes[..len]
+    &log[at..at + 4096]
 }
 
 /// The bytes from there on.
-fn tail(bytes: &[u8], at: usize) -> &[u8]
-    requires { at ≤ length bytes.now }
-    ensures value { result.now ≡ drop at bytes.now }
-    ensures len { length result.now + at ≡ length bytes.now }
+fn tail(log: &[u8], at: usize) -> &[u8]
+    requires { at ≤ length log.now }
+    ensures value { result.now ≡ drop at log.now }
+    ensures len { length result.now + at ≡ length log.now }
 {
-    &bytes[at..]
+    &log[at..]
 }
 
-/// Adds the images of these bytes. Others than images are refused with `LogDamaged`.
-fn read_images(limits: &Limits, images: &mut Vec<Page>, bytes: &[u8]) -> Result<(), Fault>
-    requires { (n : ℕ) × (length bytes.now ≡ 4096 * n) }
-    ensures ok { OnOk result (AddsImages limits.now bytes.now images.old.items images.new.items) }
-    ensures damaged { IsErrOf result Fault.LogDamaged
-        → (ps : List Page) → AreImages limits.now ps → bytes.now ≡ images_bytes ps → ⊥ }
-    ensures fault { IfErr result (λ e. (e ≡ Fault.NoMemory) ⊎ (e ≡ Fault.LogDamaged)) }
+/// Whether so many images stand there. Each is judged once, and its place is noted as that of the
+/// last one of its block.
+fn note_images(limits: &Limits, lasts: &mut [u32], log: &[u8], at: usize, count: usize) -> bool
+    requires small { length log.now ≤ 16777216 }
+    requires many { length lasts.old ≡ limits.now.pages }
+    requires behind { 0 < at }
+    requires inside { at + 4096 * count ≤ length log.now }
+    ensures noted { OnTrue result
+        (NotesImages limits.now log.now at count lasts.old lasts.new) }
+    ensures wrong { OnFalse result ((ps : List Page) → AreImages limits.now ps
+        → take (4096 * count) (drop at log.now) ≡ images_bytes ps → ⊥) }
+    ensures len { length lasts.new ≡ length lasts.old }
 {
-    let mut rest = bytes;
-    while !rest.is_empty() {
-        let Some(image) = image_of(limits, front(rest, 4096)) else {
-            return Err(Fault::LogDamaged);
+    for k in 0..count {
+        let place = at + 4096 * k;
+        let Some(block) = block_of(limits, piece(log, place)) else {
+            return false;
         };
-        let Ok(()) = images.push(image) else {
-            return Err(Fault::NoMemory);
-        };
-        rest = tail(rest, 4096);
+        lasts[block as usize] = place as u32;
     }
-    Ok(())
+    true
 }
 
-/// Adds the images of the group that stands behind a gate, and answers how many they are. Bytes that
-/// are no group, or behind whose group nothing stands, are refused with `LogDamaged`.
-fn read_group(limits: &Limits, images: &mut Vec<Page>, behind: &[u8]) -> Result<usize, Fault>
-    ensures ok { IfOk result (λ n.
-        AddsGroup limits.now behind.now n images.old.items images.new.items) }
-    ensures damaged { IsErrOf result Fault.LogDamaged → (group : List Page) (rest : List ℕ)
-        → IsGroup limits.now group → 0 < length rest → behind.now ≡ body group ++ rest → ⊥ }
-    ensures fault { IfErr result (λ e. (e ≡ Fault.NoMemory) ⊎ (e ≡ Fault.LogDamaged)) }
+/// Notes the images of the group that stands there, behind its gate, and answers how many they are.
+/// None: the bytes are no group, or nothing stands behind it.
+fn note_group(limits: &Limits, lasts: &mut [u32], log: &[u8], at: usize) -> Option<usize>
+    requires small { length log.now ≤ 16777216 }
+    requires many { length lasts.old ≡ limits.now.pages }
+    requires inside { at ≤ length log.now }
+    ensures noted { IfSome result (λ count.
+        NotesGroup limits.now log.now at count lasts.old lasts.new) }
+    ensures wrong { IsNone result → (group : List Page) (rest : List ℕ)
+        → IsGroup limits.now group → 0 < length rest → drop at log.now ≡ body group ++ rest → ⊥ }
+    ensures len { length lasts.new ≡ length lasts.old }
 {
-    let Some((number, bodies)) = behind.split_first_chunk() else {
-        return Err(Fault::LogDamaged);
-    };
+    let (number, bodies) = tail(log, at).split_first_chunk()?;
     let count = u32::from_le_bytes(*number) as usize;
     if count == 0 || bodies.len() <= 4096 * count {
-        return Err(Fault::LogDamaged);
+        return None;
     }
-    match read_images(limits, images, front(bodies, 4096 * count)) {
-        Ok(()) => Ok(count),
-        Err(fault) => Err(fault),
+    if !note_images(limits, lasts, log, at + 4, count) {
+        return None;
     }
+    Some(count)
 }
 
-/// The images of the groups up to the first gate that isn't open, and where that gate stands.
-pub(crate) fn read_groups(
-    alloc: Global,
-    limits: &Limits,
-    bytes: &[u8],
-) -> Result<(Vec<Page>, usize), Fault>
-    requires { 0 < length bytes.now }
-    ensures ok { IfOk result (λ r. AreAllImages limits.now bytes.now r.0.items r.1) }
-    ensures damaged { IsErrOf result Fault.LogDamaged
-        → (groups : List (List Page)) → SpellsGroups limits.now bytes.now groups → ⊥ }
-    ensures fault { IfErr result (λ e. (e ≡ Fault.NoMemory) ⊎ (e ≡ Fault.LogDamaged)) }
+/// Notes the images of the groups up to the first gate that isn't open, and answers where that gate
+/// stands. None: an open group is none.
+pub(crate) fn note_groups(limits: &Limits, lasts: &mut [u32], log: &[u8]) -> Option<usize>
+    requires small { length log.now ≤ 16777216 }
+    requires some { 4096 ≤ length log.now }
+    requires fresh { lasts.old ≡ replicate limits.now.pages 0 }
+    ensures noted { IfSome result (λ end. AreAllNoted limits.now log.now lasts.new end) }
+    ensures damaged { IsNone result
+        → (groups : List (List Page)) → SpellsGroups limits.now log.now groups → ⊥ }
 {
-    let mut images = Vec::new(alloc);
-    let mut rest = bytes;
-    while rest[0] == 1 {
-        match read_group(limits, &mut images, tail(rest, 1)) {
-            Ok(count) => rest = tail(rest, 5 + 4096 * count),
-            Err(fault) => return Err(fault),
-        }
+    let mut at = 0;
+    while log[at] == 1 {
+        at += 5 + 4096 * note_group(limits, lasts, log, at + 1)?;
     }
-    Ok((images, bytes.len() - rest.len()))
+    Some(at)
 }

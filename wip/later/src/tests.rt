@@ -91,13 +91,19 @@ fn cycle_at(device: &mut MemDevice, block: u32) -> u32 {
     }
 }
 
-/// The cycles of the images that the log has.
-fn logged(alloc: Global, device: &mut MemDevice) -> Result<Vec<Page>, Fault> {
+/// The blocks of which the log has an image.
+fn logged(alloc: Global, device: &mut MemDevice) -> Result<Vec<u32>, Fault> {
     if device.len() != LEN || !LIMITS.are_valid() {
         return Err(Fault::DeviceTooSmall);
     }
     let found = Log::replay(alloc, device, LIMITS)?;
-    Ok(found.images)
+    let mut blocks = Vec::new(alloc);
+    for block in 0..LIMITS.pages {
+        if found.image(block).is_some() && blocks.push(block).is_err() {
+            return Err(Fault::NoMemory);
+        }
+    }
+    Ok(blocks)
 }
 
 #[test]

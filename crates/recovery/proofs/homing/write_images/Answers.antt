@@ -1,45 +1,53 @@
-use Rattle.std.proofs.Common.{◌≡◌, ◌∙◌, List, take, subst}
-use Rattle.std.proofs.lemmas.List.{take_all}
+use Rattle.std.proofs.Common.{◌≡◌, ◌∙◌, ◌+◌, length, sym, subst}
 use Rattle.device.specs.Moments.{Goes}
 use Rattle.device.proofs.Going.{goes_on, goes_now}
-use Rattle.page_codec.specs.declared.page.Page.{Page}
-use Rattle.recovery.specs.Homing.{ChangesNamed, HasImages}
-use Rattle.recovery.proofs.Creating.{only_now}
-use Rattle.recovery.proofs.Named.{named_goes, image_at, more_images}
+use Rattle.recovery.specs.Homing.{ChangesNamed}
+use Rattle.recovery.proofs.Named.{HomedBelow, named_goes, one_homed, none_homed}
 use Rattle.recovery.proofs.homing.write_images.Given.{Over}
-use Rattle.recovery.proofs.homing.write_images.Goals.{After-place_page}
+use Rattle.recovery.proofs.homing.write_images.Goals.{Joined-image, in-Some+in_ok-place, in_default}
 use Rattle.recovery.proofs.homing.write_images.Goals as goal
 
-pub place_page-requires-clause-below : goal.place_page-requires-clause-below
-place_page-requires-clause-below g c = (image_at c.args.limits c.args.images.now c.loop-image.image-index c.image-item.result c.requires.images c.loop-image-test.true c.image-item.is).within.block
+pub returns-in_err-place-clause-moments : goal.returns-in_err-place-clause-moments
+returns-in_err-place-clause-moments g c =
+    goes_on _ _ _ _ c.loop-block.invariant.moments
+    (named_goes c.args.limits c.args.found.now c.loop-block.block _ c.in-Some.bytes.now (g.D.Device.trace c.loop-block.device) _ c.in-Some.ensures.kept c.in-Some.ensures.len c.page_place.ensures c.place.ensures.moments _ c.loop-block-test.true c.loop-block.invariant.now)
 
--- one image more is written
-image_goes : (g : Over) (c : After-place_page g)
-    → Goes (ChangesNamed c.args.limits c.args.images.now (g.D.Device.trace c.args.device.now).now) (g.D.Device.trace c.loop-image.device) (g.D.Device.trace c.place_page.new.device)
-image_goes g c =
-    named_goes c.args.limits c.args.images.now c.loop-image.image-index c.image-item.result _ (g.D.Device.trace c.loop-image.device) _ c.requires.images c.loop-image-test.true c.image-item.is c.loop-image.invariant.now
-    c.place_page.ensures.moments
-
-pub returns-in_err-place_page-clause-moments : goal.returns-in_err-place_page-clause-moments
-returns-in_err-place_page-clause-moments g c =
-    goes_on _ _ _ _ c.loop-image.invariant.moments (image_goes g (goal.at.returns-in_err-place_page-clause-moments g c).After-place_page)
-
-pub loop-image-preserved : goal.loop-image-preserved
-loop-image-preserved g c =
-    let i = c.loop-image.invariant in
-    let before = g.D.Device.trace c.loop-image.device in
-    let after = g.D.Device.trace c.place_page.new.device in
-    let on = image_goes g (goal.at.loop-image-preserved g c).After-place_page in
+-- what was written up to a block, where the device stands so
+abbrev Written : (g : Over) → Joined-image g → g.row.D.Denot → Type 0
+Written g c device =
+    let trace = g.D.Device.trace in
     record {
-      moments = goes_on _ _ before after i.moments on;
-      now = goes_now _ before after on i.now;
-      written = more_images c.args.limits c.args.images.now c.loop-image.image-index c.image-item.result before.now after.now c.loop-image-test.true c.image-item.is (only_now _ 4096 before after c.place_page.ensures.moments) c.in_ok-place_page.ensures.there c.requires.images i.written;
-      len = c.place_page.ensures.calls.len ∙ i.len;
-      honest = c.place_page.ensures.calls.honest ∙ i.honest;
-      failures = c.in_ok-place_page.ensures.calls.failures ∙ i.failures;
+      moments : Goes (ChangesNamed c.args.limits c.args.found.now (trace c.args.device.now).now) (trace c.args.device.now) (trace device);
+      now : ChangesNamed c.args.limits c.args.found.now (trace c.args.device.now).now (trace device).now;
+      written : HomedBelow c.args.limits c.args.found.now (c.loop-block.block + 1) (trace device).now.seen;
+      len : length (trace device).now.seen ≡ length (trace c.args.device.now).now.seen;
+      honest : g.D.Device.is_honest device ≡ g.D.Device.is_honest c.args.device.now;
+      failures : g.D.Device.failures device ≡ g.D.Device.failures c.args.device.now;
     }
 
-pub returns-clause-written : goal.returns-clause-written
-returns-clause-written g c =
-    let all : take c.loop-image.image-index c.args.images.now ≡ c.args.images.now = take_all c.loop-image.image-index c.args.images.now c.loop-image-test.false in
-    subst (λ (l : List Page). HasImages c.args.limits l (g.D.Device.trace c.loop-image.device).now.seen) all c.loop-image.invariant.written
+pub loop-block-preserved : goal.loop-block-preserved
+loop-block-preserved g c =
+    let i = c.loop-block.invariant in
+    let before = g.D.Device.trace c.loop-block.device in
+    elim c.match-image.branch [
+      | in-Some+in_ok-place w ↦
+          let after = g.D.Device.trace w.place.new.device in
+          let on = named_goes c.args.limits c.args.found.now c.loop-block.block _ w.in-Some.bytes.now before after w.in-Some.ensures.kept w.in-Some.ensures.len w.page_place.ensures w.place.ensures.moments _ c.loop-block-test.true i.now in
+          subst (Written g c) (sym w.device-is) (record {
+            moments = goes_on _ _ before after i.moments on;
+            now = goes_now _ before after on i.now;
+            written = one_homed c.args.limits c.args.found.now c.loop-block.block _ w.in-Some.bytes.now before after w.in-Some.ensures.kept w.in-Some.ensures.len w.page_place.ensures w.place.ensures.moments w.in_ok-place.ensures.there i.written;
+            len = w.place.ensures.calls.len ∙ i.len;
+            honest = w.place.ensures.calls.honest ∙ i.honest;
+            failures = w.in_ok-place.ensures.calls.failures ∙ i.failures;
+          })
+      | in_default w ↦
+          subst (Written g c) (sym w.device-is) (record {
+            moments = i.moments;
+            now = i.now;
+            written = none_homed c.args.limits c.args.found.now c.loop-block.block _ (sym w.in_default.ensures.kept) i.written;
+            len = i.len;
+            honest = i.honest;
+            failures = i.failures;
+          })
+    ]

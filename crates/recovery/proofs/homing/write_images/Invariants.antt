@@ -1,15 +1,16 @@
-use Rattle.std.proofs.Common.{◌≡◌, length, take}
+use Rattle.std.proofs.Common.{◌≡◌, length}
 use Rattle.device.specs.Moments.{Goes}
-use Rattle.recovery.specs.Homing.{ChangesNamed, HasImages}
+use Rattle.recovery.specs.Homing.{ChangesNamed}
+use Rattle.recovery.proofs.Named.{HomedBelow}
 use Rattle.recovery.proofs.homing.write_images.Given as goal
 
-abbrev pub invariant-loop-image : goal.invariant-loop-image
-invariant-loop-image g l =
+abbrev pub invariant-loop-block : goal.invariant-loop-block
+invariant-loop-block g l =
     let trace = g.D.Device.trace in
     record {
-      moments : Goes (ChangesNamed l.limits l.images (trace l.fn.device).now) (trace l.fn.device) (trace l.device);
-      now : ChangesNamed l.limits l.images (trace l.fn.device).now (trace l.device).now;
-      written : HasImages l.limits (take l.image-index l.images) (trace l.device).now.seen;
+      moments : Goes (ChangesNamed l.limits l.found (trace l.fn.device).now) (trace l.fn.device) (trace l.device);
+      now : ChangesNamed l.limits l.found (trace l.fn.device).now (trace l.device).now;
+      written : HomedBelow l.limits l.found l.block (trace l.device).now.seen;
       len : length (trace l.device).now.seen ≡ length (trace l.fn.device).now.seen;
       honest : g.D.Device.is_honest l.device ≡ g.D.Device.is_honest l.fn.device;
       failures : g.D.Device.failures l.device ≡ g.D.Device.failures l.fn.device;

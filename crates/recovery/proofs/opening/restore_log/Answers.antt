@@ -21,7 +21,7 @@ returns-in-Err-clause-damaged g c = λ is. (c.replay.ensures.trace, λ honest. c
 
 -- an index whose log was replayed
 abbrev Index : (g : Over) → After-bring_home g → List Page → Type 0
-Index g c pages = IsReplayed c.args.limits c.in-Ok.found.images.items pages c.in-Ok.found.log (g.D.Device.trace c.args.device.now)
+Index g c pages = IsReplayed c.args.limits c.in-Ok.ensures.ok.images pages c.in-Ok.found (g.D.Device.trace c.args.device.now)
 
 index : (g : Over) (c : After-bring_home g) → IsTrue (g.D.Device.is_honest c.bring_home.new.device) → IsSynced (g.D.Device.trace c.args.device.now).now
     → (pages : List Page) → RestartsTo c.args.limits (g.D.Device.trace c.args.device.now).now.seen pages → Index g c pages
@@ -29,16 +29,17 @@ index g c honest firm pages restarts = record {
   firm = firm;
   restarts = restarts;
   opened = c.in-Ok.ensures.opened;
-  replays = c.in-Ok.ensures.ok (subst IsTrue c.bring_home.ensures.calls.honest honest);
+  lasts = c.in-Ok.ensures.ok.lasts;
+  replays = c.in-Ok.ensures.ok.replays (subst IsTrue c.bring_home.ensures.calls.honest honest);
   law = c.keeping_law.ensures.keeps;
   leaves = c.keeping_law.ensures.restarts;
 }
 
 -- while its images are brought home only places of their blocks change
 named : (g : Over) (c : After-bring_home g)
-    → Goes (ChangesNamed c.args.limits c.in-Ok.found.images.items (g.D.Device.trace c.args.device.now).now) (g.D.Device.trace c.args.device.now) (g.D.Device.trace c.bring_home.new.device)
+    → Goes (ChangesNamed c.args.limits c.in-Ok.found (g.D.Device.trace c.args.device.now).now) (g.D.Device.trace c.args.device.now) (g.D.Device.trace c.bring_home.new.device)
 named g c =
-    named_from c.args.limits c.in-Ok.found.images.items c.deref.result.now _ (g.D.Device.trace c.replay.new.device) _ c.replay.ensures.trace c.deref.ensures.value c.bring_home.ensures.moments
+    named_from c.args.limits c.in-Ok.found _ (g.D.Device.trace c.replay.new.device) _ c.replay.ensures.trace c.bring_home.ensures.moments
 
 -- so a crash leaves the index
 home_leaves : (g : Over) (c : After-bring_home g) (pages : List Page) → Index g c pages → Goes (LeavesPages c.args.limits pages) (g.D.Device.trace c.args.device.now) (g.D.Device.trace c.bring_home.new.device)
@@ -63,8 +64,8 @@ module _ (g : Over) (c : After-reset g) where
       → (pages : List Page) → RestartsTo c.args.limits (g.D.Device.trace c.args.device.now).now.seen pages → Index g found pages
   reset_index honest = index g found (subst IsTrue c.reset.ensures.honest honest)
 
-  homed : AreHomed c.args.limits c.in-Ok.found.images.items (g.D.Device.trace c.bring_home.new.device).now
-  homed = subst (λ (l : List Page). AreHomed c.args.limits l (g.D.Device.trace c.bring_home.new.device).now) c.deref.ensures.value c.in_ok-bring_home.ensures.home
+  homed : AreHomed c.args.limits c.in-Ok.found (g.D.Device.trace c.bring_home.new.device).now
+  homed = c.in_ok-bring_home.ensures.home
 
   reset_leaves : (pages : List Page) → Index g found pages → Goes (LeavesPages c.args.limits pages) (g.D.Device.trace c.args.device.now) (g.D.Device.trace c.reset.new.device)
   reset_leaves pages r =
@@ -87,4 +88,4 @@ returns-clause-same g c = λ honest firm pages restarts.
     c.reset.ensures.moments c.reset.ensures.outside c.reset.new.self c.reset.ensures.same.limits c.reset.ensures.waiting c.in_ok-reset.ensures.keeps
 
 pub returns-clause-undamaged : goal.returns-clause-undamaged
-returns-clause-undamaged g c = λ honest. (let found = c.in-Ok.ensures.ok (subst IsTrue (c.reset.ensures.honest ∙ c.bring_home.ensures.calls.honest) honest) in (found.groups, found.spells))
+returns-clause-undamaged g c = λ honest. (let found = c.in-Ok.ensures.ok.replays (subst IsTrue (c.reset.ensures.honest ∙ c.bring_home.ensures.calls.honest) honest) in (found.groups, found.spells))

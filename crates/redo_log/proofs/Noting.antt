@@ -1,0 +1,164 @@
+-- Of each block the last image is noted.
+use Rattle.std.proofs.Common.{◌≡◌, ◌≢◌, inl, inr, ℕ, zero, suc, ◌+◌, ◌-◌, ◌*◌, ◌<◌, ◌≤◌, Some, List, [], ◌∷◌, ◌++◌, length, take, drop, replicate, get_or, set, slice_range, refl, sym, ◌∙◌, ap, subst, arith, append_assoc, length-drop, length-set, length-take-le}
+use Rattle.std.proofs.lemmas.Bool.{cases_eq, eq-eqb, ne_eqb}
+use Rattle.std.proofs.lemmas.List.{append-nil, drop-drop, drop-take, take-take, get_or-drop, get_or-set_same, get_or-set_other, length-replicate}
+use Rattle.std.specs.Option.{option_map}
+use Rattle.index_model.specs.declared.limits.Limits.{Limits}
+use Rattle.page_codec.specs.declared.page.Page.{Page}
+use Rattle.page_codec.specs.Spelling.{page_bytes}
+use Rattle.redo_log.specs.Images.{last_image, images_bytes}
+use Rattle.redo_log.specs.Groups.{IsImage, AreImages, IsGroup, body, SpellsGroups}
+use Rattle.redo_log.specs.Reading.{bytes_at, AreNoted, NotesImages, NotesGroup, AreAllNoted, AreAllImages}
+use Rattle.redo_log.proofs.ImageLists.{last_image-append}
+use Rattle.redo_log.proofs.Parsing.{ImagesSoFar, images_start, image_read, no_image, images_end, GroupsSoFar, groups_start, group_read, no_group, groups_end}
+
+-- 0 is noted of each block at first
+zeros : (n i : ℕ) → get_or {A = ℕ} (replicate n 0) i 0 ≡ 0
+zeros zero i = refl
+zeros (suc n) zero = refl
+zeros (suc n) (suc i) = zeros n i
+
+pub note_start : (limits : Limits) (log lasts : List ℕ) → lasts ≡ replicate limits.pages 0 → 4096 ≤ length log → AreNoted limits log [] lasts
+note_start limits log lasts is long =
+    let zero_at : (block : ℕ) → get_or lasts block 0 ≡ 0 = λ block. ap (λ (l : List ℕ). get_or l block 0) is ∙ zeros limits.pages block in
+    record {
+      many = ap length is ∙ length-replicate {A = ℕ} limits.pages 0;
+      inside = λ block. omega (arith, zero_at block, long);
+      each = λ block. ap (bytes_at log) (zero_at block);
+    }
+
+-- the last one of a block among these and one more
+more_same : (images : List Page) (p : Page) (block : ℕ) → p.block ≡ block → last_image (images ++ p ∷ []) block ≡ Some p
+more_same images p block same = last_image-append images (p ∷ []) block ∙ rw (eq-eqb p.block block same) refl
+
+more_other : (images : List Page) (p : Page) (block : ℕ) → p.block ≢ block → last_image (images ++ p ∷ []) block ≡ last_image images block
+more_other images p block other = last_image-append images (p ∷ []) block ∙ rw (ne_eqb p.block block other) refl
+
+-- the bytes at a place that isn't 0
+bytes_there : (log bytes : List ℕ) (place : ℕ) → 0 < place → slice_range log place (place + 4096) ≡ bytes → bytes_at log place ≡ Some bytes
+bytes_there log bytes place some is = rw (ne_eqb place 0 (λ (e : place ≡ 0). absurd (omega (arith, e, some)))) (ap Some is)
+
+pub note_more : (limits : Limits) (log : List ℕ) (images : List Page) (lasts : List ℕ) (p : Page) (place : ℕ) → AreNoted limits log images lasts → p.block < limits.pages → 0 < place → place + 4096 ≤ length log → slice_range log place (place + 4096) ≡ page_bytes p
+    → AreNoted limits log (images ++ p ∷ []) (set lasts p.block place)
+note_more limits log images lasts p place noted few some inside is =
+    let here : (block : ℕ) → p.block ≡ block → get_or (set lasts p.block place) block 0 ≡ place =
+    λ block same. subst (λ (b : ℕ). get_or (set lasts p.block place) b 0 ≡ place) same (get_or-set_same lasts p.block place 0 (omega (arith, few, noted.many))) in
+    let there : (block : ℕ) → p.block ≢ block → get_or (set lasts p.block place) block 0 ≡ get_or lasts block 0 =
+    λ block other. get_or-set_other lasts p.block block place 0 (λ e. other (sym e)) in
+    record {
+      many = length-set lasts p.block place ∙ noted.many;
+      inside = λ block. elim (cases_eq p.block block) [
+        | inl same ↦ omega (arith, here block same, inside)
+        | inr other ↦ omega (arith, there block other, noted.inside block)
+      ];
+      each = λ block. elim (cases_eq p.block block) [
+        | inl same ↦ ap (bytes_at log) (here block same) ∙ (bytes_there log (page_bytes p) place some is ∙ sym (ap (option_map page_bytes) (more_same images p block same)))
+        | inr other ↦ ap (bytes_at log) (there block other) ∙ (noted.each block ∙ sym (ap (option_map page_bytes) (more_other images p block other)))
+      ];
+    }
+
+-- so many images were read and noted, of those that stand there
+pub record NotedSoFar (limits : Limits) (log : List ℕ) (at count k : ℕ) (old now : List ℕ) : Type 0 where
+  pub images : List Page
+  pub read : ImagesSoFar limits (take (4096 * count) (drop at log)) (drop (4096 * k) (take (4096 * count) (drop at log))) images
+  pub noted : (before : List Page) → AreNoted limits log before old → AreNoted limits log (before ++ images) now
+  pub many : length now ≡ length old
+
+pub noted_start : (limits : Limits) (log : List ℕ) (at count : ℕ) (old : List ℕ) → NotedSoFar limits log at count 0 old old
+noted_start limits log at count old = record {
+  images = [];
+  read = images_start limits (take (4096 * count) (drop at log));
+  noted = λ before noted. subst (λ (l : List Page). AreNoted limits log l old) (sym (append-nil before)) noted;
+  many = refl;
+}
+
+-- the image that stands behind those
+module _ (limits : Limits) (log : List ℕ) (at count k : ℕ) (old now : List ℕ) (s : NotedSoFar limits log at count k old now) (more : k < count) (inside : at + 4096 * count ≤ length log) where
+  abbrev rest : List ℕ
+  rest = drop (4096 * k) (take (4096 * count) (drop at log))
+
+  some : 0 < length rest
+  some = omega (arith, more, inside, length-drop (4096 * k) (take (4096 * count) (drop at log)), length-take-le (4096 * count) (drop at log) (omega (arith, inside, length-drop at log)))
+
+  next : take 4096 rest ≡ slice_range log (at + 4096 * k) (at + 4096 * k + 4096)
+  next =
+      let few : 4096 * count ≡ 4096 * k + (4096 * count - 4096 * k) = omega (arith, more) in
+      let behind : rest ≡ take (4096 * count - 4096 * k) (drop (4096 * k) (drop at log)) = ap (λ (n : ℕ). drop (4096 * k) (take n (drop at log))) few ∙ drop-take (4096 * k) (4096 * count - 4096 * k) (drop at log) in
+      let size : 4096 ≡ at + 4096 * k + 4096 - (at + 4096 * k) = omega arith in
+      ap (take 4096) behind
+      ∙ (take-take 4096 (4096 * count - 4096 * k) (drop (4096 * k) (drop at log)) (omega (arith, more))
+      ∙ (ap (take 4096) (drop-drop (4096 * k) at log)
+      ∙ ap (λ (n : ℕ). take n (drop (at + 4096 * k) log)) size))
+
+  pub none_there : ((p : Page) → IsImage limits p → slice_range log (at + 4096 * k) (at + 4096 * k + 4096) ≡ page_bytes p → ⊥) → (others : List Page) → AreImages limits others → take (4096 * count) (drop at log) ≡ images_bytes others → ⊥
+  none_there refused = no_image limits _ rest s.images s.read some (λ p good e. refused p good (sym next ∙ e))
+
+  pub noted_more : (p : Page) → IsImage limits p → slice_range log (at + 4096 * k) (at + 4096 * k + 4096) ≡ page_bytes p → 0 < at → NotedSoFar limits log at count (k + 1) old (set now p.block (at + 4096 * k))
+  noted_more p good is behind =
+      let e : drop 4096 rest ≡ drop (4096 * (k + 1)) (take (4096 * count) (drop at log)) =
+      drop-drop 4096 (4096 * k) (take (4096 * count) (drop at log)) ∙ ap (λ (n : ℕ). drop n (take (4096 * count) (drop at log))) (let f : 4096 * k + 4096 ≡ 4096 * (k + 1) = omega arith in f) in
+      record {
+        images = s.images ++ p ∷ [];
+        read = subst (λ (l : List ℕ). ImagesSoFar limits (take (4096 * count) (drop at log)) l (s.images ++ p ∷ [])) e (image_read limits _ rest s.images s.read some p good (next ∙ is));
+        noted = λ before noted.
+            subst (λ (l : List Page). AreNoted limits log l (set now p.block (at + 4096 * k))) (append_assoc before s.images (p ∷ []))
+            (note_more limits log (before ++ s.images) now p (at + 4096 * k) (s.noted before noted) good.within.block (omega (arith, behind)) (omega (arith, more, inside)) is);
+        many = length-set now p.block (at + 4096 * k) ∙ s.many;
+      }
+
+pub noted_end : (limits : Limits) (log : List ℕ) (at count k : ℕ) (old now : List ℕ) → NotedSoFar limits log at count k old now → count ≤ k → at + 4096 * count ≤ length log → NotesImages limits log at count old now
+noted_end limits log at count k old now s all inside = record {
+  images = s.images;
+  good = s.read.good;
+  is = images_end limits _ _ s.images s.read (nothing_left (4096 * k) (take (4096 * count) (drop at log)) (omega (arith, all, inside, length-take-le (4096 * count) (drop at log) (omega (arith, inside, length-drop at log)))));
+  noted = s.noted;
+}
+  where
+    nothing_left : (n : ℕ) (xs : List ℕ) → length xs ≤ n → drop n xs ≡ []
+    nothing_left zero [] le = refl
+    nothing_left zero (x ∷ xs) le = absurd (omega arith)
+    nothing_left (suc n) [] le = refl
+    nothing_left (suc n) (x ∷ xs) le = nothing_left n xs (omega arith)
+
+-- the groups in front of this place were read, and their images noted
+pub record GroupsNoted (limits : Limits) (log : List ℕ) (at : ℕ) (lasts : List ℕ) : Type 0 where
+  pub images : List Page
+  pub read : GroupsSoFar limits log (drop at log) images
+  pub noted : AreNoted limits log images lasts
+
+pub gate_inside : (limits : Limits) (log : List ℕ) (at : ℕ) (lasts : List ℕ) → GroupsNoted limits log at lasts → at < length log
+gate_inside limits log at lasts s = omega (arith, s.read.some, length-drop at log)
+
+pub groups_noted_start : (limits : Limits) (log lasts : List ℕ) → lasts ≡ replicate limits.pages 0 → 4096 ≤ length log → GroupsNoted limits log 0 lasts
+groups_noted_start limits log lasts fresh long = record {
+  images = [];
+  read = groups_start limits log [] refl (omega (arith, long));
+  noted = note_start limits log lasts fresh long;
+}
+
+-- the gate that stands there
+gate_at : (log : List ℕ) (at : ℕ) → get_or (drop at log) 0 0 ≡ get_or log at 0
+gate_at log at = get_or-drop at log 0 0 ∙ ap (λ (n : ℕ). get_or log n 0) (let f : at + 0 ≡ at = omega arith in f)
+
+module _ (limits : Limits) (log : List ℕ) (at : ℕ) (lasts : List ℕ) (s : GroupsNoted limits log at lasts) where
+  pub groups_noted_more : (count : ℕ) (new : List ℕ) → get_or log at 0 ≡ 1 → NotesGroup limits log (at + 1) count lasts new → GroupsNoted limits log (at + (5 + 4096 * count)) new
+  groups_noted_more count new is_open a =
+      let one : drop (at + 1) log ≡ drop 1 (drop at log) = sym (drop-drop 1 at log) in
+      let here = subst (λ (l : List ℕ). l ≡ body a.group ++ drop (4 + 4096 * count) l) one a.is in
+      record {
+        images = s.images ++ a.group;
+        read = subst (λ (l : List ℕ). GroupsSoFar limits log l (s.images ++ a.group)) (drop-drop (5 + 4096 * count) at log)
+            (group_read limits log (drop at log) s.images s.read (gate_at log at ∙ is_open) a.group count a.good here (subst (λ (l : List ℕ). 0 < length (drop (4 + 4096 * count) l)) one a.more));
+        noted = a.noted s.images s.noted;
+      }
+
+  pub no_group_there : get_or log at 0 ≡ 1 → ((group : List Page) (behind : List ℕ) → IsGroup limits group → 0 < length behind → drop (at + 1) log ≡ body group ++ behind → ⊥) → (others : List (List Page)) → SpellsGroups limits log others → ⊥
+  no_group_there is_open refused = no_group limits log (drop at log) s.images s.read (gate_at log at ∙ is_open) (λ group behind good more e. refused group behind good more (sym (drop-drop 1 at log) ∙ e))
+
+  pub all_noted : get_or log at 0 ≢ 1 → AreAllNoted limits log lasts at
+  all_noted shut = record {
+    images = s.images;
+    all = subst (AreAllImages limits log s.images) (let e : length log - length (drop at log) ≡ at = omega (arith, length-drop at log, gate_inside limits log at lasts s) in e)
+        (groups_end limits log (drop at log) s.images s.read (λ e. shut (sym (gate_at log at) ∙ e)));
+    noted = s.noted;
+  }
