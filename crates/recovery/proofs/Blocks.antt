@@ -1,7 +1,7 @@
 -- Pages are read, one block after the other.
-use Rattle.std.proofs.Common.{◌≡◌, ◌≢◌, inl, inr, ℕ, zero, suc, ◌+◌, ◌-◌, ◌<◌, ◌≤◌, max, Bool, IsTrue, Option, Some, None, List, [], ◌∷◌, ◌++◌, length, take, drop, replicate, slice_get, slice_index, Result, Ok, Err, refl, sym, ◌∙◌, ap, subst, arith, length-append}
+use Rattle.std.proofs.Common.{◌≡◌, ◌≢◌, inl, inr, ℕ, zero, suc, ◌+◌, ◌-◌, ◌<◌, ◌≤◌, max, Bool, IsTrue, Option, Some, None, List, [], ◌∷◌, ◌++◌, length, take, drop, replicate, get_or, slice_get, slice_index, Result, Ok, Err, refl, sym, ◌∙◌, ap, subst, arith, length-append}
 use Rattle.std.proofs.lemmas.Bool.{cases_eq}
-use Rattle.std.proofs.lemmas.List.{take_at, length-replicate}
+use Rattle.std.proofs.lemmas.List.{take_at, length-replicate, get_or-take, get_or-drop}
 use Rattle.std.proofs.lemmas.Option.{slice_get_within}
 use Rattle.std.specs.Prelude.{MatchResult, IsErrAnd}
 use Rattle.device.specs.Disk.{Moment}
@@ -17,6 +17,7 @@ use Rattle.page_codec.specs.declared.page.Page.{Page}
 use Rattle.page_store.specs.Rooms.{limits_of_room, pages_of_room, counts_of_room}
 use Rattle.device_layout.specs.Layout.{place}
 use Rattle.page_store.specs.Logged.{AreHome}
+use Rattle.page_store.specs.Writing.{AreSeen}
 use Rattle.page_store.proofs.Restarting.{past_of_none}
 use Rattle.page_store.proofs.Images.{more_same, more_other}
 use Rattle.recovery.specs.Reading.{block_bytes, AreBytesOf, StandFirst, IsEnd, IsDamagedAt, AreInUse, greatest_cycle, HasReadPages}
@@ -95,6 +96,23 @@ block_has limits block bytes file has long =
     let at = place limits block in
     let size : at + 4096 - at ≡ 4096 = omega arith in
     ap (λ (n : ℕ). take n (drop at file)) size ∙ (ap (take 4096) (has_drop at bytes file has) ∙ take_at bytes (drop (at + length bytes) file) 4096 long)
+
+-- what stands at the place of a block is what a read gives there
+pub has_block : (limits : Limits) (block : ℕ) (bytes file : List ℕ) → block_bytes limits block file ≡ bytes → length bytes ≡ 4096 → place limits block + 4096 ≤ length file → Has (place limits block) bytes file
+has_block limits block bytes file is long inside =
+    let at = place limits block in
+    let size : at + 4096 - at ≡ 4096 = omega arith in
+    let there : take 4096 (drop at file) ≡ bytes = sym (ap (λ (n : ℕ). take n (drop at file)) size) ∙ is in
+    record {
+      within = omega (arith, long, inside);
+      each = λ i lt. sym (get_or-drop at file i 0) ∙ (sym (get_or-take 4096 (drop at file) i 0 (omega (arith, long))) ∙ ap (λ (l : List ℕ). get_or l i 0) there);
+    }
+
+-- pages that were read stand on the device
+pub seen_of : (limits : Limits) (pages : List Page) (m : Moment) → AreStored limits 0 pages → length pages ≤ limits.pages → place limits limits.pages ≤ length m.seen → StandFirst limits pages m.seen → AreSeen limits pages m
+seen_of limits pages m stored few inside stand block page found =
+    has_block limits block (page_bytes page) m.seen (stand block page found) (length-page page (stored_page limits block pages page stored found).storable.admitted)
+    (omega (arith, slice_get_within pages block page found, few, inside))
 
 -- pages that stand at home are those of all blocks in use
 pub home_in_use : (limits : Limits) (pages : List Page) (m : Moment) → AreStored limits 0 pages → length pages ≤ limits.pages → AreHome limits [] pages m → AreInUse limits pages m.seen

@@ -6,7 +6,7 @@ ghost use Rattle.index_model.specs.Limits.{AreLimits};
 ghost use Rattle.page_codec.specs.declared.page.Page.{Page};
 ghost use Rattle.page_action.specs.Room.{HasWholeRoom};
 ghost use Rattle.page_store.specs.Logged.{StandsOpened, backing_of};
-ghost use Rattle.page_store.specs.Rooms.{limits_of_room};
+ghost use Rattle.page_store.specs.Rooms.{limits_of_room, frames_of_room};
 ghost use Rattle.page_store.specs.Stores.{state_of, held_by};
 ghost use Rattle.index_model.specs.declared.limits.Limits.{Limits};
 ghost use Rattle.device_layout.specs.Layout.{needed_length};
@@ -109,9 +109,15 @@ fn restore_log<D: Device>(alloc: Global, device: &mut D, limits: Limits) -> Resu
 
 /// Makes what a read gives stand through a crash, restores the log and reads the pages. Refused with `NoMemory`, `Io`,
 /// `LogDamaged` and `PageDamaged`.
-fn restore<D: Device>(alloc: Global, device: &mut D, limits: Limits) -> Result<Parts, Fault>
+fn restore<D: Device>(
+    alloc: Global,
+    device: &mut D,
+    limits: Limits,
+    frames: u32,
+) -> Result<Parts, Fault>
     requires allowed { AreLimits limits }
     requires inside { needed_length limits ≤ length (D.trace device.old).now.seen }
+    ensures frames { IfOk result (λ parts. frames_of_room parts.found.room ≡ frames) }
     ensures restored { IfOk result
         (IsRestored limits (D.is_honest device.new) (D.trace device.new).now.seen) }
     ensures undamaged { OnOk result (IsTrue (D.is_honest device.new)
@@ -129,13 +135,14 @@ fn restore<D: Device>(alloc: Global, device: &mut D, limits: Limits) -> Result<P
 {
     device.sync()?;
     let log = restore_log(alloc, device, limits)?;
-    let found = read_pages(alloc, device, limits)?;
+    let found = read_pages(alloc, device, limits, frames)?;
     Ok(Parts { log, found })
 }
 
 /// Finds the index on the device, restores its log and reads its pages.
 fn read_index<D: Device>(alloc: Global, device: &mut D, frames: u32) -> Result<Parts, Fault>
     ensures frames { OnOk result (AreFrames frames) }
+    ensures room { IfOk result (λ parts. frames_of_room parts.found.room ≡ frames) }
     ensures found { IfOk result
         (IsFound (D.is_honest device.new)
         (D.trace device.old).now.seen (D.trace device.new).now.seen) }
@@ -153,7 +160,7 @@ fn read_index<D: Device>(alloc: Global, device: &mut D, frames: u32) -> Result<P
         result (D.failures device.old) (D.failures device.new) }
 {
     let limits = find_limits(device, frames)?;
-    restore(alloc, device, limits)
+    restore(alloc, device, limits, frames)
 }
 
 /// Opens the index on the device, after any crash, for so many pages in memory at once (16 to 1,024), its frames. It
@@ -204,7 +211,7 @@ pub fn open<D: Device>(alloc: Global, device: D, frames: u32) -> Result<Store<D>
     match read {
         Ok(Parts { log, found }) => {
             let Found { room, counter } = found;
-            Ok(Store::new(device, log, room, frames, counter))
+            Ok(Store::new(device, log, room, counter))
         }
         Err(fault) => Err(Refused { fault, device }),
     }

@@ -3,7 +3,7 @@
 ghost use Rattle.std.specs.Prelude.{◌≡◌, ◌⊎◌, ◌+◌, ◌≤◌, ◌<◌, ℕ, suc, IsTrue, [], length, replicate, IfOk, IfErr, OnOk};
 ghost use Rattle.index_model.specs.Limits.{AreLimits};
 ghost use Rattle.device_layout.specs.Layout.{needed_length};
-ghost use Rattle.page_store.specs.Rooms.{limits_of_room, pages_of_room, counts_of_room};
+ghost use Rattle.page_store.specs.Rooms.{limits_of_room, frames_of_room, pages_of_room, counts_of_room};
 ghost use Rattle.recovery.specs.Calls.{OnlyReads, FailsWithIoOr};
 ghost use Rattle.recovery.specs.Reading.{block_bytes, AreBytesOf, IsEnd, IsDamage, HasReadPages, IsAllRead};
 ghost use Rattle.page_action.specs.Stored.{IsStored};
@@ -18,7 +18,7 @@ use page_codec::{Page, decode, is_unused};
 use page_store::StoreRoom;
 use std::alloc::Global;
 
-/// What was read of an index: the pages of its blocks in use with the room for more, and the greatest cycle number.
+/// What was read of an index: its blocks in use with the room for more and for the frames, and the greatest cycle number.
 #[derive(Drop)]
 pub(crate) struct Found {
     pub(crate) room: StoreRoom,
@@ -75,6 +75,7 @@ fn add_pages<D: Device>(device: &mut D, limits: Limits, found: &mut Found) -> Re
     requires counter { found.old.counter ≡ 0 }
     ensures read { OnOk result
         (HasReadPages limits (D.is_honest device.new) (D.trace device.old).now.seen found.new) }
+    ensures frames { frames_of_room found.new.room ≡ frames_of_room found.old.room }
     ensures number { IfOk result (λ used. used ≡ length (pages_of_room found.new.room)) }
     ensures few { IfOk result (λ used. used ≤ limits.pages) }
     ensures end { IfOk result (λ used. IsTrue (D.is_honest device.new)
@@ -89,21 +90,23 @@ fn add_pages<D: Device>(device: &mut D, limits: Limits, found: &mut Found) -> Re
             return Ok(block);
         };
         found.counter = found.counter.max(page.cycle);
-        found.room.add(page)?;
+        found.room.add(&page)?;
     }
     Ok(limits.pages)
 }
 
-/// Reads the pages of the blocks in use, up to the first unused one. Refused with `NoMemory`, `Io`, and with
+/// Reads the pages of the blocks in use, up to the first unused one, each once; none stays in memory. Refused with `NoMemory`, `Io`, and with
 /// `PageDamaged` for the first block whose bytes are no page that may be stored there; also for block 0 where it is
 /// unused.
 pub(crate) fn read_pages<D: Device>(
     alloc: Global,
     device: &mut D,
     limits: Limits,
+    frames: u32,
 ) -> Result<Found, Fault>
     requires allowed { AreLimits limits }
     requires inside { needed_length limits ≤ length (D.trace device.old).now.seen }
+    ensures frames { IfOk result (λ found. frames_of_room found.room ≡ frames) }
     ensures read { IfOk result
         (IsAllRead limits (D.is_honest device.new) (D.trace device.old).now.seen) }
     ensures calls { OnlyReads D.Device device.old device.new }
@@ -113,7 +116,7 @@ pub(crate) fn read_pages<D: Device>(
         result (D.failures device.old) (D.failures device.new) }
 {
     let mut found = Found {
-        room: StoreRoom::new(alloc, limits)?,
+        room: StoreRoom::new(alloc, limits, frames)?,
         counter: 0,
     };
     let used = add_pages(device, limits, &mut found)?;

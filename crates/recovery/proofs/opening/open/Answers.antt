@@ -1,10 +1,13 @@
-use Rattle.std.proofs.Common.{◌≡◌, ◌∙◌, ℕ, Bool, IsTrue, List, sym, ap, subst}
+use Rattle.std.proofs.Common.{◌≡◌, ◌∙◌, ℕ, Bool, true, IsTrue, List, sym, ap, subst}
 use Rattle.index_model.specs.declared.limits.Limits.{Limits}
 use Rattle.page_action.specs.States.{State}
 use Rattle.page_codec.specs.declared.page.Page.{Page}
 use Rattle.page_store.specs.Logged.{StandsOpened}
 use Rattle.page_store.specs.Rooms.{limits_of_room, pages_of_room}
 use Rattle.page_store.specs.Stores.{state_of}
+use Rattle.page_store.specs.Writing.{AreSeen}
+use Rattle.device.specs.Disk.{Moment}
+use Rattle.recovery.proofs.Blocks.{seen_of}
 use Rattle.recovery.specs.Opening.{IsFound, IsFront, HasGroups, StandsOnDevice}
 use Rattle.recovery.specs.Reading.{AreInUse}
 use Rattle.recovery.specs.declared.opening.Parts.{Parts}
@@ -39,3 +42,13 @@ returns-in-Ok-clause-read g c = λ honest.
     subst (λ d. StandsOnDevice (state_of g.D.Device c.new.result) (g.D.Device.trace c.args.device).now.seen (g.D.Device.trace d).now.seen) (sym c.new.ensures.device)
     (stands_on _ (state_of g.D.Device c.new.result) _ _ c.in-Ok.field-0 (subst (λ d. IsTrue (g.D.Device.is_honest d)) c.new.ensures.device honest) c.in-Ok.ensures.found
     (ap (λ (st : State). st.limits) c.new.ensures.state) (ap (λ (st : State). st.pages) c.new.ensures.state))
+
+-- what was read stands on the device
+seen_on : (honest : Bool) (old : List ℕ) (m : Moment) (parts : Parts) → honest ≡ true → IsFound honest old m.seen parts → AreSeen (limits_of_room parts.found.room) (pages_of_room parts.found.room) m
+seen_on honest old m parts is found =
+    let all = found.restored.read in
+    subst (λ (limits : Limits). AreSeen limits (pages_of_room parts.found.room) m) (sym all.read.limits_are)
+    (seen_of found.limits (pages_of_room parts.found.room) m all.read.stored all.few found.long (all.read.stand is))
+
+pub new-requires-clause-seen : goal.new-requires-clause-seen
+new-requires-clause-seen g c honest = seen_on _ _ (g.D.Device.trace c.read_index-read.new.device).now c.in-Ok.field-0 honest c.in-Ok.ensures.found

@@ -58,6 +58,7 @@ loop-block-preserved g c =
           c.in_ok-add.ensures.done c.in_ok-add.ensures.counts stored c.max-found.ensures
           (λ honest. ap (λ (b : ℕ). block_bytes limits b (g.D.Device.trace c.args.device.now).now.seen) so_far.count ∙ (page honest).1);
       count = omega (arith, ap length c.in_ok-add.ensures.done, length-append (pages_of_room c.loop-block.found.room) (c.in-Some.page ∷ []), so_far.count);
+      frames = c.add.ensures.frames ∙ so_far.frames;
       trace = c.read_page.ensures.calls.trace ∙ so_far.trace;
       honest = λ honest. so_far.honest (c.read_page.ensures.calls.honest honest);
       failures = c.in_ok-page.ensures.cause ∙ so_far.failures;

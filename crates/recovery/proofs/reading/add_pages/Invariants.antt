@@ -1,5 +1,5 @@
 use Rattle.std.proofs.Common.{◌≡◌, IsTrue, length}
-use Rattle.page_store.specs.Rooms.{pages_of_room}
+use Rattle.page_store.specs.Rooms.{frames_of_room, pages_of_room}
 use Rattle.recovery.specs.Reading.{HasReadPages}
 use Rattle.recovery.proofs.reading.add_pages.Given as goal
 
@@ -9,6 +9,7 @@ invariant-loop-block g l =
     record {
       read : HasReadPages l.limits (g.D.Device.is_honest l.device) (trace l.fn.device).now.seen l.found;
       count : length (pages_of_room l.found.room) ≡ l.block;
+      frames : frames_of_room l.found.room ≡ frames_of_room l.fn.found.room;
       trace : trace l.device ≡ trace l.fn.device;
       honest : IsTrue (g.D.Device.is_honest l.device) → IsTrue (g.D.Device.is_honest l.fn.device);
       failures : g.D.Device.failures l.device ≡ g.D.Device.failures l.fn.device;
