@@ -11,4 +11,6 @@ pub use creation::create;
 pub use opening::{Refused, open};
 
 #[cfg(test)]
+mod store_tests;
+#[cfg(test)]
 mod tests;
