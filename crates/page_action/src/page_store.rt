@@ -1,12 +1,13 @@
 //! The trait.
 
-ghost use Rattle.std.specs.Prelude.{◌≡◌, ◌⊎◌, ℕ, List, Err, suc, ◌+◌, ◌≤◌, ◌<◌, not, true, false, IfOk, IfErr, IfSome, OnOk, OnErr, Some, None, length, slice_get, slice_set, if◌then◌else◌, is_none};
+ghost use Rattle.std.specs.Prelude.{◌≡◌, ◌⊎◌, ℕ, List, Err, suc, ◌+◌, ◌≤◌, ◌<◌, not, true, false, IfOk, IfErr, IfSome, OnOk, OnErr, Some, None, length, slice_get, slice_set, if◌then◌else◌, is_none, [], drop};
 ghost use Rattle.index_model.specs.Faults.{HasCause};
 ghost use Rattle.index_model.specs.Limits.{AreLimits};
 ghost use Rattle.latch_table.specs.Holdings.{HasRoom, holding_of, is_held_by_another, latched, released, pinned, unpinned, with_holding, nothing_held};
 ghost use Rattle.page_codec.specs.declared.page.Page.{Page};
 ghost use Rattle.page_action.specs.Causes.{where_read, where_acted, where_latched, where_begun, where_forced};
 ghost use Rattle.page_action.specs.Laws.{IsPageStore};
+ghost use Rattle.page_action.specs.Order.{IsPartOf, IsActOrder};
 ghost use Rattle.page_action.specs.Reuse.{IsFresh, IsFull, is_deleted, is_reusable_without};
 ghost use Rattle.page_action.specs.Room.{KeepsRoom, TakesRoom, HasWholeRoom};
 ghost use Rattle.page_action.specs.States.{State, Backing, Continues, after_act, after_begin, after_end, after_start_cycle, after_stop_cycle, with_table};
@@ -59,6 +60,8 @@ pub trait PageStore {
         ensures alive { OnOk result
             ((backing self.new).stopped ≡ true → (backing self.old).stopped ≡ true) }
         ensures room { KeepsRoom (state self.old) (backing self.old) (backing self.new) }
+        // Changed pages may be written, to make room in memory.
+        ensures order { IsPartOf (backing self.new).changed (backing self.old).changed }
         ensures cause { IfErr result
             (HasCause (where_read (state self.old) (backing self.old) (backing self.new) block)) };
 
@@ -82,6 +85,8 @@ pub trait PageStore {
         ensures alive { OnOk result
             ((backing self.new).stopped ≡ true → (backing self.old).stopped ≡ true) }
         ensures room { KeepsRoom (state self.old) (backing self.old) (backing self.new) }
+        // Changed pages may be written, to make room in memory.
+        ensures order { IsPartOf (backing self.new).changed (backing self.old).changed }
         ensures cause { IfErr result
             (HasCause (where_read (state self.old) (backing self.old) (backing self.new) block)) }
     {
@@ -107,6 +112,10 @@ pub trait PageStore {
         ensures refused { OnErr result (state self.new ≡ state self.old) }
         ensures kept { OnErr result
             (KeepsRoom (state self.old) (backing self.old) (backing self.new)) }
+        ensures order { OnOk result
+            (IsActOrder (backing self.old).changed (backing self.new).changed pages.now) }
+        ensures written { OnErr result
+            (IsPartOf (backing self.new).changed (backing self.old).changed) }
         ensures cause { IfErr result (HasCause
             (where_acted (state self.old) (backing self.old) (backing self.new) pages.now)) };
 
@@ -191,6 +200,7 @@ pub trait PageStore {
         ensures stopped { (backing self.old).stopped ≡ true → result ≡ Err Fault.Stopped }
         // One that fails leaves the log stopped.
         ensures failed { OnErr result ((backing self.new).stopped ≡ true) }
+        ensures order { (backing self.new).changed ≡ (backing self.old).changed }
         ensures cause { IfErr result
             (HasCause (where_forced (backing self.old) (backing self.new))) };
 
@@ -209,6 +219,25 @@ pub trait PageStore {
             ⊎ ((backing self.new).durable ≡ (state self.old).acts)) }
         ensures kept { OnErr result
             (KeepsRoom (state self.old) (backing self.old) (backing self.new)) }
+        ensures clean { OnOk result ((backing self.new).changed ≡ []) }
+        ensures order { OnErr result
+            (IsPartOf (backing self.new).changed (backing self.old).changed) }
+        ensures cause { IfErr result
+            (HasCause (where_forced (backing self.old) (backing self.new))) };
+
+    /// Writes the changed page whose first change since it was last written is the earliest to its place, and answers its
+    /// block; none where no page is changed. Acts that changed it and are not durable are made so before. Refused with
+    /// `Io`, `Stopped`: the page waits then as before.
+    fn flush(&mut self) -> Result<Option<u32>, Fault>
+        ensures steps { Continues follows self.old self.new }
+        ensures state { state self.new ≡ state self.old }
+        ensures room { KeepsRoom (state self.old) (backing self.old) (backing self.new) }
+        ensures block { IfOk result (λ block. block ≡ slice_get (backing self.old).changed 0) }
+        ensures written { OnOk result
+            ((backing self.new).changed ≡ drop 1 (backing self.old).changed) }
+        ensures order { OnErr result
+            ((backing self.new).changed ≡ (backing self.old).changed) }
+        ensures stopped { (backing self.old).stopped ≡ true → result ≡ Err Fault.Stopped }
         ensures cause { IfErr result
             (HasCause (where_forced (backing self.old) (backing self.new))) };
 
