@@ -25,7 +25,7 @@ use Rattle.page_store.specs.Crashing.{part_of_more}
 
 module _ (old : Held) (log : Log) (changed : List Page) (room promised : ℕ) (limits : limits_of log ≡ limits_of old.log) (stopped : is_stopped log ≡ is_stopped old.log)
     (keeps : (m : Moment) (acts : List (List Page)) (forced : ℕ) → Keeps old.log m acts forced → Keeps log m (acts ++ changed ∷ []) forced)
-    (actable : AreActable (limits_of old.log) (length (pages_held old)) changed) (unwritten : ℕ → ℕ)
+    (actable : AreActable (limits_of old.log) (length (pages_held old)) changed) (unwritten : ℕ → ℕ) (order : List ℕ)
     (acted : (block : ℕ) → is_some (last_image changed block) ≡ true → unwritten block ≡ suc old.acts) (others : (block : ℕ) → last_image changed block ≡ None → unwritten block ≡ old.unwritten block) where
   abbrev h : History
   h = old.history
@@ -38,6 +38,7 @@ module _ (old : Held) (log : Log) (changed : List Page) (room promised : ℕ) (l
   acted_held = record old {
     log = log;
     unwritten = unwritten;
+    changed = order;
     acts = suc old.acts;
     room = room;
     promised = promised;
@@ -139,8 +140,8 @@ module _ (old : Held) (log : Log) (changed : List Page) (room promised : ℕ) (l
 
   -- the same, with each part by another name
   pub follows_act : (acts : ℕ) (history : History) → acts ≡ suc old.acts → history ≡ with_act changed old.history
-      → Follows old (record old { log = log; unwritten = unwritten; acts = acts; room = room; promised = promised; history = history })
+      → Follows old (record old { log = log; unwritten = unwritten; changed = order; acts = acts; room = room; promised = promised; history = history })
   follows_act acts history a t =
-      subst (λ (x : ℕ). Follows old (record old { log = log; unwritten = unwritten; acts = x; room = room; promised = promised; history = history })) (sym a)
-      (subst (λ (x : History). Follows old (record old { log = log; unwritten = unwritten; acts = suc old.acts; room = room; promised = promised; history = x })) (sym t)
+      subst (λ (x : ℕ). Follows old (record old { log = log; unwritten = unwritten; changed = order; acts = x; room = room; promised = promised; history = history })) (sym a)
+      (subst (λ (x : History). Follows old (record old { log = log; unwritten = unwritten; changed = order; acts = suc old.acts; room = room; promised = promised; history = x })) (sym t)
       follows_acted)

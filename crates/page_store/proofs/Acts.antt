@@ -11,7 +11,8 @@ use Rattle.page_action.specs.Stored.{AreActable}
 use Rattle.page_action.specs.States.{with_page, with_pages}
 use Rattle.redo_log.specs.Images.{last_image, later_of, if_of}
 use Rattle.redo_log.proofs.ImageLists.{last_image-append}
-use Rattle.page_store.specs.Changing.{AreActed, with_changed, used_after}
+use Rattle.page_store.specs.Changing.{AreActed, used_after}
+use Rattle.page_action.specs.Order.{with_changed}
 use Rattle.page_store.specs.Histories.{pages_now, with_act}
 use Rattle.page_store.specs.declared.history.History.{History}
 use Rattle.page_store.proofs.Images.{if_same, if_other, length-with_page, after_acts-append}

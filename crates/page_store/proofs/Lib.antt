@@ -2,6 +2,7 @@ pub mod Acting
 pub mod Images
 pub mod Restarting
 pub mod FollowLaws
+pub mod Ordering
 pub mod Quieting
 pub mod ActFollows
 pub mod ForceFollows

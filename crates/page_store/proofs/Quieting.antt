@@ -1,10 +1,13 @@
 -- How calls that make no act follow one another.
-use Rattle.std.proofs.Common.{◌≡◌, ◌≤◌, ◌∙◌, refl, arith}
+use Rattle.std.proofs.Common.{◌≡◌, ◌≤◌, ◌∙◌, refl, ap, arith}
 use Rattle.device.specs.declared.device.Device.{Ghosts}
 use Rattle.page_store.specs.Following.{Follows, follows_same}
 use Rattle.page_store.specs.Logged.{held_of, SameButDevice}
 use Rattle.page_store.specs.Quiet.{IsQuiet}
 use Rattle.page_store.specs.declared.logged_pages.LoggedPages.{LoggedPages}
+use Rattle.buffer_pool.specs.Pools.{changed_of}
+use Rattle.page_action.specs.Order.{IsPartOf}
+use Rattle.page_store.proofs.Ordering.{part_same, part_both, part_is}
 use Rattle.page_store.proofs.FollowLaws.{follows_both}
 
 pub quiet_same : {D : Type 0} (g : Ghosts D) (a : LoggedPages D g) → IsQuiet g a a
@@ -13,6 +16,7 @@ quiet_same g a = record {
   pages = record { limits = refl; history = refl; used = refl; acts = refl };
   promised = refl;
   idle = λ all. refl;
+  order = part_same (changed_of a.pool);
 }
 
 pub quiet_both : {D : Type 0} (g : Ghosts D) (a b c : LoggedPages D g) → IsQuiet g a b → IsQuiet g b c → IsQuiet g a c
@@ -31,18 +35,20 @@ quiet_both g a b c f s = record {
       let same : b.acts ≡ a.acts = f.pages.acts in
       let here : b.durable ≡ b.acts = omega arith in
       s.idle here ∙ f.idle all;
+  order = part_both (changed_of c.pool) (changed_of b.pool) (changed_of a.pool) s.order f.order;
 }
 
 -- where the store is as it was but for the pool, of which some changed pages are noted as written
-pub quiet_noted : {D : Type 0} (g : Ghosts D) (a b : LoggedPages D g) → b.limits ≡ a.limits → b.history ≡ a.history → b.used ≡ a.used → b.acts ≡ a.acts → b.promised ≡ a.promised → b.room ≡ a.room
+pub quiet_noted : {D : Type 0} (g : Ghosts D) (a b : LoggedPages D g) → b.limits ≡ a.limits → b.history ≡ a.history → b.used ≡ a.used → b.acts ≡ a.acts → b.promised ≡ a.promised → b.room ≡ a.room → IsPartOf (changed_of b.pool) (changed_of a.pool)
     → Follows (held_of g a) (held_of g b) → IsQuiet g a b
-quiet_noted g a b limits history used acts promised room follows = record {
+quiet_noted g a b limits history used acts promised room order follows = record {
   follows = follows;
   pages = record { limits = limits; history = history; used = used; acts = acts };
   promised = promised;
   idle = λ all. room;
+  order = order;
 }
 
 -- where the device alone is another
 pub quiet_device : {D : Type 0} (g : Ghosts D) (a b : LoggedPages D g) → Follows (held_of g a) (held_of g b) → SameButDevice g a b → IsQuiet g a b
-quiet_device g a b follows same = record { follows = follows; pages = same.pages; promised = same.room.promised; idle = λ all. same.room.room }
+quiet_device g a b follows same = record { follows = follows; pages = same.pages; promised = same.room.promised; idle = λ all. same.room.room; order = part_is (changed_of b.pool) (changed_of a.pool) (ap changed_of same.pool) }

@@ -147,11 +147,11 @@ follows_synced old trace honest failures alive moments same more =
     (kept_alike old own alive (synced old.trace.now) (synced_only (place (limits_of old.log) 0) 0 old.trace.now), refl)) moments)
 
 -- pages that stand at their places are noted as written
-noted_follows : (old : Held) (unwritten : ℕ → ℕ)
+noted_follows : (old : Held) (unwritten : ℕ → ℕ) (changed : List ℕ)
     → ((block : ℕ) → (unwritten block ≡ old.unwritten block)
     ⊎ ((unwritten block ≡ 0) × ((page : Page) → slice_get (pages_held old) block ≡ Some page → Has (place (limits_of old.log) block) (page_bytes page) old.trace.now.seen)))
-    → Follows old (record old { unwritten = unwritten })
-noted_follows old unwritten noted = record {
+    → Follows old (record old { unwritten = unwritten; changed = changed })
+noted_follows old unwritten changed noted = record {
   later = record { failures = omega arith; durable = omega arith; stopped = λ s. s; stop_has_cause = λ s. inl s; honest = λ s. s };
   grows = λ own. record {
     own = record {
@@ -198,11 +198,11 @@ noted_follows old unwritten noted = record {
     }
 
 -- ... at their places under these limits
-pub follows_noted : (old : Held) (unwritten : ℕ → ℕ) (limits : Limits) → limits_of old.log ≡ limits
+pub follows_noted : (old : Held) (unwritten : ℕ → ℕ) (changed : List ℕ) (limits : Limits) → limits_of old.log ≡ limits
     → ((block : ℕ) → (unwritten block ≡ old.unwritten block)
     ⊎ ((unwritten block ≡ 0) × ((page : Page) → slice_get (pages_held old) block ≡ Some page → Has (place limits block) (page_bytes page) old.trace.now.seen)))
-    → Follows old (record old { unwritten = unwritten })
-follows_noted old unwritten limits is noted = noted_follows old unwritten
+    → Follows old (record old { unwritten = unwritten; changed = changed })
+follows_noted old unwritten changed limits is noted = noted_follows old unwritten changed
     (subst (λ (l : Limits). (block : ℕ) → (unwritten block ≡ old.unwritten block) ⊎ ((unwritten block ≡ 0) × ((page : Page) → slice_get (pages_held old) block ≡ Some page → Has (place l block) (page_bytes page) old.trace.now.seen))) (sym is) noted)
 
 -- a read leaves what it finds

@@ -4,14 +4,9 @@ use Rattle.std.specs.Prelude.{is_some}
 use Rattle.buffer_pool.specs.Frames.{has_block}
 use Rattle.buffer_pool.specs.Pools.{most_of, reach_of, count_of, frame_of, held_page, act_of, changed_of}
 use Rattle.buffer_pool.specs.declared.pool.Pool.{Pool}
+use Rattle.page_action.specs.Order.{with_changed}
 use Rattle.page_codec.specs.declared.page.Page.{Page}
 use Rattle.redo_log.specs.Images.{last_image}
-
--- the blocks of the changed pages in order of first change, after these pages were changed too
-abbrev pub with_changed : List ℕ → List Page → List ℕ
-with_changed blocks [] = blocks
-with_changed blocks (page ∷ pages) =
-    with_changed (if has_block blocks page.block then blocks else blocks ++ page.block ∷ []) pages
 
 -- the pages were changed by this act, where they were held; the others are as they were
 pub record AreActed (old new : Pool) (pages : List Page) (act : ℕ) : Type 0 where

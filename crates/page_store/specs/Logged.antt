@@ -3,7 +3,7 @@ use Rattle.std.specs.Prelude.{◌≡◌, ℕ, ◌+◌, ◌<◌, ◌≤◌, Bool,
 use Rattle.device.specs.Disk.{Moment, Trace}
 use Rattle.device.specs.Places.{Has, OnDisk}
 use Rattle.device.specs.declared.device.Device.{Ghosts}
-use Rattle.buffer_pool.specs.Pools.{act_of}
+use Rattle.buffer_pool.specs.Pools.{act_of, changed_of}
 use Rattle.index_model.specs.declared.limits.Limits.{Limits}
 use Rattle.page_codec.specs.Spelling.{page_bytes}
 use Rattle.page_codec.specs.declared.page.Page.{Page}
@@ -26,6 +26,8 @@ pub record Held : Type 0 where
   pub failures : ℕ
   -- of each block the last act that changed its page and isn't written to its place, or 0
   pub unwritten : ℕ → ℕ
+  -- the blocks of these pages, in the order of their first change since they were written
+  pub changed : List ℕ
   pub acts : ℕ
   pub durable : ℕ
   pub room : ℕ
@@ -44,6 +46,7 @@ held_of g logged = record {
   honest = g.is_honest logged.device;
   failures = g.failures logged.device;
   unwritten = act_of logged.pool;
+  changed = changed_of logged.pool;
   acts = logged.acts;
   durable = logged.durable;
   room = logged.room;
@@ -81,6 +84,7 @@ backing_of held = record {
   stopped = is_stopped held.log;
   honest = held.honest;
   failures = held.failures;
+  changed = held.changed;
 }
 
 -- each block that has no image among these stands at its place: its page, or zeros where it has none

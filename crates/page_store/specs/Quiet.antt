@@ -1,13 +1,17 @@
 -- What a call leaves that makes no act: it may make acts durable, and bring pages to and from their places.
 use Rattle.std.specs.Prelude.{◌≡◌}
+use Rattle.buffer_pool.specs.Pools.{changed_of}
 use Rattle.device.specs.declared.device.Device.{Ghosts}
+use Rattle.page_action.specs.Order.{IsPartOf}
 use Rattle.page_store.specs.Following.{Follows}
 use Rattle.page_store.specs.Logged.{held_of, SamePages}
 use Rattle.page_store.specs.declared.logged_pages.LoggedPages.{LoggedPages}
 
--- the pages and what is promised are as they were; and the room, where no act waits for a force
+-- the pages and what is promised are as they were; and the room, where no act waits for a force; of the changed pages some
+-- were written
 pub record IsQuiet {D : Type 0} (g : Ghosts D) (old new : LoggedPages D g) : Type 0 where
   pub follows : Follows (held_of g old) (held_of g new)
   pub pages : SamePages g old new
   pub promised : new.promised ≡ old.promised
   pub idle : old.durable ≡ old.acts → new.room ≡ old.room
+  pub order : IsPartOf (changed_of new.pool) (changed_of old.pool)

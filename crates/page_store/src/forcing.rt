@@ -5,6 +5,7 @@ ghost use Rattle.buffer_pool.specs.Pools.{act_of, changed_of, held_page, IsWritt
 ghost use Rattle.device.specs.Disk.{CountsFailures};
 ghost use Rattle.device.specs.Places.{Has, OnDisk, ChangesOnly};
 ghost use Rattle.device_layout.specs.Layout.{place};
+ghost use Rattle.page_action.specs.Order.{IsPartOf};
 ghost use Rattle.page_action.specs.Room.{HasWholeRoom};
 ghost use Rattle.page_codec.specs.Spelling.{page_bytes};
 ghost use Rattle.page_codec.specs.declared.page.Page.{Page};
@@ -191,6 +192,7 @@ impl<D: Device> LoggedPages<D> {
         ensures device { self.new.device ≡ self.old.device }
         ensures durable { self.new.durable ≡ self.old.durable }
         ensures clean { count ≡ length (changed_of self.old.pool) → IsClean self.new.pool }
+        ensures order { changed_of self.new.pool ≡ drop count (changed_of self.old.pool) }
     {
         self.pool.law();
         self.pool.note_first_written(count);
@@ -220,6 +222,8 @@ impl<D: Device> LoggedPages<D> {
         ensures log { self.new.log ≡ self.old.log }
         ensures durable { self.new.durable ≡ self.old.durable }
         ensures clean { OnOk result (IsClean self.new.pool) }
+        ensures order { IsPartOf (changed_of self.new.pool) (changed_of self.old.pool) }
+        ensures none { OnOk result (changed_of self.new.pool ≡ []) }
         ensures firm { OnOk result (IsFirm (D.trace self.new.device).now) }
         ensures failures { CountsFailures result
             (D.failures self.old.device) (D.failures self.new.device) }
@@ -264,7 +268,8 @@ impl<D: Device> LoggedPages<D> {
         ensures durable { OnOk result (self.new.durable ≡ self.old.acts) }
         ensures room { OnOk result
             (HasWholeRoom self.old.limits (backing_of (held_of D.Device self.new))) }
-        ensures clean { OnOk result (IsClean self.new.pool) }
+        ensures order { IsPartOf (changed_of self.new.pool) (changed_of self.old.pool) }
+        ensures clean { OnOk result (changed_of self.new.pool ≡ []) }
         ensures stopped { is_stopped self.old.log ≡ true → result ≡ Err Fault.Stopped }
         ensures failed { OnErr result
             ((is_stopped self.new.log ≡ true) ⊎ (self.new.durable ≡ self.old.acts)) }

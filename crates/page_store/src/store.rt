@@ -241,6 +241,10 @@ impl<D: Device> PageStore for Store<D> {
         self.held.checkpoint()
     }
 
+    fn flush(&mut self) -> Result<Option<u32>, Fault> {
+        self.held.flush()
+    }
+
     fn room(&self) -> u32 {
         self.held.room
     }

@@ -96,7 +96,7 @@ returns-clause-steps g c =
     follows_act (held_of g.D.Device held) c.append.new.self c.args.pages.now c.room-self.result c.room-self.result c.append.ensures.limits c.append.ensures.stopped
     (λ m acts forced k. c.in_ok-number.ensures.keeps m acts forced k)
     (subst (λ (l : Limits). AreActable l (length (pages_now held.history)) c.args.pages.now) (sym held.log_limits) c.requires.actable)
-    _ (λ block named. c.change_all.ensures.acted block named ∙ number_is g here) (λ block none. c.change_all.ensures.before block none)
+    _ _ (λ block named. c.change_all.ensures.acted block named ∙ number_is g here) (λ block none. c.change_all.ensures.before block none)
     c.in_ok-number.number c.note.new.self (number_is g here) c.note.ensures
 
 pub returns-clause-room : goal.returns-clause-room

@@ -1,6 +1,9 @@
+use Rattle.std.proofs.Common.{ap}
+use Rattle.buffer_pool.specs.Pools.{changed_of}
 use Rattle.page_store.specs.Following.{Follows}
 use Rattle.page_store.specs.Logged.{held_of}
 use Rattle.page_store.proofs.FollowLaws.{follows_both}
+use Rattle.page_store.proofs.Ordering.{part_is}
 use Rattle.page_store.proofs.logged_pages.LoggedPages.checkpoint.Given.{Over}
 use Rattle.page_store.proofs.logged_pages.LoggedPages.checkpoint.Goals.{After-write_all, After-close}
 use Rattle.page_store.proofs.logged_pages.LoggedPages.checkpoint.Goals as goal
@@ -22,3 +25,6 @@ returns-in_err-close-clause-steps g c = close_steps g (goal.at.returns-in_err-cl
 
 pub returns-clause-steps : goal.returns-clause-steps
 returns-clause-steps g c = close_steps g (goal.at.returns-clause-steps g c).After-close
+
+pub returns-in_err-acts-clause-order : goal.returns-in_err-acts-clause-order
+returns-in_err-acts-clause-order g c = part_is (changed_of c.force.new.self.pool) (changed_of c.args.self.now.pool) (ap changed_of c.force.ensures.pool)

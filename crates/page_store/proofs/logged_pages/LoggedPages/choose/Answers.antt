@@ -2,6 +2,7 @@ use Rattle.std.proofs.Common.{inl, refl}
 use Rattle.page_store.specs.Histories.{pages_now}
 use Rattle.page_store.specs.Logged.{held_of}
 use Rattle.page_store.proofs.Keeping.{holds_same}
+use Rattle.page_store.proofs.Ordering.{part_is}
 use Rattle.page_store.proofs.Quieting.{quiet_noted}
 use Rattle.page_store.proofs.WriteFollows.{follows_noted}
 use Rattle.page_store.proofs.logged_pages.LoggedPages.choose.Goals as goal
@@ -13,5 +14,5 @@ invariant_of-self-clause-holds g c =
 
 pub returns-clause-quiet : goal.returns-clause-quiet
 returns-clause-quiet g c =
-    quiet_noted g.D.Device c.args.self.now _ refl refl refl refl refl refl
-    (follows_noted (held_of g.D.Device c.args.self.now) _ c.args.self.now.limits c.args.self.now.log_limits (λ block. inl (c.choose.ensures.changes.acts block)))
+    quiet_noted g.D.Device c.args.self.now _ refl refl refl refl refl refl (part_is _ _ c.choose.ensures.changes.order)
+    (follows_noted (held_of g.D.Device c.args.self.now) _ _ c.args.self.now.limits c.args.self.now.log_limits (λ block. inl (c.choose.ensures.changes.acts block)))

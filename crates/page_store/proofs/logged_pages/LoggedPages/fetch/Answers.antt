@@ -3,7 +3,7 @@ use Rattle.buffer_pool.specs.Pools.{IsPut}
 use Rattle.buffer_pool.specs.declared.pool.Pool.{Pool}
 use Rattle.page_store.specs.Quiet.{IsQuiet}
 use Rattle.page_store.proofs.Frames.{kept_put}
-use Rattle.page_store.proofs.Quieting.{quiet_both}
+use Rattle.page_store.proofs.Quieting.{quiet_same, quiet_both}
 use Rattle.page_store.proofs.logged_pages.LoggedPages.fetch.Given.{Over}
 use Rattle.page_store.proofs.logged_pages.LoggedPages.fetch.Goals.{After-read}
 use Rattle.page_store.proofs.logged_pages.LoggedPages.fetch.Goals as goal
@@ -23,3 +23,6 @@ pub returns-clause-kept : goal.returns-clause-kept
 returns-clause-kept g c =
     kept_put c.args.self.now.pool c.free_frame.new.self.pool c.put.new.self.pool c.args.pinned.now c.in_ok-at.at c.in_ok-page.page c.free_frame.ensures.same c.in_ok-at.ensures.unpinned
     (subst (λ (p : Pool). IsPut p c.put.new.self.pool c.in_ok-at.at c.in_ok-page.page) c.read.ensures.pool c.put.ensures.pool)
+
+pub returns-then-holds-clause-quiet : goal.returns-then-holds-clause-quiet
+returns-then-holds-clause-quiet g c = quiet_same g.D.Device c.args.self.now

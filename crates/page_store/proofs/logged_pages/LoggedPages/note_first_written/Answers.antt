@@ -16,7 +16,7 @@ invariant_of-self-clause-holds g c =
 pub returns-clause-steps : goal.returns-clause-steps
 returns-clause-steps g c =
     let held = c.args.self.now in
-    follows_noted (held_of g.D.Device held) _ held.limits held.log_limits
+    follows_noted (held_of g.D.Device held) _ _ held.limits held.log_limits
     (first_noted held.limits (pages_now held.history) held.acts held.pool (g.D.Device.is_honest held.device) (g.D.Device.trace held.device).now held.holds c.law.ensures c.note_first_written.new.self c.args.count c.requires.home c.note_first_written.ensures)
 
 pub returns-clause-clean : goal.returns-clause-clean

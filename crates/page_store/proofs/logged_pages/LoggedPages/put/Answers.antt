@@ -3,6 +3,7 @@ use Rattle.page_store.specs.Histories.{pages_now}
 use Rattle.page_store.specs.Logged.{held_of}
 use Rattle.page_store.proofs.Keeping.{holds_put}
 use Rattle.page_store.proofs.Pooling.{clean_of_absent}
+use Rattle.page_store.proofs.Ordering.{part_is}
 use Rattle.page_store.proofs.Quieting.{quiet_noted}
 use Rattle.page_store.proofs.WriteFollows.{follows_noted}
 use Rattle.page_store.proofs.logged_pages.LoggedPages.put.Goals as goal
@@ -16,5 +17,5 @@ invariant_of-self-clause-holds g c =
 pub returns-clause-quiet : goal.returns-clause-quiet
 returns-clause-quiet g c =
     let held = c.args.self.now in
-    quiet_noted g.D.Device held _ refl refl refl refl refl refl
-    (follows_noted (held_of g.D.Device held) _ held.limits held.log_limits (λ block. inl (c.put.ensures.changes.acts block)))
+    quiet_noted g.D.Device held _ refl refl refl refl refl refl (part_is _ _ c.put.ensures.changes.order)
+    (follows_noted (held_of g.D.Device held) _ _ held.limits held.log_limits (λ block. inl (c.put.ensures.changes.acts block)))

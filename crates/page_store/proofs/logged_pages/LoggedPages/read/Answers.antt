@@ -1,9 +1,11 @@
+use Rattle.buffer_pool.specs.Pools.{changed_of}
 use Rattle.std.proofs.Common.{◌≡◌, ◌<◌, ℕ, true, Some, slice_get, refl, subst}
 use Rattle.page_codec.specs.declared.page.Page.{Page}
 use Rattle.page_store.specs.Histories.{pages_now}
 use Rattle.page_store.specs.Logged.{held_of}
 use Rattle.page_store.specs.Writing.{GivesPage}
 use Rattle.page_store.proofs.Pooling.{clean_of_absent}
+use Rattle.page_store.proofs.Ordering.{part_same}
 use Rattle.page_store.proofs.Quieting.{quiet_noted}
 use Rattle.page_store.proofs.Reading.{page_in_use, reading_rises, read_gives, given_right, given_fails}
 use Rattle.page_store.proofs.WriteFollows.{follows_read}
@@ -26,7 +28,7 @@ gives g c honest =
 pub returns-clause-quiet : goal.returns-clause-quiet
 returns-clause-quiet g c =
     let held = c.args.self.now in
-    quiet_noted g.D.Device held _ refl refl refl refl refl refl
+    quiet_noted g.D.Device held _ refl refl refl refl refl refl (part_same (changed_of held.pool))
     (follows_read (held_of g.D.Device held) _ _ _ c.read_page.ensures.trace c.read_page.ensures.honest (reading_rises c.args.block c.read_page.result _ _ c.read_page.ensures.cause))
 
 pub returns-clause-right : goal.returns-clause-right

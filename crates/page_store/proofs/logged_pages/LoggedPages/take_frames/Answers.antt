@@ -1,4 +1,4 @@
-use Rattle.std.proofs.Common.{◌≡◌, ◌<◌, inl, inr, true, Some, slice_get, sym, ap, subst, ◌∙◌, arith}
+use Rattle.std.proofs.Common.{refl, ◌≡◌, ◌<◌, inl, inr, true, Some, slice_get, sym, ap, subst, ◌∙◌, arith}
 use Rattle.std.proofs.lemmas.Bool.{cases_lt}
 use Rattle.std.proofs.lemmas.Option.{slice_get_within}
 use Rattle.std.specs.Prelude.{IsSome}
@@ -9,7 +9,7 @@ use Rattle.page_codec.specs.declared.page.Page.{Page}
 use Rattle.page_action.specs.Stored.{IsStored}
 use Rattle.page_action.proofs.StoredPages.{slice_get_at}
 use Rattle.page_store.proofs.Frames.{actable_at, all_at, all_of}
-use Rattle.page_store.proofs.Quieting.{quiet_both}
+use Rattle.page_store.proofs.Quieting.{quiet_same, quiet_both}
 use Rattle.page_store.proofs.logged_pages.LoggedPages.take_frames.Given.{Over}
 use Rattle.page_store.proofs.logged_pages.LoggedPages.take_frames.Goals.{After-page-item}
 use Rattle.page_store.proofs.logged_pages.LoggedPages.take_frames.Goals as goal
@@ -56,3 +56,11 @@ pub returns-clause-has : goal.returns-clause-has
 returns-clause-has g c =
     all_of (λ (p : Page). IsSome (frame_of c.loop-page.self.pool p.block)) c.args.pages.now
     (λ k page found. c.loop-page.invariant.has k page (omega (arith, c.loop-page-test.false, slice_get_within c.args.pages.now k page found)) found)
+
+pub loop-page-init : goal.loop-page-init
+loop-page-init g c = record {
+  quiet = quiet_same g.D.Device c.args.self.now;
+  most = refl;
+  has = λ k page below found. absurd (omega (arith, below));
+  alive = λ stopped. stopped;
+}

@@ -13,6 +13,8 @@ use Rattle.page_store.specs.Stores.{state_of, held_by}
 use Rattle.page_store.proofs.Causes.{taking_cause}
 use Rattle.page_store.proofs.FollowLaws.{follows_both}
 use Rattle.page_store.proofs.Stating.{state_alike}
+use Rattle.page_store.proofs.Ordering.{part_same, part_is}
+use Rattle.buffer_pool.specs.Pools.{changed_of}
 use Rattle.page_store.proofs.store.StorePageStore.act.Given.{Over}
 use Rattle.page_store.proofs.store.StorePageStore.act.Goals.{After-take_frames, After-act, After-note}
 use Rattle.page_store.proofs.store.StorePageStore.act.Goals as goal
@@ -80,3 +82,13 @@ pub returns-in-Err-clause-cause : goal.returns-in-Err-clause-cause
 returns-in-Err-clause-cause g c =
     let store = c.args.self.now in
     taking_cause (state_of g.D.Device store) (backing_of (held_by g.D.Device store)) (backing_of (held_by g.D.Device c.take_frames.new.self)) store.held.pool c.args.pages.now c.in-Err.fault refl c.in-Err.ensures.cause
+
+pub returns-then-is_stopped-clause-written : goal.returns-then-is_stopped-clause-written
+returns-then-is_stopped-clause-written g c = part_same (changed_of c.args.self.now.held.pool)
+
+pub returns-clause-order : goal.returns-clause-order
+returns-clause-order g c = record {
+  before = changed_of c.take_frames.new.self.held.pool;
+  written = c.take_frames.ensures.quiet.order;
+  changed = part_is _ _ c.in_ok-number.ensures.pool.order;
+}
