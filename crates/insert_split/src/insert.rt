@@ -138,7 +138,7 @@ impl InsertOp {
         let aim = Aim::Below(self.entry.bound());
         match lead(page, &way, &aim, 0, store.limits().pages) {
             Some(Onward::Going(on)) => {
-                self.at = InsertAt::At(on);
+                lead_on(&mut self.at, on);
                 Ok(InsertStep::Going)
             }
             Some(Onward::Here) => {
@@ -257,6 +257,23 @@ impl InsertOp {
             _ => Err(fault),
         }
     }
+}
+
+// The insert goes on to this page. One that is on its way keeps what it stands on but for the page.
+fn lead_on(at: &mut InsertAt, on: Way)
+    ensures { at.new ≡ InsertAt.At on }
+{
+    match at {
+        InsertAt::At(way) => *way = on,
+        _ => start_at(at, on),
+    }
+}
+
+#[inline(never)]
+fn start_at(at: &mut InsertAt, on: Way)
+    ensures { at.new ≡ InsertAt.At on }
+{
+    *at = InsertAt::At(on);
 }
 
 // Whether it is a live page whose split is to be finished.

@@ -1,3 +1,4 @@
 pub mod Scans
 pub mod Made
 pub mod Tables
+pub mod Holders

@@ -24,6 +24,7 @@ impl Model for Held {
 
 impl Held {
     ghost use Rattle.arrayvec.specs.ArrayVec.{array_vec_len};
+    ghost use Rattle.latch_table.specs.Holders.{holds_any};
     ghost use Rattle.latch_table.specs.Holdings.{nothing_held, holding_excludes, without_latch, without_pin};
 
     /// Nothing.
@@ -37,6 +38,13 @@ impl Held {
     }
 
     /// Whether there is a latch or a pin.
+    pub fn holds_any(&self) -> bool
+        ensures { result ≡ holds_any self.now }
+    {
+        !self.latches.is_empty() || !self.pins.is_empty()
+    }
+
+    /// Whether one of its latches or pins excludes that latch of the block.
     pub fn excludes(&self, block: u32, asked: Mode) -> bool
         ensures { result ≡ holding_excludes self.now block asked }
     {

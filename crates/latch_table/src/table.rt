@@ -1,6 +1,6 @@
 //! The table of all sessions.
 
-ghost use Rattle.std.specs.Prelude.{◌≡◌, ◌<◌, ◌==◌, ◌&&◌, true, false, not, length, replicate, List, OnOk, OnErr, IfErr, IsOk};
+ghost use Rattle.std.specs.Prelude.{◌≡◌, ◌+◌, ◌<◌, ◌≤◌, ◌==◌, ◌&&◌, true, false, not, length, replicate, List, OnOk, OnErr, IfErr, IsOk};
 ghost use Rattle.std.specs.List.{list_any, enumerate_from};
 
 use crate::held::Held;
@@ -15,17 +15,20 @@ use std::marker::Model;
 #[derive(Drop)]
 pub struct LatchTable {
     holdings: [Held; 64],
+    /// How many sessions hold something. Where only the asking one does, none has to be asked.
+    holders: usize,
 }
 
 impl Model for LatchTable {
     ghost use Rattle.std.specs.Prelude.{◌≡◌, List, length};
     ghost use Rattle.latch_table.specs.Holdings.{Holding};
+    ghost use Rattle.latch_table.specs.Holders.{holder_count};
 
     ghost Value = { List Holding };
 
     ghost view = { λ t. t.holdings };
 
-    ghost invariant = { λ t. length t.holdings ≡ 64 };
+    ghost invariant = { λ t. (length t.holdings ≡ 64) × (t.holders ≡ holder_count t.holdings) };
 }
 
 impl LatchTable {
@@ -37,6 +40,7 @@ impl LatchTable {
     {
         LatchTable {
             holdings: array::from_fn(|_| Held::nothing()),
+            holders: 0,
         }
     }
 
@@ -46,7 +50,11 @@ impl LatchTable {
         ensures value { result ≡ is_held_by_another self.now session block mode }
         ensures sessions { length self.now ≡ 64 }
     {
-        others_conflict(&self.holdings, session.number() as usize, block, mode)
+        let number = session.number() as usize;
+        if self.holders == count(self.holdings[number].holds_any()) {
+            return false;
+        }
+        others_conflict(&self.holdings, number, block, mode)
     }
 
     /// Takes a latch, or answers `Blocked` with the block and takes nothing: where another session holds what
@@ -69,7 +77,10 @@ impl LatchTable {
         if self.holdings[number].is_full() {
             return Err(Fault::Blocked(block));
         }
+        let before = self.holdings[number].holds_any();
         self.holdings[number].latch(Latch { block, mode });
+        let after = self.holdings[number].holds_any();
+        self.holders = recounted(self.holders, before, after);
         Ok(())
     }
 
@@ -77,21 +88,33 @@ impl LatchTable {
     pub fn release(&mut self, session: Session, block: u32)
         ensures { self.new ≡ released self.old session block }
     {
-        self.holdings[session.number() as usize].release(block);
+        let number = session.number() as usize;
+        let before = self.holdings[number].holds_any();
+        self.holdings[number].release(block);
+        let after = self.holdings[number].holds_any();
+        self.holders = recounted(self.holders, before, after);
     }
 
     /// Pins the block too, if the session has fewer than two pins.
     pub fn pin(&mut self, session: Session, block: u32)
         ensures { self.new ≡ pinned self.old session block }
     {
-        self.holdings[session.number() as usize].pin(block);
+        let number = session.number() as usize;
+        let before = self.holdings[number].holds_any();
+        self.holdings[number].pin(block);
+        let after = self.holdings[number].holds_any();
+        self.holders = recounted(self.holders, before, after);
     }
 
     /// Lets go the session's newest pin of the block, if it has one.
     pub fn unpin(&mut self, session: Session, block: u32)
         ensures { self.new ≡ unpinned self.old session block }
     {
-        self.holdings[session.number() as usize].unpin(block);
+        let number = session.number() as usize;
+        let before = self.holdings[number].holds_any();
+        self.holdings[number].unpin(block);
+        let after = self.holdings[number].holds_any();
+        self.holders = recounted(self.holders, before, after);
     }
 
     /// The blocks that are pinned, by all sessions together: each as often as it is, 128 pins at most.
@@ -109,11 +132,32 @@ impl LatchTable {
     pub fn let_go(&mut self, session: Session)
         ensures { self.new ≡ with_holding self.old session nothing_held }
     {
-        self.holdings[session.number() as usize] = Held::nothing();
+        let number = session.number() as usize;
+        let before = self.holdings[number].holds_any();
+        self.holdings[number] = Held::nothing();
+        let after = self.holdings[number].holds_any();
+        self.holders = recounted(self.holders, before, after);
     }
 }
 
+ghost use Rattle.latch_table.specs.Holders.{one_if};
 ghost use Rattle.latch_table.specs.Holdings.{holding_excludes};
+
+// How many sessions that is.
+fn count(holds_any: bool) -> usize
+    ensures { result ≡ one_if holds_any }
+{
+    if holds_any { 1 } else { 0 }
+}
+
+// How many sessions hold something once one of them does or doesn't, which did or didn't before.
+fn recounted(holders: usize, before: bool, after: bool) -> usize
+    requires counted { one_if before ≤ holders }
+    requires few { holders ≤ 64 }
+    ensures { result + one_if before ≡ holders + one_if after }
+{
+    holders + count(after) - count(before)
+}
 
 fn others_conflict(holdings: &[Held], session: usize, block: u32, mode: Mode) -> bool
     ensures { result

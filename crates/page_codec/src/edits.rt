@@ -7,20 +7,20 @@ use crate::page::{Downlink, Items, Page, PageState};
 use arrayvec::ArrayVec;
 use index_model::{Bound, Entry, Key, RowAddr};
 
-fn same_entries(entries: &ArrayVec<Entry, 50>) -> ArrayVec<Entry, 50>
-    ensures { result ≡ entries.now }
+fn same_list<T: Copy + Default + Drop>(list: &ArrayVec<T, 50>) -> ArrayVec<T, 50>
+    ensures { result ≡ list.now }
 {
     let mut copy = ArrayVec::new();
-    let _ = copy.try_extend_from_slice(entries.as_slice());
+    let _ = copy.try_extend_from_slice(list.as_slice());
     copy
 }
 
-fn same_links(links: &ArrayVec<Downlink, 50>) -> ArrayVec<Downlink, 50>
-    ensures { result ≡ links.now }
+// Leaves are copied most: they are spared the room for downlinks.
+#[inline(never)]
+fn same_links(links: &ArrayVec<Downlink, 50>) -> Items
+    ensures { result ≡ Items.Downlinks links.now }
 {
-    let mut copy = ArrayVec::new();
-    let _ = copy.try_extend_from_slice(links.as_slice());
-    copy
+    Items::Downlinks(same_list(links))
 }
 
 fn same_items(items: &Items) -> Items
@@ -28,27 +28,16 @@ fn same_items(items: &Items) -> Items
 {
     match items {
         Items::Meta => Items::Meta,
-        Items::Entries(entries) => Items::Entries(same_entries(entries)),
-        Items::Downlinks(links) => Items::Downlinks(same_links(links)),
+        Items::Entries(entries) => Items::Entries(same_list(entries)),
+        Items::Downlinks(links) => same_links(links),
     }
 }
 
-// Makes the entries in place those of another page.
-fn copy_entries(entries: &ArrayVec<Entry, 50>, target: &mut ArrayVec<Entry, 50>)
-    ensures { target.new ≡ entries.now }
+// Makes the list in place that of another page.
+fn copy_list<T: Copy + Default + Drop>(list: &ArrayVec<T, 50>, target: &mut ArrayVec<T, 50>)
+    ensures { target.new ≡ list.now }
 {
-    let source = entries.as_slice();
-    target.truncate(source.len());
-    let kept = target.len();
-    target.as_mut_slice().copy_from_slice(&source[..kept]);
-    let _ = target.try_extend_from_slice(&source[kept..]);
-}
-
-// Makes the downlinks in place those of another page.
-fn copy_links(links: &ArrayVec<Downlink, 50>, target: &mut ArrayVec<Downlink, 50>)
-    ensures { target.new ≡ links.now }
-{
-    let source = links.as_slice();
+    let source = list.as_slice();
     target.truncate(source.len());
     let kept = target.len();
     target.as_mut_slice().copy_from_slice(&source[..kept]);
@@ -68,8 +57,8 @@ fn copy_items(items: &Items, target: &mut Items)
     ensures { target.new ≡ items.now }
 {
     match (items, &mut *target) {
-        (Items::Entries(entries), Items::Entries(kept)) => copy_entries(entries, kept),
-        (Items::Downlinks(links), Items::Downlinks(kept)) => copy_links(links, kept),
+        (Items::Entries(entries), Items::Entries(kept)) => copy_list(entries, kept),
+        (Items::Downlinks(links), Items::Downlinks(kept)) => copy_list(links, kept),
         _ => replace_items(items, target),
     }
 }

@@ -58,13 +58,15 @@ fn put_entries(out: &mut [u8], at: usize, entries: &[Entry]) -> usize
     end
 }
 
-#[tactic(auto, unfolding(crate::specs::Spelling::entry_bytes))]
+#[tactic(auto, unfolding(crate::specs::Spelling::entry_bytes, crate::specs::Spelling::bound_bytes))]
 fn put_entry(out: &mut [u8], at: usize, entry: &Entry) -> usize
     requires { at + 71 ≤ length out.old }
     ensures next { result ≡ at + 71 }
     ensures front { take result out.new ≡ take at out.old ++ entry_bytes entry.now }
 {
-    put_bound(out, at, &entry.bound())
+    let at = put_key(out, at, &entry.key);
+    let at = put_u32(out, at, entry.row.block());
+    put_u16(out, at, entry.row.offset())
 }
 
 fn put_downlinks(out: &mut [u8], at: usize, links: &[Downlink]) -> usize

@@ -1,19 +1,22 @@
 //! Beginnings.
 
-ghost use Rattle.std.specs.Prelude.{◌≡◌, ◌<◌, ◌≤◌, true, false, Bool, List, ℕ, OnOk, OnErr, IfErr, Err, length};
+ghost use Rattle.std.specs.Prelude.{◌≡◌, ◌<◌, ◌≤◌, true, false, Bool, List, ℕ, OnOk, OnErr, IfErr, Err, Some, length};
 ghost use Rattle.index_model.specs.Actions.{Action};
 ghost use Rattle.index_model.specs.Faults.{HasCause};
 ghost use Rattle.index_model.specs.declared.entry.Entry.{Entry};
 ghost use Rattle.page_action.specs.States.{Continues, after_begin};
 ghost use Rattle.session_calls.specs.Due.{HasSteps};
-ghost use Rattle.session_calls.specs.Ops.{DeadSets, where_beginning};
+ghost use Rattle.session_calls.specs.Ops.{DeadSets, op_before, where_beginning};
 ghost use Rattle.session_calls.specs.Sessions.{Matches, IsIdle, BeginsBy, SessionBegins};
+ghost use Rattle.session_calls.specs.declared.request.Request.TheVariants.{Insert as ToInsert, Scan as ToScan};
 
 use crate::answer::Answer;
 use crate::op::Op;
 use crate::request::Request;
-use index_model::{Fault, Session};
+use index_model::{Entry, Fault, Range, Session};
+use insert_split::InsertOp;
 use page_action::PageStore;
+use scan::ScanOp;
 
 /// Begins a call of a session. Refused with `Stopped` (3); with `SessionBusy` (13) where the session has a call: nothing is
 /// changed then.
@@ -42,8 +45,32 @@ pub fn begin<S: PageStore>(
     if let Err(fault) = start(store, session, slot.is_some()) {
         return Answer::Refused(fault);
     }
-    *slot = Some(Op::new(session, request));
+    fill(slot, session, request);
     Answer::Begun
+}
+
+// Puts the call that a session asks for into the slot.
+fn fill(slot: &mut Option<Op>, session: Session, request: Request)
+    ensures { slot.new ≡ Some (op_before session request) }
+{
+    match request {
+        Request::Insert(entry) => fill_insert(slot, session, entry),
+        Request::Scan(range) => fill_scan(slot, session, range),
+    }
+}
+
+fn fill_insert(slot: &mut Option<Op>, session: Session, entry: Entry)
+    ensures { slot.new ≡ Some (op_before session (ToInsert entry)) }
+{
+    *slot = Some(Op::Insert(InsertOp::new(session, entry)));
+}
+
+// A scan takes more room than an insert, which is spared it.
+#[inline(never)]
+fn fill_scan(slot: &mut Option<Op>, session: Session, range: Range)
+    ensures { slot.new ≡ Some (op_before session (ToScan range)) }
+{
+    *slot = Some(Op::Scan(ScanOp::new(session, range)));
 }
 
 // The start number of a call that begins.

@@ -61,9 +61,17 @@ pub fn step<S: PageStore, T: DeadRows>(store: &mut S, slot: &mut Option<Op>, set
     let answer = op.step(store, sets);
     if is_last(&answer) {
         store.end(session);
-        *slot = None;
+        clear(slot);
     }
     answer
+}
+
+// Takes the call out of the slot. Few steps do: those that don't are spared the room for another one.
+#[inline(never)]
+fn clear(slot: &mut Option<Op>)
+    ensures { slot.new ≡ None }
+{
+    *slot = None;
 }
 
 // A session with no call has no step.
@@ -128,6 +136,6 @@ pub fn end<S: PageStore>(store: &mut S, slot: &mut Option<Op>) -> Answer
         return Answer::Refused(Fault::NoSession);
     };
     store.end(op.session());
-    *slot = None;
+    clear(slot);
     Answer::Ended
 }

@@ -20,7 +20,7 @@ fn count_before(entries: &[Entry], entry: &Entry) -> usize
     ensures parts { IsAscending entries.now → AreParts
         (λ x. is_past (bound_of x) entry.now) entries.now result }
 {
-    entries.partition_point(|x| x.bound().is_below(entry))
+    entries.partition_point(|x| x.compare(entry).is_lt())
 }
 
 /// How many of the entries do not lie beyond the bound.

@@ -1,14 +1,12 @@
-use Rattle.std.proofs.Common.{ap, Some}
-use Rattle.session_calls.specs.declared.op.Op.{Op}
 use Rattle.session_calls.proofs.Beginning.{begins, has_steps}
 use Rattle.session_calls.proofs.begins.begin.Goals as goal
 
 pub returns-clause-begins : goal.returns-clause-begins
 returns-clause-begins g c begun sets start history number matches idle =
-    begins (g.S.PageStore.state c.args.store.now) sets start history number c.args.session c.in_default.ensures.low matches idle (g.S.PageStore.state c.start.new.store) c.args.request (Some c.new.result)
-    c.in_default.ensures.done (ap (λ (op : Op). Some op) c.new.ensures)
+    begins (g.S.PageStore.state c.args.store.now) sets start history number c.args.session c.in_default.ensures.low matches idle (g.S.PageStore.state c.start.new.store) c.args.request c.fill.new.slot
+    c.in_default.ensures.done c.fill.ensures
 
 pub returns-clause-counts : goal.returns-clause-counts
 returns-clause-counts g c begun =
-    has_steps (g.S.PageStore.state c.args.store.now) (g.S.PageStore.state c.start.new.store) c.args.session c.args.request (Some c.new.result) c.in_default.ensures.done (ap (λ (op : Op). Some op) c.new.ensures)
+    has_steps (g.S.PageStore.state c.args.store.now) (g.S.PageStore.state c.start.new.store) c.args.session c.args.request c.fill.new.slot c.in_default.ensures.done c.fill.ensures
     c.start.ensures.limits c.start.ensures.few

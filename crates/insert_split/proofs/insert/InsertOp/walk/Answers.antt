@@ -61,7 +61,7 @@ returns-in-Some-Going g c =
     let most : c.limits.result.pages ≡ st.limits.pages = ap (λ (l : Limits). l.pages) (c.limits.ensures.value ∙ ap (λ (s : State). s.limits) c.look.ensures.state) in
     let shorter : IsShorter 0 c.limits.result.pages c.args.way on = subst (LeavesLess 0 c.limits.result.pages c.args.way) result c.lead.ensures.less in
     let less : way_left st.limits.pages on < way_left st.limits.pages c.args.way = way_shortens 0 st.limits.pages c.args.way on (subst (λ (n : ℕ). IsShorter 0 n c.args.way on) most shorter) in
-    subst (λ (w : Way). InsertSteps g.S.PageStore op (record { session = op.session; entry = op.entry; at = At w; added = op.added }) c.args.store.now c.look.new.store (Ok InsertGoing)) (sym c.in-Some-Going.on-is)
+    rw c.lead_on.ensures (subst (λ (w : Way). InsertSteps g.S.PageStore op (record { session = op.session; entry = op.entry; at = At w; added = op.added }) c.args.store.now c.look.new.store (Ok InsertGoing)) (sym c.in-Some-Going.on-is)
     (goes_on g.S.PageStore op (record { session = op.session; entry = op.entry; at = At on; added = op.added }) c.args.store.now c.look.new.store c.look.ensures.steps c.look.ensures.state refl refl c.requires.alive
     (λ honest. subst (λ (a : InsertAt). insert_left st.limits.pages st.pages (At on) < insert_left st.limits.pages st.pages a) (sym c.requires.at) (omega (arith, less)))
     (λ honest order fits.
@@ -86,7 +86,7 @@ returns-in-Some-Going g c =
     subst (LeadsStraight st (bound_aim c.bound.result) 0 c.args.way) result (c.lead.ensures.straight st order.tree whole (found g (goal.at.returns-in-Some-Going g c).After-view-page honest) covers) in (
       subst (λ (b : Bound). HasCover st on.level (bound_aim b) on.block) c.bound.ensures led_straight.1,
       subst (λ (a : InsertAt). suc (on.level + 2) ≡ straight_steps st.pages a) (sym c.requires.at) (let z = led_straight.0 in omega (arith, z)),
-    )))
+    ))))
 
 pub returns-else-not-may_hold : goal.returns-else-not-may_hold
 returns-else-not-may_hold g c =
