@@ -109,7 +109,9 @@ pub fn time_open(rt: &(impl Clock + Eprint), alloc: Global) -> io::Result<()> {
         Ok(store) => {
             let used = store.used();
             let micros = nanos / 1_000;
-            eprintln!(rt; "{images} images in the log, {used} pages: opened in {micros} microseconds")
+            eprintln!(rt;
+                "{images} images in the log, {used} pages: opened in {micros} microseconds"
+            )
         }
         Err(_) => eprintln!(rt; "an index with a full log was not opened"),
     }
