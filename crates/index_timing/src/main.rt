@@ -25,7 +25,7 @@ const LIMITS: Limits = Limits {
 /// The bytes of a device with an index of these limits.
 const LEN: u64 = 4_096 + 16_777_216 + 4_096 * 8_192;
 
-/// Pages in memory at once.
+/// Pages in memory at once, at most.
 const FRAMES: u32 = 1_024;
 
 const ALL: Range = Range {
@@ -37,12 +37,13 @@ const ALL: Range = Range {
 const SHUFFLED: u32 = 7_919;
 
 /// One index to be filled: so many entries, each so many places behind the last, with a commit behind every so many (0: at the end
-/// alone).
+/// alone), and so many pages in memory at once.
 #[derive(Clone, Copy)]
 struct Load {
     count: u32,
     stride: u32,
     commit_every: u32,
+    frames: u32,
 }
 
 // Entry i, with a key of four bytes.
@@ -54,10 +55,10 @@ fn entry(i: u32) -> Entry {
 }
 
 // An empty index, made on a device in memory and opened.
-fn empty_index(alloc: Global) -> Result<Index<Store<MemDevice>>, Fault> {
+fn empty_index(alloc: Global, frames: u32) -> Result<Index<Store<MemDevice>>, Fault> {
     let mut device = MemDevice::new(alloc, LEN)?;
     create(&mut device, &LIMITS)?;
-    match Index::open(alloc, device, FRAMES) {
+    match Index::open(alloc, device, frames) {
         Ok(index) => Ok(index),
         Err(refused) => Err(refused.fault),
     }
@@ -90,7 +91,7 @@ fn scan(index: &mut Index<Store<MemDevice>>, most: u32) -> Result<u32, Fault> {
 }
 
 fn is_filled_and_scanned(alloc: Global, load: Load) -> Result<bool, Fault> {
-    let mut index = empty_index(alloc)?;
+    let mut index = empty_index(alloc, load.frames)?;
     fill(&mut index, load)?;
     Ok(scan(&mut index, load.count.saturating_add(1))? == load.count)
 }
@@ -101,11 +102,12 @@ fn a_second(count: u32, nanos: u128) -> u128 {
 
 // The entries a second that an index takes, and those that it gives, each once.
 fn time(rt: &(impl Clock + Eprint), alloc: Global, name: &str, load: Load) -> io::Result<()> {
-    let Ok(mut index) = empty_index(alloc) else {
+    let Ok(mut index) = empty_index(alloc, load.frames) else {
         return eprintln!(rt; "{name}: no index was made");
     };
     let count = load.count;
     let every = load.commit_every;
+    let frames = load.frames;
     let start = Instant::now(rt)?;
     let filled = fill(&mut index, load).is_ok();
     let taken = a_second(count, start.elapsed(rt)?.as_nanos());
@@ -114,14 +116,14 @@ fn time(rt: &(impl Clock + Eprint), alloc: Global, name: &str, load: Load) -> io
     let gives = a_second(given, start.elapsed(rt)?.as_nanos());
     if filled && given == count {
         eprintln!(rt;
-            "{count} {name}, a commit every {every}: {taken} inserted, {gives} scanned a second"
+            "{count} {name}, {frames} frames, a commit every {every}: {taken} inserted, {gives} scanned a second"
         )
     } else {
         eprintln!(rt; "{count} {name}: {given} entries were given")
     }
 }
 
-fn time_all(rt: &(impl Clock + Eprint), alloc: Global, count: u32) -> io::Result<()> {
+fn time_all(rt: &(impl Clock + Eprint), alloc: Global, count: u32, frames: u32) -> io::Result<()> {
     for commit_every in [0, 100] {
         time(
             rt,
@@ -131,6 +133,7 @@ fn time_all(rt: &(impl Clock + Eprint), alloc: Global, count: u32) -> io::Result
                 count,
                 stride: 1,
                 commit_every,
+                frames,
             },
         )?;
         time(
@@ -141,6 +144,7 @@ fn time_all(rt: &(impl Clock + Eprint), alloc: Global, count: u32) -> io::Result
                 count,
                 stride: SHUFFLED,
                 commit_every,
+                frames,
             },
         )?;
     }
@@ -154,6 +158,7 @@ fn main(rt: HostRuntime) -> io::Result<()> {
             count: 1_000,
             stride,
             commit_every: 100,
+            frames: FRAMES,
         };
         if is_filled_and_scanned(alloc, load).unwrap_or(false) {
             println!(rt; "1000 entries inserted and scanned")?;
@@ -164,7 +169,10 @@ fn main(rt: HostRuntime) -> io::Result<()> {
             time_open(&rt, alloc)?;
         }
         for count in [1_000, 10_000, 100_000] {
-            time_all(&rt, alloc, count)?;
+            time_all(&rt, alloc, count, FRAMES)?;
+        }
+        for frames in [16, 64] {
+            time_all(&rt, alloc, 100_000, frames)?;
         }
     }
     Ok(())
