@@ -1,9 +1,10 @@
 -- The acts that edit a tree: which pages they write, by what stood there, and what they leave.
-use Rattle.std.specs.Prelude.{◌≡◌, ℕ, suc, ◌||◌, true, false, Option, Some, None, List, [], ◌∷◌, ◌++◌, length, slice_get}
-use Rattle.index_model.specs.Order.{same_entry}
+use Rattle.std.specs.Prelude.{◌≡◌, ℕ, suc, ◌||◌, ◌&&◌, Bool, true, false, not, Option, Some, None, List, [], ◌∷◌, ◌++◌, length, slice_get}
+use Rattle.std.specs.List.{filter}
+use Rattle.index_model.specs.Order.{same_entry, is_among}
 use Rattle.index_model.specs.declared.bound.Bound.{Bound}
 use Rattle.index_model.specs.declared.entry.Entry.{Entry}
-use Rattle.page_codec.specs.Edits.{entries_of}
+use Rattle.page_codec.specs.Edits.{entries_of, HasEntries, with_entries}
 use Rattle.page_codec.specs.declared.page.Downlink.{Downlink}
 use Rattle.page_codec.specs.declared.page.Page.{Page}
 use Rattle.page_codec.specs.declared.page.PageState.TheVariants.{Live}
@@ -13,7 +14,7 @@ use Rattle.page_action.specs.States.{State, after_act}
 use Rattle.page_action.specs.Stored.{AreActable}
 use Rattle.tree_shape.specs.Tree.{IsMetaOf}
 use Rattle.tree_shape.specs.Nodes.{node_of, links_of}
-use Rattle.tree_shape.specs.Edits.{IsPutIn, LeafHalves, IsLinkAdded, LinkHalves, with_leaf, with_left, with_links, cleared, new_root}
+use Rattle.tree_shape.specs.Edits.{IsPutIn, removed_from, LeafHalves, IsLinkAdded, LinkHalves, with_leaf, with_left, with_links, cleared, new_root}
 use Rattle.tree_shape.specs.Walks.{entry_aim, bound_aim, is_within}
 use Rattle.tree_acts.specs.Trees.{HasTree, HasPlace, HasCover, PlacesLast, TrailsLast}
 
@@ -31,6 +32,14 @@ pub record EntryIsPut (st : State) (start : ℕ) (e : Entry) (page after : Page)
   pub put : IsPutIn e (entries_of page.items) (entries_of after.items)
   pub after_is : node_of after ≡ with_leaf (node_of page) (entries_of after.items)
   pub block_is : after.block ≡ page.block
+  pub may : MayAct st (after ∷ [])
+
+-- a live leaf keeps the entries that pass the test
+pub record EntriesAreRemoved (st : State) (keeps : Entry → Bool) (page after : Page) : Type 0 where
+  pub found : slice_get st.pages page.block ≡ Some page
+  pub alive : page.state ≡ Live
+  pub leaf : HasEntries page.items
+  pub after_is : after ≡ with_entries page (filter keeps (entries_of page.items))
   pub may : MayAct st (after ∷ [])
 
 -- the page that was right of one that is split, with its left link mended: none where there was
@@ -127,12 +136,24 @@ abbrev pub ContentsGain : Entry → State → State → Type 0
 ContentsGain e old new = (x : Entry) → entry_on_live_leaf new.pages x
     ≡ (same_entry e x || entry_on_live_leaf old.pages x)
 
+-- these entries are there no more, and else the contents are as they were
+abbrev pub ContentsLose : List Entry → State → State → Type 0
+ContentsLose es old new = (x : Entry) → entry_on_live_leaf new.pages x
+    ≡ (entry_on_live_leaf old.pages x && not (is_among es x))
+
 -- what each of these acts leaves
 abbrev pub PuttingLasts : Type 0
 PuttingLasts =
     (st : State) (start : ℕ) (e : Entry) (page after : Page) → HasTree st
     → EntryIsPut st start e page after
     → TreeLasts st (after_act (after ∷ []) st) × ContentsGain e st (after_act (after ∷ []) st)
+
+abbrev pub RemovingLasts : Type 0
+RemovingLasts =
+    (st : State) (keeps : Entry → Bool) (page after : Page) → HasTree st
+    → EntriesAreRemoved st keeps page after
+    → TreeLasts st (after_act (after ∷ []) st)
+    × ContentsLose (removed_from keeps (entries_of page.items)) st (after_act (after ∷ []) st)
 
 abbrev pub LeafSplitLasts : Type 0
 LeafSplitLasts =

@@ -1,14 +1,15 @@
 //! The laws.
 
-ghost use Rattle.tree_acts.specs.Acts.{PuttingLasts, LeafSplitLasts, FinishLasts, ParentSplitLasts, RootSplitLasts};
-ghost use Rattle.tree_acts.specs.Flags.{PuttingFlags, LeafSplitFlags, FinishFlags, ParentSplitFlags, RootSplitFlags};
+ghost use Rattle.tree_acts.specs.Acts.{PuttingLasts, RemovingLasts, LeafSplitLasts, FinishLasts, ParentSplitLasts, RootSplitLasts};
+ghost use Rattle.tree_acts.specs.Flags.{PuttingFlags, RemovingFlags, LeafSplitFlags, FinishFlags, ParentSplitFlags, RootSplitFlags};
 ghost use Rattle.tree_acts.specs.Weights.{PuttingWeighs, LeafSplitWeighs, FinishWeighs, ParentSplitWeighs, RootSplitWeighs};
-ghost use Rattle.tree_acts.specs.Ways.{MetapageTells, PassedTells, LiveTells, InternalTells, LeafTells, FrontierTells, ParentTells, SeparatorTells, RootTells, UnfinishedIsBelow, TrailBegins, TrailGoesRight, TrailIsShort, PlacesWiden, HighTells, NeighbourTells, StraightTells, RootCoversAll};
+ghost use Rattle.tree_acts.specs.Ways.{MetapageTells, PassedTells, LiveTells, InternalTells, LeafTells, FrontierTells, ParentTells, SeparatorTells, RootTells, UnfinishedIsBelow, TrailBegins, LeafBeginsTrail, TrailGoesRight, TrailIsShort, PlacesWiden, HighTells, NeighbourTells, StraightTells, RootCoversAll};
 
 /// Does nothing: its clauses say that each act which edits a tree leaves a tree, the places that running calls keep, and
-/// the contents as they were, but for the entry that is put.
+/// the contents as they were, but for the entry that is put, and those that are removed.
 pub fn acts_keep_the_tree()
     ensures putting { PuttingLasts }
+    ensures removing { RemovingLasts }
     ensures leaf_split { LeafSplitLasts }
     ensures finish { FinishLasts }
     ensures parent_split { ParentSplitLasts }
@@ -19,6 +20,7 @@ pub fn acts_keep_the_tree()
 /// clears one, and flags one more at most, one level higher.
 pub fn acts_move_flags()
     ensures putting { PuttingFlags }
+    ensures removing { RemovingFlags }
     ensures leaf_split { LeafSplitFlags }
     ensures finish { FinishFlags }
     ensures parent_split { ParentSplitFlags }
@@ -49,6 +51,7 @@ pub fn pages_tell_the_way()
     ensures straight { StraightTells }
     ensures root_covers { RootCoversAll }
     ensures begins { TrailBegins }
+    ensures leaf_begins { LeafBeginsTrail }
     ensures goes_on { TrailGoesRight }
     ensures short { TrailIsShort }
 {}

@@ -1,14 +1,20 @@
 -- The entries that live pages hold, before and after each edit.
-use Rattle.std.proofs.Common.{◌≡◌, ◌≢◌, ◌⊎◌, ℕ, suc, ◌<◌, max, inl, inr, Bool, true, false, ◌||◌, List, [], ◌∷◌, refl, sym, ap, subst, ◌∙◌, arith}
+use Rattle.std.proofs.Common.{◌≡◌, ◌≢◌, ◌⊎◌, ℕ, suc, ◌<◌, max, inl, inr, Bool, true, false, ◌||◌, ◌&&◌, not, List, [], ◌∷◌, refl, sym, ap, subst, ◌∙◌, arith}
 use Rattle.std.proofs.lemmas.Bool.{cases_eq}
+use Rattle.std.specs.List.{filter}
 use Rattle.index_model.specs.Order.{is_among, same_entry}
 use Rattle.index_model.specs.declared.entry.Entry.{Entry}
 use Rattle.index_model.proofs.Ascending.{is_among-put, is_among-append}
 use Rattle.page_codec.specs.declared.page.PageState.{PageState}
 use Rattle.page_codec.specs.declared.page.PageState.TheVariants.{Live, HalfDead, Deleted}
 use Rattle.tree_shape.specs.Nodes.{Node, entries_alive, holds, IsHeld, HoldsTheSame, HoldsOneMore}
-use Rattle.tree_shape.specs.Edits.{IsPutIn, IsInsertion, IsLeafSplit, IsFree, IsFinish, IsParentSplit, IsRootSplit}
+use Rattle.tree_shape.specs.Edits.{IsPutIn, IsInsertion, IsRemoval, removed_from, IsLeafSplit, IsFree, IsFinish, IsParentSplit, IsRootSplit}
+use Rattle.tree_shape.specs.Chains.{IsIn}
+use Rattle.tree_shape.specs.Laws.{RemovalTakes}
+use Rattle.tree_shape.proofs.Keeps.{leaf_on_chain}
 use Rattle.tree_shape.proofs.Links.{link_cases}
+use Rattle.tree_shape.proofs.Reading.{one_holder}
+use Rattle.tree_shape.proofs.Removal.{is_among-filter}
 
 or_cases : (a b : Bool) → a || b ≡ true → (a ≡ true) ⊎ (b ≡ true)
 or_cases true b h = inl refl
@@ -72,6 +78,63 @@ insertion_adds at at' used b e h b_used x = (there, back)
     back (inl i) = elim (cases_eq i.block b) [
       | inl is_b ↦ record { block = b; in_use = b_used; on = now ∙ or_right (same_entry e x) (holds (at b) x) (subst (λ (c : ℕ). holds (at c) x ≡ true) is_b i.on) }
       | inr not_b ↦ record { block = i.block; in_use = i.in_use; on = subst (λ (n : Node). holds n x ≡ true) (sym (h.others i.block not_b)) i.on }
+    ]
+
+-- an entry of a live leaf of a tree stands on that leaf alone
+pub removal_takes : RemovalTakes
+removal_takes at at' used root top chain b keeps tree only h above inside x = (there, back)
+  where
+    kept : List Entry
+    kept = filter keeps (at b).entries
+
+    gone : List Entry
+    gone = removed_from keeps (at b).entries
+
+    now : holds (at' b) x ≡ (is_among (at b).entries x && keeps x)
+    now = rw (h.leaf_is, h.alive) (is_among-filter keeps (at b).entries x)
+
+    was : holds (at b) x ≡ is_among (at b).entries x
+    was = holds_alive (at b) x h.alive
+
+    removed : is_among (removed_from keeps (at b).entries) x ≡ (is_among (at b).entries x && not (keeps x))
+    removed = is_among-filter (λ e. not (keeps e)) (at b).entries x
+
+    on_chain : IsIn b (chain 0)
+    on_chain = leaf_on_chain at used root top chain b tree h.alive h.leaf above inside
+
+    elsewhere : (c : ℕ) → c ≢ b → c < used → holds (at c) x ≡ true → is_among (at b).entries x ≡ false
+    elsewhere c not_b c_used on = by (is_among (at b).entries x) refl
+      where
+        by : (w : Bool) → is_among (at b).entries x ≡ w → is_among (at b).entries x ≡ false
+        by true also = absurd (not_b (one_holder at used root top chain x tree only c b c_used inside on (was ∙ also)))
+        by false not' = not'
+
+    part : (a k : Bool) → (a && k) ≡ true → (a ≡ true) × ((a && not k) ≡ false)
+    part true true e = (refl, refl)
+    part true false e = absurd cc
+    part false k e = absurd cc
+
+    join : (a k : Bool) → a ≡ true → (a && not k) ≡ false → (a && k) ≡ true
+    join true true p q = refl
+    join true false p q = absurd cc
+    join false k p q = absurd cc
+
+    none : (a k : Bool) → a ≡ false → (a && not k) ≡ false
+    none true k e = absurd cc
+    none false k e = refl
+
+    there : IsHeld at' used x → IsHeld at used x × (is_among gone x ≡ false)
+    there i = elim (cases_eq i.block b) [
+      | inl is_b ↦ (let p = part (is_among (at b).entries x) (keeps x) (sym now ∙ subst (λ (c : ℕ). holds (at' c) x ≡ true) is_b i.on) in
+          (record { block = b; in_use = inside; on = was ∙ p.0 }, removed ∙ p.1))
+      | inr not_b ↦ (let on : holds (at i.block) x ≡ true = subst (λ (n : Node). holds n x ≡ true) (h.others i.block not_b) i.on in
+          (record { block = i.block; in_use = i.in_use; on = on }, removed ∙ none (is_among (at b).entries x) (keeps x) (elsewhere i.block not_b i.in_use on)))
+    ]
+
+    back : IsHeld at used x × (is_among gone x ≡ false) → IsHeld at' used x
+    back i = elim (cases_eq i.0.block b) [
+      | inl is_b ↦ record { block = b; in_use = inside; on = now ∙ join (is_among (at b).entries x) (keeps x) (sym was ∙ subst (λ (c : ℕ). holds (at c) x ≡ true) is_b i.0.on) (sym removed ∙ i.1) }
+      | inr not_b ↦ record { block = i.0.block; in_use = i.0.in_use; on = subst (λ (n : Node). holds n x ≡ true) (sym (h.others i.0.block not_b)) i.0.on }
     ]
 
 pub leaf_split_adds : (at at' : ℕ → Node) (used b new : ℕ) (e : Entry) → IsLeafSplit at at' b new e → IsFree at used new → b < used → HoldsOneMore at at' used (max used (suc new)) e
