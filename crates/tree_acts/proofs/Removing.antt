@@ -28,7 +28,7 @@ use Rattle.tree_acts.proofs.Words.{contents_held, only_leaves, same_test}
 use Rattle.tree_acts.proofs.Lasting.{lasts, MetaIs}
 
 -- a leaf is on level 0, and isn't the metapage
-leaf_is : (page : Page) → IsPage page → HasEntries page.items → (0 < page.block) × (page.level ≡ 0)
+pub leaf_is : (page : Page) → IsPage page → HasEntries page.items → (0 < page.block) × (page.level ≡ 0)
 leaf_is page admitted leaf = by page.items leaf admitted.kind
   where
     by : (items : Items) → HasEntries items → IsOfKind page items → (0 < page.block) × (page.level ≡ 0)

@@ -107,13 +107,13 @@ StatsAreTold st op (Ok (Finished stats)) = stats ≡ stats_of st op
 StatsAreTold st op (Err fault) = Unit {0}
 
 -- each step that goes on leaves less to do
-abbrev pub BulkDeleteLeavesLess : State → BulkDeleteOp → BulkDeleteOp → Result BulkDeleteStep Fault
-    → Type 0
-BulkDeleteLeavesLess st before after (Ok Going) =
-    bulk_delete_left st.limits.pages (length st.pages) after.cursor after.back
-    < bulk_delete_left st.limits.pages (length st.pages) before.cursor before.back
-BulkDeleteLeavesLess st before after (Ok (Finished stats)) = Unit {0}
-BulkDeleteLeavesLess st before after (Err fault) = Unit {0}
+abbrev pub BulkDeleteLeavesLess : State → State → BulkDeleteOp → BulkDeleteOp
+    → Result BulkDeleteStep Fault → Type 0
+BulkDeleteLeavesLess old new before after (Ok Going) =
+    bulk_delete_left new.limits.pages (length new.pages) after.cursor after.back
+    < bulk_delete_left old.limits.pages (length old.pages) before.cursor before.back
+BulkDeleteLeavesLess old new before after (Ok (Finished stats)) = Unit {0}
+BulkDeleteLeavesLess old new before after (Err fault) = Unit {0}
 
 -- what was due is to come still; at the end none of it is there
 abbrev pub DueStaysToCome : (Entry → Bool) → State → BulkDeleteOp → Result BulkDeleteStep Fault
@@ -163,7 +163,7 @@ pub record BulkDeleteSteps {S : Type 0} (g : Ghosts S) (dead : Row → Bool)
     pub refused : OnErr result (BulkDeleteStays (g.state old) (g.state new) before after)
     pub stopped : (g.backing old).stopped ≡ true → result ≡ Err Stopped
     pub stats : StatsAreTold (g.state old) before result
-    pub less : BulkDeleteLeavesLess (g.state old) before after result
+    pub less : BulkDeleteLeavesLess (g.state old) (g.state new) before after result
     pub due : (g.backing new).honest ≡ true → (due : Entry → Bool) → IsDueOf dead due
         → DueIsToCome due (g.state old) before.cursor before.back
         → DueStaysToCome due (g.state new) after result

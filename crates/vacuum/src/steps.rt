@@ -110,7 +110,9 @@ impl BulkDeleteOp {
         requires at { next_block self.old.cursor self.old.back ≡ block }
         requires alive { (S.backing store.old).stopped ≡ false }
         requires room { is_counted_out self.old ≡ false }
-        requires inside { self.old.back ≡ None → self.old.cursor < 4294967295 }
+        requires inside { self.old.back ≡ None
+            → self.old.cursor < length (S.state store.old).pages }
+        requires narrow { self.old.back ≡ None → self.old.cursor < 4294967295 }
         ensures { BulkDeleteSteps S.PageStore (T.is_in dead.now) self.old self.new
             store.old store.new result }
     {
@@ -199,7 +201,7 @@ impl BulkDeleteOp {
     // Goes on behind a page: back to a sibling, or at the cursor.
     fn go_on(&mut self, back: Option<Back>, kept: u64, gone: u64)
         requires room { is_counted_out self.old ≡ false }
-        requires inside { self.old.back ≡ None → self.old.cursor < 4294967295 }
+        requires narrow { self.old.back ≡ None → self.old.cursor < 4294967295 }
         requires kept { kept ≤ 50 }
         requires gone { gone ≤ 50 }
         ensures { self.new ≡ gone_on self.old back kept gone }
