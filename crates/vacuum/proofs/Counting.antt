@@ -1,5 +1,5 @@
 -- How much is left to do, and what is counted, behind a page that is read.
-use Rattle.std.proofs.Common.{◌≡◌, ◌≢◌, ◌⊎◌, ℕ, zero, suc, ◌+◌, ◌-◌, ◌*◌, ◌<◌, ◌≤◌, inl, inr, Bool, true, false, Option, Some, None, List, [], ◌∷◌, length, slice_get, refl, sym, ap, subst, ◌∙◌, arith}
+use Rattle.std.proofs.Common.{◌≡◌, ◌≢◌, ℕ, zero, suc, ◌+◌, ◌-◌, ◌*◌, ◌<◌, ◌≤◌, inl, inr, Bool, true, false, Option, Some, None, List, [], ◌∷◌, length, slice_get, refl, sym, ap, subst, ◌∙◌, arith}
 use Rattle.std.proofs.lemmas.Bool.{cases_eq, cases_lt}
 use Rattle.index_model.specs.Order.{is_among}
 use Rattle.index_model.specs.Row.{Row}
@@ -15,8 +15,8 @@ use Rattle.page_action.specs.States.{State}
 use Rattle.tree_acts.specs.Leaves.{IsLeafAt}
 use Rattle.vacuum.specs.Counts.{entry_count, entries_below, IsBelow, IsCounted}
 use Rattle.vacuum.specs.Ops.{next_block, last_read, moves_of, cursor_past}
-use Rattle.vacuum.specs.Turns.{TurnsTo, gone_on, left_with}
-use Rattle.vacuum.specs.Work.{moves_left, bulk_delete_left}
+use Rattle.vacuum.specs.Turns.{gone_on}
+use Rattle.vacuum.specs.Work.{bulk_delete_left}
 use Rattle.vacuum.specs.declared.steps.Back.{Back}
 use Rattle.vacuum.specs.declared.steps.BulkDeleteOp.{BulkDeleteOp}
 

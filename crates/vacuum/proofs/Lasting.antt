@@ -1,5 +1,5 @@
 -- What a bulk delete knows lasts while others act, and what is due to it is to come still.
-use Rattle.std.proofs.Common.{◌≡◌, ◌⊎◌, ℕ, suc, ◌<◌, ◌≤◌, inl, inr, Bool, true, false, Option, Some, None, List, length, slice_get, refl, sym, ap, subst, ◌∙◌, arith}
+use Rattle.std.proofs.Common.{◌≡◌, ℕ, ◌<◌, ◌≤◌, inl, inr, true, false, Option, Some, None, List, slice_get, sym, subst, ◌∙◌, arith}
 use Rattle.std.proofs.lemmas.Bool.{cases_lt}
 use Rattle.index_model.specs.Actions.{Effect}
 use Rattle.index_model.specs.Order.{is_among}
@@ -8,13 +8,13 @@ use Rattle.page_codec.specs.Edits.{entries_of}
 use Rattle.page_codec.specs.declared.page.Page.{Page}
 use Rattle.page_action.specs.States.{State}
 use Rattle.page_action.proofs.StoredPages.{stored_page}
-use Rattle.tree_acts.specs.Leaves.{IsLeafAt, WasLeaf, HasOldEntries, LeafGoesOn, LeafStays, LeafIsHalved, LeavesStay, IsAddedBy}
+use Rattle.tree_acts.specs.Leaves.{IsLeafAt, WasLeaf, HasOldEntries, LeafGoesOn, LeafIsHalved, LeavesStay}
 use Rattle.tree_acts.proofs.Removing.{leaf_is}
-use Rattle.descent.specs.Shared.{IsInOrder, NumbersStay}
+use Rattle.descent.specs.Shared.{NumbersStay}
 use Rattle.vacuum.specs.BulkDeletes.{GoesBack}
 use Rattle.vacuum.specs.Laws.{BulkDeletesAreUndisturbed, DueIsUndisturbed, AllIsToCome}
 use Rattle.vacuum.specs.Ops.{last_read}
-use Rattle.vacuum.specs.Sweeping.{IsToCome, ahead, sibling, led, WentBackFromLeaf, DueIsToCome}
+use Rattle.vacuum.specs.Sweeping.{IsToCome, ahead, sibling, led, WentBackFromLeaf}
 use Rattle.vacuum.specs.declared.steps.Back.{Back}
 
 goes_back_still : (old new : State) (start : ℕ) (back : Option Back) → NumbersStay start old new → GoesBack old start back → GoesBack new start back

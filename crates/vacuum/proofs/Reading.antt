@@ -1,7 +1,6 @@
 -- Steps of a bulk delete.
-use Rattle.std.proofs.Common.{◌≡◌, ◌≢◌, ◌⊎◌, ℕ, zero, suc, ◌+◌, ◌<◌, ◌≤◌, max, nat_lt, inl, inr, Bool, true, false, Option, Some, None, Result, Ok, Err, List, [], ◌∷◌, length, slice_get, slice_index, refl, sym, ap, subst, ◌∙◌, arith}
-use Rattle.std.proofs.lemmas.Bool.{cases_eq, cases_lt, lt-ltb}
-use Rattle.index_model.specs.Actions.{Effect, Remove}
+use Rattle.std.proofs.Common.{◌≡◌, ◌≢◌, ℕ, zero, suc, ◌+◌, ◌<◌, ◌≤◌, nat_lt, inl, inr, Bool, true, false, Option, Some, None, Ok, Err, List, [], ◌∷◌, length, slice_get, slice_index, refl, sym, ap, subst, ◌∙◌, arith}
+use Rattle.std.proofs.lemmas.Bool.{cases_eq, lt-ltb}
 use Rattle.index_model.specs.Faults.{HasCause}
 use Rattle.index_model.specs.Order.{is_among}
 use Rattle.index_model.specs.Row.{Row}
@@ -9,20 +8,20 @@ use Rattle.index_model.specs.declared.entry.Entry.{Entry}
 use Rattle.index_model.specs.declared.fault.Fault.{Fault}
 use Rattle.index_model.specs.declared.fault.Fault.TheVariants.{Stopped}
 use Rattle.index_model.specs.declared.stats.VacuumStats.{VacuumStats}
-use Rattle.latch_table.specs.Holdings.{Holding, Table, HasRoom, has_pin, holding_of, nothing_held, is_held_by_another}
+use Rattle.latch_table.specs.Holdings.{Holding, Table, HasRoom, has_pin, holding_of, is_held_by_another}
 use Rattle.latch_table.specs.declared.mode.Mode.TheVariants.{Cleanup}
 use Rattle.page_codec.specs.Edits.{entries_of, HasEntries}
 use Rattle.page_codec.specs.declared.page.Page.{Page}
 use Rattle.page_codec.specs.declared.page.PageState.TheVariants.{Live}
 use Rattle.page_action.specs.Contents.{live_entries}
-use Rattle.page_action.specs.States.{State, Backing, Continues, after_act, with_page}
+use Rattle.page_action.specs.States.{State, Continues}
 use Rattle.page_action.specs.Stored.{IsStored}
 use Rattle.page_action.specs.declared.page_store.PageStore.{Ghosts}
 use Rattle.tree_shape.specs.Edits.{removed_from}
 use Rattle.tree_shape.specs.Nodes.{nodes_of}
 use Rattle.tree_shape.specs.Walks.{IsTrail, reached, over}
-use Rattle.tree_acts.specs.Acts.{EntriesAreRemoved, TreeLasts}
-use Rattle.tree_acts.specs.Leaves.{IsLeafAt, WasLeaf}
+use Rattle.tree_acts.specs.Acts.{EntriesAreRemoved}
+use Rattle.tree_acts.specs.Leaves.{IsLeafAt}
 use Rattle.tree_acts.specs.Trees.{HasTree, HasTrail}
 use Rattle.tree_acts.proofs.Lasting.{deleted_in_use}
 use Rattle.tree_acts.proofs.Overlays.{inside, page_there, page_other, page_length}
@@ -31,10 +30,10 @@ use Rattle.tree_acts.proofs.Telling.{trail_goes_right, trail_is_short_here}
 use Rattle.tree_acts.proofs.Words.{trail_in}
 use Rattle.descent.specs.Shared.{IsInOrder, Does, IsOneStep}
 use Rattle.descent.proofs.Acting.{one_act, one_nothing, nothing_else}
-use Rattle.vacuum.specs.BulkDeletes.{GoesBack, BulkDeleteFits, BulkDeleteSteps, IsBefore, StaysBeforePins, IsDueOf, where_deleting, removes, dead_of, dead_at}
+use Rattle.vacuum.specs.BulkDeletes.{GoesBack, BulkDeleteFits, BulkDeleteSteps, where_deleting, removes, dead_of, dead_at}
 use Rattle.vacuum.specs.Counts.{stats_of, IsBelow, IsCounted, entry_count}
 use Rattle.vacuum.specs.Ops.{lives, without_dead, dead_entries, next_block, last_read, moves_of, cursor_past}
-use Rattle.vacuum.specs.Sweeping.{IsSibling, IsToCome, DueIsToCome, WentBackFromLeaf}
+use Rattle.vacuum.specs.Sweeping.{IsSibling, DueIsToCome}
 use Rattle.vacuum.specs.Turns.{LeadsBack, TurnsTo, TurnsNoMore, IsSwept, gone_on, written}
 use Rattle.vacuum.specs.Work.{bulk_delete_left}
 use Rattle.vacuum.specs.declared.leaf.Swept.{Swept}
@@ -195,7 +194,7 @@ comes_here st op page block tree fits at leaf block_is = by op.back refl fits.ba
   where
     by : (back : Option Back) → op.back ≡ back → GoesBack st fits.start back → HasTrail st fits.start 0 page.block (moves_of back)
     by None is goes = leaf_begins_trail st fits.start page tree (subst (λ (b : ℕ). slice_get st.pages b ≡ Some page) (sym block_is) leaf.found) leaf.alive leaf.leaf
-    by (Some b) is goes = subst (λ (k : ℕ). HasTrail st fits.start 0 k b.moves) (sym at' ) goes
+    by (Some b) is goes = subst (λ (k : ℕ). HasTrail st fits.start 0 k b.moves) (sym at') goes
       where
         at' : page.block ≡ b.block
         at' = block_is ∙ sym at ∙ ap (λ (o : Option Back). next_block op.cursor o) is
@@ -338,8 +337,8 @@ module _ {S : Type 0} (g : Ghosts S) (dead : Row → Bool) (before : BulkDeleteO
         turned (g.state old).cycle (g.state old).limits.pages (last_read before.cursor before.back) (moves_of before.back) page onward turn b
         (subst (λ (q : Page). LeadsBack (g.state old).cycle (last_read before.cursor before.back) q b) is_page leads);
     from = λ b is. (
-        (turned_from (g.state old).cycle (g.state old).limits.pages (last_read before.cursor before.back) (moves_of before.back) page onward turn b is).1,
-        record { page = page; was = leaf_here honest },
+      (turned_from (g.state old).cycle (g.state old).limits.pages (last_read before.cursor before.back) (moves_of before.back) page onward turn b is).1,
+      record { page = page; was = leaf_here honest },
     );
   }
 

@@ -1,10 +1,10 @@
 -- A leaf that loses its dead entries, and the act by which it does.
-use Rattle.std.proofs.Common.{◌≡◌, ◌≢◌, ℕ, suc, ◌+◌, ◌<◌, ◌≤◌, inl, inr, Bool, true, false, not, ◌&&◌, if◌then◌else◌, Option, Some, None, List, [], ◌∷◌, length, slice_get, refl, sym, ap, subst, ◌∙◌, arith}
+use Rattle.std.proofs.Common.{◌≡◌, ℕ, suc, ◌+◌, ◌<◌, ◌≤◌, inl, inr, Bool, true, false, not, ◌&&◌, if◌then◌else◌, Some, None, List, [], ◌∷◌, length, slice_get, refl, sym, ap, subst, ◌∙◌, arith}
 use Rattle.std.proofs.lemmas.Bool.{cases_Bool, and_parts}
 use Rattle.std.specs.List.{filter}
 use Rattle.std.specs.Prelude.{unwrap_or}
-use Rattle.index_model.specs.Actions.{Effect, Remove, said_of}
-use Rattle.index_model.specs.Order.{bound_of, is_among, same_entry, IsUpTo, IsAscending, IsEntry}
+use Rattle.index_model.specs.Actions.{Remove, said_of}
+use Rattle.index_model.specs.Order.{is_among, IsUpTo, IsAscending, IsEntry}
 use Rattle.index_model.specs.Row.{Row}
 use Rattle.index_model.specs.declared.entry.Entry.{Entry}
 use Rattle.index_model.specs.declared.limits.Limits.{Limits}
@@ -12,19 +12,18 @@ use Rattle.index_model.proofs.Ascending.{same_entry-self}
 use Rattle.latch_table.specs.Holdings.{is_held_by_another}
 use Rattle.latch_table.specs.declared.mode.Mode.TheVariants.{Exclusive, Cleanup}
 use Rattle.page_codec.specs.Edits.{entries_of, HasEntries, with_entries}
-use Rattle.page_codec.specs.Grammar.{AreEntries, IsLeaf, IsLeafIn, IsLiveLeaf, IsOfKind, IsPage}
+use Rattle.page_codec.specs.Grammar.{AreEntries, IsLeafIn, IsLiveLeaf, IsOfKind, IsPage}
 use Rattle.page_codec.specs.Spelling.{count_of}
 use Rattle.page_codec.specs.declared.page.Items.{Items}
 use Rattle.page_codec.specs.declared.page.Items.TheVariants.{Meta, Entries, Downlinks}
 use Rattle.page_codec.specs.declared.page.Page.{Page}
 use Rattle.page_codec.specs.declared.page.PageState.{PageState}
-use Rattle.page_codec.specs.declared.page.PageState.TheVariants.{Live, HalfDead, Deleted}
+use Rattle.page_codec.specs.declared.page.PageState.TheVariants.{Live}
 use Rattle.page_action.specs.Contents.{live_entries, entry_on_live_leaf}
 use Rattle.page_action.specs.States.{State, after_act}
 use Rattle.page_action.specs.Stored.{IsStored, AreActable}
 use Rattle.page_action.proofs.StoredPages.{stored_page}
 use Rattle.tree_shape.specs.Edits.{removed_from}
-use Rattle.tree_shape.specs.Nodes.{Node, node_of, nodes_of}
 use Rattle.tree_shape.proofs.Removal.{AscendsPast-filter, AllByRecursion-filter, is_among-filter}
 use Rattle.tree_acts.specs.Acts.{EntriesAreRemoved, TreeLasts, ContentsLose}
 use Rattle.tree_acts.proofs.Overlays.{node_there, inside}
@@ -38,7 +37,7 @@ use Rattle.vacuum.specs.declared.leaf.Swept.{Swept}
 use Rattle.vacuum.proofs.Holding.{free_for_all}
 
 -- the entries that pass and those that don't are all
-parted : (keeps : Entry → Bool) (es : List Entry) → length (filter keeps es) + length (removed_from keeps es) ≡ length es
+pub parted : (keeps : Entry → Bool) (es : List Entry) → length (filter keeps es) + length (removed_from keeps es) ≡ length es
 parted keeps [] = refl
 parted keeps (e ∷ es) = elim (cases_Bool (keeps e)) [
   | inl is ↦ rw is (let r = parted keeps es in omega (arith, r))

@@ -1,5 +1,5 @@
 -- What a bulk delete is to remove still: where it stands.
-use Rattle.std.specs.Prelude.{◌≡◌, ℕ, suc, ◌<◌, ◌≤◌, Bool, true, false, Option, Some, None}
+use Rattle.std.specs.Prelude.{◌≡◌, ℕ, suc, ◌<◌, ◌≤◌, Bool, true, Option, Some, None}
 use Rattle.index_model.specs.Order.{is_among}
 use Rattle.index_model.specs.declared.entry.Entry.{Entry}
 use Rattle.page_codec.specs.Edits.{entries_of}
@@ -8,7 +8,6 @@ use Rattle.page_action.specs.States.{State}
 use Rattle.tree_acts.specs.Leaves.{IsLeafAt, WasLeaf}
 use Rattle.vacuum.specs.Ops.{last_read}
 use Rattle.vacuum.specs.declared.steps.Back.{Back}
-use Rattle.vacuum.specs.declared.steps.BulkDeleteOp.{BulkDeleteOp}
 
 -- the block is the sibling that is read next
 abbrev pub IsSibling : Option Back → ℕ → Type 0

@@ -1,10 +1,10 @@
 -- What the parts of a step of a bulk delete do.
-use Rattle.std.specs.Prelude.{◌≡◌, ℕ, suc, ◌+◌, ◌<◌, ◌≤◌, Bool, true, false, if◌then◌else◌, Option, Some, None, length, [], ◌∷◌}
+use Rattle.std.specs.Prelude.{◌≡◌, ℕ, suc, ◌+◌, ◌<◌, ◌≤◌, Bool, if◌then◌else◌, Option, Some, None, length, [], ◌∷◌}
 use Rattle.index_model.specs.Row.{Row}
 use Rattle.page_codec.specs.Edits.{entries_of}
 use Rattle.page_codec.specs.declared.page.Page.{Page}
 use Rattle.page_action.specs.States.{State, after_act}
-use Rattle.vacuum.specs.Ops.{without_dead, dead_entries, last_read, moves_of, cursor_past}
+use Rattle.vacuum.specs.Ops.{without_dead, cursor_past}
 use Rattle.vacuum.specs.declared.leaf.Swept.{Swept}
 use Rattle.vacuum.specs.declared.steps.Back.{Back}
 use Rattle.vacuum.specs.declared.steps.BulkDeleteOp.{BulkDeleteOp}
