@@ -5,6 +5,7 @@ pub mod Lasting
 pub mod Mending
 pub mod Entering
 pub mod Removing
+pub mod Leaving
 pub mod Finishing
 pub mod Telling
 pub mod Flagging

@@ -32,6 +32,7 @@ pub record EntryIsPut (st : State) (start : ℕ) (e : Entry) (page after : Page)
   pub put : IsPutIn e (entries_of page.items) (entries_of after.items)
   pub after_is : node_of after ≡ with_leaf (node_of page) (entries_of after.items)
   pub block_is : after.block ≡ page.block
+  pub cycle_is : after.cycle ≡ page.cycle
   pub may : MayAct st (after ∷ [])
 
 -- a live leaf keeps the entries that pass the test
@@ -47,10 +48,11 @@ pub record EntriesAreRemoved (st : State) (keeps : Entry → Bool) (page after :
 pub data IsMended (st : State) (new : ℕ) : Option ℕ → List Page → Type 0 where
   rightmost : IsMended st new None []
   neighbour : {r : ℕ} (old after : Page) → slice_get st.pages r ≡ Some old → after.block ≡ r
-      → node_of after ≡ with_left (node_of old) (Some new)
+      → after ≡ record old { left = Some new }
       → IsMended st new (Some r) (after ∷ [])
 
--- a live leaf, not flagged, that covers the entry is split with it
+-- a live leaf, not flagged, that covers the entry is split with it; both halves carry the cycle number of the running bulk
+-- delete
 pub record LeafIsSplit (st : State) (start : ℕ) (e : Entry) (page left right : Page)
     (mended : List Page) : Type 0 where
   pub found : slice_get st.pages page.block ≡ Some page
@@ -61,6 +63,8 @@ pub record LeafIsSplit (st : State) (start : ℕ) (e : Entry) (page left right :
   pub within : is_within (entry_aim e) page.high ≡ true
   pub halves : LeafHalves (node_of page) page.block right.block e (node_of left) (node_of right)
   pub left_block : left.block ≡ page.block
+  pub left_cycle : left.cycle ≡ st.cycle
+  pub right_cycle : right.cycle ≡ st.cycle
   pub fresh : IsFresh st right.block
   pub mends : IsMended st right.block page.right mended
   pub may : MayAct st (left ∷ right ∷ mended)
@@ -77,6 +81,7 @@ pub record IsUnfinished (st : State) (start level : ℕ) (s : Bound) (p : Page)
 
 -- ... and the same page, its split finished
 pub record IsClear (p after : Page) : Type 0 where
+  pub only : after ≡ record p { split = false }
   pub after_is : node_of after ≡ cleared (node_of p)
   pub block_is : after.block ≡ p.block
 

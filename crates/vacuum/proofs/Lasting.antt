@@ -51,7 +51,7 @@ module _ (effect : Option Effect) (old new : State) (cursor : ℕ) (back : Optio
         | inr le ↦ (let same : b.from ≡ n = omega (arith, le, ge) in absurd (free h.1.page (subst (λ (k : ℕ). IsLeafAt old.pages k h.1.page) same h.1.was)))
       ]
 
-  comes_half : (block : ℕ) (left : Page) (page : Page) → IsLeafAt new.pages block left → (h : LeafIsHalved effect old new page left) → IsToCome new cursor back block → IsToCome new cursor back h.new
+  comes_half : (block : ℕ) (left : Page) (page : Page) → IsLeafAt new.pages block left → (h : LeafIsHalved effect old.cycle old.pages new.pages page left) → IsToCome new cursor back block → IsToCome new cursor back h.new
   comes_half block left page there h now = half_comes h.new h.free (λ lt. led left there (h.left_cycle ∙ sym stay.cycle) h.left_right lt now)
 
   -- what was to come is to come
@@ -60,7 +60,7 @@ module _ (effect : Option Effect) (old new : State) (cursor : ℕ) (back : Optio
   comes (sibling is) = sibling is
   comes (led {from} page at carries right below rest) = onward from page carries right below (stay.each from page at) (comes rest)
     where
-      onward : {block : ℕ} (p : ℕ) (page : Page) → page.cycle ≡ old.cycle → page.right ≡ Some block → block < last_read cursor back → LeafGoesOn effect old new p page
+      onward : {block : ℕ} (p : ℕ) (page : Page) → page.cycle ≡ old.cycle → page.right ≡ Some block → block < last_read cursor back → LeafGoesOn effect old.cycle old.pages new.pages p page
           → IsToCome new cursor back p → IsToCome new cursor back block
       onward p page carries right below go now = elim go.how [
         | inl same ↦ led go.new go.there (same.cycle ∙ carries ∙ sym stay.cycle) (same.right ∙ right) below now
@@ -94,7 +94,7 @@ due_undisturbed due effect old new cursor back stay added h = record {
     ]
 
     still : (block : ℕ) (page : Page) (e : Entry) → IsLeafAt new.pages block page → is_among (entries_of page.items) e ≡ true → due e ≡ true → (was : Page) → IsLeafAt old.pages block was
-        → LeafGoesOn effect old new block was → IsToCome new cursor back block
+        → LeafGoesOn effect old.cycle old.pages new.pages block was → IsToCome new cursor back block
     still block page e at on is_due was was_at go =
         let page_is : page ≡ go.new = same_page new.pages block page go.new at.found go.there.found in
         let now_on : is_among (entries_of go.new.items) e ≡ true = subst (λ (p : Page). is_among (entries_of p.items) e ≡ true) page_is on in

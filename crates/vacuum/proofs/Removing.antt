@@ -27,6 +27,7 @@ use Rattle.tree_shape.specs.Edits.{removed_from}
 use Rattle.tree_shape.proofs.Removal.{AscendsPast-filter, AllByRecursion-filter, is_among-filter}
 use Rattle.tree_acts.specs.Acts.{EntriesAreRemoved, TreeLasts, ContentsLose}
 use Rattle.tree_acts.proofs.Overlays.{node_there, inside}
+use Rattle.tree_acts.proofs.Leaving.{removing_leaves}
 use Rattle.tree_acts.proofs.Removing.{removing_lasts, removing_flags}
 use Rattle.tree_acts.proofs.Words.{contents_held}
 use Rattle.descent.specs.Shared.{IsInOrder, Does}
@@ -176,6 +177,7 @@ does_remove st session dead page e es order h is free = record {
     contents = λ x. lasts.1 x ∙ ap (λ (l : List Entry). entry_on_live_leaf st.pages x && not (is_among l x)) is ∙ said (e ∷ es) x (entry_on_live_leaf st.pages x);
   };
   flags = removing_flags st (lives dead) page (without_dead dead page) order.tree h;
+  leaves = removing_leaves st (lives dead) page (without_dead dead page) (e ∷ es) order.tree h;
   limits = refl;
   frames = refl;
   begun = refl;
