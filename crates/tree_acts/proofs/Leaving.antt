@@ -25,7 +25,7 @@ use Rattle.tree_shape.proofs.Held.{put_among}
 use Rattle.tree_shape.proofs.Removal.{is_among-filter}
 use Rattle.tree_acts.specs.Trees.{HasTree}
 use Rattle.tree_acts.specs.Acts.{EntryIsPut, EntriesAreRemoved, IsMended, rightmost, neighbour, LeafIsSplit, IsClear, SplitIsFinished, ParentIsSplit, RootIsSplit}
-use Rattle.tree_acts.specs.Leaves.{IsLeafAt, IsAddedBy, HasOldEntries, LeafStays, LeafIsHalved, LeafGoesOn, IsRightHalf, WasLeaf, LeavesStay, PuttingLeaves, RemovingLeaves, LeafSplitLeaves, FinishLeaves, ParentSplitLeaves, RootSplitLeaves}
+use Rattle.tree_acts.specs.Leaves.{IsLeafAt, IsAddedBy, HasOldEntries, LeafStays, LeafIsHalved, LeafGoesOn, IsRightHalf, WasLeaf, LeavesStay, PagesKeepLeaves, PuttingLeaves, RemovingLeaves, LeafSplitLeaves, FinishLeaves, ParentSplitLeaves, RootSplitLeaves}
 use Rattle.tree_acts.proofs.Overlays.{page_there, page_other, page_length, pages_first, pages_second, node_there, inside}
 use Rattle.tree_acts.proofs.Lasting.{Stands, stands, fresh_free}
 
@@ -56,7 +56,7 @@ written_or P limits used pages (x ∷ changed) b may le each =
     ]
 
 -- pages that aren't changed
-pub leaves_same : (st new : State) → new.pages ≡ st.pages → new.cycle ≡ st.cycle → LeavesStay None st new
+pub leaves_same : PagesKeepLeaves
 leaves_same st new same cycle = record {
   cycle = cycle;
   each = λ b old at. record { new = old; there = subst (λ (ps : List Page). IsLeafAt ps b old) (sym same) at; how = inl (record { right = refl; cycle = refl; entries = λ e on. inl on }) };

@@ -3,7 +3,7 @@
 ghost use Rattle.tree_acts.specs.Acts.{PuttingLasts, RemovingLasts, LeafSplitLasts, FinishLasts, ParentSplitLasts, RootSplitLasts};
 ghost use Rattle.tree_acts.specs.Flags.{PuttingFlags, RemovingFlags, LeafSplitFlags, FinishFlags, ParentSplitFlags, RootSplitFlags};
 ghost use Rattle.tree_acts.specs.Weights.{PuttingWeighs, LeafSplitWeighs, FinishWeighs, ParentSplitWeighs, RootSplitWeighs};
-ghost use Rattle.tree_acts.specs.Leaves.{PuttingLeaves, RemovingLeaves, LeafSplitLeaves, FinishLeaves, ParentSplitLeaves, RootSplitLeaves};
+ghost use Rattle.tree_acts.specs.Leaves.{PagesKeepLeaves, PuttingLeaves, RemovingLeaves, LeafSplitLeaves, FinishLeaves, ParentSplitLeaves, RootSplitLeaves};
 ghost use Rattle.tree_acts.specs.Ways.{MetapageTells, PassedTells, LiveTells, InternalTells, LeafTells, FrontierTells, ParentTells, SeparatorTells, RootTells, UnfinishedIsBelow, TrailBegins, LeafBeginsTrail, TrailGoesRight, TrailIsShort, PlacesWiden, HighTells, NeighbourTells, StraightTells, RootCoversAll};
 
 /// Does nothing: its clauses say that each act which edits a tree leaves a tree, the places that running calls keep, and
@@ -31,6 +31,7 @@ pub fn acts_move_flags()
 /// Does nothing: its clauses say what each act leaves a bulk delete, which reads leaf after leaf: leaves stay, or are split
 /// into halves that carry the cycle number of the running bulk delete.
 pub fn acts_leave_leaves()
+    ensures nothing { PagesKeepLeaves }
     ensures putting { PuttingLeaves }
     ensures removing { RemovingLeaves }
     ensures leaf_split { LeafSplitLeaves }

@@ -43,7 +43,7 @@ use Rattle.vacuum.specs.declared.steps.BulkDeleteStep.TheVariants.{Going, Finish
 use Rattle.vacuum.proofs.Counting.{counts_on, counted_beyond, leaves_less, no_leaf_count}
 use Rattle.vacuum.proofs.Holding.{pinned_is_held}
 use Rattle.vacuum.proofs.Lasting.{same_page}
-use Rattle.vacuum.proofs.Removing.{does_remove, swept_may, same_leaf, gone_is, left_lives, live_is, dead_is, none_lost}
+use Rattle.vacuum.proofs.Removing.{does_remove, swept_may, same_leaf, gone_is, left_lives, live_is, dead_is, none_lost, dead_are}
 use Rattle.vacuum.proofs.Sweeping.{IsReadOn, due_comes_on, none_is_due}
 
 runs_no_more : (b : Bool) {A : Type 0} → b ≡ false → b ≡ true → A
@@ -233,6 +233,7 @@ passes g dead before after old new block page steps same alive at inside_is foun
           (counts_on dead st st before None 0 0 h (λ b differ. refl) (λ b k. none_turned b k) (λ k. count honest k) (λ p e leaf on. absurd (no_leaf honest p leaf)) (λ b k. refl));
       stepped = λ honest order fits. record {
         does = subst (λ (es : List Entry). Does before.session (removes es) st (g.state new)) (sym (none_dead honest)) (nothing_else before.session st (g.state new) same order);
+        dead_rows = λ e on. absurd (let k : false ≡ true = subst (λ (es : List Entry). is_among es e ≡ true) (none_dead honest) on in cc);
         count = ap (λ (es : List Entry). before.removed + length es) (sym (none_dead honest));
         fits = subst (λ (s : State). BulkDeleteFits s (gone_on before None 0 0)) (sym same) (record { session = fits.session; start = fits.start; running = fits.running; held = fits.held; back = tt });
       };
@@ -442,6 +443,7 @@ module _ {S : Type 0} (g : Ghosts S) (dead : Row → Bool) (before : BulkDeleteO
     stepped = λ honest order fits. record {
       does = subst (Does before.session (removes (dead_at dead (g.state old) (next_block before.cursor before.back))) (g.state old)) (sym new_is)
           (subst (λ (es : List Entry). Does before.session (removes es) (g.state old) now) (sym (dead_here honest)) (does honest order (dead_entries dead page) refl));
+      dead_rows = λ e on. dead_are dead page e (subst (λ (es : List Entry). is_among es e ≡ true) (dead_here honest) on);
       count = ap (λ (n : ℕ). before.removed + n) (lost ∙ ap length (sym (dead_here honest)));
       fits = subst (λ (s : State). BulkDeleteFits s (gone_on before onward swept.kept swept.gone)) (sym new_is) (fits_on honest order fits);
     };

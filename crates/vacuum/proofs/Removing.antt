@@ -91,6 +91,15 @@ left_lives dead page e on = lives_is (dead e.row) (and_parts (is_among (entries_
     lives_is true h = absurd cc
     lives_is false h = refl
 
+-- each entry that is lost is dead
+pub dead_are : (dead : Row → Bool) (page : Page) (e : Entry) → is_among (dead_entries dead page) e ≡ true → dead e.row ≡ true
+dead_are dead page e on = dead_is_so (dead e.row)
+    (and_parts (is_among (live_entries page.state page.items) e) (not (lives dead e)) (sym (is_among-filter (λ x. not (lives dead x)) (live_entries page.state page.items) e) ∙ on)).1
+  where
+    dead_is_so : (b : Bool) → not (not b) ≡ true → b ≡ true
+    dead_is_so true h = refl
+    dead_is_so false h = absurd cc
+
 -- the leaf may be written
 swept_entries : (high : _) (keeps : Entry → Bool) (es : List Entry) → AreEntries high es → AreEntries high (filter keeps es)
 swept_entries high keeps es h = record {

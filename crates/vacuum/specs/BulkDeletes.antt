@@ -2,6 +2,7 @@
 use Rattle.std.specs.Prelude.{◌≡◌, ◌≢◌, ℕ, ◌+◌, ◌<◌, ◌≤◌, ◌||◌, nat_lt, nat_le, Bool, true, false, Option, Some, None, Result, Ok, Err, OnErr, List, [], ◌∷◌, length, slice_get}
 use Rattle.index_model.specs.Actions.{Effect, Remove}
 use Rattle.index_model.specs.Faults.{Circumstances, HasCause}
+use Rattle.index_model.specs.Order.{is_among}
 use Rattle.index_model.specs.Row.{Row}
 use Rattle.index_model.specs.declared.entry.Entry.{Entry}
 use Rattle.index_model.specs.declared.fault.Fault.{Fault}
@@ -74,6 +75,9 @@ pub record BulkDeleteGoesOn (dead : Row → Bool) (old new : State) (before afte
     : Type 0 where
   pub does : Does before.session
       (removes (dead_at dead old (next_block before.cursor before.back))) old new
+  pub dead_rows : (e : Entry)
+      → is_among (dead_at dead old (next_block before.cursor before.back)) e ≡ true
+      → dead e.row ≡ true
   pub count : after.removed
       ≡ before.removed + length (dead_at dead old (next_block before.cursor before.back))
   pub fits : BulkDeleteFits new after
