@@ -1,13 +1,12 @@
 -- What acts leave a bulk delete: leaves stay, or are split into halves that carry its cycle number.
-use Rattle.std.proofs.Common.{◌≡◌, ◌≢◌, ◌⊎◌, ℕ, suc, ◌<◌, ◌≤◌, max, inl, inr, Bool, true, false, ◌||◌, List, [], ◌∷◌, ◌++◌, length, slice_get, Option, Some, None, refl, sym, ap, subst, ◌∙◌, arith}
-use Rattle.std.proofs.lemmas.Bool.{cases_eq, cases_lt, or_cases, and_parts}
-use Rattle.std.specs.List.{filter}
+use Rattle.std.proofs.Common.{◌≡◌, ◌⊎◌, ℕ, ◌<◌, ◌≤◌, inl, inr, Bool, true, false, ◌||◌, List, [], ◌∷◌, ◌++◌, length, slice_get, Option, Some, refl, sym, ap, subst, ◌∙◌, arith}
+use Rattle.std.proofs.lemmas.Bool.{cases_eq, or_cases, and_parts}
 use Rattle.index_model.specs.Actions.{Effect, Add, Remove, Shape}
 use Rattle.index_model.specs.Order.{is_among, same_entry}
 use Rattle.index_model.specs.declared.entry.Entry.{Entry}
 use Rattle.index_model.specs.declared.limits.Limits.{Limits}
 use Rattle.index_model.proofs.Ascending.{is_among-append}
-use Rattle.page_codec.specs.Edits.{entries_of, HasEntries, with_entries}
+use Rattle.page_codec.specs.Edits.{entries_of, HasEntries}
 use Rattle.page_codec.specs.Grammar.{IsPage, IsOfKind}
 use Rattle.page_codec.specs.declared.page.Downlink.{Downlink}
 use Rattle.page_codec.specs.declared.page.Items.{Items}
@@ -18,14 +17,13 @@ use Rattle.page_action.specs.States.{State, after_act, with_page, with_pages}
 use Rattle.page_action.specs.Stored.{AreActable}
 use Rattle.page_action.specs.Reuse.{IsFresh}
 use Rattle.page_action.proofs.StoredPages.{stored_page}
-use Rattle.tree_shape.specs.Edits.{IsPutIn, removed_from}
-use Rattle.tree_shape.specs.Nodes.{Node, node_of, nodes_of, links_of}
+use Rattle.tree_shape.specs.Nodes.{Node, nodes_of, links_of}
 use Rattle.tree_shape.specs.Walks.{entry_aim, is_fit}
 use Rattle.tree_shape.proofs.Held.{put_among}
 use Rattle.tree_shape.proofs.Removal.{is_among-filter}
 use Rattle.tree_acts.specs.Trees.{HasTree}
-use Rattle.tree_acts.specs.Acts.{EntryIsPut, EntriesAreRemoved, IsMended, rightmost, neighbour, LeafIsSplit, IsClear, SplitIsFinished, ParentIsSplit, RootIsSplit}
-use Rattle.tree_acts.specs.Leaves.{IsLeafAt, IsAddedBy, HasOldEntries, LeafStays, LeafIsHalved, LeafGoesOn, IsRightHalf, WasLeaf, LeavesStay, PagesKeepLeaves, PuttingLeaves, RemovingLeaves, LeafSplitLeaves, FinishLeaves, ParentSplitLeaves, RootSplitLeaves}
+use Rattle.tree_acts.specs.Acts.{IsMended, rightmost, neighbour, LeafIsSplit, IsClear}
+use Rattle.tree_acts.specs.Leaves.{IsLeafAt, LeafStays, LeafIsHalved, LeafGoesOn, WasLeaf, LeavesStay, PagesKeepLeaves, PuttingLeaves, RemovingLeaves, LeafSplitLeaves, FinishLeaves, ParentSplitLeaves, RootSplitLeaves}
 use Rattle.tree_acts.proofs.Overlays.{page_there, page_other, page_length, pages_first, pages_second, node_there, inside}
 use Rattle.tree_acts.proofs.Lasting.{Stands, stands, fresh_free}
 
@@ -137,7 +135,12 @@ module _ (effect : Option Effect) (st : State) where
   -- a page whose split is finished, and one with another left link
   clear_keeps : (p x : Page) → slice_get st.pages p.block ≡ Some p → IsClear p x → KeepsLeaf effect st x
   clear_keeps p x found clear = subst (KeepsLeaf effect st) (sym clear.only) (inl (record {
-    old = p; found = found; state = refl; stays = record { right = refl; cycle = refl; entries = λ e on. inl on }; leaf = λ h. h; still = λ h. h;
+    old = p;
+    found = found;
+    state = refl;
+    stays = record { right = refl; cycle = refl; entries = λ e on. inl on };
+    leaf = λ h. h;
+    still = λ h. h;
   }))
 
   mended_keeps : (new : ℕ) (right : Option ℕ) (mended : List Page) → IsMended st new right mended → Each (KeepsLeaf effect st) mended

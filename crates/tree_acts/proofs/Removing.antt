@@ -1,5 +1,5 @@
 -- Entries are removed from a live leaf.
-use Rattle.std.proofs.Common.{◌≡◌, ◌≢◌, ◌↔◌, ℕ, suc, ◌<◌, ◌≤◌, max, inl, inr, Bool, true, false, not, ◌&&◌, List, [], ◌∷◌, length, slice_get, slice_index, Option, Some, None, refl, sym, ap, subst, ◌∙◌, arith}
+use Rattle.std.proofs.Common.{◌≡◌, ◌≢◌, ◌↔◌, ℕ, ◌<◌, inl, inr, Bool, true, false, not, ◌&&◌, List, [], ◌∷◌, length, slice_index, refl, sym, ap, subst, ◌∙◌, arith}
 use Rattle.std.proofs.lemmas.Bool.{cases_eq}
 use Rattle.std.specs.List.{filter}
 use Rattle.index_model.specs.Order.{is_among}
@@ -11,7 +11,7 @@ use Rattle.page_codec.specs.declared.page.Items.TheVariants.{Meta, Entries, Down
 use Rattle.page_codec.specs.declared.page.Page.{Page}
 use Rattle.page_action.specs.Contents.{entry_on_live_leaf}
 use Rattle.page_action.specs.States.{State, after_act, with_pages}
-use Rattle.page_action.specs.Stored.{IsStored, IsApartFrom}
+use Rattle.page_action.specs.Stored.{IsApartFrom}
 use Rattle.page_action.proofs.StoredPages.{stored_page}
 use Rattle.tree_shape.specs.Nodes.{Node, node_of, nodes_of, IsHeld}
 use Rattle.tree_shape.specs.Edits.{IsRemoval, removed_from, with_leaf}

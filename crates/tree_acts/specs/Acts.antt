@@ -14,7 +14,7 @@ use Rattle.page_action.specs.States.{State, after_act}
 use Rattle.page_action.specs.Stored.{AreActable}
 use Rattle.tree_shape.specs.Tree.{IsMetaOf}
 use Rattle.tree_shape.specs.Nodes.{node_of, links_of}
-use Rattle.tree_shape.specs.Edits.{IsPutIn, removed_from, LeafHalves, IsLinkAdded, LinkHalves, with_leaf, with_left, with_links, cleared, new_root}
+use Rattle.tree_shape.specs.Edits.{IsPutIn, removed_from, LeafHalves, IsLinkAdded, LinkHalves, with_leaf, with_links, cleared, new_root}
 use Rattle.tree_shape.specs.Walks.{entry_aim, bound_aim, is_within}
 use Rattle.tree_acts.specs.Trees.{HasTree, HasPlace, HasCover, PlacesLast, TrailsLast}
 
