@@ -12,7 +12,9 @@ use Rattle.page_action.specs.Contents.{entry_on_live_leaf}
 use Rattle.page_action.specs.States.{State, with_table, after_act}
 use Rattle.page_action.specs.Stored.{IsApartFrom}
 use Rattle.tree_acts.specs.Acts.{MayAct, TreeLasts, ContentsStay, ContentsGain}
+use Rattle.tree_acts.specs.Leaves.{LeavesStay}
 use Rattle.tree_acts.specs.Trees.{HasTree, HasPlace, HasTrail, PlacesLast, TrailsLast}
+use Rattle.tree_acts.proofs.Leaving.{leaves_same}
 use Rattle.tree_acts.proofs.Overlays.{pages_other}
 use Rattle.descent.specs.Steps.{HoldsAlone, AreApart}
 use Rattle.descent.specs.Shared.{IsRaised, IsInOrder, NumbersStay, OthersRely, SplitsALeaf, FinishesASplit, Does, IsOneStep}
@@ -57,10 +59,11 @@ in_order_after st changed order lasts = record { tree = lasts.has; apart = order
 
 -- an act on the shape alone, by which a split is finished
 pub does_finish : (st : State) (session : ℕ) (changed : List Page) → IsInOrder st → MayAct st changed → TreeLasts st (after_act changed st) → ContentsStay st (after_act changed st)
-    → FinishesASplit st (after_act changed st) → AreFree st session changed → Does session (Some Shape) st (after_act changed st)
-does_finish st session changed order may lasts stay finishes free = record {
+    → LeavesStay (Some Shape) st (after_act changed st) → FinishesASplit st (after_act changed st) → AreFree st session changed → Does session (Some Shape) st (after_act changed st)
+does_finish st session changed order may lasts stay leaves finishes free = record {
   changes = record { acts = refl; apt = tt; contents = stay };
   flags = finishes;
+  leaves = leaves;
   limits = refl;
   frames = refl;
   begun = refl;
@@ -110,17 +113,18 @@ tree_held_else st table tree = record { tree = tree.tree; stored = tree.stored; 
 
 -- an act that puts an entry which wasn't there, by a session that may let go what it held
 pub does_add : (st : State) (session : ℕ) (e : Entry) (changed : List Page) (table : Table) → IsInOrder st → MayAct st changed → TreeLasts st (after_act changed st)
-    → ContentsGain e st (after_act changed st) → entry_on_live_leaf st.pages e ≡ false → SplitsALeaf st (after_act changed st)
+    → ContentsGain e st (after_act changed st) → LeavesStay (Some (Add e)) st (after_act changed st) → entry_on_live_leaf st.pages e ≡ false → SplitsALeaf st (after_act changed st)
     → ((other block : ℕ) → other ≢ session → HoldsAlone st.table other block → IsApartFrom block changed)
     → AreApart table → length table ≡ 64 → ((other : ℕ) → other ≢ session → holding_of table other ≡ holding_of st.table other)
     → Does session (Some (Add e)) st (with_table (after_act changed st) table)
-does_add st session e changed table order may lasts gain absent splits apart_pages apart many kept = record {
+does_add st session e changed table order may lasts gain leaves absent splits apart_pages apart many kept = record {
   changes = record {
     acts = refl;
     apt = absent;
     contents = λ x. gain x ∙ sym (said e x (entry_on_live_leaf st.pages x));
   };
   flags = record { raised = splits.raised; leaf = raised_else st (after_act changed st) table 0 splits.raised splits.leaf; moves = splits.moves; most = splits.most };
+  leaves = record { cycle = leaves.cycle; each = leaves.each; others = leaves.others };
   limits = refl;
   frames = refl;
   begun = refl;
@@ -135,6 +139,7 @@ pub holds_else : (session : ℕ) (old new : State) (table : Table) → new ≡ w
 holds_else session old new table is order apart many kept = subst (λ (st : State). Does session None old st) (sym is) (record {
   changes = refl;
   flags = tt;
+  leaves = leaves_same old (with_table old table) refl refl;
   limits = refl;
   frames = refl;
   begun = refl;

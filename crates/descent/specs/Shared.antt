@@ -11,6 +11,7 @@ use Rattle.page_action.specs.States.{State, Backing, with_table}
 use Rattle.tree_shape.specs.Nodes.{nodes_of}
 use Rattle.tree_shape.specs.Walks.{IsAim}
 use Rattle.tree_acts.specs.Flags.{FlagsMove}
+use Rattle.tree_acts.specs.Leaves.{LeavesStay}
 use Rattle.tree_acts.specs.Trees.{HasTree, HasPlace, HasTrail}
 use Rattle.tree_acts.specs.Weights.{weight}
 use Rattle.descent.specs.Steps.{HoldsAlone, AreApart, Changes}
@@ -81,11 +82,13 @@ MovesFlags (Some (Add e)) old new = SplitsALeaf old new
 MovesFlags (Some (Remove es)) old new = FlagsMove None None old new
 MovesFlags (Some Shape) old new = FinishesASplit old new
 
--- A step of this session's call, with one effect at most: the pages are a tree again, flags move as the effect says, calls
--- and limits are as they were, and every other session may rely on what it held.
+-- A step of this session's call, with one effect at most: the pages are a tree again, flags move as the effect says, leaves
+-- stay or are split as a bulk delete beside it needs, calls and limits are as they were, and every other session may rely on
+-- what it held.
 pub record Does (session : ℕ) (effect : Option Effect) (old new : State) : Type 0 where
   pub changes : Changes effect old new
   pub flags : MovesFlags effect old new
+  pub leaves : LeavesStay effect old new
   pub limits : new.limits ≡ old.limits
   pub frames : new.frames ≡ old.frames
   pub begun : new.begun ≡ old.begun

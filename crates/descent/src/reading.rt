@@ -23,6 +23,9 @@ pub fn look<S: PageStore>(store: &mut S, session: Session, block: u32) -> Result
     ensures used { OnOk result (block < length (S.state store.old).pages) }
     ensures inside { OnOk result (length (S.state store.old).pages ≤
         (S.state store.old).limits.pages) }
+    ensures alive { OnOk result
+        ((S.backing store.new).stopped ≡ true → (S.backing store.old).stopped ≡ true) }
+    ensures room { KeepsRoom (S.state store.old) (S.backing store.old) (S.backing store.new) }
     ensures stopped { (S.backing store.old).stopped ≡ true → result ≡ Err Fault.Stopped }
     ensures cause { HasRoom (S.state store.old).table session
         → IfErr result

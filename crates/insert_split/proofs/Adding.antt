@@ -23,6 +23,7 @@ use Rattle.tree_acts.specs.Acts.{EntryIsPut}
 use Rattle.tree_acts.specs.Flags.{FlagsMove}
 use Rattle.tree_acts.specs.Trees.{HasTree, HasPlace, HasCover}
 use Rattle.tree_acts.proofs.Entering.{putting_lasts}
+use Rattle.tree_acts.proofs.Leaving.{putting_leaves}
 use Rattle.tree_acts.proofs.Flagging.{putting_flags}
 use Rattle.tree_acts.proofs.Weighed.{putting_weighs}
 use Rattle.tree_acts.proofs.Telling.{live_tells, leaf_tells}
@@ -175,6 +176,7 @@ puts g op old mid new block page (Ok (Added action unfinished)) steps same alive
         put = put.put;
         after_is = put.node_is;
         block_is = put.block_is;
+        cycle_is = put.cycle_is;
         may = subst (λ (s : State). AreActable s.limits (length s.pages) (put.after ∷ [])) same put.may;
       } in
       let lasts = putting_lasts st fits.start op.entry page put.after order.tree is_put in
@@ -184,7 +186,7 @@ puts g op old mid new block page (Ok (Added action unfinished)) steps same alive
       record {
         effect = Some (Add op.entry);
         does = subst (λ (s : State). Does op.session (Some (Add op.entry)) st s) (sym now)
-            (does_add st op.session op.entry (put.after ∷ []) st.table order is_put.may lasts.0 lasts.1 was
+            (does_add st op.session op.entry (put.after ∷ []) st.table order is_put.may lasts.0 lasts.1 (putting_leaves st fits.start op.entry page put.after order.tree is_put) was
             (record { raised = None; leaf = tt; moves = moves; most = omega (arith, weighs) })
             (λ other b differ alone. ((λ is_b. not_the_leaf st op.session other block order there.0 differ (subst (HoldsAlone st.table other) (sym is_b ∙ put.block_is ∙ block_is) alone)), tt))
             order.apart order.holdings (λ other differ. refl));

@@ -25,6 +25,7 @@ use Rattle.tree_acts.specs.Acts.IsMended.{rightmost, neighbour}
 use Rattle.tree_acts.specs.Flags.{FlagsMove, flag_after}
 use Rattle.tree_acts.specs.Trees.{HasTree, HasPlace}
 use Rattle.tree_acts.proofs.Entering.{leaf_split_lasts}
+use Rattle.tree_acts.proofs.Leaving.{leaf_split_leaves}
 use Rattle.tree_acts.proofs.Flagging.{leaf_split_flags}
 use Rattle.tree_acts.proofs.Weighed.{leaf_split_weighs}
 use Rattle.tree_acts.proofs.Overlays.{pages_first}
@@ -147,6 +148,8 @@ splits g before after old mid new block page (Ok Going) steps same alive at_is b
         within = subst (λ (p : Page). is_within (entry_aim before.entry) p.high ≡ true) same_page leaf.within;
         halves = h.halves;
         left_block = h.left_block;
+        left_cycle = h.left_cycle ∙ ap (λ (s : State). s.cycle) same;
+        right_cycle = h.half_cycle ∙ ap (λ (s : State). s.cycle) same;
         fresh = subst (λ (s : State). IsFresh s h.half.block) same h.fresh;
         mends = mends_right st before.session h.half.block page.right h.right right_stored (subst (λ (s : State). RightIsFound s page.right h.right) same (h.right_found honest));
         may = may;
@@ -170,7 +173,7 @@ splits g before after old mid new block page (Ok Going) steps same alive at_is b
       record {
         effect = Some (Add before.entry);
         does = subst (λ (s : State). Does before.session (Some (Add before.entry)) st s) (sym now)
-            (does_add st before.session before.entry changed table order may lasts.0 lasts.1 was
+            (does_add st before.session before.entry changed table order may lasts.0 lasts.1 (leaf_split_leaves st fits.start before.entry page h.left h.half (mended_to h.half.block h.right) order.tree is_split) was
             (record { raised = Some page.block; leaf = (is_split_whole at_page is_split.whole, raised_level left_there left_ground); moves = moves; most = omega (arith, weighs) })
             (λ other b differ alone. (
               λ is_b. not_the_leaf st before.session other block order there.0 differ (subst (HoldsAlone st.table other) (sym is_b ∙ h.left_block ∙ block_is) alone),

@@ -87,7 +87,8 @@ pub record IsSplittable (st : State) (page : Page) : Type 0 where
   pub mendable : RightIsMendable st page.right
   pub apart : page.right ≢ Some page.block
 
--- The leaf is split with the entry, on a block that was free, and let go; its split is to be finished.
+-- The leaf is split with the entry, on a block that was free, and let go; its split is to be finished. Both halves carry the
+-- cycle number of the running bulk delete.
 pub record SplitsLeaf (honest : Bool) (page : Page) (before after : InsertOp) (old new : State)
     : Type 0 where
   pub left : Page
@@ -96,6 +97,8 @@ pub record SplitsLeaf (honest : Bool) (page : Page) (before after : InsertOp) (o
   pub halves : LeafHalves (node_of page) page.block half.block before.entry
       (node_of left) (node_of half)
   pub left_block : left.block ≡ page.block
+  pub left_cycle : left.cycle ≡ old.cycle
+  pub half_cycle : half.cycle ≡ old.cycle
   pub fresh : IsFresh old half.block
   pub free : is_held_by_another old.table before.session half.block Exclusive ≡ false
   pub right_stored : RightIsStored old before.session page.right right
@@ -115,6 +118,7 @@ pub record EntryPut (page : Page) (e : Entry) (old new : State) (action : ℕ) :
   pub put : IsPutIn e (entries_of page.items) (entries_of after.items)
   pub node_is : node_of after ≡ with_leaf (node_of page) (entries_of after.items)
   pub block_is : after.block ≡ page.block
+  pub cycle_is : after.cycle ≡ page.cycle
   pub may : AreActable old.limits (length old.pages) (after ∷ [])
   pub state : new ≡ after_act (after ∷ []) old
   pub number : action ≡ suc old.acts

@@ -5,6 +5,7 @@ use Rattle.latch_table.specs.Holdings.{Table, holding_of}
 use Rattle.page_action.specs.States.{State, with_table}
 use Rattle.tree_acts.specs.Trees.{HasPlace, HasTrail}
 use Rattle.descent.specs.Onward.{IsOnWay}
+use Rattle.tree_acts.proofs.Leaving.{leaves_same}
 use Rattle.descent.specs.Shared.{IsInOrder, Does, IsOneStep, NumbersStay}
 use Rattle.descent.specs.Steps.{AreApart}
 use Rattle.descent.specs.declared.way.Way.{Way}
@@ -37,6 +38,7 @@ pub does_hold : (session : ℕ) (old new : State) (table : Table) → new ≡ wi
 does_hold session old new table is order apart many kept = subst (λ (st : State). Does session None old st) (sym is) (record {
   changes = refl;
   flags = tt;
+  leaves = leaves_same old (with_table old table) refl refl;
   limits = refl;
   frames = refl;
   begun = refl;

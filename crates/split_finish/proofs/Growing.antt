@@ -13,6 +13,7 @@ use Rattle.tree_shape.specs.Tree.{IsMetaOf}
 use Rattle.tree_acts.specs.Acts.{IsUnfinished, MayAct, RootIsSplit}
 use Rattle.tree_acts.specs.Flags.{FlagsMove}
 use Rattle.tree_acts.specs.Trees.{HasTree}
+use Rattle.tree_acts.proofs.Leaving.{root_split_leaves}
 use Rattle.tree_acts.proofs.Finishing.{root_split_lasts}
 use Rattle.tree_acts.proofs.Flagging.{root_split_flags}
 use Rattle.tree_acts.proofs.Weighed.{root_split_weighs}
@@ -115,7 +116,8 @@ module _ (st : State) (op : FinishOp) (honest : Bool) (meta page : Page) (new fr
       let less = root_split_weighs st fits.start op.target.separator meta grown.meta_after page grown.page_after grown.root new has root_splits in
       let at_page : page.block ≡ op.target.block = read.stored.block_is in
       clears st (after_act changed st) old_backing new_backing op after step fits
-      (does_finish st op.session changed order may_grow lasts.0 lasts.1 (record {
+      (does_finish st op.session changed order may_grow lasts.0 lasts.1
+      (root_split_leaves st fits.start op.target.separator meta grown.meta_after page grown.page_after grown.root new has root_splits) (record {
         cleared = page.block;
         was = ap (λ (n : Node). n.split) (node_there st.pages page.block page found) ∙ ready.flagged;
         raised = None;

@@ -15,6 +15,7 @@ use Rattle.tree_shape.specs.Walks.{bound_aim, is_within}
 use Rattle.tree_acts.specs.Acts.{IsUnfinished, MayAct, SplitIsFinished}
 use Rattle.tree_acts.specs.Flags.{FlagsMove}
 use Rattle.tree_acts.specs.Trees.{HasTree, HasPlace, HasCover}
+use Rattle.tree_acts.proofs.Leaving.{finish_leaves}
 use Rattle.tree_acts.proofs.Finishing.{finish_lasts}
 use Rattle.tree_acts.proofs.Flagging.{finish_flags}
 use Rattle.tree_acts.proofs.Weighed.{finish_weighs}
@@ -150,7 +151,8 @@ module _ (st : State) (op : FinishOp) (honest : Bool) (way : Way) (page parent :
       let less = finish_weighs st fits.start op.target.level op.target.separator page parent linked.page_after linked.parent_after new order.tree split_finishes in
       let at_page : page.block ≡ op.target.block = read.stored.block_is in
       clears st (after_act changed st) old_backing new_backing op after step fits
-      (does_finish st op.session changed order may_link lasts.0 lasts.1 (record {
+      (does_finish st op.session changed order may_link lasts.0 lasts.1
+      (finish_leaves st fits.start op.target.level op.target.separator page parent linked.page_after linked.parent_after new order.tree split_finishes) (record {
         cleared = page.block;
         was = ap (λ (n : Node). n.split) (node_there st.pages page.block page (found st op honest way page parent new order fits sound at read read_parent ready right)) ∙ ready.flagged;
         raised = None;

@@ -25,6 +25,7 @@ use Rattle.tree_acts.specs.Acts.IsMended.{rightmost, neighbour}
 use Rattle.tree_acts.specs.Flags.{FlagsMove, flag_after}
 use Rattle.tree_acts.specs.Trees.{HasPlace, IsStart}
 use Rattle.tree_acts.proofs.Finishing.{parent_split_lasts, parent_edit}
+use Rattle.tree_acts.proofs.Leaving.{parent_split_leaves}
 use Rattle.tree_acts.proofs.Flagging.{parent_split_flags}
 use Rattle.tree_acts.proofs.Weighed.{parent_split_weighs}
 use Rattle.tree_acts.proofs.Overlays.{pages_first, node_there, inside}
@@ -200,6 +201,7 @@ parts g before after old new way page parent left half clear right new_block tar
         shapes = inr refl;
         does = subst (λ (x : State). Does before.session (Some Shape) st x) (sym now)
             (does_finish st before.session changed order may lasts.0 lasts.1
+            (parent_split_leaves st fits.start level s page parent clear left half mended new_block order.tree split)
             (record {
               cleared = page.block;
               was = ap (λ (n : Node). n.split) (node_there st.pages page.block page split.unfinished.found) ∙ split.unfinished.flagged;

@@ -4,6 +4,8 @@ pub mod Words
 pub mod Lasting
 pub mod Mending
 pub mod Entering
+pub mod Removing
+pub mod Leaving
 pub mod Finishing
 pub mod Telling
 pub mod Flagging

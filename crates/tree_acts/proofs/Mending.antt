@@ -13,37 +13,37 @@ some_is a b e = cc
 
 pub mended_apart : (st : State) (new : ℕ) (right : Option ℕ) (mended : List Page) (c : ℕ) → IsMended st new right mended → right ≢ Some c → IsApartFrom c mended
 mended_apart st new right mended c rightmost ne = tt
-mended_apart st new right mended c (neighbour old after found block node) ne = ((λ same. ne (ap Some (sym block ∙ same))), tt)
+mended_apart st new right mended c (neighbour old after found block only) ne = ((λ same. ne (ap Some (sym block ∙ same))), tt)
 
 pub mended_there : (st : State) (new : ℕ) (right : Option ℕ) (a b : Page) (mended : List Page) → IsMended st new right mended → AreActable st.limits (length st.pages) (a ∷ b ∷ mended)
     → (r : ℕ) → right ≡ Some r → nodes_of (with_pages st.pages (a ∷ b ∷ mended)) r ≡ with_left (nodes_of st.pages r) (Some new)
 mended_there st new right a b mended rightmost may r is = cc
-mended_there st new right a b mended (neighbour {r = q} old after found block node) may r is =
+mended_there st new right a b mended (neighbour {r = q} old after found block only) may r is =
     let same : after.block ≡ r = block ∙ some_is q r is in
     subst (λ (k : ℕ). nodes_of (with_pages st.pages (a ∷ b ∷ after ∷ [])) k ≡ node_of after) same
     (node_there (with_pages st.pages (a ∷ b ∷ after ∷ [])) after.block after (pages_third st.limits (length st.pages) st.pages a b after [] may (omega arith)))
-    ∙ node
+    ∙ ap node_of only
     ∙ ap (λ (n : Node). with_left n (Some new)) (sym (subst (λ (k : ℕ). nodes_of st.pages k ≡ node_of old) (some_is q r is) (node_there st.pages q old found)))
 
 pub mended_used : (st : State) (new : ℕ) (right : Option ℕ) (mended : List Page) → IsMended st new right mended → (used : ℕ) → length st.pages ≤ used → used_after used mended ≡ used
 mended_used st new right mended rightmost used le = refl
-mended_used st new right mended (neighbour {r = q} old after found block node) used le = (let lt = inside st.pages q old found in omega (arith, block))
+mended_used st new right mended (neighbour {r = q} old after found block only) used le = (let lt = inside st.pages q old found in omega (arith, block))
 
 -- the same where a page is written behind them
 pub mended_first : (st : State) (new : ℕ) (right : Option ℕ) (a b d : Page) (mended : List Page) → IsMended st new right mended → AreActable st.limits (length st.pages) (a ∷ b ∷ mended ++ d ∷ [])
     → (r : ℕ) → right ≡ Some r → nodes_of (with_pages st.pages (a ∷ b ∷ mended ++ d ∷ [])) r ≡ with_left (nodes_of st.pages r) (Some new)
 mended_first st new right a b d mended rightmost may r is = cc
-mended_first st new right a b d mended (neighbour {r = q} old after found block node) may r is =
+mended_first st new right a b d mended (neighbour {r = q} old after found block only) may r is =
     let same : after.block ≡ r = block ∙ some_is q r is in
     subst (λ (k : ℕ). nodes_of (with_pages st.pages (a ∷ b ∷ after ∷ d ∷ [])) k ≡ node_of after) same
     (node_there (with_pages st.pages (a ∷ b ∷ after ∷ d ∷ [])) after.block after (pages_third st.limits (length st.pages) st.pages a b after (d ∷ []) may (omega arith)))
-    ∙ node
+    ∙ ap node_of only
     ∙ ap (λ (n : Node). with_left n (Some new)) (sym (subst (λ (k : ℕ). nodes_of st.pages k ≡ node_of old) (some_is q r is) (node_there st.pages q old found)))
 
 pub last_there : (st : State) (new : ℕ) (right : Option ℕ) (a b d : Page) (mended : List Page) → IsMended st new right mended → AreActable st.limits (length st.pages) (a ∷ b ∷ mended ++ d ∷ [])
     → slice_get (with_pages st.pages (a ∷ b ∷ mended ++ d ∷ [])) d.block ≡ Some d
 last_there st new right a b d mended rightmost may = pages_third st.limits (length st.pages) st.pages a b d [] may (omega arith)
-last_there st new right a b d mended (neighbour old after found block node) may = pages_fourth st.limits (length st.pages) st.pages a b after d [] may (omega arith)
+last_there st new right a b d mended (neighbour old after found block only) may = pages_fourth st.limits (length st.pages) st.pages a b after d [] may (omega arith)
 
 pub apart_last : (c : ℕ) (xs : List Page) (d : Page) → IsApartFrom c xs → d.block ≢ c → IsApartFrom c (xs ++ d ∷ [])
 apart_last c [] d apart ne = (ne, tt)

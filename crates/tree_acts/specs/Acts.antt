@@ -1,9 +1,10 @@
 -- The acts that edit a tree: which pages they write, by what stood there, and what they leave.
-use Rattle.std.specs.Prelude.{◌≡◌, ℕ, suc, ◌||◌, true, false, Option, Some, None, List, [], ◌∷◌, ◌++◌, length, slice_get}
-use Rattle.index_model.specs.Order.{same_entry}
+use Rattle.std.specs.Prelude.{◌≡◌, ℕ, suc, ◌||◌, ◌&&◌, Bool, true, false, not, Option, Some, None, List, [], ◌∷◌, ◌++◌, length, slice_get}
+use Rattle.std.specs.List.{filter}
+use Rattle.index_model.specs.Order.{same_entry, is_among}
 use Rattle.index_model.specs.declared.bound.Bound.{Bound}
 use Rattle.index_model.specs.declared.entry.Entry.{Entry}
-use Rattle.page_codec.specs.Edits.{entries_of}
+use Rattle.page_codec.specs.Edits.{entries_of, HasEntries, with_entries}
 use Rattle.page_codec.specs.declared.page.Downlink.{Downlink}
 use Rattle.page_codec.specs.declared.page.Page.{Page}
 use Rattle.page_codec.specs.declared.page.PageState.TheVariants.{Live}
@@ -13,7 +14,7 @@ use Rattle.page_action.specs.States.{State, after_act}
 use Rattle.page_action.specs.Stored.{AreActable}
 use Rattle.tree_shape.specs.Tree.{IsMetaOf}
 use Rattle.tree_shape.specs.Nodes.{node_of, links_of}
-use Rattle.tree_shape.specs.Edits.{IsPutIn, LeafHalves, IsLinkAdded, LinkHalves, with_leaf, with_left, with_links, cleared, new_root}
+use Rattle.tree_shape.specs.Edits.{IsPutIn, removed_from, LeafHalves, IsLinkAdded, LinkHalves, with_leaf, with_links, cleared, new_root}
 use Rattle.tree_shape.specs.Walks.{entry_aim, bound_aim, is_within}
 use Rattle.tree_acts.specs.Trees.{HasTree, HasPlace, HasCover, PlacesLast, TrailsLast}
 
@@ -31,6 +32,15 @@ pub record EntryIsPut (st : State) (start : ℕ) (e : Entry) (page after : Page)
   pub put : IsPutIn e (entries_of page.items) (entries_of after.items)
   pub after_is : node_of after ≡ with_leaf (node_of page) (entries_of after.items)
   pub block_is : after.block ≡ page.block
+  pub cycle_is : after.cycle ≡ page.cycle
+  pub may : MayAct st (after ∷ [])
+
+-- a live leaf keeps the entries that pass the test
+pub record EntriesAreRemoved (st : State) (keeps : Entry → Bool) (page after : Page) : Type 0 where
+  pub found : slice_get st.pages page.block ≡ Some page
+  pub alive : page.state ≡ Live
+  pub leaf : HasEntries page.items
+  pub after_is : after ≡ with_entries page (filter keeps (entries_of page.items))
   pub may : MayAct st (after ∷ [])
 
 -- the page that was right of one that is split, with its left link mended: none where there was
@@ -38,10 +48,11 @@ pub record EntryIsPut (st : State) (start : ℕ) (e : Entry) (page after : Page)
 pub data IsMended (st : State) (new : ℕ) : Option ℕ → List Page → Type 0 where
   rightmost : IsMended st new None []
   neighbour : {r : ℕ} (old after : Page) → slice_get st.pages r ≡ Some old → after.block ≡ r
-      → node_of after ≡ with_left (node_of old) (Some new)
+      → after ≡ record old { left = Some new }
       → IsMended st new (Some r) (after ∷ [])
 
--- a live leaf, not flagged, that covers the entry is split with it
+-- a live leaf, not flagged, that covers the entry is split with it; both halves carry the cycle number of the running bulk
+-- delete
 pub record LeafIsSplit (st : State) (start : ℕ) (e : Entry) (page left right : Page)
     (mended : List Page) : Type 0 where
   pub found : slice_get st.pages page.block ≡ Some page
@@ -52,6 +63,8 @@ pub record LeafIsSplit (st : State) (start : ℕ) (e : Entry) (page left right :
   pub within : is_within (entry_aim e) page.high ≡ true
   pub halves : LeafHalves (node_of page) page.block right.block e (node_of left) (node_of right)
   pub left_block : left.block ≡ page.block
+  pub left_cycle : left.cycle ≡ st.cycle
+  pub right_cycle : right.cycle ≡ st.cycle
   pub fresh : IsFresh st right.block
   pub mends : IsMended st right.block page.right mended
   pub may : MayAct st (left ∷ right ∷ mended)
@@ -68,6 +81,7 @@ pub record IsUnfinished (st : State) (start level : ℕ) (s : Bound) (p : Page)
 
 -- ... and the same page, its split finished
 pub record IsClear (p after : Page) : Type 0 where
+  pub only : after ≡ record p { split = false }
   pub after_is : node_of after ≡ cleared (node_of p)
   pub block_is : after.block ≡ p.block
 
@@ -127,12 +141,24 @@ abbrev pub ContentsGain : Entry → State → State → Type 0
 ContentsGain e old new = (x : Entry) → entry_on_live_leaf new.pages x
     ≡ (same_entry e x || entry_on_live_leaf old.pages x)
 
+-- these entries are there no more, and else the contents are as they were
+abbrev pub ContentsLose : List Entry → State → State → Type 0
+ContentsLose es old new = (x : Entry) → entry_on_live_leaf new.pages x
+    ≡ (entry_on_live_leaf old.pages x && not (is_among es x))
+
 -- what each of these acts leaves
 abbrev pub PuttingLasts : Type 0
 PuttingLasts =
     (st : State) (start : ℕ) (e : Entry) (page after : Page) → HasTree st
     → EntryIsPut st start e page after
     → TreeLasts st (after_act (after ∷ []) st) × ContentsGain e st (after_act (after ∷ []) st)
+
+abbrev pub RemovingLasts : Type 0
+RemovingLasts =
+    (st : State) (keeps : Entry → Bool) (page after : Page) → HasTree st
+    → EntriesAreRemoved st keeps page after
+    → TreeLasts st (after_act (after ∷ []) st)
+    × ContentsLose (removed_from keeps (entries_of page.items)) st (after_act (after ∷ []) st)
 
 abbrev pub LeafSplitLasts : Type 0
 LeafSplitLasts =

@@ -3,3 +3,4 @@ pub mod Acts
 pub mod Ways
 pub mod Flags
 pub mod Weights
+pub mod Leaves

@@ -1,14 +1,16 @@
 //! The laws.
 
-ghost use Rattle.tree_acts.specs.Acts.{PuttingLasts, LeafSplitLasts, FinishLasts, ParentSplitLasts, RootSplitLasts};
-ghost use Rattle.tree_acts.specs.Flags.{PuttingFlags, LeafSplitFlags, FinishFlags, ParentSplitFlags, RootSplitFlags};
+ghost use Rattle.tree_acts.specs.Acts.{PuttingLasts, RemovingLasts, LeafSplitLasts, FinishLasts, ParentSplitLasts, RootSplitLasts};
+ghost use Rattle.tree_acts.specs.Flags.{PuttingFlags, RemovingFlags, LeafSplitFlags, FinishFlags, ParentSplitFlags, RootSplitFlags};
 ghost use Rattle.tree_acts.specs.Weights.{PuttingWeighs, LeafSplitWeighs, FinishWeighs, ParentSplitWeighs, RootSplitWeighs};
-ghost use Rattle.tree_acts.specs.Ways.{MetapageTells, PassedTells, LiveTells, InternalTells, LeafTells, FrontierTells, ParentTells, SeparatorTells, RootTells, UnfinishedIsBelow, TrailBegins, TrailGoesRight, TrailIsShort, PlacesWiden, HighTells, NeighbourTells, StraightTells, RootCoversAll};
+ghost use Rattle.tree_acts.specs.Leaves.{PagesKeepLeaves, PuttingLeaves, RemovingLeaves, LeafSplitLeaves, FinishLeaves, ParentSplitLeaves, RootSplitLeaves};
+ghost use Rattle.tree_acts.specs.Ways.{MetapageTells, PassedTells, LiveTells, InternalTells, LeafTells, FrontierTells, ParentTells, SeparatorTells, RootTells, UnfinishedIsBelow, TrailBegins, LeafBeginsTrail, TrailGoesRight, TrailIsShort, PlacesWiden, HighTells, NeighbourTells, StraightTells, RootCoversAll};
 
 /// Does nothing: its clauses say that each act which edits a tree leaves a tree, the places that running calls keep, and
-/// the contents as they were, but for the entry that is put.
+/// the contents as they were, but for the entry that is put, and those that are removed.
 pub fn acts_keep_the_tree()
     ensures putting { PuttingLasts }
+    ensures removing { RemovingLasts }
     ensures leaf_split { LeafSplitLasts }
     ensures finish { FinishLasts }
     ensures parent_split { ParentSplitLasts }
@@ -19,10 +21,23 @@ pub fn acts_keep_the_tree()
 /// clears one, and flags one more at most, one level higher.
 pub fn acts_move_flags()
     ensures putting { PuttingFlags }
+    ensures removing { RemovingFlags }
     ensures leaf_split { LeafSplitFlags }
     ensures finish { FinishFlags }
     ensures parent_split { ParentSplitFlags }
     ensures root_split { RootSplitFlags }
+{}
+
+/// Does nothing: its clauses say what each act leaves a bulk delete, which reads leaf after leaf: leaves stay, or are split
+/// into halves that carry the cycle number of the running bulk delete.
+pub fn acts_leave_leaves()
+    ensures nothing { PagesKeepLeaves }
+    ensures putting { PuttingLeaves }
+    ensures removing { RemovingLeaves }
+    ensures leaf_split { LeafSplitLeaves }
+    ensures finish { FinishLeaves }
+    ensures parent_split { ParentSplitLeaves }
+    ensures root_split { RootSplitLeaves }
 {}
 
 /// Does nothing: its clauses say what the flagged pages weigh after each act: 32 more after a leaf is split, less after each
@@ -49,6 +64,7 @@ pub fn pages_tell_the_way()
     ensures straight { StraightTells }
     ensures root_covers { RootCoversAll }
     ensures begins { TrailBegins }
+    ensures leaf_begins { LeafBeginsTrail }
     ensures goes_on { TrailGoesRight }
     ensures short { TrailIsShort }
 {}

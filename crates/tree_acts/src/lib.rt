@@ -4,6 +4,6 @@
 mod laws;
 
 pub use laws::{
-    acts_keep_the_tree, acts_move_flags, finishing_leaves_less, pages_tell_the_way,
-    splits_can_be_finished,
+    acts_keep_the_tree, acts_leave_leaves, acts_move_flags, finishing_leaves_less,
+    pages_tell_the_way, splits_can_be_finished,
 };

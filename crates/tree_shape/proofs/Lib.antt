@@ -23,6 +23,7 @@ pub mod Descent
 pub mod Fits
 pub mod Places
 pub mod Insertion
+pub mod Removal
 pub mod Held
 pub mod Reading
 pub mod Parents

@@ -1,5 +1,6 @@
 -- The edits of a tree's pages, as relations between what is seen before and after.
-use Rattle.std.specs.Prelude.{◌≡◌, ◌≢◌, ℕ, suc, ◌<◌, ◌≤◌, true, false, Option, Some, None, List, [], ◌∷◌, ◌++◌}
+use Rattle.std.specs.Prelude.{◌≡◌, ◌≢◌, ℕ, suc, ◌<◌, ◌≤◌, Bool, true, false, not, Option, Some, None, List, [], ◌∷◌, ◌++◌}
+use Rattle.std.specs.List.{filter}
 use Rattle.index_model.specs.Order.{bound_of, last_or, IsBefore}
 use Rattle.index_model.specs.declared.bound.Bound.{Bound}
 use Rattle.index_model.specs.declared.entry.Entry.{Entry}
@@ -51,6 +52,17 @@ pub record IsInsertion (at at' : ℕ → Node) (b : ℕ) (e : Entry) : Type 0 wh
   pub put : IsPutIn e (at b).entries after
   pub leaf_is : at' b ≡ with_leaf (at b) after
   pub others : (c : ℕ) → c ≢ b → at' c ≡ at c
+
+-- leaf b keeps the entries that pass the test, in their order
+pub record IsRemoval (at at' : ℕ → Node) (b : ℕ) (keeps : Entry → Bool) : Type 0 where
+  pub alive : (at b).state ≡ Live
+  pub leaf : (at b).level ≡ 0
+  pub leaf_is : at' b ≡ with_leaf (at b) (filter keeps (at b).entries)
+  pub others : (c : ℕ) → c ≢ b → at' c ≡ at c
+
+-- the entries that it loses
+abbrev pub removed_from : (Entry → Bool) → List Entry → List Entry
+removed_from keeps es = filter (λ e. not (keeps e)) es
 
 -- The halves of a leaf at block b that is split with the entry put in. Both have entries; those of
 -- the left half are at most the separator, its high key, and those of the right half lie beyond it.

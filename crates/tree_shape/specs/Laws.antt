@@ -5,9 +5,9 @@ use Rattle.index_model.specs.declared.bound.Bound.{Bound}
 use Rattle.index_model.specs.declared.entry.Entry.{Entry}
 use Rattle.page_codec.specs.declared.page.Downlink.{Downlink}
 use Rattle.page_codec.specs.declared.page.PageState.TheVariants.{Live, Deleted}
-use Rattle.tree_shape.specs.Nodes.{Node, no_node, holds, IsHeld, HoldsTheSame, HoldsOneMore}
+use Rattle.tree_shape.specs.Nodes.{Node, no_node, holds, IsHeld, HoldsTheSame, HoldsOneMore, HoldsWithout}
 use Rattle.tree_shape.specs.Chains.{Spot, IsIn, IsTreeOf, first_spot}
-use Rattle.tree_shape.specs.Edits.{IsInsertion, IsLeafSplit, IsFree, IsFinish, IsParentSplit, IsRootSplit, IsLinkAdded, IsBetween}
+use Rattle.tree_shape.specs.Edits.{IsInsertion, IsRemoval, removed_from, IsLeafSplit, IsFree, IsFinish, IsParentSplit, IsRootSplit, IsLinkAdded, IsBetween}
 use Rattle.tree_shape.specs.Aims.{IsUpToFirst}
 use Rattle.tree_shape.specs.Walks.{IsAim, entry_aim, bound_aim, frontier_aim, is_beyond, is_within, is_fit, IsFitOn, IsCoverOn, LeadsOn, IsPlace, KeepsPlaces, KeepsOrder}
 
@@ -33,6 +33,15 @@ InsertionKeeps =
     → IsTreeOf at used root top chain → IsInsertion at at' b e
     → IsFitOn at first_spot (chain 0) (is_fit (entry_aim e) clear) b
     → is_within (entry_aim e) (at b).high ≡ true
+    → ((c : ℕ) → c ≢ b → number' c ≡ number c)
+    → TreeGoesOn at at' number number' used root top top chain least
+
+-- entries are removed from a leaf
+abbrev pub RemovalKeeps : Type 0
+RemovalKeeps =
+    (at at' : ℕ → Node) (number number' : ℕ → ℕ) (used root top : ℕ) (chain : ℕ → List ℕ)
+    (least : ℕ) (b : ℕ) (keeps : Entry → Bool)
+    → IsTreeOf at used root top chain → IsRemoval at at' b keeps → 0 < b → b < used
     → ((c : ℕ) → c ≢ b → number' c ≡ number c)
     → TreeGoesOn at at' number number' used root top top chain least
 
@@ -268,6 +277,12 @@ FirstIsATree = (at : ℕ → Node) → at 1 ≡ no_node → IsTreeOf at 2 1 0 (�
 abbrev pub InsertionAdds : Type 0
 InsertionAdds = (at at' : ℕ → Node) (used b : ℕ) (e : Entry) → IsInsertion at at' b e → b < used
     → HoldsOneMore at at' used used e
+
+abbrev pub RemovalTakes : Type 0
+RemovalTakes =
+    (at at' : ℕ → Node) (used root top : ℕ) (chain : ℕ → List ℕ) (b : ℕ) (keeps : Entry → Bool)
+    → IsTreeOf at used root top chain → OnlyLeavesHold at → IsRemoval at at' b keeps → 0 < b
+    → b < used → HoldsWithout at at' used used (removed_from keeps (at b).entries)
 
 abbrev pub LeafSplitAdds : Type 0
 LeafSplitAdds =

@@ -1,11 +1,12 @@
 //! What holds of trees: what each edit leaves, and what a page tells a call that comes to it.
 
-ghost use Rattle.tree_shape.specs.Laws.{InsertionKeeps, LeafSplitKeeps, FinishKeeps, ParentSplitKeeps, RootSplitKeeps, InsertionAdds, LeafSplitAdds, FinishHolds, ParentSplitHolds, RootSplitHolds, ChainsAreTold, RootIsAPlace, PlacesGoRight, PlacesCover, LivePlacesStand, PlacesKeepTheirLevel, CoversLeadDown, PlacesLeadOn, CoverIsOne, HeldOnItsCover, FrontierCovers, FlaggedHasItsLink, SeparatorFits, OnlyTheRootIsClear, FlaggedHasItsHalf, PlacesStay, AimsFall, FirstIsATree, CoversLeadStraightDown, RootCovers};
+ghost use Rattle.tree_shape.specs.Laws.{InsertionKeeps, RemovalKeeps, LeafSplitKeeps, FinishKeeps, ParentSplitKeeps, RootSplitKeeps, InsertionAdds, RemovalTakes, LeafSplitAdds, FinishHolds, ParentSplitHolds, RootSplitHolds, ChainsAreTold, RootIsAPlace, PlacesGoRight, PlacesCover, LivePlacesStand, PlacesKeepTheirLevel, CoversLeadDown, PlacesLeadOn, CoverIsOne, HeldOnItsCover, FrontierCovers, FlaggedHasItsLink, SeparatorFits, OnlyTheRootIsClear, FlaggedHasItsHalf, PlacesStay, AimsFall, FirstIsATree, CoversLeadStraightDown, RootCovers};
 
 /// Does nothing: its clauses say what each edit leaves of a tree, and of the page numbers that calls keep.
 pub fn edits_keep_the_tree()
     ensures first { FirstIsATree }
     ensures insertion { InsertionKeeps }
+    ensures removal { RemovalKeeps }
     ensures leaf_split { LeafSplitKeeps }
     ensures finish { FinishKeeps }
     ensures parent_split { ParentSplitKeeps }
@@ -16,6 +17,7 @@ pub fn edits_keep_the_tree()
 /// Does nothing: its clauses say which entries the leaves hold after each edit.
 pub fn edits_keep_the_entries()
     ensures insertion { InsertionAdds }
+    ensures removal { RemovalTakes }
     ensures leaf_split { LeafSplitAdds }
     ensures finish { FinishHolds }
     ensures parent_split { ParentSplitHolds }

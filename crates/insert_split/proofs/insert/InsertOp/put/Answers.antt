@@ -16,6 +16,7 @@ returns-in-Ok-clause-puts g c =
         put = c.put.ensures.put_in c.requires.place;
         node_is = c.put.ensures.node;
         block_is = block_is;
+        cycle_is = ap (λ (p : Page). p.cycle) c.put.ensures.put;
         may = put_may st.limits (length st.pages) c.args.page.now after c.requires.stored c.requires.used c.requires.inside
             (c.put.ensures.page c.requires.stored.storable.admitted c.requires.may c.requires.place) (subst (λ (p : Page). HasEntries p.items) (sym c.put.ensures.put) tt)
             (let n = c.put.ensures.count in let r = c.requires.room in omega (arith, n, r)) block_is;

@@ -55,6 +55,8 @@ returns-in-Ok-act_on_halves-clause-splits g c =
       right = right;
       halves = subst (λ (b : ℕ). LeafHalves (node_of c.args.page) c.args.page.block b c.args.self.now.entry (node_of left) (node_of half)) (sym is_new) c.split_leaf-half.ensures.halves;
       left_block = c.split_leaf-half.ensures.left_block;
+      left_cycle = c.split_leaf-half.ensures.left_cycle ∙ c.cycle.ensures ∙ ap (λ (s : State). s.cycle) same;
+      half_cycle = c.split_leaf-half.ensures.right_cycle ∙ c.cycle.ensures ∙ ap (λ (s : State). s.cycle) same;
       fresh = subst (λ (b : ℕ). IsFresh st b) (sym is_new) (subst (λ (s : State). IsFresh s c.in-Ok-take_block.new) read c.in-Ok-take_block.ensures.fresh);
       free = subst (λ (b : ℕ). is_held_by_another st.table session b Exclusive ≡ false) (sym is_new)
           (subst (λ (s : State). is_held_by_another s.table session c.in-Ok-take_block.new Exclusive ≡ false) read c.in-Ok-take_block.ensures.free);

@@ -55,7 +55,7 @@ returns-in-Ok-act_on_halves g c =
       free = subst (λ (b : ℕ). is_held_by_another st.table op.session b Exclusive ≡ false) (sym is_new) c.in-Ok.ensures.free;
       right_stored = c.requires.beside;
       right_found = c.requires.beside_found;
-      clears = record { after_is = c.clear_split.ensures.node; block_is = ap (λ (p : Page). p.block) c.clear_split.ensures.only };
+      clears = record { only = c.clear_split.ensures.only; after_is = c.clear_split.ensures.node; block_is = ap (λ (p : Page). p.block) c.clear_split.ensures.only };
     })
     (subst (λ (s : State). AreActable s.limits (length s.pages) (halves_and left half c.args.right clear)) same c.in-Ok-act_on_halves.ensures.may)
     (c.in-Ok-act_on_halves.ensures.done ∙ ap (after_act (halves_and left half c.args.right clear)) same)
@@ -90,7 +90,7 @@ returns-in-Err-act_on_halves g c =
       free = subst (λ (b : ℕ). is_held_by_another st.table op.session b Exclusive ≡ false) (sym is_new) c.in-Ok.ensures.free;
       right_stored = c.requires.beside;
       right_found = c.requires.beside_found;
-      clears = record { after_is = c.clear_split.ensures.node; block_is = ap (λ (p : Page). p.block) c.clear_split.ensures.only };
+      clears = record { only = c.clear_split.ensures.only; after_is = c.clear_split.ensures.node; block_is = ap (λ (p : Page). p.block) c.clear_split.ensures.only };
     }) in
     let some_pages : 0 < length st.pages = (let u = inside st.pages c.requires.meets.way.block c.args.parent (c.requires.meets.read_parent.found (later.honest honest)) in omega arith) in
     let may : AreActable st.limits (length st.pages) (halves_and left half c.args.right clear) =

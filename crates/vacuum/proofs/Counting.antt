@@ -1,0 +1,109 @@
+-- How much is left to do, and what is counted, behind a page that is read.
+use Rattle.std.proofs.Common.{◌≡◌, ◌≢◌, ℕ, zero, suc, ◌+◌, ◌-◌, ◌*◌, ◌<◌, ◌≤◌, inl, inr, Bool, true, false, Option, Some, None, List, [], ◌∷◌, length, slice_get, refl, sym, ap, subst, ◌∙◌, arith}
+use Rattle.std.proofs.lemmas.Bool.{cases_eq, cases_lt}
+use Rattle.index_model.specs.Order.{is_among}
+use Rattle.index_model.specs.Row.{Row}
+use Rattle.index_model.specs.declared.entry.Entry.{Entry}
+use Rattle.page_codec.specs.Edits.{entries_of, HasEntries}
+use Rattle.page_codec.specs.declared.page.Items.{Items}
+use Rattle.page_codec.specs.declared.page.Items.TheVariants.{Meta, Entries, Downlinks}
+use Rattle.page_codec.specs.declared.page.Page.{Page}
+use Rattle.page_codec.specs.declared.page.PageState.{PageState}
+use Rattle.page_codec.specs.declared.page.PageState.TheVariants.{Live, HalfDead, Deleted}
+use Rattle.page_action.specs.Contents.{live_entries}
+use Rattle.page_action.specs.States.{State}
+use Rattle.tree_acts.specs.Leaves.{IsLeafAt}
+use Rattle.vacuum.specs.Counts.{entry_count, entries_below, IsBelow, IsCounted}
+use Rattle.vacuum.specs.Ops.{next_block, last_read, moves_of, cursor_past}
+use Rattle.vacuum.specs.Turns.{gone_on}
+use Rattle.vacuum.specs.Work.{bulk_delete_left}
+use Rattle.vacuum.specs.declared.steps.Back.{Back}
+use Rattle.vacuum.specs.declared.steps.BulkDeleteOp.{BulkDeleteOp}
+
+-- a block less, and no more moves than one block brings
+block_less : (n k m : ℕ) → m < k → n * k + m < suc n * k
+block_less n k m lt = omega (arith, lt)
+
+pub leaves_less : (most used cursor : ℕ) (back onward : Option Back) → (back ≡ None → cursor < used)
+    → ((b : Back) → onward ≡ Some b → (b.moves ≡ suc (moves_of back)) × (moves_of back < most))
+    → bulk_delete_left most used (cursor_past cursor back) onward < bulk_delete_left most used cursor back
+leaves_less most used cursor (Some b) None below turn = omega arith
+leaves_less most used cursor (Some b) (Some c) below turn = (let t = turn c refl in omega (arith, t.0, t.1))
+leaves_less most used cursor None None below turn =
+    let lt = below refl in
+    let n : used - cursor ≡ suc (used - suc cursor) = omega (arith, lt) in
+    rw n (let l = block_less (used - suc cursor) (most + 3) 0 (omega arith) in omega (arith, l))
+leaves_less most used cursor None (Some c) below turn =
+    let lt = below refl in
+    let t = turn c refl in
+    let n : used - cursor ≡ suc (used - suc cursor) = omega (arith, lt) in
+    rw n (let l = block_less (used - suc cursor) (most + 3) (suc (suc most - c.moves)) (omega (arith, t.0, t.1)) in omega (arith, l))
+
+-- pages that aren't changed are counted alike
+pub counted_alike : (pages pages' : List Page) (n : ℕ) → ((b : ℕ) → b < n → slice_get pages' b ≡ slice_get pages b) → entries_below pages' n ≡ entries_below pages n
+counted_alike pages pages' zero same = refl
+counted_alike pages pages' (suc n) same = rw (same n (omega arith), counted_alike pages pages' n (λ b lt. same b (omega (arith, lt)))) refl
+
+-- a page that isn't a live leaf has no entries
+pub no_leaf_count : (page : Page) → (page.state ≡ Live → HasEntries page.items → ⊥) → length (live_entries page.state page.items) ≡ 0
+no_leaf_count page none = by page.state page.items none
+  where
+    by : (s : PageState) (items : Items) → (s ≡ Live → HasEntries items → ⊥) → length (live_entries s items) ≡ 0
+    by Live Meta h = refl
+    by Live (Downlinks v) h = refl
+    by Live (Entries v) h = absurd (h refl tt)
+    by HalfDead items h = refl
+    by Deleted items h = refl
+
+below_past : (cursor : ℕ) (back onward : Option Back) → IsBelow cursor back → ((b : Back) → onward ≡ Some b → (b.block < last_read cursor back) × (b.from ≡ last_read cursor back))
+    → IsBelow (cursor_past cursor back) onward
+below_past cursor back None below turn = tt
+below_past cursor None (Some b) below turn = (let t = turn b refl in (omega (arith, t.0), omega (arith, t.1)))
+below_past cursor (Some c) (Some b) below turn = (let t = turn b refl in let l = below.1 in (omega (arith, t.0, l), omega (arith, t.1, l)))
+
+-- Where nobody else acts, the counts go on. The page that is read in block order has as many entries as are counted, and no
+-- dead one; going back nothing is changed.
+pub counts_on : (dead : Row → Bool) (st new : State) (op : BulkDeleteOp) (onward : Option Back) (kept gone : ℕ) → IsCounted dead st op
+    → ((b : ℕ) → b ≢ next_block op.cursor op.back → slice_get new.pages b ≡ slice_get st.pages b)
+    → ((b : Back) → onward ≡ Some b → (b.block < last_read op.cursor op.back) × (b.from ≡ last_read op.cursor op.back))
+    → (op.back ≡ None → entry_count (slice_get new.pages op.cursor) ≡ kept)
+    → ((page : Page) (e : Entry) → IsLeafAt new.pages (next_block op.cursor op.back) page → is_among (entries_of page.items) e ≡ true → dead e.row ≡ false)
+    → ((b : Back) → op.back ≡ Some b → new.pages ≡ st.pages)
+    → IsCounted dead new (gone_on op onward kept gone)
+counts_on dead st new op onward kept gone h others turn count clean unchanged = by op.back refl
+  where
+    by : (back : Option Back) → op.back ≡ back → IsCounted dead new (gone_on op onward kept gone)
+    by None is = record {
+      counted = rw is (rw (count is, counted_alike st.pages new.pages op.cursor (λ b lt. others b (λ same. let k : b ≡ op.cursor = same ∙ rw is refl in omega (arith, k, lt))))
+          (let c = h.counted in omega (arith, c)));
+      below = below_past op.cursor op.back onward h.below turn;
+      clean = λ block page e lt at on. elim (cases_eq block op.cursor) [
+        | inl same ↦ clean page e (subst (λ (b : ℕ). IsLeafAt new.pages b page) (same ∙ sym here) at) on
+        | inr differ ↦ h.clean block page e (omega (arith, differ, past lt))
+            (record { found = sym (others block (λ same. differ (same ∙ here))) ∙ at.found; alive = at.alive; leaf = at.leaf }) on
+      ];
+    }
+      where
+        here : next_block op.cursor op.back ≡ op.cursor
+        here = rw is refl
+
+        past : {b : ℕ} → b < cursor_past op.cursor op.back → b < suc op.cursor
+        past lt = rw is at lt
+    by (Some b) is = record {
+      counted = rw is (h.counted ∙ ap (λ (ps : List Page). entries_below ps op.cursor) (sym (unchanged b is)));
+      below = below_past op.cursor op.back onward h.below turn;
+      clean = λ block page e lt at on. h.clean block page e (rw is at lt) (record { found = ap (λ (ps : List Page). slice_get ps block) (sym (unchanged b is)) ∙ at.found; alive = at.alive; leaf = at.leaf }) on;
+    }
+
+none_past : (pages : List Page) (b : ℕ) → length pages ≤ b → slice_get pages b ≡ None
+none_past [] b le = refl
+none_past (p ∷ pages) zero le = absurd (omega arith)
+none_past (p ∷ pages) (suc b) le = none_past pages b (omega arith)
+
+-- behind the last page nothing is counted
+pub counted_beyond : (pages : List Page) (n : ℕ) → length pages ≤ n → entries_below pages n ≡ entries_below pages (length pages)
+counted_beyond pages zero le = (let none : length pages ≡ 0 = omega (arith, le) in rw none refl)
+counted_beyond pages (suc n) le = elim (cases_lt n (length pages)) [
+  | inl lt ↦ (let same : length pages ≡ suc n = omega (arith, le, lt) in ap (entries_below pages) (sym same))
+  | inr ge ↦ rw (none_past pages n ge) (let r = counted_beyond pages n ge in omega (arith, r))
+]

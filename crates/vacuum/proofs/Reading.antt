@@ -1,0 +1,456 @@
+-- Steps of a bulk delete.
+use Rattle.std.proofs.Common.{◌≡◌, ◌≢◌, ℕ, zero, suc, ◌+◌, ◌<◌, ◌≤◌, nat_lt, inl, inr, Bool, true, false, Option, Some, None, Ok, Err, List, [], ◌∷◌, length, slice_get, slice_index, refl, sym, ap, subst, ◌∙◌, arith}
+use Rattle.std.proofs.lemmas.Bool.{cases_eq, lt-ltb}
+use Rattle.index_model.specs.Faults.{HasCause}
+use Rattle.index_model.specs.Order.{is_among}
+use Rattle.index_model.specs.Row.{Row}
+use Rattle.index_model.specs.declared.entry.Entry.{Entry}
+use Rattle.index_model.specs.declared.fault.Fault.{Fault}
+use Rattle.index_model.specs.declared.fault.Fault.TheVariants.{Stopped}
+use Rattle.index_model.specs.declared.stats.VacuumStats.{VacuumStats}
+use Rattle.latch_table.specs.Holdings.{Holding, Table, HasRoom, has_pin, holding_of, is_held_by_another}
+use Rattle.latch_table.specs.declared.mode.Mode.TheVariants.{Cleanup}
+use Rattle.page_codec.specs.Edits.{entries_of, HasEntries}
+use Rattle.page_codec.specs.declared.page.Page.{Page}
+use Rattle.page_codec.specs.declared.page.PageState.TheVariants.{Live}
+use Rattle.page_action.specs.Contents.{live_entries}
+use Rattle.page_action.specs.States.{State, Continues}
+use Rattle.page_action.specs.Stored.{IsStored}
+use Rattle.page_action.specs.declared.page_store.PageStore.{Ghosts}
+use Rattle.tree_shape.specs.Edits.{removed_from}
+use Rattle.tree_shape.specs.Nodes.{nodes_of}
+use Rattle.tree_shape.specs.Walks.{IsTrail, reached, over}
+use Rattle.tree_acts.specs.Acts.{EntriesAreRemoved}
+use Rattle.tree_acts.specs.Leaves.{IsLeafAt}
+use Rattle.tree_acts.specs.Trees.{HasTree, HasTrail}
+use Rattle.tree_acts.proofs.Lasting.{deleted_in_use}
+use Rattle.tree_acts.proofs.Overlays.{inside, page_there, page_other, page_length}
+use Rattle.tree_acts.proofs.Removing.{leaf_begins_trail, removing_lasts}
+use Rattle.tree_acts.proofs.Telling.{trail_goes_right, trail_is_short_here}
+use Rattle.tree_acts.proofs.Words.{trail_in}
+use Rattle.descent.specs.Shared.{IsInOrder, Does, IsOneStep}
+use Rattle.descent.proofs.Acting.{one_act, one_nothing, nothing_else}
+use Rattle.vacuum.specs.BulkDeletes.{GoesBack, BulkDeleteFits, BulkDeleteSteps, where_deleting, removes, dead_of, dead_at}
+use Rattle.vacuum.specs.Counts.{stats_of, IsBelow, IsCounted, entry_count}
+use Rattle.vacuum.specs.Ops.{lives, without_dead, dead_entries, next_block, last_read, moves_of, cursor_past}
+use Rattle.vacuum.specs.Sweeping.{IsSibling, DueIsToCome}
+use Rattle.vacuum.specs.Turns.{LeadsBack, TurnsTo, TurnsNoMore, IsSwept, gone_on, written}
+use Rattle.vacuum.specs.Work.{bulk_delete_left}
+use Rattle.vacuum.specs.declared.leaf.Swept.{Swept}
+use Rattle.vacuum.specs.declared.steps.Back.{Back}
+use Rattle.vacuum.specs.declared.steps.BulkDeleteOp.{BulkDeleteOp}
+use Rattle.vacuum.specs.declared.steps.BulkDeleteStep.TheVariants.{Going, Finished}
+use Rattle.vacuum.proofs.Counting.{counts_on, counted_beyond, leaves_less, no_leaf_count}
+use Rattle.vacuum.proofs.Holding.{pinned_is_held}
+use Rattle.vacuum.proofs.Lasting.{same_page}
+use Rattle.vacuum.proofs.Removing.{does_remove, swept_may, same_leaf, gone_is, left_lives, live_is, dead_is, none_lost, dead_are}
+use Rattle.vacuum.proofs.Sweeping.{IsReadOn, due_comes_on, none_is_due}
+
+runs_no_more : (b : Bool) {A : Type 0} → b ≡ false → b ≡ true → A
+runs_no_more b alive stopped = absurd cc
+
+-- a step that is refused before anything is changed
+pub refuses : {S : Type 0} (g : Ghosts S) (dead : Row → Bool) (op : BulkDeleteOp) (old new : S) (fault : Fault) → Continues g.follows old new → g.state new ≡ g.state old
+    → ((g.backing old).stopped ≡ true → fault ≡ Stopped)
+    → ((g.backing new).honest ≡ true → IsInOrder (g.state old) → BulkDeleteFits (g.state old) op → HasCause (where_deleting (g.state old) (g.backing old) (g.backing new) op) fault)
+    → BulkDeleteSteps g dead op op old new (Err fault)
+refuses g dead op old new fault steps same stops cause = record {
+  steps = steps;
+  session = refl;
+  kept = one_nothing (g.state old) (g.state new) same;
+  table = ap (λ (st : State). st.table) same;
+  cycle = ap (λ (st : State). st.cycle) same;
+  refused = record { state = same; op = refl };
+  stopped = λ h. ap Err (stops h);
+  stats = tt;
+  less = tt;
+  due = λ honest due of h. subst (λ (st : State). DueIsToCome due st op.cursor op.back) (sym same) h;
+  pins = λ honest other block page differ at pin le. le;
+  counts = λ honest h. subst (λ (st : State). IsCounted dead st op) (sym same) h;
+  stepped = cause;
+}
+
+-- the last step
+pub ends : {S : Type 0} (g : Ghosts S) (dead : Row → Bool) (op : BulkDeleteOp) (store : S) (stats : VacuumStats) → (g.backing store).stopped ≡ false → op.back ≡ None
+    → length (g.state store).pages ≤ op.cursor → stats ≡ stats_of (g.state store) op → Continues g.follows store store → BulkDeleteSteps g dead op op store store (Ok (Finished stats))
+ends g dead op store stats alive none last told steps = record {
+  steps = steps;
+  session = refl;
+  kept = one_nothing (g.state store) (g.state store) refl;
+  table = refl;
+  cycle = refl;
+  refused = tt;
+  stopped = λ h. runs_no_more (g.backing store).stopped alive h;
+  stats = told;
+  less = tt;
+  due = λ honest due of h. none_is_due due (g.state store) op.cursor last (subst (DueIsToCome due (g.state store) op.cursor) none h);
+  pins = λ honest other block page differ at pin before. absurd (let i = inside (g.state store).pages block page at.found in omega (arith, i, last, before));
+  counts = λ honest h. ap (λ (s : VacuumStats). s.num_index_tuples) told ∙ h.counted ∙ counted_beyond (g.state store).pages op.cursor last;
+  stepped = λ honest order fits. record { state = refl; op = refl; last = last; none = none };
+}
+
+-- the page that is written, or not, stands at its block, and no other is changed
+module _ (changed : Bool) (after : Page) (st : State) where
+  pub written_one : (new : State) → new ≡ written changed after st → IsOneStep st new
+  written_one new is = by changed is
+    where
+      by : (c : Bool) → new ≡ written c after st → IsOneStep st new
+      by true is = one_act st new (after ∷ []) is
+      by false is = one_nothing st new is
+
+  pub written_table : (written changed after st).table ≡ st.table
+  written_table = by changed
+    where
+      by : (c : Bool) → (written c after st).table ≡ st.table
+      by true = refl
+      by false = refl
+
+  pub written_cycle : (written changed after st).cycle ≡ st.cycle
+  written_cycle = by changed
+    where
+      by : (c : Bool) → (written c after st).cycle ≡ st.cycle
+      by true = refl
+      by false = refl
+
+  pub written_limits : (written changed after st).limits ≡ st.limits
+  written_limits = by changed
+    where
+      by : (c : Bool) → (written c after st).limits ≡ st.limits
+      by true = refl
+      by false = refl
+
+  pub written_running : (written changed after st).running ≡ st.running
+  written_running = by changed
+    where
+      by : (c : Bool) → (written c after st).running ≡ st.running
+      by true = refl
+      by false = refl
+
+  pub written_length : after.block < length st.pages → length (written changed after st).pages ≡ length st.pages
+  written_length lt = by changed
+    where
+      by : (c : Bool) → length (written c after st).pages ≡ length st.pages
+      by true = (let l = page_length st.pages after (omega (arith, lt)) in omega (arith, l, lt))
+      by false = refl
+
+  pub written_other : (b : ℕ) → b ≢ after.block → after.block < length st.pages → slice_get (written changed after st).pages b ≡ slice_get st.pages b
+  written_other b differ lt = by changed
+    where
+      by : (c : Bool) → slice_get (written c after st).pages b ≡ slice_get st.pages b
+      by true = page_other st.pages after b (λ same. differ (sym same)) (omega (arith, lt))
+      by false = refl
+
+  pub written_there : (page : Page) → slice_get st.pages after.block ≡ Some page → (changed ≡ false → page ≡ after) → after.block < length st.pages
+      → slice_get (written changed after st).pages after.block ≡ Some after
+  written_there page found same lt = by changed same
+    where
+      by : (c : Bool) → (c ≡ false → page ≡ after) → slice_get (written c after st).pages after.block ≡ Some after
+      by true same = page_there st.pages after (omega (arith, lt))
+      by false same = found ∙ ap Some (same refl)
+
+-- a leaf that loses nothing isn't written
+pub unwritten : (n : ℕ) → nat_lt 0 n ≡ false → n ≡ 0
+unwritten zero h = refl
+unwritten (suc n) h = absurd (let t : nat_lt 0 (suc n) ≡ true = lt-ltb 0 (suc n) (omega arith) in (let k : true ≡ false = sym t ∙ h in cc))
+
+-- a leaf that carries the cycle leads to one block
+leads_to : (cycle from : ℕ) (page : Page) (a b : ℕ) → LeadsBack cycle from page a → LeadsBack cycle from page b → a ≡ b
+leads_to cycle from page a b x y = (let k : Some a ≡ Some b = sym x.right_is ∙ y.right_is in cc)
+
+turned : (cycle most from moves : ℕ) (page : Page) (onward : Option Back) → TurnsTo cycle most from moves page onward → (block : ℕ) → LeadsBack cycle from page block → IsSibling onward block
+turned cycle most from moves page None turn block leads = absurd (turn block leads)
+turned cycle most from moves page (Some b) turn block leads = leads_to cycle from page block b.block leads turn.0
+
+turned_from : (cycle most from moves : ℕ) (page : Page) (onward : Option Back) → TurnsTo cycle most from moves page onward → (b : Back) → onward ≡ Some b
+    → LeadsBack cycle from page b.block × (b.from ≡ from) × (b.moves ≡ suc moves) × (moves < most)
+turned_from cycle most from moves page None turn b is = absurd cc
+turned_from cycle most from moves page (Some c) turn b is = subst (λ (d : Back). LeadsBack cycle from page d.block × (d.from ≡ from) × (d.moves ≡ suc moves) × (moves < most)) (some_is is) turn
+  where
+    some_is : Some c ≡ Some b → c ≡ b
+    some_is k = cc
+
+-- the page that a call has come to, going right, is in use
+trail_in_use : (st : State) (start block moves : ℕ) → HasTree st → HasTrail st start 0 block moves → block < length st.pages
+trail_in_use st start block moves tree trail = (let t = trail_in st tree.tree start 0 block moves trail in by t.passed t.steps t.trail)
+  where
+    by : (passed : List ℕ) (steps : ℕ) → IsTrail (nodes_of st.pages) (slice_index st.counted) (tree.tree.chain 0) start passed steps block → block < length st.pages
+    by passed steps (reached i left) = (tree.tree.is.in_use 0 block (omega arith) i).1
+    by passed steps (over r kept right apart rest) = (deleted_in_use st tree block kept.gone).1
+
+pub next_in_use : (st : State) (op : BulkDeleteOp) → HasTree st → (fits : BulkDeleteFits st op) → (op.back ≡ None → op.cursor < length st.pages) → next_block op.cursor op.back < length st.pages
+next_in_use st op tree fits inside = by op.back refl fits.back
+  where
+    by : (back : Option Back) → op.back ≡ back → GoesBack st fits.start back → next_block op.cursor back < length st.pages
+    by None is goes = inside is
+    by (Some b) is goes = trail_in_use st fits.start b.block b.moves tree goes
+
+pub has_room : (st : State) (op : BulkDeleteOp) → BulkDeleteFits st op → HasRoom st.table op.session
+has_room st op fits = subst (λ (h : Holding). length h.latches < 8) (sym fits.held) (omega arith)
+
+-- the walk to the right has come to the leaf that is read
+comes_here : (st : State) (op : BulkDeleteOp) (page : Page) (block : ℕ) → HasTree st → (fits : BulkDeleteFits st op) → next_block op.cursor op.back ≡ block
+    → IsLeafAt st.pages block page → page.block ≡ block → HasTrail st fits.start 0 page.block (moves_of op.back)
+comes_here st op page block tree fits at leaf block_is = by op.back refl fits.back
+  where
+    by : (back : Option Back) → op.back ≡ back → GoesBack st fits.start back → HasTrail st fits.start 0 page.block (moves_of back)
+    by None is goes = leaf_begins_trail st fits.start page tree (subst (λ (b : ℕ). slice_get st.pages b ≡ Some page) (sym block_is) leaf.found) leaf.alive leaf.leaf
+    by (Some b) is goes = subst (λ (k : ℕ). HasTrail st fits.start 0 k b.moves) (sym at') goes
+      where
+        at' : page.block ≡ b.block
+        at' = block_is ∙ sym at ∙ ap (λ (o : Option Back). next_block op.cursor o) is
+
+-- so it makes no more moves than there are pages
+pub never_too_far : (st : State) (op : BulkDeleteOp) (page : Page) (block cycle from : ℕ) → IsInOrder st → (fits : BulkDeleteFits st op) → next_block op.cursor op.back ≡ block
+    → IsLeafAt st.pages block page → page.block ≡ block → length st.pages ≤ st.limits.pages → TurnsNoMore cycle st.limits.pages from (moves_of op.back) page → ⊥
+never_too_far st op page block cycle from order fits at leaf block_is few more =
+    let short = trail_is_short_here st fits.start 0 page.block (moves_of op.back) order.tree (comes_here st op page block order.tree fits at leaf block_is) in
+    (let m = more.many in omega (arith, short, few, m))
+
+none_turned : {A : Type 0} (b : Back) → None ≡ Some b → A
+none_turned b is = absurd cc
+
+-- a page that isn't a live leaf is passed
+pub passes : {S : Type 0} (g : Ghosts S) (dead : Row → Bool) (before after : BulkDeleteOp) (old new : S) (block : ℕ) (page : Page) → Continues g.follows old new → g.state new ≡ g.state old
+    → (g.backing old).stopped ≡ false → next_block before.cursor before.back ≡ block → (before.back ≡ None → before.cursor < length (g.state old).pages)
+    → ((g.backing new).honest ≡ true → slice_get (g.state old).pages block ≡ Some page) → (page.state ≡ Live → HasEntries page.items → ⊥)
+    → after ≡ gone_on before None 0 0 → BulkDeleteSteps g dead before after old new (Ok Going)
+passes g dead before after old new block page steps same alive at inside_is found none is =
+    subst (λ (op : BulkDeleteOp). BulkDeleteSteps g dead before op old new (Ok Going)) (sym is) (record {
+      steps = steps;
+      session = refl;
+      kept = one_nothing (g.state old) (g.state new) same;
+      table = ap (λ (s : State). s.table) same;
+      cycle = ap (λ (s : State). s.cycle) same;
+      refused = tt;
+      stopped = λ h. runs_no_more (g.backing old).stopped alive h;
+      stats = tt;
+      less = subst (λ (s : State). bulk_delete_left s.limits.pages (length s.pages) (cursor_past before.cursor before.back) None < bulk_delete_left st.limits.pages (length st.pages) before.cursor before.back)
+          (sym same) (leaves_less st.limits.pages (length st.pages) before.cursor before.back None inside_is (λ b k. none_turned b k));
+      due = λ honest due of h. subst (λ (s : State). DueIsToCome due s (cursor_past before.cursor before.back) None) (sym same)
+          (due_comes_on st st before.cursor before.back None h.from (read_on honest) due h (λ p e leaf on is_due. no_leaf honest p leaf));
+      pins = λ honest other b p differ leaf pin le. past honest b p leaf le;
+      counts = λ honest h. subst (λ (s : State). IsCounted dead s (gone_on before None 0 0)) (sym same)
+          (counts_on dead st st before None 0 0 h (λ b differ. refl) (λ b k. none_turned b k) (λ k. count honest k) (λ p e leaf on. absurd (no_leaf honest p leaf)) (λ b k. refl));
+      stepped = λ honest order fits. record {
+        does = subst (λ (es : List Entry). Does before.session (removes es) st (g.state new)) (sym (none_dead honest)) (nothing_else before.session st (g.state new) same order);
+        dead_rows = λ e on. absurd (let k : false ≡ true = subst (λ (es : List Entry). is_among es e ≡ true) (none_dead honest) on in cc);
+        count = ap (λ (es : List Entry). before.removed + length es) (sym (none_dead honest));
+        fits = subst (λ (s : State). BulkDeleteFits s (gone_on before None 0 0)) (sym same) (record { session = fits.session; start = fits.start; running = fits.running; held = fits.held; back = tt });
+      };
+    })
+  where
+    st : State
+    st = g.state old
+
+    here : (g.backing new).honest ≡ true → slice_get st.pages (next_block before.cursor before.back) ≡ Some page
+    here honest = subst (λ (b : ℕ). slice_get st.pages b ≡ Some page) (sym at) (found honest)
+
+    no_leaf : (g.backing new).honest ≡ true → (p : Page) → IsLeafAt st.pages (next_block before.cursor before.back) p → ⊥
+    no_leaf honest p leaf =
+        let is_page = same_page st.pages (next_block before.cursor before.back) p page leaf.found (here honest) in
+        none (subst (λ (q : Page). q.state ≡ Live) is_page leaf.alive) (subst (λ (q : Page). HasEntries q.items) is_page leaf.leaf)
+
+    read_on : (g.backing new).honest ≡ true → IsReadOn st st before.cursor before.back None
+    read_on honest = record {
+      cycle = refl;
+      others = λ b differ. refl;
+      stays = λ p leaf. absurd (no_leaf honest p leaf);
+      turn = λ p b leaf leads. absurd (no_leaf honest p leaf);
+      from = λ b k. none_turned b k;
+    }
+
+    none_dead : (g.backing new).honest ≡ true → dead_at dead st (next_block before.cursor before.back) ≡ []
+    none_dead honest = ap (dead_of dead) (here honest) ∙ no_entries (live_entries page.state page.items) (no_leaf_count page none)
+      where
+        no_entries : (es : List Entry) → length es ≡ 0 → removed_from (lives dead) es ≡ []
+        no_entries [] h = refl
+        no_entries (e ∷ es) h = absurd (let k : suc (length es) ≡ 0 = h in omega (arith, k))
+
+    count : (g.backing new).honest ≡ true → before.back ≡ None → entry_count (slice_get st.pages before.cursor) ≡ 0
+    count honest k = ap entry_count (subst (λ (o : Option Back). slice_get st.pages (next_block before.cursor o) ≡ Some page) k (here honest)) ∙ no_leaf_count page none
+
+    past : (g.backing new).honest ≡ true → (b : ℕ) (p : Page) → IsLeafAt st.pages b p → before.cursor ≤ b → cursor_past before.cursor before.back ≤ b
+    past honest b p leaf le = by before.back refl
+      where
+        by : (o : Option Back) → before.back ≡ o → cursor_past before.cursor o ≤ b
+        by (Some c) k = le
+        by None k = elim (cases_eq before.cursor b) [
+          | inl eq ↦ absurd (no_leaf honest p (subst (λ (n : ℕ). IsLeafAt st.pages n p) (sym eq ∙ sym (ap (λ (o : Option Back). next_block before.cursor o) k)) leaf))
+          | inr ne ↦ omega (arith, le, ne)
+        ]
+
+not_written : (n : ℕ) → n ≡ 0 → nat_lt 0 n ≡ false
+not_written n is = rw is refl
+
+is_written : (n m : ℕ) → n ≡ suc m → nat_lt 0 n ≡ true
+is_written n m is = lt-ltb 0 n (omega (arith, is))
+
+-- a live leaf loses its dead entries, and may lead back
+module _ {S : Type 0} (g : Ghosts S) (dead : Row → Bool) (before : BulkDeleteOp) (old new : S) (block : ℕ) (page : Page) (swept : Swept) (onward : Option Back)
+    (at : next_block before.cursor before.back ≡ block) (inside_is : before.back ≡ None → before.cursor < length (g.state old).pages)
+    (found : (g.backing new).honest ≡ true → slice_get (g.state old).pages block ≡ Some page) (alive : page.state ≡ Live) (leaf : HasEntries page.items)
+    (stored : IsStored (g.state old).limits block page) (used : block < length (g.state old).pages) (few : length (g.state old).pages ≤ (g.state old).limits.pages)
+    (turn : TurnsTo (g.state old).cycle (g.state old).limits.pages (last_read before.cursor before.back) (moves_of before.back) page onward)
+    (sw : IsSwept dead page swept) (free : is_held_by_another (g.state old).table before.session swept.after.block Cleanup ≡ false) where
+  -- the store behind the step
+  abbrev pub now : State
+  now = written (nat_lt 0 swept.gone) (without_dead dead page) (g.state old)
+
+  lost : swept.gone ≡ length (dead_entries dead page)
+  lost = gone_is dead page swept alive leaf sw
+
+  block_is : page.block ≡ block
+  block_is = stored.block_is
+
+  lt : page.block < length (g.state old).pages
+  lt = subst (λ (b : ℕ). b < length (g.state old).pages) (sym block_is) used
+
+  -- where it is read
+  next_is : page.block ≡ next_block before.cursor before.back
+  next_is = block_is ∙ sym at
+
+  found_here : (g.backing new).honest ≡ true → slice_get (g.state old).pages page.block ≡ Some page
+  found_here honest = subst (λ (b : ℕ). slice_get (g.state old).pages b ≡ Some page) (sym block_is) (found honest)
+
+  leaf_here : (g.backing new).honest ≡ true → IsLeafAt (g.state old).pages (next_block before.cursor before.back) page
+  leaf_here honest = record { found = subst (λ (b : ℕ). slice_get (g.state old).pages b ≡ Some page) next_is (found_here honest); alive = alive; leaf = leaf }
+
+  free_here : is_held_by_another (g.state old).table before.session page.block Cleanup ≡ false
+  free_here = subst (λ (p : Page). is_held_by_another (g.state old).table before.session p.block Cleanup ≡ false) sw.after_is free
+
+  there : (g.backing new).honest ≡ true → slice_get now.pages page.block ≡ Some (without_dead dead page)
+  there honest = written_there (nat_lt 0 swept.gone) (without_dead dead page) (g.state old) page (found_here honest)
+      (λ h. sym (same_leaf dead page alive leaf (sym lost ∙ unwritten swept.gone h))) lt
+
+  after_here : (g.backing new).honest ≡ true → (p : Page) → IsLeafAt now.pages (next_block before.cursor before.back) p → p ≡ without_dead dead page
+  after_here honest p h = same_page now.pages page.block p (without_dead dead page) (subst (λ (b : ℕ). slice_get now.pages b ≡ Some p) (sym next_is) h.found) (there honest)
+
+  others : (b : ℕ) → b ≢ next_block before.cursor before.back → slice_get now.pages b ≡ slice_get (g.state old).pages b
+  others b differ = written_other (nat_lt 0 swept.gone) (without_dead dead page) (g.state old) b (λ same. differ (same ∙ next_is)) lt
+
+  read_on : (g.backing new).honest ≡ true → IsReadOn (g.state old) now before.cursor before.back onward
+  read_on honest = record {
+    cycle = written_cycle (nat_lt 0 swept.gone) (without_dead dead page) (g.state old);
+    others = others;
+    stays = λ p h. record { page = without_dead dead page; was = record { found = subst (λ (b : ℕ). slice_get now.pages b ≡ Some (without_dead dead page)) next_is (there honest); alive = alive; leaf = tt } };
+    turn = λ p b h leads.
+        let is_page = same_page (g.state old).pages (next_block before.cursor before.back) p page h.found (leaf_here honest).found in
+        turned (g.state old).cycle (g.state old).limits.pages (last_read before.cursor before.back) (moves_of before.back) page onward turn b
+        (subst (λ (q : Page). LeadsBack (g.state old).cycle (last_read before.cursor before.back) q b) is_page leads);
+    from = λ b is. (
+      (turned_from (g.state old).cycle (g.state old).limits.pages (last_read before.cursor before.back) (moves_of before.back) page onward turn b is).1,
+      record { page = page; was = leaf_here honest },
+    );
+  }
+
+  removed : (g.backing new).honest ≡ true → EntriesAreRemoved (g.state old) (lives dead) page (without_dead dead page)
+  removed honest = record {
+    found = found_here honest;
+    alive = alive;
+    leaf = leaf;
+    after_is = refl;
+    may = swept_may dead (g.state old).limits (length (g.state old).pages) block page alive leaf stored used few;
+  }
+
+  does : (g.backing new).honest ≡ true → IsInOrder (g.state old) → (es : List Entry) → dead_entries dead page ≡ es → Does before.session (removes es) (g.state old) now
+  does honest order [] is =
+      let c : nat_lt 0 swept.gone ≡ false = not_written swept.gone (lost ∙ ap length is) in
+      nothing_else before.session (g.state old) now (ap (λ (b : Bool). written b (without_dead dead page) (g.state old)) c) order
+  does honest order (e ∷ es) is =
+      let c : nat_lt 0 swept.gone ≡ true = is_written swept.gone (length es) (lost ∙ ap length is) in
+      subst (Does before.session (removes (e ∷ es)) (g.state old)) (ap (λ (b : Bool). written b (without_dead dead page) (g.state old)) (sym c))
+      (does_remove (g.state old) before.session dead page e es order (removed honest) (sym (dead_is dead page alive leaf) ∙ is) free_here)
+
+  dead_here : (g.backing new).honest ≡ true → dead_at dead (g.state old) (next_block before.cursor before.back) ≡ dead_entries dead page
+  dead_here honest = ap (dead_of dead) (leaf_here honest).found
+
+  trail_lasts : (g.backing new).honest ≡ true → IsInOrder (g.state old) → (start b moves : ℕ) → slice_get (g.state old).running before.session ≡ Some (Some start)
+      → HasTrail (g.state old) start 0 b moves → HasTrail now start 0 b moves
+  trail_lasts honest order start b moves running trail = by (nat_lt 0 swept.gone)
+    where
+      by : (c : Bool) → HasTrail (written c (without_dead dead page) (g.state old)) start 0 b moves
+      by true = (removing_lasts (g.state old) (lives dead) page (without_dead dead page) order.tree (removed honest)).0.trails start 0 b moves (record { session = before.session; is = running }) trail
+      by false = trail
+
+  goes_back : (g.backing new).honest ≡ true → IsInOrder (g.state old) → (fits : BulkDeleteFits (g.state old) before) → GoesBack now fits.start onward
+  goes_back honest order fits = by onward refl
+    where
+      by : (o : Option Back) → onward ≡ o → GoesBack now fits.start o
+      by None is = tt
+      by (Some b) is =
+          let t = turned_from (g.state old).cycle (g.state old).limits.pages (last_read before.cursor before.back) (moves_of before.back) page onward turn b is in
+          let here = comes_here (g.state old) before page block order.tree fits at (record { found = found honest; alive = alive; leaf = leaf }) block_is in
+          let right = trail_goes_right (g.state old) fits.start 0 (moves_of before.back) b.block page order.tree (found_here honest) t.0.right_is here in
+          trail_lasts honest order fits.start b.block b.moves fits.running (subst (HasTrail (g.state old) fits.start 0 b.block) (sym t.2) right)
+
+  pub fits_on : (g.backing new).honest ≡ true → IsInOrder (g.state old) → BulkDeleteFits (g.state old) before → BulkDeleteFits now (gone_on before onward swept.kept swept.gone)
+  fits_on honest order fits = record {
+    session = fits.session;
+    start = fits.start;
+    running = ap (λ (r : List (Option ℕ)). slice_get r before.session) (written_running (nat_lt 0 swept.gone) (without_dead dead page) (g.state old)) ∙ fits.running;
+    held = ap (λ (t : Table). holding_of t before.session) (written_table (nat_lt 0 swept.gone) (without_dead dead page) (g.state old)) ∙ fits.held;
+    back = goes_back honest order fits;
+  }
+
+  past : (g.backing new).honest ≡ true → (other b : ℕ) → other ≢ before.session → has_pin (holding_of (g.state old).table other).pins b ≡ true → before.cursor ≤ b
+      → cursor_past before.cursor before.back ≤ b
+  past honest other b differ pin le = by before.back refl
+    where
+      by : (o : Option Back) → before.back ≡ o → cursor_past before.cursor o ≤ b
+      by (Some c) k = le
+      by None k = elim (cases_eq before.cursor b) [
+        | inl eq ↦ (
+            let is : page.block ≡ b = next_is ∙ ap (λ (o : Option Back). next_block before.cursor o) k ∙ eq in
+            absurd (pinned_is_held (g.state old).table before.session other b differ pin (subst (λ (n : ℕ). is_held_by_another (g.state old).table before.session n Cleanup ≡ false) is free_here)))
+        | inr ne ↦ omega (arith, le, ne)
+      ]
+
+  counted : (g.backing new).honest ≡ true → IsCounted dead (g.state old) before → IsCounted dead now (gone_on before onward swept.kept swept.gone)
+  counted honest h = counts_on dead (g.state old) now before onward swept.kept swept.gone h others
+      (λ b is.
+      let t = turned_from (g.state old).cycle (g.state old).limits.pages (last_read before.cursor before.back) (moves_of before.back) page onward turn b is in
+      (t.0.below, t.1))
+      (λ k. ap entry_count (subst (λ (b : ℕ). slice_get now.pages b ≡ Some (without_dead dead page)) (next_is ∙ ap (λ (o : Option Back). next_block before.cursor o) k) (there honest))
+      ∙ ap length (live_is (without_dead dead page) alive tt) ∙ ap (λ (p : Page). length (entries_of p.items)) (sym sw.after_is) ∙ sym sw.kept_is)
+      (λ p e at_leaf on. left_lives dead page e (subst (λ (q : Page). is_among (entries_of q.items) e ≡ true) (after_here honest p at_leaf) on))
+      (λ b k.
+      let low : b.block < before.cursor = (subst (IsBelow before.cursor) k h.below).0 in
+      let is : next_block before.cursor before.back ≡ b.block = ap (λ (o : Option Back). next_block before.cursor o) k in
+      let none = none_lost dead page alive leaf (λ e on. h.clean (next_block before.cursor before.back) page e (omega (arith, low, is)) (leaf_here honest) on) in
+      ap (λ (c : Bool). (written c (without_dead dead page) (g.state old)).pages) (not_written swept.gone (lost ∙ none)))
+
+  pub takes : (op : BulkDeleteOp) → Continues g.follows old new → (g.backing old).stopped ≡ false → g.state new ≡ written (nat_lt 0 swept.gone) swept.after (g.state old)
+      → op ≡ gone_on before onward swept.kept swept.gone → BulkDeleteSteps g dead before op old new (Ok Going)
+  takes op steps running written_is is = subst (λ (o : BulkDeleteOp). BulkDeleteSteps g dead before o old new (Ok Going)) (sym is) (record {
+    steps = steps;
+    session = refl;
+    kept = written_one (nat_lt 0 swept.gone) (without_dead dead page) (g.state old) (g.state new) new_is;
+    table = ap (λ (s : State). s.table) new_is ∙ written_table (nat_lt 0 swept.gone) (without_dead dead page) (g.state old);
+    cycle = ap (λ (s : State). s.cycle) new_is ∙ written_cycle (nat_lt 0 swept.gone) (without_dead dead page) (g.state old);
+    refused = tt;
+    stopped = λ h. runs_no_more (g.backing old).stopped running h;
+    stats = tt;
+    less = subst (λ (s : State). bulk_delete_left s.limits.pages (length s.pages) (cursor_past before.cursor before.back) onward
+        < bulk_delete_left (g.state old).limits.pages (length (g.state old).pages) before.cursor before.back) (sym new_is)
+        (rw (written_limits (nat_lt 0 swept.gone) (without_dead dead page) (g.state old), written_length (nat_lt 0 swept.gone) (without_dead dead page) (g.state old) lt)
+        (leaves_less (g.state old).limits.pages (length (g.state old).pages) before.cursor before.back onward inside_is
+        (λ b k. let t = turned_from (g.state old).cycle (g.state old).limits.pages (last_read before.cursor before.back) (moves_of before.back) page onward turn b k in (t.2, t.3))));
+    due = λ honest due of h. subst (λ (s : State). DueIsToCome due s (cursor_past before.cursor before.back) onward) (sym new_is)
+        (due_comes_on (g.state old) now before.cursor before.back onward h.from (read_on honest) due h
+        (λ p e at_leaf on is_due. clash (dead e.row) (of e is_due) (left_lives dead page e (subst (λ (q : Page). is_among (entries_of q.items) e ≡ true) (after_here honest p at_leaf) on))));
+    pins = λ honest other b p differ at_leaf pin le. past honest other b differ pin le;
+    counts = λ honest h. subst (λ (s : State). IsCounted dead s (gone_on before onward swept.kept swept.gone)) (sym new_is) (counted honest h);
+    stepped = λ honest order fits. record {
+      does = subst (Does before.session (removes (dead_at dead (g.state old) (next_block before.cursor before.back))) (g.state old)) (sym new_is)
+          (subst (λ (es : List Entry). Does before.session (removes es) (g.state old) now) (sym (dead_here honest)) (does honest order (dead_entries dead page) refl));
+      dead_rows = λ e on. dead_are dead page e (subst (λ (es : List Entry). is_among es e ≡ true) (dead_here honest) on);
+      count = ap (λ (n : ℕ). before.removed + n) (lost ∙ ap length (sym (dead_here honest)));
+      fits = subst (λ (s : State). BulkDeleteFits s (gone_on before onward swept.kept swept.gone)) (sym new_is) (fits_on honest order fits);
+    };
+  })
+    where
+      new_is : g.state new ≡ now
+      new_is = written_is ∙ ap (λ (p : Page). written (nat_lt 0 swept.gone) p (g.state old)) sw.after_is
+
+      clash : (b : Bool) → b ≡ true → b ≡ false → ⊥
+      clash b x y = cc

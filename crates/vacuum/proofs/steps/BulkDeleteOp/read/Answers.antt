@@ -1,0 +1,98 @@
+use Rattle.std.proofs.Common.{◌≡◌, ◌<◌, ℕ, [], ◌∷◌, true, false, Some, length, slice_get, refl, sym, ap, subst, ◌∙◌, arith}
+use Rattle.index_model.specs.Faults.{HasCause}
+use Rattle.index_model.specs.declared.limits.Limits.{Limits}
+use Rattle.latch_table.specs.Holdings.{HasRoom, is_held_by_another}
+use Rattle.latch_table.specs.declared.mode.Mode.TheVariants.{Cleanup}
+use Rattle.page_codec.specs.declared.page.Page.{Page}
+use Rattle.page_action.specs.States.{State, IsLater}
+use Rattle.page_action.specs.Stored.{IsStored, AreActable}
+use Rattle.vacuum.specs.BulkDeletes.{where_deleting}
+use Rattle.vacuum.specs.Ops.{last_read, moves_of}
+use Rattle.vacuum.specs.Turns.{TurnsTo, TurnsNoMore, written}
+use Rattle.vacuum.proofs.Causes.{reading_cause, deleting_later}
+use Rattle.vacuum.proofs.Reading.{refuses, passes, takes, next_in_use, has_room, never_too_far}
+use Rattle.vacuum.proofs.Removing.{swept_may}
+use Rattle.vacuum.proofs.steps.BulkDeleteOp.read.Given.{Over}
+use Rattle.vacuum.proofs.steps.BulkDeleteOp.read.Goals.{After-view-page}
+use Rattle.vacuum.proofs.steps.BulkDeleteOp.read.Goals as goal
+
+-- the page that was read is stored
+stored : (g : Over) (c : After-view-page g) → IsStored (g.S.PageStore.state c.args.store.now).limits c.args.block c.view-page.result.now
+stored g c = subst (λ (st : State). IsStored st.limits c.args.block c.view-page.result.now) c.look.ensures.state c.view-page.ensures.stored
+
+-- ... and the one in use, where the device kept its model
+found : (g : Over) (c : After-view-page g) → (g.S.PageStore.backing c.look.new.store).honest ≡ true → slice_get (g.S.PageStore.state c.args.store.now).pages c.args.block ≡ Some c.view-page.result.now
+found g c honest = subst (λ (st : State). slice_get st.pages c.args.block ≡ Some c.view-page.result.now) c.look.ensures.state (c.view-page.ensures.page honest)
+
+pub returns-in-Err : goal.returns-in-Err
+returns-in-Err g c =
+    let old = g.S.PageStore.state c.args.store.now in
+    let before = c.args.self.now in
+    refuses g.S.PageStore (g.T.DeadRows.is_in c.args.dead.now) before c.args.store.now c.look.new.store c.in-Err.fault c.look.ensures.steps c.look.ensures.state
+    (λ h. absurd (let k : false ≡ true = sym c.requires.alive ∙ h in cc))
+    (λ honest order fits.
+    reading_cause old (g.S.PageStore.backing c.args.store.now) (g.S.PageStore.backing c.look.new.store) before c.in-Err.fault
+    (c.in-Err.ensures.works honest (has_room old before fits) (subst (λ (b : ℕ). b < length old.pages) c.requires.at (next_in_use old before order.tree fits c.requires.inside)) 1 1 false false (omega arith)))
+
+pub returns-then-not-is_live_leaf : goal.returns-then-not-is_live_leaf
+returns-then-not-is_live_leaf g c =
+    passes g.S.PageStore (g.T.DeadRows.is_in c.args.dead.now) c.args.self.now c.go_on.new.self c.args.store.now c.look.new.store c.args.block c.view-page.result.now
+    c.look.ensures.steps c.look.ensures.state c.requires.alive c.requires.at c.requires.inside (found g (goal.at.returns-then-not-is_live_leaf g c).After-view-page)
+    (λ live leaf. let k : false ≡ true = c.if-not-is_live_leaf.ensures.1 (live, leaf) in cc) c.go_on.ensures
+
+pub returns-in-Err-turn : goal.returns-in-Err-turn
+returns-in-Err-turn g c =
+    let old = g.S.PageStore.state c.args.store.now in
+    let before = c.args.self.now in
+    let there = stored g (goal.at.returns-in-Err-turn g c).After-view-page in
+    let leaf = c.if-not-is_live_leaf.ensures.0 refl in
+    let most : c.limits.result.pages ≡ old.limits.pages = ap (λ (l : Limits). l.pages) c.limits.ensures.value ∙ ap (λ (s : State). s.limits.pages) c.look.ensures.state in
+    refuses g.S.PageStore (g.T.DeadRows.is_in c.args.dead.now) before c.args.store.now c.look.new.store c.in-Err-turn.fault c.look.ensures.steps c.look.ensures.state
+    (λ h. absurd (let k : false ≡ true = sym c.requires.alive ∙ h in cc))
+    (λ honest order fits.
+    absurd (never_too_far old before c.view-page.result.now c.args.block c.cycle.result (last_read before.cursor before.back) order fits c.requires.at
+    (record { found = found g (goal.at.returns-in-Err-turn g c).After-view-page honest; alive = leaf.0; leaf = leaf.1 }) there.block_is c.in-Ok.ensures.inside
+    (subst (λ (n : ℕ). TurnsNoMore c.cycle.result n (last_read before.cursor before.back) (moves_of before.back) c.view-page.result.now) most c.in-Err-turn.ensures.refused)))
+
+pub take-requires : goal.take-requires
+take-requires g c =
+    let old = g.S.PageStore.state c.args.store.now in
+    let leaf = c.if-not-is_live_leaf.ensures.0 refl in
+    record {
+      may = subst (λ (st : State). AreActable st.limits (length st.pages) (c.sweep-swept.result.after ∷ [])) (sym c.look.ensures.state)
+          (subst (λ (p : Page). AreActable old.limits (length old.pages) (p ∷ [])) (sym c.sweep-swept.ensures.swept.after_is)
+          (swept_may (g.T.DeadRows.is_in c.args.dead.now) old.limits (length old.pages) c.args.block c.view-page.result.now leaf.0 leaf.1 (stored g (goal.at.take-requires g c).After-view-page)
+          c.in-Ok.ensures.used c.in-Ok.ensures.inside));
+    }
+
+pub returns-in-Err-take : goal.returns-in-Err-take
+returns-in-Err-take g c =
+    let old = g.S.PageStore.state c.args.store.now in
+    let before = c.args.self.now in
+    let later : IsLater (g.S.PageStore.backing c.args.store.now) (g.S.PageStore.backing c.look.new.store) = g.met.S.PageStore.laws.follows_later _ _ (c.look.ensures.steps _ (g.met.S.PageStore.laws.follows_same _)) in
+    refuses g.S.PageStore (g.T.DeadRows.is_in c.args.dead.now) before c.args.store.now c.take.new.store c.in-Err-take.fault
+    (λ first h. c.take.ensures.steps first (c.look.ensures.steps first h)) (c.in-Err-take.ensures.refused ∙ c.look.ensures.state)
+    (λ h. absurd (let k : false ≡ true = sym c.requires.alive ∙ h in cc))
+    (λ honest order fits.
+    deleting_later old (g.S.PageStore.backing c.args.store.now) (g.S.PageStore.backing c.look.new.store) (g.S.PageStore.backing c.take.new.store) before c.in-Err-take.fault
+    later.failures c.in-Ok.ensures.alive c.look.ensures.room.promised
+    (subst (λ (st : State). HasCause (where_deleting st (g.S.PageStore.backing c.look.new.store) (g.S.PageStore.backing c.take.new.store) before) c.in-Err-take.fault) c.look.ensures.state
+    (c.in-Err-take.ensures.cause (subst (λ (st : State). HasRoom st.table before.session) (sym c.look.ensures.state) (has_room old before fits)))))
+
+pub returns : goal.returns
+returns g c =
+    let old = g.S.PageStore.state c.args.store.now in
+    let before = c.args.self.now in
+    let leaf = c.if-not-is_live_leaf.ensures.0 refl in
+    let at_view = (goal.at.returns g c).After-view-page in
+    let later : IsLater (g.S.PageStore.backing c.look.new.store) (g.S.PageStore.backing c.take.new.store) = g.met.S.PageStore.laws.follows_later _ _ (c.take.ensures.steps _ (g.met.S.PageStore.laws.follows_same _)) in
+    let most : c.limits.result.pages ≡ old.limits.pages = ap (λ (l : Limits). l.pages) c.limits.ensures.value ∙ ap (λ (s : State). s.limits.pages) c.look.ensures.state in
+    let cycle : c.cycle.result ≡ old.cycle = c.cycle.ensures ∙ ap (λ (s : State). s.cycle) c.look.ensures.state in
+    takes g.S.PageStore (g.T.DeadRows.is_in c.args.dead.now) before c.args.store.now c.take.new.store c.args.block c.view-page.result.now c.sweep-swept.result c.in-Ok-turn.back
+    c.requires.at c.requires.inside (λ honest. found g at_view (later.honest honest)) leaf.0 leaf.1 (stored g at_view) c.in-Ok.ensures.used c.in-Ok.ensures.inside
+    (subst (λ (n : ℕ). TurnsTo n old.limits.pages (last_read before.cursor before.back) (moves_of before.back) c.view-page.result.now c.in-Ok-turn.back) cycle
+    (subst (λ (n : ℕ). TurnsTo c.cycle.result n (last_read before.cursor before.back) (moves_of before.back) c.view-page.result.now c.in-Ok-turn.back) most c.in-Ok-turn.ensures.turns))
+    c.sweep-swept.ensures.swept
+    (subst (λ (st : State). is_held_by_another st.table before.session c.sweep-swept.result.after.block Cleanup ≡ false) c.look.ensures.state c.in-Ok-take.ensures.free)
+    c.go_on-2.new.self (λ first h. c.take.ensures.steps first (c.look.ensures.steps first h)) c.requires.alive
+    (c.in-Ok-take.ensures.done ∙ ap (written _ c.sweep-swept.result.after) c.look.ensures.state) c.go_on-2.ensures
