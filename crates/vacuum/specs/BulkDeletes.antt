@@ -132,10 +132,10 @@ abbrev pub IsDueOf : (Row → Bool) → (Entry → Bool) → Type 0
 IsDueOf dead due = (e : Entry) → due e ≡ true → dead e.row ≡ true
 
 -- it is still before the leaf
-abbrev pub IsBefore : ℕ → BulkDeleteOp → Result BulkDeleteStep Fault → Type 0
-IsBefore block after (Ok Going) = after.cursor ≤ block
-IsBefore block after (Ok (Finished stats)) = ⊥
-IsBefore block after (Err fault) = after.cursor ≤ block
+abbrev pub StaysBefore : ℕ → BulkDeleteOp → Result BulkDeleteStep Fault → Type 0
+StaysBefore block after (Ok Going) = after.cursor ≤ block
+StaysBefore block after (Ok (Finished stats)) = ⊥
+StaysBefore block after (Err fault) = after.cursor ≤ block
 
 -- it doesn't come past a leaf that another session has pinned, nor to its end
 abbrev pub StaysBeforePins : State → BulkDeleteOp → BulkDeleteOp → Result BulkDeleteStep Fault
@@ -143,7 +143,7 @@ abbrev pub StaysBeforePins : State → BulkDeleteOp → BulkDeleteOp → Result 
 StaysBeforePins st before after result =
     (other block : ℕ) (page : Page) → other ≢ before.session → IsLeafAt st.pages block page
     → has_pin (holding_of st.table other).pins block ≡ true → before.cursor ≤ block
-    → IsBefore block after result
+    → StaysBefore block after result
 
 -- where nobody else acts, what it has counted are the entries that it has left; at the end all of them
 abbrev pub CountsOn : (Row → Bool) → State → BulkDeleteOp → Result BulkDeleteStep Fault → Type 0
