@@ -12,6 +12,9 @@ use std::alloc::AllocError;
 use std::test::Fail;
 use world::{NotOpened, World};
 
+/// Pages in memory at once: all, so that who looks at a page makes no device call, and none of those that fail.
+const FRAMES: u32 = 1_024;
+
 /// A world over a device in memory.
 type OverDevice = World<Store<MemDevice>, NoRows>;
 
@@ -20,7 +23,7 @@ fn opened(run: Run, device: MemDevice) -> Result<OverDevice, Fault> {
     match World::open(
         run.alloc,
         device,
-        16,
+        FRAMES,
         run.space.sessions,
         Vec::new(run.alloc),
     ) {
@@ -59,7 +62,7 @@ fn opened_again(
         left.stop_at(u64::from(dice.roll(20)) + 1);
     }
     let sets: Vec<NoRows> = Vec::new(run.alloc);
-    match World::open(run.alloc, left, 16, run.space.sessions, sets) {
+    match World::open(run.alloc, left, FRAMES, run.space.sessions, sets) {
         Ok(world) => opened(run, world.crash(run.alloc, image(dice))?),
         Err(
             NotOpened {
