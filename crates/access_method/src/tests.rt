@@ -169,8 +169,9 @@ fn at_most_63_scans(rt: HostRuntime) -> Result<(), Fail> {
 fn a_failed_device_stops_the_index(rt: HostRuntime) -> Result<(), Fail> {
     let mut device = MemDevice::new(rt.alloc(), LEN)?;
     create(&mut device, &LIMITS)?;
-    // To open makes 7 calls of the device, the first commit 4: the next is the first of the second commit.
-    device.fail_at(12);
+    // To open makes 7 calls of the device, the first insert reads two pages, the first commit makes 4: the next is the first
+    // of the second commit.
+    device.fail_at(14);
     let Ok(mut index) = Index::open(rt.alloc(), device, 16) else {
         assert!(rt; false);
         return Ok(());
