@@ -274,7 +274,8 @@ impl<D: Device> LoggedPages<D> {
         ensures failed { OnErr result
             ((is_stopped self.new.log ≡ true) ⊎ (self.new.durable ≡ self.old.acts)) }
         ensures promised { OnErr result (self.new.promised ≡ self.old.promised) }
-        ensures idle { OnErr result (self.old.durable ≡ self.old.acts → self.new.room ≡ self.old.room) }
+        ensures idle { OnErr result
+            (self.old.durable ≡ self.old.acts → self.new.room ≡ self.old.room) }
         ensures cause { IoOrStopped result (is_stopped self.old.log)
             (D.failures self.old.device) (D.failures self.new.device) }
     {

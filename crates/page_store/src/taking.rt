@@ -104,7 +104,8 @@ impl<D: Device> LoggedPages<D> {
         ensures stored { IfOk result (IsStored self.old.limits block) }
         ensures right { IfOk result (λ page. D.is_honest self.new.device ≡ true
             → slice_get (pages_now self.old.history) block ≡ Some page) }
-        ensures honest { D.is_honest self.new.device ≡ true → OnErr result (result ≡ Err Fault.Io) }
+        ensures honest { D.is_honest self.new.device ≡ true
+            → OnErr result (result ≡ Err Fault.Io) }
         ensures cause { ReadingFails block result
             (D.failures self.old.device) (D.failures self.new.device) }
     {

@@ -95,7 +95,8 @@ fn add_pages<D: Device>(device: &mut D, limits: Limits, found: &mut Found) -> Re
     Ok(limits.pages)
 }
 
-/// Reads the pages of the blocks in use, up to the first unused one, each once; none stays in memory. Refused with `NoMemory`, `Io`, and with
+/// Reads the pages of the blocks in use, up to the first unused one, each once; none stays in memory. Refused with
+/// `NoMemory`, `Io`, and with
 /// `PageDamaged` for the first block whose bytes are no page that may be stored there; also for block 0 where it is
 /// unused.
 pub(crate) fn read_pages<D: Device>(
