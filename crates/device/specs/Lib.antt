@@ -4,3 +4,4 @@ pub mod Places
 pub mod Plans
 pub mod Record
 pub mod Memory
+pub mod Event

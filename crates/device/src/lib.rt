@@ -1,14 +1,17 @@
 //! A device by its bytes: what a read gives, what a crash may leave, how often it failed; and one in
-//! memory that can be made to fail and to crash.
+//! memory that can be made to fail and to crash, and one over a file.
 #![tactic(auto)]
 
 mod count;
 mod device;
+mod events;
+mod file;
 mod memory;
 mod plan;
 mod record;
 
 pub use device::Device;
+pub use file::{FileDevice, Start, Unknown};
 pub use memory::{CrashImage, MemDevice};
 
 #[cfg(test)]

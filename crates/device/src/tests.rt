@@ -3,6 +3,7 @@ ghost use Rattle.device.specs.Memory.{trace_of};
 
 use super::*;
 use index_model::Fault;
+use std::fs;
 use std::test::{Fail, *};
 
 // Four bytes are synced, then three and two are written.
@@ -78,4 +79,36 @@ fn from_a_call_on_none_runs(rt: HostRuntime) -> Result<(), Fail> {
         assert_eq!(rt; bytes_of(&mut device), want);
     }
     Ok(())
+}
+
+#[test]
+fn files(rt: HostRuntime) {
+    let path = "file_device.bin";
+    let _ = fs::remove_file(&rt, path);
+    assert!(rt; FileDevice::<Unknown>::open(&rt, path).is_err());
+    let Ok(mut device) = FileDevice::<Unknown>::create(&rt, path, 8_192) else {
+        assert!(rt; false);
+        return;
+    };
+    assert!(rt; FileDevice::<Unknown>::create(&rt, path, 8_192).is_err());
+    if device.len() != 8_192 {
+        assert!(rt; false);
+        return;
+    }
+    let mut bytes = [9; 4];
+    assert_eq!(rt; device.read_at(8_188, &mut bytes), Ok(()));
+    assert_eq!(rt; bytes, [0; 4]);
+    assert_eq!(rt; device.write_at(8_187, &[1, 2, 3, 4, 5]), Ok(()));
+    assert_eq!(rt; device.sync(), Ok(()));
+    let Ok(mut again) = FileDevice::<Unknown>::open(&rt, path) else {
+        assert!(rt; false);
+        return;
+    };
+    if again.len() != 8_192 {
+        assert!(rt; false);
+        return;
+    }
+    assert_eq!(rt; again.read_at(8_188, &mut bytes), Ok(()));
+    assert_eq!(rt; bytes, [2, 3, 4, 5]);
+    let _ = fs::remove_file(&rt, path);
 }

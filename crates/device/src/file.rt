@@ -1,0 +1,256 @@
+//! A device over a file. Each method makes one call of the file, and notes it with its answer: what the clauses say of a
+//! file rests on these notes.
+
+ghost use Rattle.std.specs.Prelude.{◌≡◌, ◌↔◌, ◌+◌, ◌<◌, ◌≤◌, ◌^◌, ◌∷◌, ℕ, List, true, false, IsTrue, Err, length, replicate, OnOk, OnErr, IfOk, IfErr};
+ghost use Rattle.device.specs.Disk.{first, Reads, Writes, Syncs, CountsFailures};
+ghost use Rattle.device.specs.Event.{behind_calls, failed_in, are_right};
+ghost use Rattle.std.proofs.lemmas.List.{length-replicate};
+
+use crate::device::Device;
+use crate::events::Events;
+use index_model::Fault;
+use std::fs::{File, OpenFile, OpenOptions};
+use std::marker::PhantomData;
+use std::os::unix::fs::FileExt;
+use std::path::Path;
+use std::rt::Files;
+
+/// What a file of so many bytes held when it was opened, which no code can read: what is proved for all such types holds of
+/// each file.
+pub trait Start {
+    ghost bytes: { ℕ → List ℕ };
+
+    ghost sized: { (len : ℕ) → length (bytes len) ≡ len };
+}
+
+/// For a program to name.
+#[derive(Drop)]
+pub struct Unknown;
+
+impl Start for Unknown {
+    ghost bytes = { λ len. replicate len 0 };
+
+    ghost sized = { λ len. length-replicate len 0 };
+}
+
+/// A file, which held what `S` says when it was opened. After a failed write or sync each call answers `Io`, as what the file
+/// holds then is not known: a later sync must not make it look firm.
+#[derive(Drop)]
+pub struct FileDevice<S: Start> {
+    file: File,
+    len: u64,
+    start: PhantomData<S>,
+    events: Events,
+    stopped: bool,
+    ghost sized: { length (behind_calls (S.Start.bytes len) events.list).now.seen ≡ len },
+    ghost small: { length (behind_calls (S.Start.bytes len) events.list).now.seen < 2 ^ 63 },
+}
+
+impl<S: Start> FileDevice<S> {
+    /// A file of so many bytes, before any call.
+    fn of_file(file: File, len: u64) -> FileDevice<S>
+        requires { len < 2 ^ 63 }
+        ensures held { behind_calls (S.Start.bytes result.len) result.events.list
+            ≡ first (S.Start.bytes len) }
+        ensures honest { are_right (S.Start.bytes result.len) result.events.list ≡ true }
+        ensures failures { failed_in result.events.list ≡ 0 }
+        ensures runs { result.stopped ≡ false }
+    {
+        FileDevice {
+            file,
+            len,
+            start: PhantomData,
+            events: Events::new(),
+            stopped: false,
+        }
+    }
+
+    /// A new file of so many bytes, all zero; it and its folder are synced. Refused with `Io` where the path is there, or a call
+    /// fails; then a file may be left there.
+    pub fn create<R: Files<File = File>>(
+        rt: &R,
+        path: &str,
+        len: u64,
+    ) -> Result<FileDevice<S>, Fault>
+        // It holds what S says of so many bytes, all synced, and no call of it was made.
+        ensures held { IfOk result (λ d. behind_calls (S.Start.bytes d.len) d.events.list
+            ≡ first (S.Start.bytes len)) }
+        ensures honest { IfOk result
+            (λ d. are_right (S.Start.bytes d.len) d.events.list ≡ true) }
+        ensures failures { IfOk result (λ d. failed_in d.events.list ≡ 0) }
+        ensures runs { IfOk result (λ d. d.stopped ≡ false) }
+        ensures fault { IfErr result (λ e. e ≡ Fault.Io) }
+    {
+        if len >= 1 << 63 {
+            return Err(Fault::Io);
+        }
+        let Ok(file) = File::create_new(rt, path) else {
+            return Err(Fault::Io);
+        };
+        let (Ok(()), Ok(())) = (file.set_len(len), file.sync_all()) else {
+            return Err(Fault::Io);
+        };
+        sync_folder(rt, path)?;
+        Ok(FileDevice::of_file(file, len))
+    }
+
+    /// A file that is there, for reading and writing, with all its bytes. It is synced first, so that what it holds stands
+    /// through a crash. Refused with `Io`.
+    pub fn open<R: Files<File = File>>(rt: &R, path: &str) -> Result<FileDevice<S>, Fault>
+        ensures held { IfOk result (λ d. behind_calls (S.Start.bytes d.len) d.events.list
+            ≡ first (S.Start.bytes d.len)) }
+        ensures honest { IfOk result
+            (λ d. are_right (S.Start.bytes d.len) d.events.list ≡ true) }
+        ensures failures { IfOk result (λ d. failed_in d.events.list ≡ 0) }
+        ensures runs { IfOk result (λ d. d.stopped ≡ false) }
+        ensures fault { IfErr result (λ e. e ≡ Fault.Io) }
+    {
+        let Ok(file) = OpenOptions::new().read(true).write(true).open(rt, path) else {
+            return Err(Fault::Io);
+        };
+        let (Ok(()), Ok(metadata)) = (file.sync_all(), file.metadata()) else {
+            return Err(Fault::Io);
+        };
+        let len = metadata.len();
+        if len >= 1 << 63 {
+            return Err(Fault::Io);
+        }
+        Ok(FileDevice::of_file(file, len))
+    }
+
+    /// Notes a write or a sync that failed: from now on each call answers `Io`.
+    fn stop(&mut self, kind: u64, at: u64, bytes: &[u8]) -> Fault
+        ensures noted { self.new.events.list
+            ≡ (kind, at, 0, false, bytes.now) ∷ self.old.events.list }
+        ensures len { self.new.len ≡ self.old.len }
+        ensures stopped { self.new.stopped ≡ true }
+        ensures io { result ≡ Fault.Io }
+    {
+        self.stopped = true;
+        self.events.note(kind, at, 0, false, bytes);
+        Fault::Io
+    }
+}
+
+/// Syncs the folder of a path. Refused with `Io`.
+fn sync_folder<R: Files<File = File>>(rt: &R, path: &str) -> Result<(), Fault>
+    ensures fault { IfErr result (λ e. e ≡ Fault.Io) }
+{
+    let folder = match Path::new(path).parent() {
+        Some(folder) => folder,
+        None => Path::new("/"),
+    };
+    let folder = if folder.as_str().is_empty() {
+        Path::new(".")
+    } else {
+        folder
+    };
+    let Ok(file) = File::open(rt, folder) else {
+        return Err(Fault::Io);
+    };
+    match file.sync_all() {
+        Ok(()) => Ok(()),
+        Err(_) => Err(Fault::Io),
+    }
+}
+
+impl<S: Start> Device for FileDevice<S> {
+    ghost trace = { λ d. behind_calls (S.Start.bytes d.len) d.events.list };
+
+    ghost failures = { λ d. failed_in d.events.list };
+
+    ghost is_honest = { λ d. are_right (S.Start.bytes d.len) d.events.list };
+
+    ghost small = { λ d. d.small };
+
+    fn len(&self) -> u64 {
+        self.len
+    }
+
+    fn read_at(&mut self, at: u64, buf: &mut [u8]) -> Result<(), Fault>
+        requires range { at + length buf.old ≤ length (behind_calls
+            (S.Start.bytes self.old.len) self.old.events.list).now.seen }
+        ensures read { IsTrue (are_right (S.Start.bytes self.new.len) self.new.events.list)
+            → OnOk result (Reads (behind_calls (S.Start.bytes self.old.len) self.old.events.list)
+            at buf.old buf.new) }
+        ensures honest { IsTrue (are_right (S.Start.bytes self.new.len) self.new.events.list)
+            ↔ (IsTrue (are_right (S.Start.bytes self.old.len) self.old.events.list)
+            × OnOk result (Reads (behind_calls (S.Start.bytes self.old.len) self.old.events.list)
+            at buf.old buf.new)) }
+        ensures trace { behind_calls (S.Start.bytes self.new.len) self.new.events.list
+            ≡ behind_calls (S.Start.bytes self.old.len) self.old.events.list }
+        ensures failures { CountsFailures result (failed_in self.old.events.list)
+            (failed_in self.new.events.list) }
+        ensures stopped { self.old.stopped ≡ true → result ≡ Err Fault.Io }
+        ensures stays { self.new.stopped ≡ self.old.stopped }
+    {
+        if self.stopped {
+            self.events.note(0, at, 0, false, &[]);
+            return Err(Fault::Io);
+        }
+        match self.file.read_exact_at(buf, at) {
+            Ok(()) => {
+                self.events.note(0, at, buf.len() as u64, true, buf);
+                Ok(())
+            }
+            Err(_) => {
+                self.events.note(0, at, 0, false, &[]);
+                Err(Fault::Io)
+            }
+        }
+    }
+
+    fn write_at(&mut self, at: u64, bytes: &[u8]) -> Result<(), Fault>
+        requires range { at + length bytes.now ≤ length (behind_calls
+            (S.Start.bytes self.old.len) self.old.events.list).now.seen }
+        ensures trace { Writes at bytes.now result
+            (behind_calls (S.Start.bytes self.old.len) self.old.events.list)
+            (behind_calls (S.Start.bytes self.new.len) self.new.events.list) }
+        ensures len { length (behind_calls (S.Start.bytes self.new.len) self.new.events.list).now.seen
+            ≡ length (behind_calls (S.Start.bytes self.old.len) self.old.events.list).now.seen }
+        ensures honest { are_right (S.Start.bytes self.new.len) self.new.events.list
+            ≡ are_right (S.Start.bytes self.old.len) self.old.events.list }
+        ensures failures { CountsFailures result (failed_in self.old.events.list)
+            (failed_in self.new.events.list) }
+        ensures stopped { self.old.stopped ≡ true → result ≡ Err Fault.Io }
+        ensures stops { OnErr result (self.new.stopped ≡ true) }
+    {
+        if self.stopped {
+            self.events.note(1, at, 0, false, bytes);
+            return Err(Fault::Io);
+        }
+        match self.file.write_all_at(bytes, at) {
+            Ok(()) => {
+                self.events.note(1, at, bytes.len() as u64, true, bytes);
+                Ok(())
+            }
+            Err(_) => Err(self.stop(1, at, bytes)),
+        }
+    }
+
+    fn sync(&mut self) -> Result<(), Fault>
+        ensures trace { Syncs result
+            (behind_calls (S.Start.bytes self.old.len) self.old.events.list)
+            (behind_calls (S.Start.bytes self.new.len) self.new.events.list) }
+        ensures len { length (behind_calls (S.Start.bytes self.new.len) self.new.events.list).now.seen
+            ≡ length (behind_calls (S.Start.bytes self.old.len) self.old.events.list).now.seen }
+        ensures honest { are_right (S.Start.bytes self.new.len) self.new.events.list
+            ≡ are_right (S.Start.bytes self.old.len) self.old.events.list }
+        ensures failures { CountsFailures result (failed_in self.old.events.list)
+            (failed_in self.new.events.list) }
+        ensures stopped { self.old.stopped ≡ true → result ≡ Err Fault.Io }
+        ensures stops { OnErr result (self.new.stopped ≡ true) }
+    {
+        if self.stopped {
+            self.events.note(2, 0, 0, false, &[]);
+            return Err(Fault::Io);
+        }
+        match self.file.sync_data() {
+            Ok(()) => {
+                self.events.note(2, 0, 0, true, &[]);
+                Ok(())
+            }
+            Err(_) => Err(self.stop(2, 0, &[])),
+        }
+    }
+}
