@@ -17,7 +17,7 @@ use Rattle.tree_acts.specs.Trees.{HasTree, HasPlace, HasTrail, PlacesLast, Trail
 use Rattle.tree_acts.proofs.Leaving.{leaves_same}
 use Rattle.tree_acts.proofs.Overlays.{pages_other}
 use Rattle.descent.specs.Steps.{HoldsAlone, AreApart}
-use Rattle.descent.specs.Shared.{IsRaised, IsInOrder, NumbersStay, OthersRely, SplitsALeaf, FinishesASplit, Does, IsOneStep}
+use Rattle.descent.specs.Shared.{IsRaised, IsInOrder, NumbersStay, OthersRely, SplitsALeaf, FinishesASplit, Does, DeletesALeaf, CleansUp, IsOneStep}
 use Rattle.descent.proofs.Tables.{any_excluded, free_of}
 
 -- nothing of another session's is in the way of changing these pages
@@ -193,3 +193,34 @@ one_table old new table is = subst (λ (s : State). IsOneStep old s) (sym is) (r
 
 pub one_nothing : (old new : State) → new ≡ old → IsOneStep old new
 one_nothing old new same = one_table old new old.table same
+
+-- an act by which a leaf goes on its way out of the tree
+pub does_delete : (st : State) (session : ℕ) (changed : List Page) → IsInOrder st → MayAct st changed → TreeLasts st (after_act changed st) → ContentsStay st (after_act changed st)
+    → DeletesALeaf st (after_act changed st) → AreFree st session changed → CleansUp session (Some Shape) st (after_act changed st)
+does_delete st session changed order may lasts stay deletes free = record {
+  changes = record { acts = refl; apt = tt; contents = stay };
+  deletes = deletes;
+  cycle = refl;
+  limits = refl;
+  frames = refl;
+  begun = refl;
+  running = refl;
+  order = in_order_after st changed order lasts;
+  others = others_rely st session changed may lasts free;
+}
+
+-- a step of a cleanup that changes nothing
+pub cleans_nothing : (session : ℕ) (old new : State) → new ≡ old → IsInOrder old → CleansUp session None old new
+cleans_nothing session old new same order =
+    let d = nothing_else session old new same order in
+    record {
+      changes = d.changes;
+      deletes = tt;
+      cycle = d.leaves.cycle;
+      limits = d.limits;
+      frames = d.frames;
+      begun = d.begun;
+      running = d.running;
+      order = d.order;
+      others = d.others;
+    }

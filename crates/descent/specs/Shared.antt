@@ -10,6 +10,7 @@ use Rattle.page_action.specs.Reuse.{is_reusable}
 use Rattle.page_action.specs.States.{State, Backing, with_table}
 use Rattle.tree_shape.specs.Nodes.{nodes_of}
 use Rattle.tree_shape.specs.Walks.{IsAim}
+use Rattle.tree_acts.specs.Deletions.{CountsAreWithin, OneLeafDies, OneLeafGoes, LeavesFlags, LinksLast}
 use Rattle.tree_acts.specs.Flags.{FlagsMove}
 use Rattle.tree_acts.specs.Leaves.{LeavesStay}
 use Rattle.tree_acts.specs.Trees.{HasTree, HasPlace, HasTrail}
@@ -89,6 +90,34 @@ pub record Does (session : ℕ) (effect : Option Effect) (old new : State) : Typ
   pub changes : Changes effect old new
   pub flags : MovesFlags effect old new
   pub leaves : LeavesStay effect old new
+  pub limits : new.limits ≡ old.limits
+  pub frames : new.frames ≡ old.frames
+  pub begun : new.begun ≡ old.begun
+  pub running : new.running ≡ old.running
+  pub order : IsInOrder new
+  pub others : OthersRely session old new
+
+-- one live leaf became half-dead, or one half-dead leaf was deleted, and no other page's state is changed, nor any flag
+pub record DeletesALeaf (old new : State) : Type 0 where
+  pub leaf : OneLeafDies old new ⊎ OneLeafGoes old new
+  pub flags : LeavesFlags old new
+  -- deleted pages lead on
+  pub links : CountsAreWithin old → LinksLast old new
+
+-- which leaves an effect of a cleanup deletes: it has no other effect than that
+abbrev pub DeletesLeaves : Option Effect → State → State → Type 0
+DeletesLeaves None old new = Unit {0}
+DeletesLeaves (Some (Add e)) old new = ⊥
+DeletesLeaves (Some (Remove es)) old new = ⊥
+DeletesLeaves (Some Shape) old new = DeletesALeaf old new
+
+-- A step of this session's cleanup, with one act at most: the contents are as they were, the pages are a tree again, where
+-- it acts one leaf goes on its way out of the tree, calls, limits and the cycle number are as they were, and every other
+-- session may rely on what it held.
+pub record CleansUp (session : ℕ) (effect : Option Effect) (old new : State) : Type 0 where
+  pub changes : Changes effect old new
+  pub deletes : DeletesLeaves effect old new
+  pub cycle : new.cycle ≡ old.cycle
   pub limits : new.limits ≡ old.limits
   pub frames : new.frames ≡ old.frames
   pub begun : new.begun ≡ old.begun

@@ -15,7 +15,7 @@ use Rattle.tree_shape.specs.Tree.{IsMetaOf}
 use Rattle.tree_shape.specs.Nodes.{node_from, nodes_of}
 use Rattle.tree_shape.specs.Chains.{Spot, IsIn, IsRunOf, first_spot}
 use Rattle.tree_shape.specs.Edits.{IsFree}
-use Rattle.tree_shape.specs.Laws.{TreeGoesOn, IsReusable}
+use Rattle.tree_shape.specs.Laws.{TreeGoesOn, TreeGoesOnWithout, IsReusable}
 use Rattle.tree_shape.specs.Walks.{is_fit, IsFitOn}
 use Rattle.tree_shape.proofs.LeafSplit.{first_in}
 use Rattle.tree_shape.proofs.Members.{in_append_right, member}
@@ -224,4 +224,48 @@ lasts st changed h may Ok one ok running root' top' taller meta goes = record {
       names_root = meta.names;
       chain = (goes least good).chain';
       is = rw (meta.level_is) ((goes least good).tree);
+    }
+
+-- ... also where a page of a chain is deleted, later than each running call began
+pub lasts_without : (st : State) (changed : List Page) (h : HasTree st) → AreActable st.limits (length st.pages) changed → (late : ℕ) → ((start : ℕ) → IsStart st.running start → start < late)
+    → MetaIs (with_pages st.pages changed) h.tree.root h.tree.meta.level
+    → TreeGoesOnWithout (nodes_of st.pages) (nodes_of (with_pages st.pages changed)) (slice_index st.counted) (slice_index (after_act changed st).counted)
+    (length (with_pages st.pages changed)) h.tree.root h.tree.meta.level h.tree.chain late
+    → TreeLasts st (after_act changed st)
+lasts_without st changed h may late running meta goes = record {
+  has = record {
+    tree = tree';
+    stored = stored_after st.limits (length st.pages) st.pages changed may (omega arith) h.stored;
+    counted = length-with_counts st.counted st.pages changed h.counted;
+  };
+  places = λ start level aim clear block is falls place.
+      let p = place_in st h.tree start level aim clear block place in
+      record {
+        tree = tree';
+        in_tree = rw (meta.level_is) p.in_tree;
+        place = places_stay (nodes_of st.pages) (nodes_of (with_pages st.pages changed)) (slice_index st.counted) (slice_index (after_act changed st).counted)
+            (h.tree.chain level) (goes.chain' level) start aim clear block falls (goes.places start (running start is) level p.in_tree) p.place;
+      };
+  trails = λ start level block moves is trail.
+      let t = trail_in st h.tree start level block moves trail in
+      let w = goes.trails start (running start is) level t.in_tree t.passed t.steps block t.trail in
+      record {
+        tree = tree';
+        in_tree = rw (meta.level_is) t.in_tree;
+        passed = t.passed;
+        count = t.count;
+        distinct = t.distinct;
+        steps = w.steps;
+        trail = w.trail;
+      };
+}
+  where
+    tree' : IsTree (with_pages st.pages changed)
+    tree' = record {
+      meta = meta.meta;
+      meta_at = meta.at;
+      root = h.tree.root;
+      names_root = meta.names;
+      chain = goes.chain';
+      is = rw (meta.level_is) (goes.tree);
     }

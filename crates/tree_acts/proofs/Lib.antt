@@ -11,3 +11,5 @@ pub mod Telling
 pub mod Flagging
 pub mod Weighing
 pub mod Weighed
+pub mod Dying
+pub mod Unlinking

@@ -140,3 +140,31 @@ pub inside : (pages : List Page) (b : ℕ) (page : Page) → slice_get pages b �
 inside [] b page found = cc
 inside (p ∷ pages) zero page found = omega arith
 inside (p ∷ pages) (suc b) page found = omega (arith, inside pages b page found)
+
+-- the number that counts for the first page that is written, and for the second
+count_there : (counted : List ℕ) (page : Page) → page.block ≤ length counted → slice_index (with_count counted page) page.block ≡ number_to_count page.state page.deletion
+count_there counted page place = elim (cases_lt page.block (length counted)) [
+  | inl lt ↦ rw (lt-ltb page.block (length counted) lt) (index_some (slice_set counted page.block n) page.block n (set_same counted page.block n lt))
+  | inr ge ↦
+      let end : length counted ≡ page.block = omega arith in
+      rw (le-ltb page.block (length counted) ge) (index_some (counted ++ n ∷ []) page.block n (subst (λ (k : ℕ). slice_get (counted ++ n ∷ []) k ≡ Some n) end (more_same counted n)))
+]
+  where
+    n : ℕ
+    n = number_to_count page.state page.deletion
+
+    index_some : (xs : List ℕ) (b x : ℕ) → slice_get xs b ≡ Some x → slice_index xs b ≡ x
+    index_some [] b x is = cc
+    index_some (y ∷ ys) zero x is = cc
+    index_some (y ∷ ys) (suc b) x is = index_some ys b x is
+
+pub counts_first : (limits : Limits) (used : ℕ) (counted : List ℕ) (pages : List Page) (page : Page) (changed : List Page) → length counted ≡ length pages → AreActable limits used (page ∷ changed) → used ≤ length pages
+    → slice_index (with_counts counted (page ∷ changed)) page.block ≡ number_to_count page.state page.deletion
+counts_first limits used counted pages page changed same h le =
+    counts_other limits used (with_count counted page) (with_page pages page) changed page.block (length-with_count counted pages page same) h.3 (longer pages page used h.1.0 le) h.2
+    ∙ count_there counted page (let p = h.1.0 in omega arith)
+
+pub counts_second : (limits : Limits) (used : ℕ) (counted : List ℕ) (pages : List Page) (a b : Page) (changed : List Page) → length counted ≡ length pages → AreActable limits used (a ∷ b ∷ changed) → used ≤ length pages
+    → slice_index (with_counts counted (a ∷ b ∷ changed)) b.block ≡ number_to_count b.state b.deletion
+counts_second limits used counted pages a b changed same h le =
+    counts_first limits used (with_count counted a) (with_page pages a) b changed (length-with_count counted pages a same) h.3 (longer pages a used h.1.0 le)

@@ -4,3 +4,4 @@ pub mod Ways
 pub mod Flags
 pub mod Weights
 pub mod Leaves
+pub mod Deletions

@@ -4,6 +4,7 @@ ghost use Rattle.tree_acts.specs.Acts.{PuttingLasts, RemovingLasts, LeafSplitLas
 ghost use Rattle.tree_acts.specs.Flags.{PuttingFlags, RemovingFlags, LeafSplitFlags, FinishFlags, ParentSplitFlags, RootSplitFlags};
 ghost use Rattle.tree_acts.specs.Weights.{PuttingWeighs, LeafSplitWeighs, FinishWeighs, ParentSplitWeighs, RootSplitWeighs};
 ghost use Rattle.tree_acts.specs.Leaves.{PagesKeepLeaves, PuttingLeaves, RemovingLeaves, LeafSplitLeaves, FinishLeaves, ParentSplitLeaves, RootSplitLeaves};
+ghost use Rattle.tree_acts.specs.Deletions.{HalfDeathLasts, HalfDeathFlags, HalfDeathDies, HalfDeathLinks, UnlinkLasts, UnlinkFlags, UnlinkGoes, UnlinkLinks};
 ghost use Rattle.tree_acts.specs.Ways.{MetapageTells, PassedTells, LiveTells, InternalTells, LeafTells, FrontierTells, ParentTells, SeparatorTells, RootTells, UnfinishedIsBelow, TrailBegins, LeafBeginsTrail, TrailGoesRight, TrailIsShort, PlacesWiden, HighTells, NeighbourTells, StraightTells, RootCoversAll};
 
 /// Does nothing: its clauses say that each act which edits a tree leaves a tree, the places that running calls keep, and
@@ -75,4 +76,17 @@ pub fn splits_can_be_finished()
     ensures separator { SeparatorTells }
     ensures root { RootTells }
     ensures below { UnfinishedIsBelow }
+{}
+
+/// Does nothing: its clauses say what the acts of a page deletion leave: a tree, the places that running calls keep, the
+/// contents and all flags as they were; one page's state moves, and deleted pages lead on.
+pub fn deletions_keep_the_tree()
+    ensures half_death { HalfDeathLasts }
+    ensures half_death_flags { HalfDeathFlags }
+    ensures half_death_dies { HalfDeathDies }
+    ensures half_death_links { HalfDeathLinks }
+    ensures unlink { UnlinkLasts }
+    ensures unlink_flags { UnlinkFlags }
+    ensures unlink_goes { UnlinkGoes }
+    ensures unlink_links { UnlinkLinks }
 {}

@@ -38,3 +38,11 @@ pub mod Aims
 pub mod Trails
 pub mod FitsBehind
 pub mod Straight
+pub mod Deleting
+pub mod Handing
+pub mod Lower
+pub mod FitParts
+pub mod HalfDeath
+pub mod HalfDeathTree
+pub mod Unlink
+pub mod UnlinkTree

@@ -55,7 +55,7 @@ less Less h = refl
 less Equal h = absurd cc
 less Greater h = absurd cc
 
-before_trans : (a b c : Downlink) → LinkBefore a b → LinkBefore b c → LinkBefore a c
+pub before_trans : (a b c : Downlink) → LinkBefore a b → LinkBefore b c → LinkBefore a c
 before_trans a b c p q = ap is_lt ((options_total bounds_total).trans a.bound b.bound c.bound (less _ p) (less _ q))
 
 -- what a downlink stands before has a bound

@@ -9,3 +9,4 @@ pub mod Halves
 pub mod LinkPlaces
 pub mod Aims
 pub mod Mending
+pub mod Deletion

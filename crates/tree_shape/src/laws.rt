@@ -1,6 +1,6 @@
 //! What holds of trees: what each edit leaves, and what a page tells a call that comes to it.
 
-ghost use Rattle.tree_shape.specs.Laws.{InsertionKeeps, RemovalKeeps, LeafSplitKeeps, FinishKeeps, ParentSplitKeeps, RootSplitKeeps, InsertionAdds, RemovalTakes, LeafSplitAdds, FinishHolds, ParentSplitHolds, RootSplitHolds, ChainsAreTold, RootIsAPlace, PlacesGoRight, PlacesCover, LivePlacesStand, PlacesKeepTheirLevel, CoversLeadDown, PlacesLeadOn, CoverIsOne, HeldOnItsCover, FrontierCovers, FlaggedHasItsLink, SeparatorFits, OnlyTheRootIsClear, FlaggedHasItsHalf, PlacesStay, AimsFall, FirstIsATree, CoversLeadStraightDown, RootCovers};
+ghost use Rattle.tree_shape.specs.Laws.{InsertionKeeps, RemovalKeeps, LeafSplitKeeps, FinishKeeps, ParentSplitKeeps, RootSplitKeeps, InsertionAdds, RemovalTakes, LeafSplitAdds, FinishHolds, ParentSplitHolds, RootSplitHolds, ChainsAreTold, RootIsAPlace, PlacesGoRight, PlacesCover, LivePlacesStand, PlacesKeepTheirLevel, CoversLeadDown, PlacesLeadOn, CoverIsOne, HeldOnItsCover, FrontierCovers, FlaggedHasItsLink, SeparatorFits, OnlyTheRootIsClear, FlaggedHasItsHalf, PlacesStay, AimsFall, FirstIsATree, CoversLeadStraightDown, RootCovers, HalfDeathKeeps, UnlinkKeeps, HalfDeathLeadsOn, UnlinkLeadsOn, HalfDeathHolds, UnlinkHolds};
 
 /// Does nothing: its clauses say what each edit leaves of a tree, and of the page numbers that calls keep.
 pub fn edits_keep_the_tree()
@@ -11,6 +11,8 @@ pub fn edits_keep_the_tree()
     ensures finish { FinishKeeps }
     ensures parent_split { ParentSplitKeeps }
     ensures root_split { RootSplitKeeps }
+    ensures half_death { HalfDeathKeeps }
+    ensures unlink { UnlinkKeeps }
     ensures places { PlacesStay }
 {}
 
@@ -22,6 +24,8 @@ pub fn edits_keep_the_entries()
     ensures finish { FinishHolds }
     ensures parent_split { ParentSplitHolds }
     ensures root_split { RootSplitHolds }
+    ensures half_death { HalfDeathHolds }
+    ensures unlink { UnlinkHolds }
 {}
 
 /// Does nothing: its clauses say where the numbers lead that a call keeps, and what their pages tell it.
@@ -48,4 +52,11 @@ pub fn splits_can_be_finished()
     ensures link { FlaggedHasItsLink }
     ensures fits { SeparatorFits }
     ensures root { OnlyTheRootIsClear }
+{}
+
+/// Does nothing: its clauses say that a deleted page which is kept from reuse leads to pages that are not deleted, or were
+/// deleted no earlier, after each edit of a page deletion too.
+pub fn deleted_pages_lead_on()
+    ensures half_death { HalfDeathLeadsOn }
+    ensures unlink { UnlinkLeadsOn }
 {}

@@ -4,7 +4,8 @@ ghost use Rattle.std.specs.Prelude.{◌≡◌, ◌≢◌, ◌<◌, ◌≤◌, �
 ghost use Rattle.page_codec.specs.Grammar.{IsBlock, IsPage, IsWhole};
 ghost use Rattle.tree_shape.specs.Nodes.{node_of, links_of};
 ghost use Rattle.tree_shape.specs.Chains.{from_low, IsBeyond, Rises};
-ghost use Rattle.tree_shape.specs.Edits.{IsLinkAdded, with_links};
+ghost use Rattle.tree_shape.specs.Deletion.{handed_on};
+ghost use Rattle.tree_shape.specs.Edits.{IsLinkAdded, IsLinkHandedOn, with_links};
 ghost use Rattle.tree_shape.specs.Halves.{left_count};
 ghost use Rattle.tree_shape.specs.LinkPlaces.{child_at, bound_at, with_downlinks, HasLinks, IsBelowFirst, FitsBehind, LinkSplit};
 
@@ -176,4 +177,35 @@ pub fn split_links(page: &mut Page, at: usize, separator: Bound, child: u32, new
     let right = right_half(page, Items::Downlinks(behind), new);
     end_at(page, cut, new);
     right
+}
+
+// The downlink at a place leads where the next one does, and that goes.
+fn hand_on(links: &mut ArrayVec<Downlink, 50>, at: usize)
+    requires next { at + 1 < length links.old.items }
+    ensures { links.new.items ≡ handed_on links.old.items at }
+{
+    let link = Downlink {
+        bound: links.as_slice()[at].bound,
+        child: links.as_slice()[at + 1].child,
+    };
+    let _ = links.remove(at + 1);
+    let _ = links.remove(at);
+    links.insert(at, link);
+}
+
+/// Hands the downlink at `at` on to the page to which the next one leads, and takes that next one away.
+pub fn hand_on_link(page: &mut Page, at: usize)
+    requires internal { HasLinks page.old.items }
+    requires next { at + 1 < length (links_of page.old.items) }
+    ensures handed { IsLinkHandedOn (child_at (links_of page.old.items) at)
+        (child_at (links_of page.old.items) (at + 1)) (links_of page.old.items) (links_of page.new.items) }
+    ensures node { node_of page.new ≡ with_links (node_of page.old) (links_of page.new.items) }
+    ensures only { page.new ≡ with_downlinks page.old (links_of page.new.items) }
+    ensures block { page.new.block ≡ page.old.block }
+    ensures count { length (links_of page.new.items) + 1 ≡ length (links_of page.old.items) }
+    ensures page { IsPage page.old → IsPage page.new }
+{
+    if let Items::Downlinks(links) = &mut page.items {
+        hand_on(links, at);
+    }
 }

@@ -8,8 +8,8 @@ use crate::steps::BulkDeleteOp;
 use index_model::{Session, VacuumStats};
 use page_action::PageStore;
 
-// How many pages are deleted, and how many of them would be reusable if the session's call were not running.
-fn count_deleted<S: PageStore>(store: &S, session: Session) -> (u32, u32)
+/// How many pages are deleted, and how many of them would be reusable if the session's call were not running.
+pub fn count_deleted<S: PageStore>(store: &S, session: Session) -> (u32, u32)
     ensures deleted { result.0 ≡ deleted_count (S.state store.now)
         (length (S.state store.now).pages) }
     ensures free { result.1 ≡ free_count (S.state store.now) session

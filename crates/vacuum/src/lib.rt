@@ -7,6 +7,7 @@ mod laws;
 mod leaf;
 mod steps;
 
+pub use counts::count_deleted;
 pub use laws::{
     all_is_to_come, bulk_deletes_are_bounded, bulk_deletes_are_undisturbed, due_is_undisturbed,
     nothing_is_counted,

@@ -1,0 +1,103 @@
+-- What a cleanup has counted and cleaned, behind each step.
+use Rattle.std.proofs.Common.{◌≡◌, ◌≢◌, ℕ, zero, suc, ◌+◌, ◌<◌, ◌≤◌, inl, inr, length, slice_get, Option, Some, refl, sym, ap, ap₂, subst, ◌∙◌, arith}
+use Rattle.std.proofs.lemmas.Bool.{cases_eq}
+use Rattle.page_codec.specs.Edits.{HasEntries}
+use Rattle.page_codec.specs.declared.page.Page.{Page}
+use Rattle.page_codec.specs.declared.page.PageState.{PageState}
+use Rattle.page_codec.specs.declared.page.PageState.TheVariants.{Live, HalfDead, Deleted}
+use Rattle.page_action.specs.States.{State}
+use Rattle.tree_shape.specs.Nodes.{node_from}
+use Rattle.tree_acts.specs.Deletions.{state_in}
+use Rattle.tree_acts.proofs.Lasting.{meta_lives}
+use Rattle.vacuum.specs.Counts.{entry_count, entries_below}
+use Rattle.vacuum.proofs.Counting.{counted_beyond, no_leaf_count}
+use Rattle.page_delete.specs.Counts.{IsEmptyAt, IsFoundEmpty, IsCleaned, AllIsCleaned}
+use Rattle.page_delete.specs.Laws.{NothingIsCleaned}
+use Rattle.page_delete.specs.Ops.{turned_to, gone_past, gone_past_deleted, TurnsAt, unlinks, tries, passes}
+use Rattle.page_delete.specs.Parts.{MovesState, LeafDies, PageGoes}
+use Rattle.page_delete.specs.declared.steps.CleanupAt.{CleanupAt}
+use Rattle.page_delete.specs.declared.steps.CleanupAt.TheVariants.{Start, Unlink}
+use Rattle.page_delete.specs.declared.steps.CleanupOp.{CleanupOp}
+use Rattle.page_delete.proofs.Moving.{leaf_count, dead_count}
+
+-- behind a page that has so many entries and isn't half-dead
+pub cleaned_past : (st : State) (op : CleanupOp) (count : ℕ) → IsCleaned st op → entry_count (slice_get st.pages op.cursor) ≡ count → state_in st op.cursor ≢ HalfDead → IsCleaned st (gone_past op count)
+cleaned_past st op count h is alive = record {
+  counted = (let a = h.counted in let b = is in omega (arith, a, b));
+  none_dead = λ block lt. elim (cases_eq block op.cursor) [
+    | inl same ↦ subst (λ (b : ℕ). state_in st b ≢ HalfDead) (sym same) alive
+    | inr differ ↦ h.none_dead block (omega (arith, lt, differ))
+  ];
+  empty = tt;
+}
+
+-- at another step for the page
+pub cleaned_at : (st : State) (op : CleanupOp) (at : CleanupAt) → IsCleaned st op → IsFoundEmpty st op.cursor at → IsCleaned st (turned_to op at)
+cleaned_at st op at h empty = record { counted = h.counted; none_dead = h.none_dead; empty = empty }
+
+counts_alike : (old new : State) (n : ℕ) → ((b : ℕ) → entry_count (slice_get new.pages b) ≡ entry_count (slice_get old.pages b)) → entries_below new.pages n ≡ entries_below old.pages n
+counts_alike old new zero same = refl
+counts_alike old new (suc n) same = ap₂ (λ (a b : ℕ). a + b) (same n) (counts_alike old new n same)
+
+-- behind an act that moves the state of the page at the cursor
+moved_counts : (old new : State) (op : CleanupOp) (is : PageState) → IsCleaned old op → MovesState op.cursor is old new
+    → (op.left ≡ entries_below new.pages op.cursor) × ((block : ℕ) → block < op.cursor → state_in new block ≢ HalfDead)
+moved_counts old new op is h moves = (
+  h.counted ∙ sym (counts_alike old new op.cursor moves.counts),
+  (λ block lt dead. h.none_dead block lt (sym (moves.others block (λ same. (let e : block ≡ op.cursor = same in omega (arith, lt, e)))) ∙ dead)),
+)
+
+pub cleaned_dying : (old new : State) (op : CleanupOp) → IsCleaned old op → LeafDies op.cursor old new → IsEmptyAt old op.cursor → IsCleaned new (turned_to op Unlink)
+cleaned_dying old new op h moves empty =
+    let m = moved_counts old new op HalfDead h moves in
+    record { counted = m.0; none_dead = m.1; empty = moves.counts op.cursor ∙ empty }
+
+pub cleaned_deleted : (old new : State) (op : CleanupOp) → IsCleaned old op → PageGoes op.cursor old new → IsEmptyAt old op.cursor → IsCleaned new (gone_past_deleted op)
+cleaned_deleted old new op h moves empty =
+    let m = moved_counts old new op Deleted h moves in
+    let none = moves.counts op.cursor ∙ empty in
+    record {
+      counted = (let a = m.0 in omega (arith, a, none));
+      none_dead = λ block lt. elim (cases_eq block op.cursor) [
+        | inl same ↦ λ dead. clash (sym moves.after ∙ sym (ap (state_in new) same) ∙ dead)
+        | inr differ ↦ m.1 block (omega (arith, lt, differ))
+      ];
+      empty = tt;
+    }
+  where
+    clash : Deleted ≡ HalfDead → ⊥
+    clash e = cc
+
+-- behind the look at a page
+pub cleaned_looking : (st : State) (before after : CleanupOp) (page : Page) → slice_get st.pages before.cursor ≡ Some page → IsCleaned st before → TurnsAt page before after → IsCleaned st after
+cleaned_looking st before after page found h (unlinks dead is) = rw is (cleaned_at st before Unlink h (ap entry_count found ∙ dead_count page dead))
+cleaned_looking st before after page found h (tries high may is_high is) = rw is (cleaned_at st before (Start high) h (
+  ap entry_count found ∙ leaf_count page may,
+  (λ dead. clash (sym may.alive ∙ sym (ap (λ (o : Option Page). (node_from o).state) found) ∙ dead)),
+))
+  where
+    clash : Live ≡ HalfDead → ⊥
+    clash e = cc
+cleaned_looking st before after page found h (passes alive empty is) = rw is (cleaned_past st before (entry_count (Some page)) h (ap entry_count found)
+    (λ dead. alive (sym (ap (λ (o : Option Page). (node_from o).state) found) ∙ dead)))
+
+-- at the end
+pub cleaned_all : (st : State) (op : CleanupOp) → IsCleaned st op → length st.pages ≤ op.cursor → AllIsCleaned st op.left
+cleaned_all st op h last = record {
+  counted = h.counted ∙ counted_beyond st.pages op.cursor last;
+  none_dead = λ block lt. h.none_dead block (omega (arith, lt, last));
+}
+
+-- at the beginning
+pub nothing_cleaned : NothingIsCleaned
+nothing_cleaned st session order = record {
+  counted = (let none = meta_count in omega (arith, none));
+  none_dead = λ block lt dead. clash (sym (meta_lives st order.tree) ∙ sym (ap (λ (o : Option Page). (node_from o).state) order.tree.tree.meta_at) ∙ subst (λ (b : ℕ). state_in st b ≡ HalfDead) (let z : block ≡ 0 = omega (arith, lt) in z) dead);
+  empty = tt;
+}
+  where
+    clash : Live ≡ HalfDead → ⊥
+    clash e = cc
+
+    meta_count : entry_count (slice_get st.pages 0) ≡ 0
+    meta_count = ap entry_count order.tree.tree.meta_at ∙ no_leaf_count order.tree.tree.meta (λ alive leaf. subst HasEntries order.tree.tree.names_root.kind leaf)

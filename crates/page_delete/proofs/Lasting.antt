@@ -1,0 +1,60 @@
+-- What a cleanup knows lasts while others act, and what is left to do for it is bounded.
+use Rattle.std.proofs.Common.{ℕ, ◌+◌, ◌<◌, ◌≤◌, false, length, ◌∙◌, arith}
+use Rattle.index_model.specs.declared.bound.Bound.{Bound}
+use Rattle.page_action.specs.States.{State}
+use Rattle.tree_shape.specs.Walks.{bound_aim}
+use Rattle.tree_shape.proofs.Fits.{bound_falls}
+use Rattle.tree_acts.proofs.Sizes.{low_level, pages_few}
+use Rattle.descent.specs.Onward.{IsOnWay}
+use Rattle.descent.specs.Shared.{IsInOrder, NumbersStay}
+use Rattle.descent.specs.declared.way.Way.{Way}
+use Rattle.page_delete.specs.Cleanups.{IsUnderway}
+use Rattle.page_delete.specs.Laws.{CleanupsAreUndisturbed, CleanupsAreBounded}
+use Rattle.page_delete.specs.Work.{steps_for_page, turn_left, pages_left}
+use Rattle.page_delete.specs.declared.steps.CleanupAt.{CleanupAt}
+use Rattle.page_delete.specs.declared.steps.CleanupAt.TheVariants.{Look, Start, Down, Judge, Unlink}
+use Rattle.page_delete.proofs.Measuring.{mul_le, bounded}
+
+way_stays : (old new : State) (start : ℕ) (high : Bound) (way : Way) → NumbersStay start old new → IsOnWay old start (bound_aim high) false 1 way → IsOnWay new start (bound_aim high) false 1 way
+way_stays old new start high way stay w = record {
+  not_below = w.not_below;
+  place = stay.places way.level (bound_aim high) false way.block (bound_falls high) w.place;
+  trail = stay.trails way.level way.block way.moves w.trail;
+}
+
+pub underway_still : (old new : State) (start cursor : ℕ) (at : CleanupAt) → NumbersStay start old new → IsUnderway old start cursor at → IsUnderway new start cursor at
+underway_still old new start cursor Look stay h = tt
+underway_still old new start cursor (Start high) stay h = stay.trails 0 cursor 0 h
+underway_still old new start cursor (Down high way) stay h = (stay.trails 0 cursor 0 h.0, way_stays old new start high way stay h.1)
+underway_still old new start cursor (Judge parent) stay h = (stay.trails 0 cursor 0 h.0, stay.trails 1 parent 0 h.1)
+underway_still old new start cursor Unlink stay h = stay.trails 0 cursor 0 h
+
+pub undisturbed : CleanupsAreUndisturbed
+undisturbed old new op rely fits = record {
+  session = fits.session;
+  start = fits.start;
+  running = rely.number ∙ fits.running;
+  held = rely.held ∙ fits.held;
+  at = underway_still old new fits.start op.cursor op.at (rely.numbers fits.start fits.running) fits.at;
+}
+
+turn_small : (st : State) (start cursor : ℕ) (at : CleanupAt) → IsInOrder st → IsUnderway st start cursor at → turn_left st.limits.pages at < steps_for_page st.limits.pages
+turn_small st start cursor Look order h = omega arith
+turn_small st start cursor (Start high) order h = omega arith
+turn_small st start cursor (Down high way) order h =
+    let low = low_level st start way.level (bound_aim high) false way.block order.tree h.1.place in
+    let m = mul_le way.level 31 (st.limits.pages + 2) low in
+    omega (arith, m)
+turn_small st start cursor (Judge parent) order h = omega arith
+turn_small st start cursor Unlink order h = omega arith
+
+pages_small : (used cursor : ℕ) (at : CleanupAt) → pages_left used cursor at ≤ used
+pages_small used cursor Look = omega arith
+pages_small used cursor (Start high) = omega arith
+pages_small used cursor (Down high way) = omega arith
+pages_small used cursor (Judge parent) = omega arith
+pages_small used cursor Unlink = omega arith
+
+pub cleanups_bounded : CleanupsAreBounded
+cleanups_bounded st op order fits few =
+    bounded st.limits.pages (length st.pages) op.cursor op.at few (pages_few st order.tree) (turn_small st fits.start op.cursor op.at order fits.at) (pages_small (length st.pages) op.cursor op.at)

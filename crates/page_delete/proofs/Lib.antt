@@ -1,0 +1,9 @@
+pub mod Siblings
+pub mod Measuring
+pub mod Trying
+pub mod Dying
+pub mod Deleting
+pub mod Moving
+pub mod Cleaning
+pub mod Stepping
+pub mod Lasting

@@ -1,0 +1,386 @@
+-- Steps of a cleanup.
+use Rattle.std.proofs.Common.{◌≡◌, ◌≢◌, ℕ, zero, suc, ◌<◌, ◌≤◌, ◌||◌, inl, inr, Bool, true, false, Option, Some, None, Ok, Err, Result, List, length, slice_get, refl, sym, ap, subst, ◌∙◌, arith}
+use Rattle.index_model.specs.Actions.{Shape}
+use Rattle.index_model.specs.Faults.{HasCause}
+use Rattle.index_model.specs.declared.bound.Bound.{Bound}
+use Rattle.index_model.specs.declared.fault.Fault.{Fault}
+use Rattle.index_model.specs.declared.fault.Fault.TheVariants.{Stopped, PageDamaged}
+use Rattle.index_model.specs.declared.stats.VacuumStats.{VacuumStats}
+use Rattle.latch_table.specs.Holdings.{Holding, HasRoom, holding_of}
+use Rattle.page_codec.specs.Grammar.{IsPage, IsOfKind}
+use Rattle.page_codec.specs.declared.page.Items.{Items}
+use Rattle.page_codec.specs.declared.page.Items.TheVariants.{Meta, Entries, Downlinks}
+use Rattle.page_codec.specs.declared.page.Page.{Page}
+use Rattle.page_codec.specs.declared.page.PageState.TheVariants.{Live, HalfDead}
+use Rattle.page_action.specs.Causes.{is_at_end}
+use Rattle.page_action.specs.States.{State, Backing, Continues}
+use Rattle.page_action.specs.Stored.{IsStored}
+use Rattle.page_action.specs.declared.page_store.PageStore.{Ghosts}
+use Rattle.tree_shape.specs.Nodes.{node_from, nodes_of}
+use Rattle.tree_shape.specs.Tree.{IsMetaOf}
+use Rattle.tree_shape.specs.Walks.{bound_aim}
+use Rattle.tree_acts.specs.Deletions.{state_in}
+use Rattle.tree_acts.specs.Trees.{HasTrail}
+use Rattle.tree_acts.specs.Ways.{RootIsThere}
+use Rattle.tree_acts.proofs.Removing.{leaf_begins_trail}
+use Rattle.tree_acts.proofs.Telling.{metapage_tells, trail_begins_here}
+use Rattle.descent.specs.Shared.{IsInOrder, where_working}
+use Rattle.descent.specs.Onward.{IsOnWay, LeadsOnward, LeavesLess, way_from}
+use Rattle.descent.specs.declared.way.Onward.{Onward}
+use Rattle.descent.specs.declared.way.Onward.TheVariants.{Going as LeadsOn, Here}
+use Rattle.descent.specs.declared.way.Way.{Way}
+use Rattle.descent.proofs.Acting.{one_nothing, cleans_nothing}
+use Rattle.page_delete.specs.Cleanups.{IsUnderway, CleanupFits, CleanupSteps, where_cleaning}
+use Rattle.page_delete.specs.Counts.{IsEmptyAt, IsFoundEmpty, IsCleaned, AllIsCleaned}
+use Rattle.page_delete.specs.Ops.{is_counted_out, cleanup_stats, turned_to, gone_past, gone_past_deleted, TurnsAt, unlinks, tries, passes}
+use Rattle.page_delete.specs.Parts.{IsTried, DeletesOn, AreInUse, LeafDies, IsSpared, IsInUse, PageGoes, IsNotDead, left_to, left_root, left_page, left_answer}
+use Rattle.page_delete.specs.Turns.{TurnsFrom}
+use Rattle.page_delete.specs.Work.{cleanup_left}
+use Rattle.page_delete.proofs.Cleaning.{cleaned_past, cleaned_at, cleaned_dying, cleaned_deleted, cleaned_looking, cleaned_all}
+use Rattle.page_delete.proofs.Measuring.{look_starts, look_unlinks, look_passes, start_passes, start_goes_down, down_goes_on, down_judges, judge_unlinks, judge_passes, unlink_passes}
+use Rattle.page_delete.proofs.Siblings.{trail_in_use, dead_begins_trail}
+use Rattle.page_delete.proofs.Trying.{same_page}
+use Rattle.page_delete.specs.declared.steps.CleanupAt.{CleanupAt}
+use Rattle.page_delete.specs.declared.steps.CleanupAt.TheVariants.{Look, Start, Down, Judge, Unlink}
+use Rattle.page_delete.specs.declared.steps.CleanupOp.{CleanupOp}
+use Rattle.page_delete.specs.declared.steps.CleanupStep.{CleanupStep}
+use Rattle.page_delete.specs.declared.steps.CleanupStep.TheVariants.{Going, Finished}
+
+or_more : (a b c : Bool) → (a || b) ≡ true → (a || (b || c)) ≡ true
+or_more true b c h = refl
+or_more false true c h = refl
+or_more false false c h = absurd cc
+
+or_there : (a b c : Bool) → c ≡ true → (a || (b || c)) ≡ true
+or_there true b c h = refl
+or_there false true c h = refl
+or_there false false c h = h
+
+-- what keeps an act from being done keeps the cleanup from its step
+pub working_cause : (st : State) (old new : Backing) (op : CleanupOp) (fault : Fault) → HasCause (where_working st old new op.session 3 3 false false) fault → HasCause (where_cleaning st old new op) fault
+working_cause st old new op Stopped h = or_more old.stopped (is_at_end st.acts) (is_counted_out op) h
+working_cause st old new op fault h = h
+
+pub counted_cause : (st : State) (old new : Backing) (op : CleanupOp) → is_counted_out op ≡ true → HasCause (where_cleaning st old new op) Stopped
+counted_cause st old new op h = or_there old.stopped (is_at_end st.acts) (is_counted_out op) h
+
+runs_no_more : (b : Bool) {A : Type 0} → b ≡ false → b ≡ true → A
+runs_no_more b alive stopped = absurd cc
+
+pub has_room : (st : State) (op : CleanupOp) → CleanupFits st op → HasRoom st.table op.session
+has_room st op fits = subst (λ (h : Holding). length h.latches < 8) (sym fits.held) (omega arith)
+
+-- a step that is refused
+pub refuses : {S : Type 0} (g : Ghosts S) (op : CleanupOp) (old new : S) (fault : Fault) → Continues g.follows old new → g.state new ≡ g.state old
+    → ((g.backing old).stopped ≡ true → fault ≡ Stopped)
+    → ((g.backing new).honest ≡ true → IsInOrder (g.state old) → CleanupFits (g.state old) op → HasCause (where_cleaning (g.state old) (g.backing old) (g.backing new) op) fault)
+    → CleanupSteps g op op old new (Err fault)
+refuses g op old new fault steps same stops cause = record {
+  steps = steps;
+  session = refl;
+  kept = one_nothing (g.state old) (g.state new) same;
+  table = ap (λ (st : State). st.table) same;
+  cycle = ap (λ (st : State). st.cycle) same;
+  refused = record { state = same; op = refl };
+  stopped = λ h. ap Err (stops h);
+  stats = tt;
+  less = tt;
+  counts = λ honest fits h. subst (λ (st : State). IsCleaned st op) (sym same) h;
+  stepped = λ honest order below fits. cause honest order fits;
+}
+
+-- the last step
+pub ends : {S : Type 0} (g : Ghosts S) (op : CleanupOp) (store : S) (stats : VacuumStats) → (g.backing store).stopped ≡ false → op.at ≡ Look
+    → length (g.state store).pages ≤ op.cursor → stats ≡ cleanup_stats (g.state store) op → Continues g.follows store store → CleanupSteps g op op store store (Ok (Finished stats))
+ends g op store stats alive at last told steps = record {
+  steps = steps;
+  session = refl;
+  kept = one_nothing (g.state store) (g.state store) refl;
+  table = refl;
+  cycle = refl;
+  refused = tt;
+  stopped = λ h. runs_no_more (g.backing store).stopped alive h;
+  stats = told;
+  less = tt;
+  counts = λ honest fits h. subst (λ (s : VacuumStats). AllIsCleaned (g.state store) s.num_index_tuples) (sym told) (cleaned_all (g.state store) op h last);
+  stepped = λ honest order below fits. record { state = refl; op = refl; at = at; last = last };
+}
+
+-- a call that goes on, at another step
+pub fits_at : (st : State) (before after : CleanupOp) (fits : CleanupFits st before) → after.session ≡ before.session → IsUnderway st fits.start after.cursor after.at → CleanupFits st after
+fits_at st before after fits session at = record {
+  session = subst (λ (s : ℕ). s < 64) (sym session) fits.session;
+  start = fits.start;
+  running = subst (λ (s : ℕ). slice_get st.running s ≡ Some (Some fits.start)) (sym session) fits.running;
+  held = ap (holding_of st.table) session ∙ fits.held;
+  at = at;
+}
+
+-- a step that goes on without an act
+pub moves : {S : Type 0} (g : Ghosts S) (before after : CleanupOp) (old new : S) → Continues g.follows old new → g.state new ≡ g.state old → after.session ≡ before.session → (g.backing old).stopped ≡ false
+    → cleanup_left (g.state old).limits.pages (length (g.state old).pages) after.cursor after.at < cleanup_left (g.state old).limits.pages (length (g.state old).pages) before.cursor before.at
+    → ((g.backing new).honest ≡ true → IsInOrder (g.state old) → (fits : CleanupFits (g.state old) before)
+    → TurnsFrom before.at (g.state old) before None after × IsUnderway (g.state old) fits.start after.cursor after.at)
+    → ((g.backing new).honest ≡ true → CleanupFits (g.state old) before → IsCleaned (g.state old) before → IsCleaned (g.state old) after)
+    → CleanupSteps g before after old new (Ok Going)
+moves g before after old new steps same session alive less stepped cleans = record {
+  steps = steps;
+  session = session;
+  kept = one_nothing (g.state old) (g.state new) same;
+  table = ap (λ (st : State). st.table) same;
+  cycle = ap (λ (st : State). st.cycle) same;
+  refused = tt;
+  stopped = λ h. runs_no_more (g.backing old).stopped alive h;
+  stats = tt;
+  less = subst (λ (st : State). cleanup_left st.limits.pages (length st.pages) after.cursor after.at < cleanup_left (g.state old).limits.pages (length (g.state old).pages) before.cursor before.at) (sym same) less;
+  counts = λ honest fits h. subst (λ (st : State). IsCleaned st after) (sym same) (cleans honest fits h);
+  stepped = λ honest order below fits.
+      let s = stepped honest order fits in
+      record {
+        effect = None;
+        does = cleans_nothing before.session (g.state old) (g.state new) same order;
+        turns = s.0;
+        fits = subst (λ (st : State). CleanupFits st after) (sym same) (fits_at (g.state old) before after fits session s.1);
+      };
+}
+
+-- ... or with one
+pub acts : {S : Type 0} (g : Ghosts S) (sure : State → Type 0) (change : State → State → Type 0) (reason : State → Type 0) (before after : CleanupOp) (old new : S) → IsTried g before.session sure change reason old new (Ok true) → after.session ≡ before.session → (g.backing old).stopped ≡ false
+    → cleanup_left (g.state old).limits.pages (length (g.state old).pages) after.cursor after.at < cleanup_left (g.state old).limits.pages (length (g.state old).pages) before.cursor before.at
+    → TurnsFrom before.at (g.state old) before (Some Shape) after
+    → (IsInOrder (g.state old) → (fits : CleanupFits (g.state old) before) → DeletesOn before.session (g.state old) (g.state new) → IsUnderway (g.state new) fits.start after.cursor after.at)
+    → (IsCleaned (g.state old) before → change (g.state old) (g.state new) → IsCleaned (g.state new) after)
+    → CleanupSteps g before after old new (Ok Going)
+acts g sure change reason before after old new tried session alive less turns under cleans = record {
+  steps = tried.steps;
+  session = session;
+  kept = tried.kept;
+  table = tried.table;
+  cycle = tried.cycle;
+  refused = tt;
+  stopped = λ h. runs_no_more (g.backing old).stopped alive h;
+  stats = tt;
+  less =
+      let most : (g.state new).limits.pages ≡ (g.state old).limits.pages = ap (λ (l : _). l.pages) tried.kept.limits in
+      subst (λ (n : ℕ). cleanup_left (g.state new).limits.pages n after.cursor after.at < cleanup_left (g.state old).limits.pages (length (g.state old).pages) before.cursor before.at) (sym tried.used)
+      (subst (λ (m : ℕ). cleanup_left m (length (g.state old).pages) after.cursor after.at < cleanup_left (g.state old).limits.pages (length (g.state old).pages) before.cursor before.at) (sym most) less);
+  counts = λ honest fits h. cleans h (tried.changed honest refl);
+  stepped = λ honest order below fits.
+      let d = tried.does honest order below refl in
+      record {
+        effect = Some Shape;
+        does = d.does;
+        turns = turns;
+        fits = record {
+          session = subst (λ (s : ℕ). s < 64) (sym session) fits.session;
+          start = fits.start;
+          running = subst (λ (s : ℕ). slice_get (g.state new).running s ≡ Some (Some fits.start)) (sym session) (ap (λ (r : List (Option ℕ)). slice_get r before.session) d.does.running ∙ fits.running);
+          held = ap (holding_of (g.state new).table) session ∙ ap (λ (t : _). holding_of t before.session) tried.table ∙ fits.held;
+          at = under order fits d;
+        };
+      };
+}
+
+-- a part that may do one act is refused
+pub try_refused : {S : Type 0} (g : Ghosts S) (sure : State → Type 0) (change : State → State → Type 0) (reason : State → Type 0) (op : CleanupOp) (old new : S) (fault : Fault) → IsTried g op.session sure change reason old new (Err fault) → (g.backing old).stopped ≡ false
+    → (IsInOrder (g.state old) → CleanupFits (g.state old) op → sure (g.state old)) → CleanupSteps g op op old new (Err fault)
+try_refused g sure change reason op old new fault tried alive there =
+    refuses g op old new fault tried.steps tried.refused (λ h. runs_no_more (g.backing old).stopped alive h)
+    (λ honest order fits. working_cause (g.state old) (g.backing old) (g.backing new) op fault (tried.cause honest order (has_room (g.state old) op fits) (there order fits)))
+
+-- the leaf is judged
+module _ {S : Type 0} (g : Ghosts S) (before : CleanupOp) (parent : ℕ) (old new : S) (at : before.at ≡ Judge parent) (alive : (g.backing old).stopped ≡ false) where
+  abbrev most : ℕ
+  most = (g.state old).limits.pages
+
+  abbrev used : ℕ
+  used = length (g.state old).pages
+
+  under : (fits : CleanupFits (g.state old) before) → IsUnderway (g.state old) fits.start before.cursor (Judge parent)
+  under fits = subst (IsUnderway (g.state old) fits.start before.cursor) at fits.at
+
+  pub judge_in_use : IsInOrder (g.state old) → CleanupFits (g.state old) before → AreInUse before.cursor parent (g.state old)
+  judge_in_use order fits =
+      let u = under fits in
+      (trail_in_use (g.state old) fits.start 0 before.cursor 0 order.tree u.0, trail_in_use (g.state old) fits.start 1 parent 0 order.tree u.1)
+
+  found_empty : IsCleaned (g.state old) before → IsEmptyAt (g.state old) before.cursor × (state_in (g.state old) before.cursor ≢ HalfDead)
+  found_empty h = subst (IsFoundEmpty (g.state old) before.cursor) at h.empty
+
+  pub leaf_dies : IsTried g before.session (AreInUse before.cursor parent) (LeafDies before.cursor) (IsSpared before.session before.cursor parent) old new (Ok true) → CleanupSteps g before (turned_to before Unlink) old new (Ok Going)
+  leaf_dies tried =
+      acts g (AreInUse before.cursor parent) (LeafDies before.cursor) (IsSpared before.session before.cursor parent) before (turned_to before Unlink) old new tried refl alive
+      (subst (λ (a : CleanupAt). cleanup_left most used before.cursor Unlink < cleanup_left most used before.cursor a) (sym at) (judge_unlinks most used before.cursor parent))
+      (subst (λ (a : CleanupAt). TurnsFrom a (g.state old) before (Some Shape) (turned_to before Unlink)) (sym at) (inl (refl, refl)))
+      (λ order fits d. (d.own fits.start fits.running).trails 0 before.cursor 0 (under fits).0)
+      (λ h moved. cleaned_dying (g.state old) (g.state new) before h moved (found_empty h).0)
+
+  pub leaf_spared : IsTried g before.session (AreInUse before.cursor parent) (LeafDies before.cursor) (IsSpared before.session before.cursor parent) old new (Ok false) → CleanupSteps g before (gone_past before 0) old new (Ok Going)
+  leaf_spared tried =
+      moves g before (gone_past before 0) old new tried.steps (tried.stays refl) refl alive
+      (subst (λ (a : CleanupAt). cleanup_left most used (suc before.cursor) Look < cleanup_left most used before.cursor a) (sym at) (judge_passes most used before.cursor parent))
+      (λ honest order fits. (subst (λ (a : CleanupAt). TurnsFrom a (g.state old) before None (gone_past before 0)) (sym at) (inr (refl, refl, tried.passes honest (has_room (g.state old) before fits) refl)), tt))
+      (λ honest fits h. cleaned_past (g.state old) before 0 h (found_empty h).0 (found_empty h).1)
+
+-- a page that isn't half-dead, or none
+never_dead : (pages : List Page) (b : ℕ) → ((page : Page) → slice_get pages b ≡ Some page → page.state ≢ HalfDead) → (nodes_of pages b).state ≢ HalfDead
+never_dead pages b none = by (slice_get pages b) refl
+  where
+    clash : Live ≡ HalfDead → ⊥
+    clash e = cc
+
+    by : (o : Option Page) → slice_get pages b ≡ o → (nodes_of pages b).state ≢ HalfDead
+    by None is dead = clash (sym (ap (λ (o : Option Page). (node_from o).state) is) ∙ dead)
+    by (Some page) is dead = none page is (sym (ap (λ (o : Option Page). (node_from o).state) is) ∙ dead)
+
+-- the page is unlinked
+module _ {S : Type 0} (g : Ghosts S) (before : CleanupOp) (old new : S) (at : before.at ≡ Unlink) (alive : (g.backing old).stopped ≡ false) where
+  pub unlink_in_use : IsInOrder (g.state old) → CleanupFits (g.state old) before → IsInUse before.cursor (g.state old)
+  unlink_in_use order fits = trail_in_use (g.state old) fits.start 0 before.cursor 0 order.tree (subst (IsUnderway (g.state old) fits.start before.cursor) at fits.at)
+
+  not_dead : IsNotDead before.cursor (g.state old) → state_in (g.state old) before.cursor ≢ HalfDead
+  not_dead none = never_dead (g.state old).pages before.cursor none
+
+  pub page_goes : IsTried g before.session (IsInUse before.cursor) (PageGoes before.cursor) (IsNotDead before.cursor) old new (Ok true) → CleanupSteps g before (gone_past_deleted before) old new (Ok Going)
+  page_goes tried =
+      acts g (IsInUse before.cursor) (PageGoes before.cursor) (IsNotDead before.cursor) before (gone_past_deleted before) old new tried refl alive
+      (subst (λ (a : CleanupAt). cleanup_left (g.state old).limits.pages (length (g.state old).pages) (suc before.cursor) Look < cleanup_left (g.state old).limits.pages (length (g.state old).pages) before.cursor a) (sym at) (unlink_passes (g.state old).limits.pages (length (g.state old).pages) before.cursor))
+      (subst (λ (a : CleanupAt). TurnsFrom a (g.state old) before (Some Shape) (gone_past_deleted before)) (sym at) (inl (refl, refl)))
+      (λ order fits d. tt)
+      (λ h moved. cleaned_deleted (g.state old) (g.state new) before h moved (subst (IsFoundEmpty (g.state old) before.cursor) at h.empty))
+
+  pub page_stays : IsTried g before.session (IsInUse before.cursor) (PageGoes before.cursor) (IsNotDead before.cursor) old new (Ok false) → CleanupSteps g before (gone_past before 0) old new (Ok Going)
+  page_stays tried =
+      moves g before (gone_past before 0) old new tried.steps (tried.stays refl) refl alive
+      (subst (λ (a : CleanupAt). cleanup_left (g.state old).limits.pages (length (g.state old).pages) (suc before.cursor) Look < cleanup_left (g.state old).limits.pages (length (g.state old).pages) before.cursor a) (sym at) (unlink_passes (g.state old).limits.pages (length (g.state old).pages) before.cursor))
+      (λ honest order fits. (subst (λ (a : CleanupAt). TurnsFrom a (g.state old) before None (gone_past before 0)) (sym at) (inr (refl, refl, tried.passes honest (has_room (g.state old) before fits) refl)), tt))
+      (λ honest fits h. cleaned_past (g.state old) before 0 h (subst (IsFoundEmpty (g.state old) before.cursor) at h.empty) (not_dead (tried.passes honest (has_room (g.state old) before fits) refl)))
+
+-- the page at the cursor is looked at
+pub looks : {S : Type 0} (g : Ghosts S) (before after : CleanupOp) (old new : S) (page : Page) → before.at ≡ Look → (g.backing old).stopped ≡ false → Continues g.follows old new → g.state new ≡ g.state old
+    → before.cursor < length (g.state old).pages → IsStored (g.state old).limits before.cursor page → ((g.backing new).honest ≡ true → slice_get (g.state old).pages before.cursor ≡ Some page) → TurnsAt page before after
+    → CleanupSteps g before after old new (Ok Going)
+looks g before after old new page at alive steps same inside stored found turn =
+    moves g before after old new steps same (session_is turn) alive
+    (subst (λ (a : CleanupAt). cleanup_left (g.state old).limits.pages (length (g.state old).pages) after.cursor after.at < cleanup_left (g.state old).limits.pages (length (g.state old).pages) before.cursor a) (sym at) (less turn))
+    (λ honest order fits. (
+      subst (λ (a : CleanupAt). TurnsFrom a (g.state old) before None after) (sym at)
+          (refl, (λ p there. subst (λ (q : Page). TurnsAt q before after) (same_page (g.state old).pages before.cursor page p (found honest) there) turn)),
+      under honest order fits turn,
+    ))
+    (λ honest fits h. cleaned_looking (g.state old) before after page (found honest) h turn)
+  where
+    session_is : TurnsAt page before after → after.session ≡ before.session
+    session_is (unlinks dead is) = ap (λ (op : CleanupOp). op.session) is
+    session_is (tries high may is_high is) = ap (λ (op : CleanupOp). op.session) is
+    session_is (passes alive empty is) = ap (λ (op : CleanupOp). op.session) is
+
+    less : TurnsAt page before after → cleanup_left (g.state old).limits.pages (length (g.state old).pages) after.cursor after.at < cleanup_left (g.state old).limits.pages (length (g.state old).pages) before.cursor Look
+    less (unlinks dead is) = rw is (look_unlinks (g.state old).limits.pages (length (g.state old).pages) before.cursor inside)
+    less (tries high may is_high is) = rw is (look_starts (g.state old).limits.pages (length (g.state old).pages) before.cursor high inside)
+    less (passes alive empty is) = rw is (look_passes (g.state old).limits.pages (length (g.state old).pages) before.cursor inside)
+
+    under : (g.backing new).honest ≡ true → IsInOrder (g.state old) → (fits : CleanupFits (g.state old) before) → TurnsAt page before after → IsUnderway (g.state old) fits.start after.cursor after.at
+    under honest order fits (unlinks dead is) = rw is (subst (λ (b : ℕ). HasTrail (g.state old) fits.start 0 b 0) stored.block_is
+        (dead_begins_trail (g.state old) fits.start page order.tree (subst (λ (b : ℕ). slice_get (g.state old).pages b ≡ Some page) (sym stored.block_is) (found honest)) stored.storable.admitted dead))
+    under honest order fits (tries high may is_high is) = rw is (subst (λ (b : ℕ). HasTrail (g.state old) fits.start 0 b 0) stored.block_is
+        (leaf_begins_trail (g.state old) fits.start page order.tree (subst (λ (b : ℕ). slice_get (g.state old).pages b ≡ Some page) (sym stored.block_is) (found honest)) may.alive may.leaf))
+    under honest order fits (passes alive empty is) = rw is tt
+
+-- a page of the format is on a level that the format has
+page_low : (page : Page) → IsPage page → page.level ≤ 31
+page_low page h = by page.items h.kind
+  where
+    by : (items : Items) → IsOfKind page items → page.level ≤ 31
+    by Meta k = k.level
+    by (Entries v) k = (let z = k.level in omega (arith, z))
+    by (Downlinks v) k = k.level.1
+
+-- the metapage is read
+pub starts : {S : Type 0} (g : Ghosts S) (before after : CleanupOp) (high : Bound) (old new : S) (meta : Page) (way : Way) → before.at ≡ Start high → (g.backing old).stopped ≡ false → Continues g.follows old new
+    → g.state new ≡ g.state old → IsPage meta → ((g.backing new).honest ≡ true → slice_get (g.state old).pages 0 ≡ Some meta) → way.level ≡ meta.level
+    → ((root : ℕ) → IsMetaOf meta root meta.level → Some way ≡ Some (way_from root meta.level)) → after ≡ left_root before way high → CleanupSteps g before after old new (Ok Going)
+starts g before after high old new meta way at alive steps same admitted found level named is = by way.level refl (is ∙ refl)
+  where
+    found_empty : IsCleaned (g.state old) before → IsEmptyAt (g.state old) before.cursor × (state_in (g.state old) before.cursor ≢ HalfDead)
+    found_empty h = subst (IsFoundEmpty (g.state old) before.cursor) at h.empty
+
+    some_is : (a b : Way) → Some a ≡ Some b → a ≡ b
+    some_is a b e = cc
+
+    no_zero : (n l : ℕ) → l ≡ suc n → l ≢ 0
+    no_zero n l is z = omega (arith, is, z)
+
+    tells : (g.backing new).honest ≡ true → IsInOrder (g.state old) → (start : ℕ) → RootIsThere (g.state old) start (bound_aim high) false meta
+    tells honest order start = metapage_tells (g.state old) start (bound_aim high) false meta order.tree (found honest)
+
+    root_is : (honest : (g.backing new).honest ≡ true) (order : IsInOrder (g.state old)) (start : ℕ) → way ≡ way_from (tells honest order start).root meta.level
+    root_is honest order start = let t = tells honest order start in some_is way (way_from t.root meta.level) (named t.root t.names)
+
+    by : (l : ℕ) → way.level ≡ l → after ≡ left_to before l way high → CleanupSteps g before after old new (Ok Going)
+    by zero z is0 = moves g before after old new steps same (ap (λ (op : CleanupOp). op.session) is0) alive
+        (subst (λ (a : CleanupAt). cleanup_left (g.state old).limits.pages (length (g.state old).pages) after.cursor after.at < cleanup_left (g.state old).limits.pages (length (g.state old).pages) before.cursor a) (sym at) (rw is0 (start_passes (g.state old).limits.pages (length (g.state old).pages) before.cursor high)))
+        (λ honest order fits. (
+          subst (λ (a : CleanupAt). TurnsFrom a (g.state old) before None after) (sym at)
+              (refl, (λ m there. let one = same_page (g.state old).pages 0 meta m (found honest) there in inl (ap (λ (p : Page). p.level) (sym one) ∙ sym level ∙ z, is0))),
+          rw is0 tt,
+        ))
+        (λ honest fits h. let e = found_empty h in rw is0 (cleaned_past (g.state old) before 0 h e.0 e.1))
+    by (suc n) some is1 = moves g before after old new steps same (ap (λ (op : CleanupOp). op.session) is1) alive
+        (subst (λ (a : CleanupAt). cleanup_left (g.state old).limits.pages (length (g.state old).pages) after.cursor after.at < cleanup_left (g.state old).limits.pages (length (g.state old).pages) before.cursor a) (sym at)
+        (rw is1 (start_goes_down (g.state old).limits.pages (length (g.state old).pages) before.cursor high way (subst (λ (k : ℕ). k ≤ 31) (sym level) (page_low meta admitted)))))
+        (λ honest order fits.
+        let t = tells honest order fits.start in
+        let w = root_is honest order fits.start in (
+          subst (λ (a : CleanupAt). TurnsFrom a (g.state old) before None after) (sym at) (
+            refl,
+            (λ m there. let one = same_page (g.state old).pages 0 meta m (found honest) there in
+                inr (
+                  (λ z. no_zero n way.level some (level ∙ ap (λ (p : Page). p.level) one ∙ z)),
+                  (t.root, ap (λ (p : Page). p.right) (sym one) ∙ t.names.root_is, is1 ∙ ap (λ (k : Way). turned_to before (Down high k)) (w ∙ ap (λ (p : Page). way_from t.root p.level) one)),
+                )),
+          ),
+          rw is1 (
+            subst (IsUnderway (g.state old) fits.start before.cursor) at fits.at,
+            subst (λ (k : Way). IsOnWay (g.state old) fits.start (bound_aim high) false 1 k) (sym w) (record {
+              not_below = (let a = level in let b = some in omega (arith, a, b));
+              place = t.place;
+              trail = trail_begins_here (g.state old) fits.start meta.level (bound_aim high) false t.root order.tree t.place;
+            }),
+          ),
+        ))
+        (λ honest fits h. let e = found_empty h in rw is1 (cleaned_at (g.state old) before (Down high way) h e))
+
+-- a page on the way is read
+pub descends : {S : Type 0} (g : Ghosts S) (before after : CleanupOp) (high : Bound) (way : Way) (old new : S) (onward : Option Onward) (result : Result CleanupStep Fault) → before.at ≡ Down high way
+    → (g.backing old).stopped ≡ false → Continues g.follows old new → g.state new ≡ g.state old → way.level ≢ 0 → LeavesLess 1 (g.state old).limits.pages way onward
+    → ((g.backing new).honest ≡ true → (start : ℕ) → IsInOrder (g.state old) → IsOnWay (g.state old) start (bound_aim high) false 1 way → LeadsOnward (g.state old) start (bound_aim high) false 1 way onward)
+    → after ≡ left_page before onward way.block high → result ≡ left_answer onward way.block → CleanupSteps g before after old new result
+descends g before after high way old new None result at alive steps same some less leads op is = subst (CleanupSteps g before after old new) (sym is) (subst (λ (a : CleanupOp). CleanupSteps g before a old new (Err (PageDamaged way.block))) (sym op)
+    (refuses g before old new (PageDamaged way.block) steps same (λ h. runs_no_more (g.backing old).stopped alive h)
+    (λ honest order fits. absurd (leads honest fits.start order (subst (IsUnderway (g.state old) fits.start before.cursor) at fits.at).1))))
+descends g before after high way old new (Some (LeadsOn on)) result at alive steps same some less leads op is = subst (CleanupSteps g before after old new) (sym is)
+    (moves g before after old new steps same (ap (λ (o : CleanupOp). o.session) op) alive
+    (subst (λ (a : CleanupAt). cleanup_left (g.state old).limits.pages (length (g.state old).pages) after.cursor after.at < cleanup_left (g.state old).limits.pages (length (g.state old).pages) before.cursor a) (sym at)
+    (rw op (down_goes_on (g.state old).limits.pages (length (g.state old).pages) before.cursor high way on less)))
+    (λ honest order fits.
+    let u = subst (IsUnderway (g.state old) fits.start before.cursor) at fits.at in (
+      subst (λ (a : CleanupAt). TurnsFrom a (g.state old) before None after) (sym at) (refl, inl (on, op)),
+      rw op (u.0, leads honest fits.start order u.1),
+    ))
+    (λ honest fits h. rw op (cleaned_at (g.state old) before (Down high on) h (subst (IsFoundEmpty (g.state old) before.cursor) at h.empty))))
+descends g before after high way old new (Some Here) result at alive steps same some less leads op is = subst (CleanupSteps g before after old new) (sym is)
+    (moves g before after old new steps same (ap (λ (o : CleanupOp). o.session) op) alive
+    (subst (λ (a : CleanupAt). cleanup_left (g.state old).limits.pages (length (g.state old).pages) after.cursor after.at < cleanup_left (g.state old).limits.pages (length (g.state old).pages) before.cursor a) (sym at)
+    (rw op (down_judges (g.state old).limits.pages (length (g.state old).pages) before.cursor high way way.block (omega (arith, some)))))
+    (λ honest order fits.
+    let u = subst (IsUnderway (g.state old) fits.start before.cursor) at fits.at in
+    let here = leads honest fits.start order u.1 in (
+      subst (λ (a : CleanupAt). TurnsFrom a (g.state old) before None after) (sym at) (refl, inr op),
+      rw op (
+        u.0,
+        subst (λ (k : ℕ). HasTrail (g.state old) fits.start k way.block 0) here.0
+            (trail_begins_here (g.state old) fits.start way.level (bound_aim high) false way.block order.tree u.1.place),
+      ),
+    ))
+    (λ honest fits h. rw op (cleaned_at (g.state old) before (Judge way.block) h (subst (IsFoundEmpty (g.state old) before.cursor) at h.empty))))

@@ -1,0 +1,51 @@
+use Rattle.std.proofs.Common.{◌≡◌, ℕ, true, false, sym, ap, subst, ◌∙◌, arith}
+use Rattle.page_codec.specs.declared.page.Page.{Page}
+use Rattle.page_action.specs.States.{State, IsLater}
+use Rattle.page_delete.specs.Judging.{IsHandingOn}
+use Rattle.page_delete.specs.Parts.{SiblingsAllow, AreInUse, LeafDies, IsSpared, IsTried}
+use Rattle.page_delete.proofs.Siblings.{some_is}
+use Rattle.page_delete.proofs.Trying.{HasRead, read_on, tried_later, tried_refused, tried_nothing, candidate_later, same_page}
+use Rattle.page_delete.proofs.judging.try_parent.Given.{Over}
+use Rattle.page_delete.proofs.judging.try_parent.Goals.{After-look_to_change}
+use Rattle.page_delete.proofs.judging.try_parent.Goals as goal
+
+reads : (g : Over) (c : After-look_to_change g) → ((g.S.PageStore.backing c.look_to_change.new.store).stopped ≡ true → (g.S.PageStore.backing c.args.store.now).stopped ≡ true) → (g.S.PageStore.backing c.look_to_change.new.store).promised ≡ (g.S.PageStore.backing c.args.store.now).promised → HasRead g.S.PageStore c.args.store.now c.look_to_change.new.store
+reads g c alive promised = read_on g.S.PageStore c.args.store.now c.look_to_change.new.store c.look_to_change.ensures.steps c.look_to_change.ensures.state alive promised
+    (g.met.S.PageStore.laws.follows_later _ _ (c.look_to_change.ensures.steps _ (g.met.S.PageStore.laws.follows_same _)))
+
+was_honest : (g : Over) (c : After-look_to_change g) → (g.S.PageStore.backing c.look_to_change.new.store).honest ≡ true → (g.S.PageStore.backing c.args.store.now).honest ≡ true
+was_honest g c h =
+    let later : IsLater (g.S.PageStore.backing c.args.store.now) (g.S.PageStore.backing c.look_to_change.new.store) = g.met.S.PageStore.laws.follows_later _ _ (c.look_to_change.ensures.steps _ (g.met.S.PageStore.laws.follows_same _)) in
+    later.honest h
+
+pub put_to_death-requires-clause-leaf : goal.put_to_death-requires-clause-leaf
+put_to_death-requires-clause-leaf g c = candidate_later _ _ _ _ c.args.session c.args.leaf.block c.args.leaf c.look_to_change.ensures.state (was_honest g (goal.at.put_to_death-requires-clause-leaf g c).After-look_to_change) c.requires.leaf
+
+pub put_to_death-requires-clause-right : goal.put_to_death-requires-clause-right
+put_to_death-requires-clause-right g c h = subst (λ (st : State). SiblingsAllow st.pages c.args.leaf c.args.right) (sym c.look_to_change.ensures.state) (c.requires.right (was_honest g (goal.at.put_to_death-requires-clause-right g c).After-look_to_change h))
+
+pub returns-in-Err : goal.returns-in-Err
+returns-in-Err g c =
+    tried_refused g.S.PageStore c.args.session (AreInUse c.args.leaf.block c.args.parent) (LeafDies c.args.leaf.block) (IsSpared c.args.session c.args.leaf.block c.args.parent) c.args.store.now c.look_to_change.new.store c.in-Err.fault
+    c.look_to_change.ensures.steps c.look_to_change.ensures.state (λ h order room there. c.in-Err.ensures.cause h room there.1 3 3 false false (omega arith))
+
+pub returns-in-Some : goal.returns-in-Some
+returns-in-Some g c =
+    let block_is : c.in-Ok.page.block ≡ c.args.parent = c.in-Ok.ensures.stored.block_is in
+    tried_later g.S.PageStore c.args.session (AreInUse c.args.leaf.block c.args.parent) (LeafDies c.args.leaf.block) (IsSpared c.args.session c.args.leaf.block c.args.parent) c.args.store.now c.look_to_change.new.store c.put_to_death.new.store c.put_to_death.result
+    (reads g (goal.at.returns-in-Some g c).After-look_to_change c.in-Ok.ensures.alive c.look_to_change.ensures.room.promised)
+    (subst (λ (b : ℕ). IsTried g.S.PageStore c.args.session (AreInUse c.args.leaf.block b) (LeafDies c.args.leaf.block) (IsSpared c.args.session c.args.leaf.block b) c.look_to_change.new.store c.put_to_death.new.store c.put_to_death.result) block_is c.put_to_death.ensures)
+
+pub returns-in-None : goal.returns-in-None
+returns-in-None g c =
+    let at = (goal.at.returns-in-None g c).After-look_to_change in
+    let old = g.S.PageStore.state c.args.store.now in
+    tried_nothing g.S.PageStore c.args.session (AreInUse c.args.leaf.block c.args.parent) (LeafDies c.args.leaf.block) (IsSpared c.args.session c.args.leaf.block c.args.parent) c.args.store.now c.look_to_change.new.store
+    c.look_to_change.ensures.steps c.look_to_change.ensures.state
+    (λ h room die.
+    let honest = was_honest g at h in
+    let allow = c.requires.right honest in
+    let leaf = same_page old.pages c.args.leaf.block die.leaf c.args.leaf die.found (c.requires.leaf.found honest) in
+    let right : die.right ≡ c.args.right = some_is die.right c.args.right (sym die.right_is ∙ ap (λ (p : Page). p.right) leaf ∙ allow.right_is) in
+    let parent = same_page old.pages c.args.parent die.parent_page c.in-Ok.page die.parent_found (c.in-Ok.ensures.page h) in
+    c.in-None.ensures.none die.at (subst (λ (p : Page). IsHandingOn p c.args.leaf.block c.args.right die.at) parent (subst (λ (r : ℕ). IsHandingOn die.parent_page c.args.leaf.block r die.at) right die.hands_on)))

@@ -1,0 +1,14 @@
+use Rattle.std.proofs.Common.{Bool, Ok, subst}
+use Rattle.page_delete.specs.Parts.{AreInUse, LeafDies, IsSpared, IsTried}
+use Rattle.page_delete.proofs.Stepping.{leaf_dies, judge_in_use, try_refused}
+use Rattle.page_delete.proofs.steps.CleanupOp.judge.Goals as goal
+
+pub returns-in-Ok-true : goal.returns-in-Ok-true
+returns-in-Ok-true g c = leaf_dies g.S.PageStore c.args.self.now c.args.parent c.args.store.now c.try_leaf.new.store c.requires.at c.requires.alive
+    (subst (λ (b : Bool). IsTried g.S.PageStore c.args.self.now.session (AreInUse c.args.self.now.cursor c.args.parent) (LeafDies c.args.self.now.cursor) (IsSpared c.args.self.now.session c.args.self.now.cursor c.args.parent) c.args.store.now c.try_leaf.new.store (Ok b))
+    c.in-Ok-true.field-0-test c.in-Ok-true.ensures)
+
+pub returns-in-Err : goal.returns-in-Err
+returns-in-Err g c =
+    try_refused g.S.PageStore (AreInUse c.args.self.now.cursor c.args.parent) (LeafDies c.args.self.now.cursor) (IsSpared c.args.self.now.session c.args.self.now.cursor c.args.parent) c.args.self.now c.args.store.now c.try_leaf.new.store c.in-Err.fault
+    c.in-Err.ensures c.requires.alive (judge_in_use g.S.PageStore c.args.self.now c.args.parent c.args.store.now c.try_leaf.new.store c.requires.at c.requires.alive)

@@ -1,0 +1,116 @@
+-- What a cleanup knows between its steps, and what a step of it does.
+use Rattle.std.specs.Prelude.{◌≡◌, ℕ, ◌<◌, ◌≤◌, ◌||◌, true, false, Option, Some, Result, Ok, Err, OnErr, length, slice_get}
+use Rattle.index_model.specs.Actions.{Effect}
+use Rattle.index_model.specs.Faults.{Circumstances, HasCause}
+use Rattle.index_model.specs.declared.fault.Fault.{Fault}
+use Rattle.index_model.specs.declared.fault.Fault.TheVariants.{Stopped}
+use Rattle.latch_table.specs.Holdings.{holding_of, nothing_held}
+use Rattle.page_action.specs.Causes.{is_at_end}
+use Rattle.page_action.specs.States.{State, Backing, Continues}
+use Rattle.page_action.specs.declared.page_store.PageStore.{Ghosts}
+use Rattle.tree_shape.specs.Walks.{bound_aim}
+use Rattle.tree_acts.specs.Deletions.{StartsAreBelow}
+use Rattle.tree_acts.specs.Trees.{HasTrail}
+use Rattle.descent.specs.Onward.{IsOnWay}
+use Rattle.descent.specs.Shared.{IsInOrder, CleansUp, IsOneStep, where_working}
+use Rattle.page_delete.specs.Counts.{IsCleaned, CleansOn}
+use Rattle.page_delete.specs.Ops.{is_counted_out, cleanup_stats}
+use Rattle.page_delete.specs.Turns.{TurnsFrom}
+use Rattle.page_delete.specs.Work.{cleanup_left}
+use Rattle.page_delete.specs.declared.steps.CleanupAt.{CleanupAt}
+use Rattle.page_delete.specs.declared.steps.CleanupAt.TheVariants.{Look, Start, Down, Judge, Unlink}
+use Rattle.page_delete.specs.declared.steps.CleanupOp.{CleanupOp}
+use Rattle.page_delete.specs.declared.steps.CleanupStep.{CleanupStep}
+use Rattle.page_delete.specs.declared.steps.CleanupStep.TheVariants.{Going, Finished}
+
+-- The leaf at the cursor is on the chain of leaves, or was deleted since; its parent is looked for on the way to its high key,
+-- or may be this page of the level above.
+abbrev pub IsUnderway : State → ℕ → ℕ → CleanupAt → Type 0
+IsUnderway st start cursor Look = Unit {0}
+IsUnderway st start cursor (Start high) = HasTrail st start 0 cursor 0
+IsUnderway st start cursor (Down high way) =
+    HasTrail st start 0 cursor 0 × IsOnWay st start (bound_aim high) false 1 way
+IsUnderway st start cursor (Judge parent) =
+    HasTrail st start 0 cursor 0 × HasTrail st start 1 parent 0
+IsUnderway st start cursor Unlink = HasTrail st start 0 cursor 0
+
+-- what a cleanup knows between its steps
+pub record CleanupFits (st : State) (op : CleanupOp) : Type 0 where
+  pub session : op.session < 64
+  -- its call runs, with a start number
+  pub start : ℕ
+  pub running : slice_get st.running op.session ≡ Some (Some start)
+  pub held : holding_of st.table op.session ≡ nothing_held
+  pub at : IsUnderway st start op.cursor op.at
+
+-- why a step of a cleanup is refused, on pages that are a tree and a device that keeps its model
+abbrev pub where_cleaning : State → Backing → Backing → CleanupOp → Circumstances
+where_cleaning st old new op = record (where_working st old new op.session 3 3 false false) {
+  is_stopped = old.stopped || (is_at_end st.acts || is_counted_out op);
+}
+
+-- a step is made, with one act at most, which is of one leaf on its way out of the tree
+pub record CleanupGoesOn (old new : State) (before after : CleanupOp) : Type 0 where
+  pub effect : Option Effect
+  pub does : CleansUp before.session effect old new
+  pub turns : TurnsFrom before.at old before effect after
+  pub fits : CleanupFits new after
+
+-- each block in use was looked at
+pub record CleanupEnds (old new : State) (before after : CleanupOp) : Type 0 where
+  pub state : new ≡ old
+  pub op : after ≡ before
+  pub at : before.at ≡ Look
+  pub last : length old.pages ≤ before.cursor
+
+-- what a step of a cleanup does, by what it answers
+abbrev pub CleanupStepped : State → Backing → State → Backing → CleanupOp → CleanupOp
+    → Result CleanupStep Fault → Type 0
+CleanupStepped old old_backing new new_backing before after (Ok Going) =
+    CleanupGoesOn old new before after
+CleanupStepped old old_backing new new_backing before after (Ok (Finished stats)) =
+    CleanupEnds old new before after
+CleanupStepped old old_backing new new_backing before after (Err fault) =
+    HasCause (where_cleaning old old_backing new_backing before) fault
+
+-- a refused step changes neither the pages, nor who holds what, nor the call
+pub record CleanupStays (old new : State) (before after : CleanupOp) : Type 0 where
+  pub state : new ≡ old
+  pub op : after ≡ before
+
+-- the statistics are those of the call and of the pages
+abbrev pub StatsAreTold : State → CleanupOp → Result CleanupStep Fault → Type 0
+StatsAreTold st op (Ok Going) = Unit {0}
+StatsAreTold st op (Ok (Finished stats)) = stats ≡ cleanup_stats st op
+StatsAreTold st op (Err fault) = Unit {0}
+
+-- each step that goes on leaves less to do
+abbrev pub CleanupLeavesLess : State → State → CleanupOp → CleanupOp → Result CleanupStep Fault
+    → Type 0
+CleanupLeavesLess old new before after (Ok Going) =
+    cleanup_left new.limits.pages (length new.pages) after.cursor after.at
+    < cleanup_left old.limits.pages (length old.pages) before.cursor before.at
+CleanupLeavesLess old new before after (Ok (Finished stats)) = Unit {0}
+CleanupLeavesLess old new before after (Err fault) = Unit {0}
+
+-- A step of a cleanup. On any pages: it does one act at most and holds nothing behind it, a refused one changes nothing, a
+-- stopped log refuses it, each that goes on leaves less to do, and the statistics are told as they are. Over a device that
+-- keeps its model: where nobody else acts, it counts the entries, and leaves no half-dead page behind it; on pages in order:
+-- what it does, where it goes on, and why it is refused.
+pub record CleanupSteps {S : Type 0} (g : Ghosts S) (before after : CleanupOp) (old new : S)
+    (result : Result CleanupStep Fault) : Type 0 where
+  pub steps : Continues g.follows old new
+  pub session : after.session ≡ before.session
+  pub kept : IsOneStep (g.state old) (g.state new)
+  pub table : (g.state new).table ≡ (g.state old).table
+  pub cycle : (g.state new).cycle ≡ (g.state old).cycle
+  pub refused : OnErr result (CleanupStays (g.state old) (g.state new) before after)
+  pub stopped : (g.backing old).stopped ≡ true → result ≡ Err Stopped
+  pub stats : StatsAreTold (g.state old) before result
+  pub less : CleanupLeavesLess (g.state old) (g.state new) before after result
+  pub counts : (g.backing new).honest ≡ true → CleanupFits (g.state old) before
+      → IsCleaned (g.state old) before → CleansOn (g.state new) after result
+  pub stepped : (g.backing new).honest ≡ true → IsInOrder (g.state old)
+      → StartsAreBelow (g.state old) → CleanupFits (g.state old) before
+      → CleanupStepped (g.state old) (g.backing old) (g.state new) (g.backing new) before after
+      result

@@ -1,0 +1,42 @@
+-- What a cleanup counts, and what it has cleaned, where nobody else acts.
+use Rattle.std.specs.Prelude.{◌≡◌, ◌≢◌, ℕ, ◌<◌, Result, Ok, Err, length, slice_get}
+use Rattle.index_model.specs.declared.fault.Fault.{Fault}
+use Rattle.page_codec.specs.declared.page.PageState.TheVariants.{HalfDead}
+use Rattle.page_action.specs.States.{State}
+use Rattle.tree_acts.specs.Deletions.{state_in}
+use Rattle.vacuum.specs.Counts.{entry_count, entries_below}
+use Rattle.page_delete.specs.declared.steps.CleanupAt.{CleanupAt}
+use Rattle.page_delete.specs.declared.steps.CleanupAt.TheVariants.{Look, Start, Down, Judge, Unlink}
+use Rattle.page_delete.specs.declared.steps.CleanupOp.{CleanupOp}
+use Rattle.page_delete.specs.declared.steps.CleanupStep.{CleanupStep}
+use Rattle.page_delete.specs.declared.steps.CleanupStep.TheVariants.{Going, Finished}
+
+-- the page of the block has no entries
+abbrev pub IsEmptyAt : State → ℕ → Type 0
+IsEmptyAt st block = entry_count (slice_get st.pages block) ≡ 0
+
+-- behind the look at it the page at the cursor has no entries; it isn't half-dead, unless it is unlinked next
+abbrev pub IsFoundEmpty : State → ℕ → CleanupAt → Type 0
+IsFoundEmpty st cursor Look = Unit {0}
+IsFoundEmpty st cursor (Start high) = IsEmptyAt st cursor × (state_in st cursor ≢ HalfDead)
+IsFoundEmpty st cursor (Down high way) = IsEmptyAt st cursor × (state_in st cursor ≢ HalfDead)
+IsFoundEmpty st cursor (Judge parent) = IsEmptyAt st cursor × (state_in st cursor ≢ HalfDead)
+IsFoundEmpty st cursor Unlink = IsEmptyAt st cursor
+
+-- Where nobody else acted since it began: the pages before the cursor have as many entries as it counted, and none of them is
+-- half-dead.
+pub record IsCleaned (st : State) (op : CleanupOp) : Type 0 where
+  pub counted : op.left ≡ entries_below st.pages op.cursor
+  pub none_dead : (block : ℕ) → block < op.cursor → state_in st block ≢ HalfDead
+  pub empty : IsFoundEmpty st op.cursor op.at
+
+-- all pages in use have so many entries, and none of them is half-dead
+pub record AllIsCleaned (st : State) (count : ℕ) : Type 0 where
+  pub counted : count ≡ entries_below st.pages (length st.pages)
+  pub none_dead : (block : ℕ) → block < length st.pages → state_in st block ≢ HalfDead
+
+-- it stays so, and at the end all pages are cleaned
+abbrev pub CleansOn : State → CleanupOp → Result CleanupStep Fault → Type 0
+CleansOn new after (Ok Going) = IsCleaned new after
+CleansOn new after (Ok (Finished stats)) = AllIsCleaned new stats.num_index_tuples
+CleansOn new after (Err fault) = IsCleaned new after

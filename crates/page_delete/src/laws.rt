@@ -1,0 +1,18 @@
+//! The laws.
+
+ghost use Rattle.page_delete.specs.Laws.{CleanupsAreUndisturbed, CleanupsAreBounded, NothingIsCleaned};
+
+/// Does nothing: its clause says that what others do leaves a cleanup what it knows.
+pub fn cleanups_are_undisturbed()
+    ensures { CleanupsAreUndisturbed }
+{}
+
+/// Does nothing: its clause says that at each moment what is left to do for a cleanup has a bound.
+pub fn cleanups_are_bounded()
+    ensures { CleanupsAreBounded }
+{}
+
+/// Does nothing: its clause says that at the beginning of a cleanup nothing is counted, and no half-dead page is behind it.
+pub fn nothing_is_cleaned()
+    ensures { NothingIsCleaned }
+{}
