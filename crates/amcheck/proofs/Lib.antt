@@ -1,0 +1,9 @@
+pub mod Blocks
+pub mod ItemsWithin
+pub mod Pages
+pub mod Walking
+pub mod Leftward
+pub mod Compared
+pub mod Levelling
+pub mod ReadOn
+pub mod Judged

@@ -1,0 +1,15 @@
+use Rattle.std.proofs.Common.{sym, subst}
+use Rattle.amcheck.specs.Places.{StandAtTheirBlocks}
+use Rattle.amcheck.proofs.Judged.{they_stand, they_are_few}
+use Rattle.amcheck.proofs.checks.look_over.Given.{Over}
+use Rattle.amcheck.proofs.checks.look_over.Goals.{After-deref}
+use Rattle.amcheck.proofs.checks.look_over.Goals as goal
+
+stand : (g : Over) (c : After-deref g) → StandAtTheirBlocks c.deref.result.now
+stand g c = subst StandAtTheirBlocks (sym c.deref.ensures.value) (they_stand (g.S.PageStore.state c.args.store.now).limits c.read_pages.new.pages.items c.in-Ok-read_pages.ensures.read.stored)
+
+pub judge-requires-clause-stand : goal.judge-requires-clause-stand
+judge-requires-clause-stand g c = stand g (goal.at.judge-requires-clause-stand g c).After-deref
+
+pub judge-requires-clause-few : goal.judge-requires-clause-few
+judge-requires-clause-few g c = they_are_few c.deref.result.now (stand g (goal.at.judge-requires-clause-few g c).After-deref)

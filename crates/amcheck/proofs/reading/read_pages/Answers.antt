@@ -1,0 +1,66 @@
+use Rattle.std.proofs.Common.{◌≡◌, ◌+◌, ◌++◌, ◌∷◌, [], ℕ, ◌<◌, List, length, slice_get, Some, sym, ap, subst, ◌∙◌, arith, length-append}
+use Rattle.std.proofs.lemmas.Bool.{lt-leb}
+use Rattle.index_model.specs.Faults.{HasCause}
+use Rattle.page_codec.specs.declared.page.Page.{Page}
+use Rattle.page_action.proofs.StoredPages.{stored-add}
+use Rattle.page_action.specs.Causes.{where_read}
+use Rattle.page_action.specs.Room.{KeepsRoom}
+use Rattle.page_action.specs.States.{State, IsLater}
+use Rattle.page_action.specs.Stored.{IsStored, AreStored}
+use Rattle.amcheck.proofs.ReadOn.{kept_on, cause_on, take_get}
+use Rattle.amcheck.proofs.reading.read_pages.Given.{Over}
+use Rattle.amcheck.proofs.reading.read_pages.Goals.{After-fetch}
+use Rattle.amcheck.proofs.reading.read_pages.Goals as goal
+
+-- what never goes back, up to the page that is read
+later : (g : Over) (c : After-fetch g) → IsLater (g.S.PageStore.backing c.args.store.now) (g.S.PageStore.backing c.loop-block.store)
+later g c = g.met.S.PageStore.laws.follows_later _ _ (c.loop-block.invariant.steps _ (g.met.S.PageStore.laws.follows_same _))
+
+-- ... and over it
+later_on : (g : Over) (c : After-fetch g) → IsLater (g.S.PageStore.backing c.loop-block.store) (g.S.PageStore.backing c.fetch.new.self)
+later_on g c = g.met.S.PageStore.laws.follows_later _ _ (c.fetch.ensures.steps _ (g.met.S.PageStore.laws.follows_same _))
+
+room_on : (g : Over) (c : After-fetch g) → KeepsRoom (g.S.PageStore.state c.args.store.now) (g.S.PageStore.backing c.args.store.now) (g.S.PageStore.backing c.fetch.new.self)
+room_on g c =
+    let old = c.loop-block.invariant in
+    let few = g.met.S.PageStore.laws.durable_few c.loop-block.store in
+    let acts = ap (λ (s : State). s.acts) old.state_is in
+    kept_on (g.S.PageStore.state c.args.store.now) (g.S.PageStore.backing c.args.store.now) (g.S.PageStore.backing c.loop-block.store) (g.S.PageStore.backing c.fetch.new.self) old.kept
+    (subst (λ (s : State). KeepsRoom s (g.S.PageStore.backing c.loop-block.store) (g.S.PageStore.backing c.fetch.new.self)) old.state_is c.fetch.ensures.room) (later g c) (omega (arith, few, acts))
+
+pub returns-in-Err-clause-room : goal.returns-in-Err-clause-room
+returns-in-Err-clause-room g c = room_on g (goal.at.returns-in-Err-clause-room g c).After-fetch
+
+pub returns-in-Err-clause-cause : goal.returns-in-Err-clause-cause
+returns-in-Err-clause-cause g c =
+    let before = (goal.at.returns-in-Err-clause-cause g c).After-fetch in
+    let l = later g before in
+    let old = c.loop-block.invariant in
+    let used : c.loop-block.block < length (g.S.PageStore.state c.args.store.now).pages = omega (arith, c.loop-block-test.true, c.used-block-end.ensures) in
+    cause_on (g.S.PageStore.state c.args.store.now) (g.S.PageStore.backing c.args.store.now) (g.S.PageStore.backing c.loop-block.store) (g.S.PageStore.backing c.fetch.new.self) c.loop-block.block c.in-Err.fault
+    l.failures old.alive (lt-leb (length (g.S.PageStore.state c.args.store.now).pages) c.loop-block.block used)
+    (subst (λ (s : State). HasCause (where_read s (g.S.PageStore.backing c.loop-block.store) (g.S.PageStore.backing c.fetch.new.self) c.loop-block.block) c.in-Err.fault) old.state_is c.in-Err.ensures.cause)
+
+pub loop-block-preserved : goal.loop-block-preserved
+loop-block-preserved g c =
+    let before = (goal.at.loop-block-preserved g c).After-fetch in
+    let old = c.loop-block.invariant in
+    let pages = (g.S.PageStore.state c.args.store.now).pages in
+    let on = later_on g before in
+    let same_state = c.fetch.ensures.state ∙ old.state_is in
+    let items : c.push_reserved.new.self.items ≡ c.loop-block.pages.items ++ c.copy.result ∷ [] = c.push_reserved.ensures.items in
+    record {
+      steps = λ first f. c.fetch.ensures.steps first (old.steps first f);
+      state_is = same_state;
+      count = (let size = ap length items in omega (arith, size, length-append c.loop-block.pages.items (c.copy.result ∷ []), old.count));
+      stored = subst (AreStored (g.S.PageStore.state c.args.store.now).limits 0) (sym items)
+          (stored-add (g.S.PageStore.state c.args.store.now).limits 0 c.loop-block.pages.items c.copy.result old.stored
+          (subst (λ (p : Page). IsStored (g.S.PageStore.state c.args.store.now).limits (0 + length c.loop-block.pages.items) p) (sym c.copy.ensures)
+          (subst (λ (n : ℕ). IsStored (g.S.PageStore.state c.args.store.now).limits n c.view.result.now) (let e : c.loop-block.block ≡ 0 + length c.loop-block.pages.items = omega (arith, old.count) in e)
+          (subst (λ (s : State). IsStored s.limits c.loop-block.block c.view.result.now) same_state c.view.ensures.stored))));
+      same = λ honest. items ∙ ap (λ (ps : List Page). ps ++ c.copy.result ∷ []) (old.same (on.honest honest))
+          ∙ take_get pages c.loop-block.block c.copy.result (ap (λ (s : State). slice_get s.pages c.loop-block.block) (sym same_state) ∙ c.view.ensures.page honest ∙ ap Some (sym c.copy.ensures));
+      capacity = c.push_reserved.ensures.capacity ∙ old.capacity;
+      kept = room_on g before;
+      alive = λ stopped. old.alive (c.in-Ok.ensures.alive stopped);
+    }

@@ -1,0 +1,48 @@
+-- What a report counts.
+use Rattle.std.specs.Prelude.{◌≡◌, ℕ, suc, ◌+◌, Bool, true, false, Some, List, [], ◌∷◌, length, slice_get}
+use Rattle.page_codec.specs.declared.page.Page.{Page}
+use Rattle.page_codec.specs.declared.page.PageState.{PageState}
+use Rattle.page_codec.specs.declared.page.PageState.TheVariants.{Live, HalfDead, Deleted}
+use Rattle.page_action.specs.Contents.{live_entries}
+use Rattle.amcheck.specs.declared.report.Report.{Report}
+
+-- the sum of this number over the pages
+abbrev pub total : (Page → ℕ) → List Page → ℕ
+total number [] = 0
+total number (page ∷ pages) = number page + total number pages
+
+-- how many entries stand on the page, if it is a live leaf
+abbrev pub entry_count : Page → ℕ
+entry_count page = length (live_entries page.state page.items)
+
+abbrev pub one_if_half_dead : PageState → ℕ
+one_if_half_dead Live = 0
+one_if_half_dead HalfDead = 1
+one_if_half_dead Deleted = 0
+
+abbrev pub one_if_deleted : PageState → ℕ
+one_if_deleted Live = 0
+one_if_deleted HalfDead = 0
+one_if_deleted Deleted = 1
+
+abbrev pub one_if_flagged : Bool → ℕ
+one_if_flagged true = 1
+one_if_flagged false = 0
+
+-- The report on pages in so many levels, from the root's to the leaves: the blocks in use, block 0 included; the entries on
+-- live leaves; the pages that are half-dead, deleted and flagged.
+abbrev pub report_of : ℕ → List Page → Report
+report_of levels pages = record {
+  levels = levels;
+  pages = length pages;
+  entries = total entry_count pages;
+  half_dead = total (λ p. one_if_half_dead p.state) pages;
+  deleted = total (λ p. one_if_deleted p.state) pages;
+  unfinished = total (λ p. one_if_flagged p.split) pages;
+}
+
+-- the numbers of a report are those of the pages, whose levels the metapage tells
+pub record IsReport (pages : List Page) (report : Report) : Type 0 where
+  pub meta : Page
+  pub meta_at : slice_get pages 0 ≡ Some meta
+  pub is : report ≡ report_of (suc meta.level) pages

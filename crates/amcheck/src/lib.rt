@@ -1,0 +1,21 @@
+//! The verifier: it reads every page of a store and answers what stands there, or the first damage.
+#![tactic(auto)]
+
+mod chains;
+mod checks;
+mod counts;
+mod first_damage;
+mod judging;
+mod levels;
+mod marks;
+mod parents;
+mod places;
+mod reading;
+mod report;
+mod strays;
+
+pub use checks::{check, check_parents};
+pub use report::{CheckFault, Report};
+
+#[cfg(test)]
+mod tests;

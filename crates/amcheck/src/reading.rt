@@ -1,0 +1,75 @@
+//! All pages of a store are read into room that was made before.
+
+ghost use Rattle.std.specs.Prelude.{◌≡◌, ◌≤◌, [], true, IfOk, IfErr, OnOk, OnErr, length, vec_capacity};
+ghost use Rattle.index_model.specs.Faults.{HasCause};
+ghost use Rattle.page_action.specs.Room.{KeepsRoom};
+ghost use Rattle.page_action.specs.States.{Continues};
+ghost use Rattle.page_action.specs.Stored.{AreStored};
+ghost use Rattle.amcheck.specs.Checks.{where_checked};
+ghost use Rattle.amcheck.specs.Reading.{HasRoom, AreRead};
+
+use crate::marks::Met;
+use index_model::Fault;
+use page_action::PageStore;
+use page_codec::{Downlink, Page};
+use std::alloc::Global;
+
+/// All that a check takes of memory.
+#[derive(Drop)]
+pub(crate) struct Room {
+    /// A copy of each page in use.
+    pub(crate) pages: Vec<Page>,
+    pub(crate) met: Met,
+    /// The downlinks that the pages of one level are to have.
+    pub(crate) due: Vec<Downlink>,
+    /// For each page in use whether a downlink to it was found.
+    pub(crate) linked: Vec<bool>,
+}
+
+impl Room {
+    /// The room to check so many pages. Refused with `NoMemory`.
+    pub(crate) fn new(alloc: Global, used: u32) -> Result<Room, Fault>
+        ensures made { IfOk result (λ room. HasRoom room used) }
+        ensures none { IfOk result (λ room. room.pages.items ≡ []) }
+        ensures fault { IfErr result (λ f. f ≡ Fault.NoMemory) }
+    {
+        let Ok(pages) = Vec::with_capacity(alloc, used as usize) else {
+            return Err(Fault::NoMemory);
+        };
+        let Ok(due) = Vec::with_capacity(alloc, used as usize) else {
+            return Err(Fault::NoMemory);
+        };
+        let Ok(linked) = vec![in alloc; false; used as usize] else {
+            return Err(Fault::NoMemory);
+        };
+        let met = Met::new(alloc, used)?;
+        Ok(Room {
+            pages,
+            met,
+            due,
+            linked,
+        })
+    }
+}
+
+/// Reads each page in use once, and puts a copy of it behind the others. Refused as [`PageStore::fetch`].
+pub(crate) fn read_pages<S: PageStore>(store: &mut S, pages: &mut Vec<Page>) -> Result<(), Fault>
+    requires empty { pages.old.items ≡ [] }
+    requires room { length (S.state store.old).pages ≤ vec_capacity pages.old }
+    ensures steps { Continues S.follows store.old store.new }
+    ensures state { S.state store.new ≡ S.state store.old }
+    ensures read { OnOk result
+        (AreRead (S.state store.old) (S.backing store.new) pages.new.items) }
+    ensures room { KeepsRoom (S.state store.old) (S.backing store.old) (S.backing store.new) }
+    ensures cause { IfErr result (HasCause
+        (where_checked (S.state store.old) (S.backing store.old) (S.backing store.new))) }
+{
+    for block in 0..store.used() {
+        match store.fetch(block) {
+            Ok(()) => {}
+            Err(fault) => return Err(fault),
+        }
+        pages.push_reserved(store.view(block).copy());
+    }
+    Ok(())
+}
