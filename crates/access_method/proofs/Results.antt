@@ -4,7 +4,7 @@ use Rattle.index_model.specs.Faults.{HasCause}
 use Rattle.page_action.specs.Causes.{where_forced}
 use Rattle.session_calls.specs.declared.answer.Answer.{Answer}
 use Rattle.session_calls.specs.declared.answer.Answer.TheVariants.{Begun, Going, Added, Ready, Done, Finished, Gave, Ended, Forced, Flushed, Checkpointed, Refused}
-use Rattle.schedule.specs.Events.{Kind, KeepsStore, Upkeep, Forces, Checkpoints, kind_of, IsOfSession, AnswersUpkeep, StoreIsKept, EventDoes}
+use Rattle.schedule.specs.Events.{Kind, KeepsStore, Upkeep, Forces, Flushes, Checkpoints, kept_answer, kind_of, IsOfSession, AnswersUpkeep, StoreIsKept, EventDoes}
 use Rattle.schedule.specs.Runs.{Carries, Runs}
 use Rattle.schedule.specs.declared.event.Event.{Event}
 use Rattle.schedule.proofs.Keeping.{Laws}
@@ -27,7 +27,7 @@ use Rattle.index_model.proofs.Histories.{contents_after-append, contents_after-a
 use Rattle.page_action.specs.declared.page_store.PageStore.{Ghosts}
 use Rattle.session_calls.specs.Sessions.{begun_call, given_one, ended}
 use Rattle.schedule.specs.Snapshots.{StoreAndSlots, Fits, snapshot_of}
-use Rattle.schedule.proofs.Lists.{get_append_new, get_set_same, get_within}
+use Rattle.schedule.proofs.Lists.{get_append_new, get_set_same, get_within, same_some}
 use Rattle.whole_calls.specs.Telling.{InsertTold, inserted_call, shapes}
 use Rattle.whole_calls.specs.Inserting.{InsertGoes}
 use Rattle.whole_calls.specs.Giving.{Becomes, TellsGiven, give_came}
@@ -130,153 +130,87 @@ gives_right g session (Ok None) old new start history calls r number call range 
     (subst (λ (a : Ask). AnswersRight start r.then_history number call.began (length history) a call.given call.added EndsFinished) ask meets.right)
 gives_right g session (Err fault) old new start history calls r number call range running ask = tt
 
--- what was done for the store, as it is told: the number of actions,
-kept_number : {S : Type 0} (g : Ghosts S) (upkeep : Upkeep) (answer : Answer) (old new : S) → AnswersUpkeep upkeep answer → StoreIsKept g upkeep answer old new
-    → IfOk (counted answer) (λ n. n ≡ (g.state old).acts)
-kept_number g Forces Begun old new kind kept = absurd kind
-kept_number g Forces Going old new kind kept = absurd kind
-kept_number g Forces (Added a u) old new kind kept = absurd kind
-kept_number g Forces (Ready r) old new kind kept = absurd kind
-kept_number g Forces Done old new kind kept = absurd kind
-kept_number g Forces (Finished s) old new kind kept = absurd kind
-kept_number g Forces (Gave e) old new kind kept = absurd kind
-kept_number g Forces Ended old new kind kept = absurd kind
-kept_number g Forces (Forced n) old new kind kept = kept.number n refl
-kept_number g Forces (Flushed b) old new kind kept = absurd kind
-kept_number g Forces (Checkpointed n) old new kind kept = absurd kind
-kept_number g Forces (Refused f) old new kind kept = tt
-kept_number g Checkpoints Begun old new kind kept = absurd kind
-kept_number g Checkpoints Going old new kind kept = absurd kind
-kept_number g Checkpoints (Added a u) old new kind kept = absurd kind
-kept_number g Checkpoints (Ready r) old new kind kept = absurd kind
-kept_number g Checkpoints Done old new kind kept = absurd kind
-kept_number g Checkpoints (Finished s) old new kind kept = absurd kind
-kept_number g Checkpoints (Gave e) old new kind kept = absurd kind
-kept_number g Checkpoints Ended old new kind kept = absurd kind
-kept_number g Checkpoints (Forced n) old new kind kept = absurd kind
-kept_number g Checkpoints (Flushed b) old new kind kept = absurd kind
-kept_number g Checkpoints (Checkpointed n) old new kind kept = kept.number n refl
-kept_number g Checkpoints (Refused f) old new kind kept = tt
+-- it tells how many actions are durable
+abbrev pub Counts : Upkeep → Type 0
+Counts Forces = Unit {0}
+Counts Flushes = ⊥
+Counts Checkpoints = Unit {0}
 
--- ... that they are durable,
-kept_durable : {S : Type 0} (g : Ghosts S) (upkeep : Upkeep) (answer : Answer) (old new : S) → AnswersUpkeep upkeep answer → StoreIsKept g upkeep answer old new
-    → OnOk (counted answer) ((g.backing new).durable ≡ (g.state old).acts)
-kept_durable g Forces Begun old new kind kept = absurd kind
-kept_durable g Forces Going old new kind kept = absurd kind
-kept_durable g Forces (Added a u) old new kind kept = absurd kind
-kept_durable g Forces (Ready r) old new kind kept = absurd kind
-kept_durable g Forces Done old new kind kept = absurd kind
-kept_durable g Forces (Finished s) old new kind kept = absurd kind
-kept_durable g Forces (Gave e) old new kind kept = absurd kind
-kept_durable g Forces Ended old new kind kept = absurd kind
-kept_durable g Forces (Forced n) old new kind kept = kept.durable n refl
-kept_durable g Forces (Flushed b) old new kind kept = absurd kind
-kept_durable g Forces (Checkpointed n) old new kind kept = absurd kind
-kept_durable g Forces (Refused f) old new kind kept = tt
-kept_durable g Checkpoints Begun old new kind kept = absurd kind
-kept_durable g Checkpoints Going old new kind kept = absurd kind
-kept_durable g Checkpoints (Added a u) old new kind kept = absurd kind
-kept_durable g Checkpoints (Ready r) old new kind kept = absurd kind
-kept_durable g Checkpoints Done old new kind kept = absurd kind
-kept_durable g Checkpoints (Finished s) old new kind kept = absurd kind
-kept_durable g Checkpoints (Gave e) old new kind kept = absurd kind
-kept_durable g Checkpoints Ended old new kind kept = absurd kind
-kept_durable g Checkpoints (Forced n) old new kind kept = absurd kind
-kept_durable g Checkpoints (Flushed b) old new kind kept = absurd kind
-kept_durable g Checkpoints (Checkpointed n) old new kind kept = kept.durable n refl
-kept_durable g Checkpoints (Refused f) old new kind kept = tt
+-- what was done for the store was told by a number, or refused
+data IsCounted (upkeep : Upkeep) : Answer → Type 0 where
+  number : {answer : Answer} (n : ℕ) → kept_answer upkeep n ≡ Some answer → counted answer ≡ Ok n → IsCounted upkeep answer
+  refusal : (fault : Fault) → IsCounted upkeep (Refused fault)
 
--- ... and why it was refused
-kept_cause : {S : Type 0} (g : Ghosts S) (upkeep : Upkeep) (answer : Answer) (old new : S) → AnswersUpkeep upkeep answer → StoreIsKept g upkeep answer old new
-    → IfErr (counted answer) (HasCause (where_forced (g.backing old) (g.backing new)))
-kept_cause g Forces Begun old new kind kept = absurd kind
-kept_cause g Forces Going old new kind kept = absurd kind
-kept_cause g Forces (Added a u) old new kind kept = absurd kind
-kept_cause g Forces (Ready r) old new kind kept = absurd kind
-kept_cause g Forces Done old new kind kept = absurd kind
-kept_cause g Forces (Finished s) old new kind kept = absurd kind
-kept_cause g Forces (Gave e) old new kind kept = absurd kind
-kept_cause g Forces Ended old new kind kept = absurd kind
-kept_cause g Forces (Forced n) old new kind kept = tt
-kept_cause g Forces (Flushed b) old new kind kept = absurd kind
-kept_cause g Forces (Checkpointed n) old new kind kept = absurd kind
-kept_cause g Forces (Refused f) old new kind kept = kept.caused f refl
-kept_cause g Checkpoints Begun old new kind kept = absurd kind
-kept_cause g Checkpoints Going old new kind kept = absurd kind
-kept_cause g Checkpoints (Added a u) old new kind kept = absurd kind
-kept_cause g Checkpoints (Ready r) old new kind kept = absurd kind
-kept_cause g Checkpoints Done old new kind kept = absurd kind
-kept_cause g Checkpoints (Finished s) old new kind kept = absurd kind
-kept_cause g Checkpoints (Gave e) old new kind kept = absurd kind
-kept_cause g Checkpoints Ended old new kind kept = absurd kind
-kept_cause g Checkpoints (Forced n) old new kind kept = absurd kind
-kept_cause g Checkpoints (Flushed b) old new kind kept = absurd kind
-kept_cause g Checkpoints (Checkpointed n) old new kind kept = tt
-kept_cause g Checkpoints (Refused f) old new kind kept = kept.caused f refl
+is_counted : (upkeep : Upkeep) (answer : Answer) → Counts upkeep → AnswersUpkeep upkeep answer → IsCounted upkeep answer
+is_counted Flushes answer counts kind = absurd counts
+is_counted Forces Begun counts kind = absurd kind
+is_counted Forces Going counts kind = absurd kind
+is_counted Forces (Added a u) counts kind = absurd kind
+is_counted Forces (Ready r) counts kind = absurd kind
+is_counted Forces Done counts kind = absurd kind
+is_counted Forces (Finished s) counts kind = absurd kind
+is_counted Forces (Gave e) counts kind = absurd kind
+is_counted Forces Ended counts kind = absurd kind
+is_counted Forces (Forced n) counts kind = number n refl refl
+is_counted Forces (Flushed b) counts kind = absurd kind
+is_counted Forces (Checkpointed n) counts kind = absurd kind
+is_counted Forces (Refused f) counts kind = refusal f
+is_counted Checkpoints Begun counts kind = absurd kind
+is_counted Checkpoints Going counts kind = absurd kind
+is_counted Checkpoints (Added a u) counts kind = absurd kind
+is_counted Checkpoints (Ready r) counts kind = absurd kind
+is_counted Checkpoints Done counts kind = absurd kind
+is_counted Checkpoints (Finished s) counts kind = absurd kind
+is_counted Checkpoints (Gave e) counts kind = absurd kind
+is_counted Checkpoints Ended counts kind = absurd kind
+is_counted Checkpoints (Forced n) counts kind = absurd kind
+is_counted Checkpoints (Flushed b) counts kind = absurd kind
+is_counted Checkpoints (Checkpointed n) counts kind = number n refl refl
+is_counted Checkpoints (Refused f) counts kind = refusal f
 
 -- what was told was answered
-came_of : (upkeep : Upkeep) (answer : Answer) → AnswersUpkeep upkeep answer → kept_came upkeep (counted answer) ≡ Some answer
-came_of Forces Begun kind = absurd kind
-came_of Forces Going kind = absurd kind
-came_of Forces (Added a u) kind = absurd kind
-came_of Forces (Ready r) kind = absurd kind
-came_of Forces Done kind = absurd kind
-came_of Forces (Finished s) kind = absurd kind
-came_of Forces (Gave e) kind = absurd kind
-came_of Forces Ended kind = absurd kind
-came_of Forces (Forced n) kind = refl
-came_of Forces (Flushed b) kind = absurd kind
-came_of Forces (Checkpointed n) kind = absurd kind
-came_of Forces (Refused f) kind = refl
-came_of Checkpoints Begun kind = absurd kind
-came_of Checkpoints Going kind = absurd kind
-came_of Checkpoints (Added a u) kind = absurd kind
-came_of Checkpoints (Ready r) kind = absurd kind
-came_of Checkpoints Done kind = absurd kind
-came_of Checkpoints (Finished s) kind = absurd kind
-came_of Checkpoints (Gave e) kind = absurd kind
-came_of Checkpoints Ended kind = absurd kind
-came_of Checkpoints (Forced n) kind = absurd kind
-came_of Checkpoints (Flushed b) kind = absurd kind
-came_of Checkpoints (Checkpointed n) kind = refl
-came_of Checkpoints (Refused f) kind = refl
+came_of : (upkeep : Upkeep) (answer : Answer) → IsCounted upkeep answer → kept_came upkeep (counted answer) ≡ Some answer
+came_of upkeep answer (number n is told) = ap (λ (r : Result ℕ Fault). kept_came upkeep r) told ∙ is
+came_of upkeep answer (refusal fault) = refl
 
 -- it is a run of one event, of which nothing is told
-goes_kept : {S : Type 0} (g : Ghosts S) (laws : Laws g) (upkeep : Upkeep) (event : Event) (answer : Answer) (a b : StoreAndSlots S) → kind_of event ≡ KeepsStore upkeep → AnswersUpkeep upkeep answer
+goes_kept : {S : Type 0} (g : Ghosts S) (laws : Laws g) (upkeep : Upkeep) (event : Event) (answer : Answer) (a b : StoreAndSlots S) → kind_of event ≡ KeepsStore upkeep → IsCounted upkeep answer
     → Carries g a b (Runs g a b (event ∷ []) (answer ∷ [])) → CallGoes g 0 IsSilent (kept_came upkeep (counted answer)) a b
 goes_kept {S} g laws upkeep event answer a b kind answers runs = subst (λ (came : Option Answer). CallGoes g 0 IsSilent came a b) (sym (came_of upkeep answer answers))
     (goes_by g laws 0 IsSilent event answer a b (subst (λ (k : Kind). IsOfSession 0 k) (sym kind) tt) runs
     (λ start x y from to fits does. keeps_silent g start upkeep answer x y (subst (λ (k : Kind). EventDoes g start k answer x y) kind does)))
 
--- a checkpoint leaves the whole room of the log
-kept_room : (Room : Type 0) (answer : Answer) → AnswersUpkeep Checkpoints answer → ((count : ℕ) → answer ≡ Checkpointed count → Room) → OnOk (counted answer) Room
-kept_room Room Begun kind h = absurd kind
-kept_room Room Going kind h = absurd kind
-kept_room Room (Added a u) kind h = absurd kind
-kept_room Room (Ready r) kind h = absurd kind
-kept_room Room Done kind h = absurd kind
-kept_room Room (Finished s) kind h = absurd kind
-kept_room Room (Gave e) kind h = absurd kind
-kept_room Room Ended kind h = absurd kind
-kept_room Room (Forced n) kind h = absurd kind
-kept_room Room (Flushed b) kind h = absurd kind
-kept_room Room (Checkpointed n) kind h = h n refl
-kept_room Room (Refused f) kind h = tt
+-- what was done for the store, as a result tells it: the number of actions, that they are durable, and why it was refused
+module _ {S : Type 0} (g : Ghosts S) (upkeep : Upkeep) (answer : Answer) (old new : S) (result : Result ℕ Fault) (is : result ≡ counted answer) (counts : Counts upkeep) (kind : AnswersUpkeep upkeep answer) (kept : StoreIsKept g upkeep answer old new) where
+  number_of : (r : Result ℕ Fault) (a : Answer) → r ≡ counted a → a ≡ answer → IsCounted upkeep a → IfOk r (λ n. n ≡ (g.state old).acts)
+  number_of r a told same (number n was ok) = subst (λ (x : Result ℕ Fault). IfOk x (λ m. m ≡ (g.state old).acts)) (sym (told ∙ ok)) (kept.number n (was ∙ ap Some same))
+  number_of r a told same (refusal fault) = subst (λ (x : Result ℕ Fault). IfOk x (λ m. m ≡ (g.state old).acts)) (sym told) tt
 
--- ... of a result that tells so
-module _ {S : Type 0} (g : Ghosts S) (upkeep : Upkeep) (answer : Answer) (old new : S) (result : Result ℕ Fault) (is : result ≡ counted answer) (kind : AnswersUpkeep upkeep answer) (kept : StoreIsKept g upkeep answer old new) where
+  durable_of : (r : Result ℕ Fault) (a : Answer) → r ≡ counted a → a ≡ answer → IsCounted upkeep a → OnOk r ((g.backing new).durable ≡ (g.state old).acts)
+  durable_of r a told same (number n was ok) = subst (λ (x : Result ℕ Fault). OnOk x ((g.backing new).durable ≡ (g.state old).acts)) (sym (told ∙ ok)) (kept.durable n (was ∙ ap Some same))
+  durable_of r a told same (refusal fault) = subst (λ (x : Result ℕ Fault). OnOk x ((g.backing new).durable ≡ (g.state old).acts)) (sym told) tt
+
+  cause_of : (r : Result ℕ Fault) (a : Answer) → r ≡ counted a → a ≡ answer → IsCounted upkeep a → IfErr r (HasCause (where_forced (g.backing old) (g.backing new)))
+  cause_of r a told same (number n was ok) = subst (λ (x : Result ℕ Fault). IfErr x (HasCause (where_forced (g.backing old) (g.backing new)))) (sym (told ∙ ok)) tt
+  cause_of r a told same (refusal fault) = subst (λ (x : Result ℕ Fault). IfErr x (HasCause (where_forced (g.backing old) (g.backing new)))) (sym told) (kept.caused fault (sym same))
+
   pub number_told : IfOk result (λ n. n ≡ (g.state old).acts)
-  number_told = subst (λ (r : Result ℕ Fault). IfOk r (λ n. n ≡ (g.state old).acts)) (sym is) (kept_number g upkeep answer old new kind kept)
+  number_told = number_of result answer is refl (is_counted upkeep answer counts kind)
 
   pub durable_told : OnOk result ((g.backing new).durable ≡ (g.state old).acts)
-  durable_told = subst (λ (r : Result ℕ Fault). OnOk r ((g.backing new).durable ≡ (g.state old).acts)) (sym is) (kept_durable g upkeep answer old new kind kept)
+  durable_told = durable_of result answer is refl (is_counted upkeep answer counts kind)
 
   pub cause_told : IfErr result (HasCause (where_forced (g.backing old) (g.backing new)))
-  cause_told = subst (λ (r : Result ℕ Fault). IfErr r (HasCause (where_forced (g.backing old) (g.backing new)))) (sym is) (kept_cause g upkeep answer old new kind kept)
+  cause_told = cause_of result answer is refl (is_counted upkeep answer counts kind)
 
+-- a checkpoint leaves the whole room of the log
 pub room_told : (Room : Type 0) (answer : Answer) (result : Result ℕ Fault) → result ≡ counted answer → AnswersUpkeep Checkpoints answer → ((count : ℕ) → answer ≡ Checkpointed count → Room) → OnOk result Room
-room_told Room answer result is kind h = subst (λ (r : Result ℕ Fault). OnOk r Room) (sym is) (kept_room Room answer kind h)
+room_told Room answer result is kind h = subst (λ (r : Result ℕ Fault). OnOk r Room) (sym is) (of answer (is_counted Checkpoints answer tt kind) h)
+  where
+    of : (a : Answer) → IsCounted Checkpoints a → ((count : ℕ) → a ≡ Checkpointed count → Room) → OnOk (counted a) Room
+    of a (number n was ok) room = subst (λ (r : Result ℕ Fault). OnOk r Room) (sym ok) (room n (sym (same_some (kept_answer Checkpoints n) (Checkpointed n) a refl was)))
+    of a (refusal fault) room = tt
 
 pub goes_told_kept : {S : Type 0} (g : Ghosts S) (laws : Laws g) (upkeep : Upkeep) (event : Event) (answer : Answer) (a b : StoreAndSlots S) (result : Result ℕ Fault) → result ≡ counted answer → kind_of event ≡ KeepsStore upkeep
-    → AnswersUpkeep upkeep answer → Carries g a b (Runs g a b (event ∷ []) (answer ∷ [])) → CallGoes g 0 IsSilent (kept_came upkeep result) a b
-goes_told_kept g laws upkeep event answer a b result is kind answers runs = subst (λ (r : Result ℕ Fault). CallGoes g 0 IsSilent (kept_came upkeep r) a b) (sym is) (goes_kept g laws upkeep event answer a b kind answers runs)
+    → Counts upkeep → AnswersUpkeep upkeep answer → Carries g a b (Runs g a b (event ∷ []) (answer ∷ [])) → CallGoes g 0 IsSilent (kept_came upkeep result) a b
+goes_told_kept g laws upkeep event answer a b result is kind counts answers runs = subst (λ (r : Result ℕ Fault). CallGoes g 0 IsSilent (kept_came upkeep r) a b) (sym is) (goes_kept g laws upkeep event answer a b kind (is_counted upkeep answer counts answers) runs)

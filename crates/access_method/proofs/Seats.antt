@@ -12,11 +12,13 @@ use Rattle.page_action.specs.States.{Backing}
 use Rattle.index_model.specs.declared.range.Range.{Range}
 use Rattle.page_action.specs.Contents.{entry_on_live_leaf}
 use Rattle.page_action.specs.declared.page_store.PageStore.{Ghosts}
+use Rattle.session_calls.specs.Ops.{DeadSets}
 use Rattle.session_calls.specs.Sessions.{begun_call}
 use Rattle.session_calls.specs.declared.request.Request.TheVariants.{Scan as ToScan}
 use Rattle.session_calls.specs.declared.op.Op.{Op}
 use Rattle.schedule.specs.Snapshots.{Snapshot, SlotMatches, Fits, IsUnused, here_with, snapshot_of, slot_of}
 use Rattle.schedule.specs.Events.{OthersStay, where_begun_at}
+use Rattle.schedule.proofs.Unused.{in_replicate}
 use Rattle.schedule.proofs.Lists.{get_set_same, get_set_other, get_some}
 use Rattle.whole_calls.specs.Telling.{TellsEnd, BeginTold}
 use Rattle.page_codec.specs.declared.page.Page.{Page}
@@ -24,20 +26,6 @@ use Rattle.access_method.specs.declared.index.Index.{Index}
 use Rattle.access_method.specs.Indexes.{IndexFits, IndexKeeps, RescanTold}
 use Rattle.access_method.specs.Tokens.{SeatsAgree, seat_for}
 use Rattle.access_method.specs.declared.token.Seat.{Seat}
-
--- what stands in a list of one thing
-pub in_replicate : {X : Type 0} (n : ℕ) (x y : X) (i : ℕ) → slice_get (replicate n x) i ≡ Some y → y ≡ x
-in_replicate zero x y i h = absurd cc
-in_replicate (suc n) x y zero h = cc
-in_replicate (suc n) x y (suc i) h = in_replicate n x y i h
-
--- no session runs anything
-pub empty_at : (n i : ℕ) (slots : List (Option Op)) → slots ≡ replicate n None → slot_of slots i ≡ None
-empty_at n i slots is = of (slice_get slots i) refl
-  where
-    of : (o : Option (Option Op)) → slice_get slots i ≡ o → unwrap_or o None ≡ None
-    of None at = refl
-    of (Some o) at = in_replicate n None o i (ap (λ (l : List (Option Op)). slice_get l i) (sym is) ∙ at)
 
 -- no token is open
 pub closed_at : (n i number : ℕ) (seats : List (Option Seat)) → seats ≡ replicate n None → seat_for number (slice_get seats i) ≡ None
@@ -47,22 +35,6 @@ closed_at n i number seats is = of (slice_get seats i) refl
     of None at = refl
     of (Some None) at = refl
     of (Some (Some seat)) at = (let e : Some seat ≡ None = in_replicate n None (Some seat) i (ap (λ (l : List (Option Seat)). slice_get l i) (sym is) ∙ at) in absurd cc)
-
--- an unused store with empty slots is fitted by the contents of its pages
-pub unused_fits : {S : Type 0} (g : Ghosts S) (store : S) (slots : List (Option Op)) (n : ℕ) → slots ≡ replicate n None → IsUnused (g.state store)
-    → Fits g (entry_on_live_leaf (g.state store).pages) (snapshot_of (here_with store slots []) [] [])
-unused_fits {S} g store slots n is unused = record {
-  matches = record { contents = λ e. refl; count = unused.acts; order = unused.order };
-  running = λ session slot h. of session slot (in_replicate n None slot session (ap (λ (l : List (Option Op)). slice_get l session) (sym is) ∙ h));
-  beyond = λ session h. unused.idle session;
-  known = λ number call h. absurd cc;
-  meets = λ number call h. absurd cc;
-  owned = λ before action h. absurd cc;
-}
-  where
-    of : (session : ℕ) (slot : Option Op) → slot ≡ None → SlotMatches g (entry_on_live_leaf (g.state store).pages) (snapshot_of (here_with store slots []) [] []) session slot
-    of session None e = record { none = λ number call h. (let f = h.found in absurd cc); idle = unused.idle session }
-    of session (Some op) e = absurd cc
 
 -- the slots of sessions that stay
 stays_at : (old new : List (Option Op)) (session other : ℕ) → OthersStay session old new → other ≢ session → slot_of new other ≡ slot_of old other
@@ -136,10 +108,10 @@ no_cause stopped runs DeviceTooSmall h = h
 -- a scan that may begin is not refused
 pub may_begin : {S : Type 0} (g : Ghosts S) (old store : S) (slots : List (Option Op)) (session : ℕ) (fault : Fault) (at_end : Bool)
     → ((g.backing old).stopped || (is_at_end (g.state old).begun || at_end)) ≡ false → g.backing store ≡ g.backing old → (g.state store).begun ≡ (g.state old).begun
-    → session < length slots → slot_of slots session ≡ None → HasCause (where_begun_at g store (slice_get slots session)) fault → ⊥
-may_begin g old store slots session fault at_end may backing begun within over cause =
+    → session < length slots → slot_of slots session ≡ None → (vacuums : Bool) (sets : DeadSets) (range : Range) → HasCause (where_begun_at g store vacuums sets (ToScan range) (slice_get slots session)) fault → ⊥
+may_begin g old store slots session fault at_end may backing begun within over vacuums sets range cause =
     no_cause ((g.backing store).stopped || is_at_end (g.state store).begun) runs fault
-    (subst (λ (o : Option (Option Op)). HasCause (where_begun_at g store o) fault) (empty_slot slots session within over) cause)
+    (subst (λ (o : Option (Option Op)). HasCause (where_begun_at g store vacuums sets (ToScan range) o) fault) (empty_slot slots session within over) cause)
   where
     first : (a b c : Bool) → (a || (b || c)) ≡ false → (a || b) ≡ false
     first false false c h = refl

@@ -15,5 +15,5 @@ counted answer = Err NoSession
 
 -- ... and what was answered then
 abbrev pub kept_came : Upkeep → Result ℕ Fault → Option Answer
-kept_came upkeep (Ok count) = Some (kept_answer upkeep count)
+kept_came upkeep (Ok count) = kept_answer upkeep count
 kept_came upkeep (Err fault) = Some (Refused fault)

@@ -1,9 +1,10 @@
 -- What is promised of an index.
-use Rattle.std.specs.Prelude.{◌||◌, ◌≡◌, ◌<◌, ◌≤◌, ℕ, suc, Bool, true, false, Option, Some, None, Result, Ok, Err, List, ◌∷◌, [], ◌++◌, length, slice_get, slice_set}
+use Rattle.std.specs.Prelude.{◌||◌, ◌&&◌, not, ◌≡◌, ◌<◌, ◌≤◌, ℕ, suc, Bool, true, false, Option, Some, None, Result, Ok, Err, List, ◌∷◌, [], ◌++◌, length, slice_get, slice_set}
 use Rattle.device.specs.declared.device.Device.{Ghosts as DeviceGhosts}
 use Rattle.index_model.specs.Actions.{Action}
 use Rattle.index_model.specs.Calls.{AskScan, Call, IsScanAnswer, IsScanAnswerSoFar}
 use Rattle.index_model.specs.Order.{same_entry}
+use Rattle.index_model.specs.Row.{Row}
 use Rattle.page_action.specs.Causes.{is_at_end}
 use Rattle.page_action.specs.Contents.{entry_on_live_leaf}
 use Rattle.index_model.specs.declared.entry.Entry.{Entry}
@@ -11,6 +12,7 @@ use Rattle.index_model.specs.declared.fault.Fault.{Fault}
 use Rattle.index_model.specs.declared.fault.Fault.TheVariants.{Stopped, NoSession, Exists}
 use Rattle.index_model.specs.declared.limits.Limits.{Limits}
 use Rattle.index_model.specs.declared.range.Range.{Range}
+use Rattle.index_model.specs.declared.stats.VacuumStats.{VacuumStats}
 use Rattle.page_action.specs.declared.page_store.PageStore.{Ghosts}
 use Rattle.page_codec.specs.declared.page.Page.{Page}
 use Rattle.page_store.specs.Stores.{state_of, device_of}
@@ -18,11 +20,13 @@ use Rattle.page_store.specs.declared.store.Store.{Store}
 use Rattle.recovery.specs.declared.opening.Refused.{Refused as NotOpened}
 use Rattle.session_calls.specs.Sessions.{begun_call}
 use Rattle.session_calls.specs.declared.answer.Answer.{Answer}
-use Rattle.schedule.specs.Crashes.{KeepsHistory}
+use Rattle.schedule.specs.Crashes.{KeepsHistory, IsCrashSafe}
 use Rattle.schedule.specs.Runs.{Carries}
 use Rattle.schedule.specs.Snapshots.{StoreAndSlots, Snapshot, snapshot_of, IsRunningCall, Fits}
-use Rattle.whole_calls.specs.Going.{CallGoes}
+use Rattle.vacuum.specs.Counts.{entries_below}
+use Rattle.whole_calls.specs.Going.{CallRuns, CallGoes}
 use Rattle.whole_calls.specs.Inserting.{InsertGoes}
+use Rattle.whole_calls.specs.Sweeping.{SweepTold, swept_came}
 use Rattle.whole_calls.specs.Telling.{HasNone}
 use Rattle.whole_calls.specs.declared.inserted.Inserted.{Inserted}
 use Rattle.access_method.specs.Tokens.{seat_of, AreTaken}
@@ -30,7 +34,7 @@ use Rattle.access_method.specs.declared.index.Index.{Index}
 use Rattle.access_method.specs.declared.token.ScanToken.{ScanToken}
 use Rattle.access_method.specs.declared.token.Seat.{Seat}
 
--- the store of an index, and what its sessions run; none of its calls names a set of dead rows yet
+-- the store of an index, and what its sessions run; between its calls none names a set of dead rows
 abbrev pub slots_within : {S : Type 0} → Index S → StoreAndSlots S
 slots_within index = record { store = index.store; slots = index.slots; sets = [] }
 
@@ -54,6 +58,18 @@ IndexInserts g session entry result old new = InsertGoes g session entry result 
 -- where the device has kept its model up to now, this holds of whatever fitted the index before
 abbrev pub IndexCarries : {S : Type 0} → Ghosts S → Index S → Index S → ((Entry → Bool) → List Action → List Call → Type 0) → Type 0
 IndexCarries g old new goes = Carries g (slots_within old) (slots_within new) goes
+
+-- the same, with one set of dead rows
+abbrev pub slots_with : {S : Type 0} → (Row → Bool) → Index S → StoreAndSlots S
+slots_with dead index = record { store = index.store; slots = index.slots; sets = dead ∷ [] }
+
+-- A bulk delete of this set goes, run to its end: there is a run of events over the index with this set, of which one answered
+-- what the call came to. The index is fitted by what comes behind it; where the history was kept, it is so still, and a crash in
+-- between leaves a first part of it.
+pub record SweepRuns {S : Type 0} (g : Ghosts S) (dead : Row → Bool) (result : Result VacuumStats Fault) (old new : Index S) (start : Entry → Bool) (history : List Action) (calls : List Call) : Type 0 where
+  pub sweeps : CallRuns g 63 (SweepTold 63 0 result) (swept_came result) (slots_with dead old) (slots_with dead new) start history calls
+  pub fits : IndexFits g new start sweeps.then_history sweeps.then_calls
+  pub safe : IndexKeeps g old start history calls → IsCrashSafe g start (snapshot_of (slots_within old) history calls) (snapshot_of (slots_within new) sweeps.then_history sweeps.then_calls)
 
 -- tokens are as they were
 pub record KeepsTokens {S : Type 0} (old new : Index S) : Type 0 where
@@ -124,6 +140,21 @@ pub record KeepsContents {S : Type 0} (g : Ghosts S) (entry : Entry) (fault : Fa
 abbrev pub InsertsOrKeeps : {S : Type 0} → Ghosts S → Entry → Result Inserted Fault → S → S → Type 0
 InsertsOrKeeps g entry (Ok inserted) old new = IsInserted g entry inserted old new
 InsertsOrKeeps g entry (Err fault) old new = KeepsContents g entry fault old new
+
+-- the entries of dead rows are gone, and no others; and it is told how many are left
+pub record IsSwept {S : Type 0} (g : Ghosts S) (dead : Row → Bool) (stats : VacuumStats) (old new : S) : Type 0 where
+  pub contents : (e : Entry) → has_entry g new e ≡ (has_entry g old e && not (dead e.row))
+  pub left : stats.num_index_tuples ≡ entries_below (g.state new).pages (length (g.state new).pages)
+
+-- no entry has come, and none is gone but of a dead row
+pub record LosesDeadRows {S : Type 0} (g : Ghosts S) (dead : Row → Bool) (old new : S) : Type 0 where
+  pub others : (e : Entry) → dead e.row ≡ false → has_entry g new e ≡ has_entry g old e
+  pub came : (e : Entry) → has_entry g new e ≡ true → has_entry g old e ≡ true
+
+-- the entries of dead rows are gone; or some of them, where it was refused
+abbrev pub IsSweptOrLess : {S : Type 0} → Ghosts S → (Row → Bool) → Result VacuumStats Fault → S → S → Type 0
+IsSweptOrLess g dead (Ok stats) old new = IsSwept g dead stats old new
+IsSweptOrLess g dead (Err fault) old new = LosesDeadRows g dead old new
 
 -- what a scan has given with this entry is right so far; or all that it gave is the right answer since it was begun
 abbrev pub GivesRight : (Entry → Bool) → List Action → Range → Call → Result (Option Entry) Fault → Type 0

@@ -6,7 +6,7 @@ ghost use Rattle.access_method.specs.Tokens.{SeatsAgree, IsFreeSeat};
 
 use crate::token::{ScanToken, Seat};
 use device::Device;
-use index_model::{DeadRows, Entry, Fault, Range, RowAddr};
+use index_model::{DeadRows, Entry, Fault, Range, RowAddr, VacuumStats};
 use page_action::PageStore;
 use page_store::Store;
 use recovery::Refused;
@@ -14,7 +14,7 @@ use schedule::{checkpoint, force, is_running};
 use session_calls::{Answer, Op};
 use std::alloc::Global;
 use std::array;
-use whole_calls::{Inserted, give, give_up, insert, open};
+use whole_calls::{Inserted, bulk_delete, give, give_up, insert, open};
 
 // How many images of pages the log has room for before a step: an act takes four at most, and a force that it makes one more.
 const LEAST_ROOM: u32 = 5;
@@ -50,8 +50,22 @@ impl DeadRows for NoRows {
     }
 }
 
-// No call of an index names a set of dead rows yet.
+// What scans and inserts are given: they name no set.
 const NO_SETS: [NoRows; 0] = [];
+
+// The one set that a bulk delete names.
+#[derive(Drop)]
+struct Lent<'a, T> {
+    rows: &'a T,
+}
+
+impl<T: DeadRows> DeadRows for Lent<'_, T> {
+    ghost is_in = { λ set row. T.is_in set.rows.now row };
+
+    fn is_dead(&self, row: RowAddr) -> bool {
+        self.rows.is_dead(row)
+    }
+}
 
 // How many actions are told as durable.
 fn count(answer: Answer) -> Result<u64, Fault>
@@ -92,7 +106,7 @@ impl<S: PageStore> Index<S> {
     ghost use Rattle.whole_calls.specs.Telling.{IsSilent, HasBegun, TellsEnd};
     ghost use Rattle.whole_calls.specs.Giving.{TellsGiven, EndsUnlessGiven, give_came};
     ghost use Rattle.access_method.specs.Tokens.{seat_of};
-    ghost use Rattle.access_method.specs.Indexes.{IndexFits, IndexKeeps, IndexGoes, IndexInserts, IndexCarries, KeepsTokens, IsNewToken, SeatBecomes, seat_with, RescanTold, TokenAfter, InsertsOrKeeps, AnswersScan, NotOpenedFor, NotRescannedFor, cannot_begin};
+    ghost use Rattle.access_method.specs.Indexes.{IndexFits, IndexKeeps, IndexGoes, IndexInserts, IndexCarries, SweepRuns, KeepsTokens, IsNewToken, SeatBecomes, seat_with, RescanTold, TokenAfter, InsertsOrKeeps, IsSweptOrLess, AnswersScan, NotOpenedFor, NotRescannedFor, cannot_begin};
     ghost use Rattle.access_method.specs.Counted.{kept_came};
 
     /// An index over the store, with no call and no open scan. Where the store's pages are in order and it has made no
@@ -133,6 +147,29 @@ impl<S: PageStore> Index<S> {
             &NO_SETS,
             63,
             entry,
+            LEAST_ROOM,
+        )
+    }
+
+    /// Deletes every entry whose row is in the set, and answers statistics: what it removed, and how many entries are left.
+    /// Open scans stay as they are. Refused with `Blocked` (4) where an open scan stands on a leaf, with `Io` (2), `Stopped`
+    /// (3) and `NoFrame` (10), and with `PageDamaged` (17) on pages that are no tree: what it has removed stays removed, and
+    /// no other entry is gone.
+    pub fn ambulkdelete<T: DeadRows>(&mut self, dead: &T) -> Result<VacuumStats, Fault>
+        ensures steps { Continues S.follows self.old.store self.new.store }
+        ensures sweeps { IndexCarries S.PageStore self.old self.new
+            (SweepRuns S.PageStore (T.is_in dead.now) result self.old self.new) }
+        ensures deletes { IndexCarries S.PageStore self.old self.new
+            (λ start history calls. IsSweptOrLess S.PageStore (T.is_in dead.now) result
+            self.old.store self.new.store) }
+        ensures tokens { KeepsTokens self.old self.new }
+    {
+        bulk_delete(
+            &mut self.store,
+            &mut self.slots,
+            &[Lent { rows: dead }],
+            63,
+            0,
             LEAST_ROOM,
         )
     }

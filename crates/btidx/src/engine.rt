@@ -17,8 +17,9 @@ ghost use Rattle.world.specs.Reopening.{BeginsWith, BeginsEmpty, BeginsAfterFirs
 ghost use Rattle.world.specs.Worlds.{WorldFits, WorldKeeps, WorldCarries, WorldRuns, WorldGoes};
 ghost use Rattle.btidx.specs.Settings.{IsSetting};
 
+use crate::dead::DeadList;
 use device::{CrashImage, Device, MemDevice};
-use index_model::{DeadRows, Entry, Fault, Limits, Range, RowAddr};
+use index_model::{DeadRows, Entry, Fault, Limits, Range};
 use page_action::PageStore;
 use page_codec::Page;
 use page_store::Store;
@@ -52,20 +53,6 @@ impl Setting {
     }
 }
 
-/// A set of dead rows without rows: no line names one yet.
-#[derive(Drop)]
-pub struct NoRows {}
-
-impl DeadRows for NoRows {
-    ghost use Rattle.std.specs.Prelude.{false};
-
-    ghost is_in = { λ rows row. false };
-
-    fn is_dead(&self, _row: RowAddr) -> bool {
-        false
-    }
-}
-
 /// Takes what an engine gives one after the other.
 pub trait Sink {
     /// The next entry of a list.
@@ -80,17 +67,18 @@ pub trait Sink {
 pub struct Engine {
     alloc: Global,
     setting: Setting,
-    world: World<Store<MemDevice>, NoRows>,
+    world: World<Store<MemDevice>, DeadList>,
     ghost allowed: { IsSetting setting },
 }
 
 impl Engine {
-    /// An empty index, made on a device in memory and opened. Refused with `BadLimits` for a size out of its range, and
-    /// with `NoMemory`.
-    pub fn new(alloc: Global, setting: &Setting) -> Result<Engine, Fault>
+    /// An empty index, made on a device in memory and opened, and the sets of dead rows that its events name by their places.
+    /// Refused with `BadLimits` for a size out of its range, and with `NoMemory`.
+    pub fn new(alloc: Global, setting: &Setting, sets: Vec<DeadList>) -> Result<Engine, Fault>
+        ensures sets { IfOk result (λ engine. engine.world.sets ≡ sets) }
         ensures empty { IfOk result (λ engine.
             BeginsEmpty ⟦<MemDevice as Device>⟧ ⟦<Store<MemDevice> as PageStore>⟧
-            ⟦<NoRows as DeadRows>⟧ setting.now.limits engine.world) }
+            ⟦<DeadList as DeadRows>⟧ setting.now.limits engine.world) }
     {
         if !setting.is_valid() {
             return Err(Fault::BadLimits);
@@ -100,15 +88,15 @@ impl Engine {
         Ok(Engine {
             alloc,
             setting: *setting,
-            world: opened(alloc, device, setting)?,
+            world: opened(alloc, device, setting, sets)?,
         })
     }
 
     /// One event.
     pub fn one(&mut self, event: Event) -> Answer
-        ensures runs { WorldCarries ⟦<Store<MemDevice> as PageStore>⟧ ⟦<NoRows as DeadRows>⟧
+        ensures runs { WorldCarries ⟦<Store<MemDevice> as PageStore>⟧ ⟦<DeadList as DeadRows>⟧
             self.old.world self.new.world
-            (WorldRuns ⟦<Store<MemDevice> as PageStore>⟧ ⟦<NoRows as DeadRows>⟧
+            (WorldRuns ⟦<Store<MemDevice> as PageStore>⟧ ⟦<DeadList as DeadRows>⟧
             self.old.world self.new.world (event ∷ []) (result ∷ [])) }
     {
         self.world.one(event)
@@ -116,7 +104,7 @@ impl Engine {
 
     /// Steps of a session's call until one doesn't answer `Going`, and that answer. No checkpoint is made for them.
     pub fn run(&mut self, session: u32) -> Result<Answer, Fault>
-        ensures goes { WorldGoes ⟦<Store<MemDevice> as PageStore>⟧ ⟦<NoRows as DeadRows>⟧ session
+        ensures goes { WorldGoes ⟦<Store<MemDevice> as PageStore>⟧ ⟦<DeadList as DeadRows>⟧ session
             (TellsStep session result) (step_came result) self.old.world self.new.world }
         ensures over { result ≢ Ok Answer.Going }
     {
@@ -125,7 +113,7 @@ impl Engine {
 
     /// An insert, run until a step doesn't answer `Going`, and that answer.
     pub fn put(&mut self, session: u32, entry: &Entry) -> Result<Answer, Fault>
-        ensures goes { WorldGoes ⟦<Store<MemDevice> as PageStore>⟧ ⟦<NoRows as DeadRows>⟧ session
+        ensures goes { WorldGoes ⟦<Store<MemDevice> as PageStore>⟧ ⟦<DeadList as DeadRows>⟧ session
             (HasCome session (ToInsert entry.now) result) (step_came result)
             self.old.world self.new.world }
         ensures over { result ≢ Ok Answer.Going }
@@ -183,17 +171,18 @@ impl Engine {
         self.world.stop_at(n);
     }
 
-    /// A crash, and the index opened again, with as many sessions. Refused as `open` is, and with `NoMemory`; the index
-    /// is as it was then.
-    pub fn crash(&mut self, image: CrashImage) -> Result<(), Fault>
+    /// A crash, and the index opened again, with as many sessions, and with these sets of dead rows. Refused as `open` is,
+    /// and with `NoMemory`; the index is as it was then.
+    pub fn crash(&mut self, image: CrashImage, sets: Vec<DeadList>) -> Result<(), Fault>
+        ensures sets { OnOk result (self.new.world.sets ≡ sets) }
         ensures reopened { OnOk result ((start : IndexEntry → Bool) (history : List Action)
             (calls : List Call)
-            → WorldFits ⟦<Store<MemDevice> as PageStore>⟧ ⟦<NoRows as DeadRows>⟧ self.old.world
+            → WorldFits ⟦<Store<MemDevice> as PageStore>⟧ ⟦<DeadList as DeadRows>⟧ self.old.world
             start history calls
-            → WorldKeeps ⟦<Store<MemDevice> as PageStore>⟧ ⟦<NoRows as DeadRows>⟧ self.old.world
+            → WorldKeeps ⟦<Store<MemDevice> as PageStore>⟧ ⟦<DeadList as DeadRows>⟧ self.old.world
             start history calls
             → BeginsAfterFirstPart ⟦<MemDevice as Device>⟧ ⟦<Store<MemDevice> as PageStore>⟧
-            ⟦<NoRows as DeadRows>⟧
+            ⟦<DeadList as DeadRows>⟧
             (state_of ⟦<MemDevice as Device>⟧ self.old.world.store).limits start history
             (backing_of (held_by ⟦<MemDevice as Device>⟧ self.old.world.store)).durable
             self.new.world) }
@@ -201,7 +190,7 @@ impl Engine {
     {
         self.world.crash_law();
         let device = self.world.crash(self.alloc, image)?;
-        self.world = opened(self.alloc, device, &self.setting)?;
+        self.world = opened(self.alloc, device, &self.setting, sets)?;
         Ok(())
     }
 }
@@ -211,20 +200,16 @@ fn opened(
     alloc: Global,
     device: MemDevice,
     setting: &Setting,
-) -> Result<World<Store<MemDevice>, NoRows>, Fault>
+    sets: Vec<DeadList>,
+) -> Result<World<Store<MemDevice>, DeadList>, Fault>
+    ensures sets { IfOk result (λ world. world.sets ≡ sets) }
     ensures begins { IsSetting setting.now → (limits : Limits) (pages : List Page)
         → HasIndex limits pages (trace_of device).now.seen → IsTree pages
         → IfOk result
         (BeginsWith ⟦<MemDevice as Device>⟧ ⟦<Store<MemDevice> as PageStore>⟧
-        ⟦<NoRows as DeadRows>⟧ limits pages) }
+        ⟦<DeadList as DeadRows>⟧ limits pages) }
 {
-    match World::open(
-        alloc,
-        device,
-        setting.frames,
-        setting.sessions,
-        Vec::new(alloc),
-    ) {
+    match World::open(alloc, device, setting.frames, setting.sessions, sets) {
         Ok(world) => Ok(world),
         Err(not_opened) => Err(not_opened.fault),
     }

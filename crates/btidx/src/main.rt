@@ -3,6 +3,7 @@
 
 mod answer;
 mod command;
+mod dead;
 mod dump;
 mod engine;
 mod execute;

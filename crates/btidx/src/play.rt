@@ -4,6 +4,7 @@ ghost use Rattle.std.specs.Prelude.{◌≡◌, ◌≤◌, ◌+◌, length, drop}
 ghost use Rattle.btidx.specs.Events.{event_of};
 
 use crate::answer::{print_answer, print_entry, print_refused};
+use crate::dead::{DeadList, dead_of};
 use crate::dump::print_page;
 use crate::engine::{Engine, Setting, Sink};
 use crate::line::{Crash, Line, LineError, parse};
@@ -13,7 +14,7 @@ use index_model::{Entry, Fault, Range};
 use page_codec::Page;
 use schedule::Event;
 use session_calls::Answer;
-use std::alloc::Global;
+use std::alloc::{AllocError, Global};
 use std::io::{self, Read, Write};
 
 /// How a command ended.
@@ -51,27 +52,34 @@ pub fn play<R: Read, W: Write, E: Write>(
     out: &mut W,
     err: &mut E,
 ) -> io::Result<End> {
-    let mut engine = match Engine::new(alloc, setting) {
-        Ok(engine) => engine,
-        Err(fault) => return Ok(End::Refused(fault)),
+    let mut text = Vec::new(alloc);
+    input.read_to_end(&mut text)?;
+    let Ok(sets) = sets_of(alloc, text.as_slice()) else {
+        return Ok(End::Refused(Fault::NoMemory));
     };
-    let mut script = Vec::new(alloc);
-    input.read_to_end(&mut script)?;
-    run(&mut engine, script.as_slice(), out, err)
+    match Engine::new(alloc, setting, sets) {
+        Ok(mut engine) => run(alloc, &mut engine, text.as_slice(), out, err),
+        Err(fault) => Ok(End::Refused(fault)),
+    }
 }
 
 fn run<W: Write, E: Write>(
+    alloc: Global,
     engine: &mut Engine,
-    script: &[u8],
+    text: &[u8],
     out: &mut W,
     err: &mut E,
 ) -> io::Result<End> {
     let mut number = 0u64;
-    let mut rest = script;
+    // The place of the next `bulk` line among those of its index.
+    let mut set = 0u32;
+    let mut rest = text;
     while !rest.is_empty() {
         number = number.saturating_add(1);
         let end = line_end(rest);
-        match play_line(engine, &rest[..end], out)? {
+        let line = &rest[..end];
+        rest = behind(rest, end);
+        match play_line(alloc, engine, line, rest, &mut set, out)? {
             Played::Answered => {}
             Played::NoEvent => {
                 out.flush()?;
@@ -80,9 +88,28 @@ fn run<W: Write, E: Write>(
             }
             Played::NotOpened(fault) => return Ok(End::Refused(fault)),
         }
-        rest = behind(rest, end);
     }
     Ok(End::Done)
+}
+
+/// The sets of the `bulk` lines up to the first crash.
+fn sets_of(alloc: Global, script: &[u8]) -> Result<Vec<DeadList>, AllocError> {
+    let mut sets = Vec::new(alloc);
+    let mut rest = script;
+    while !rest.is_empty() {
+        let end = line_end(rest);
+        match parse(&rest[..end]) {
+            Ok(Line::Crash(_)) => return Ok(sets),
+            Ok(line) => {
+                if let Some(dead) = dead_of(alloc, line)? {
+                    sets.push(dead)?;
+                }
+            }
+            Err(_) => {}
+        }
+        rest = behind(rest, end);
+    }
+    Ok(sets)
 }
 
 /// Where the first line ends.
@@ -118,10 +145,17 @@ enum Played {
     NotOpened(Fault),
 }
 
-/// Does what a line says and prints the answer.
-fn play_line<W: Write>(engine: &mut Engine, text: &[u8], out: &mut W) -> io::Result<Played> {
+/// Does what a line says, which has this rest behind it, and prints the answer.
+fn play_line<W: Write>(
+    alloc: Global,
+    engine: &mut Engine,
+    text: &[u8],
+    rest: &[u8],
+    set: &mut u32,
+    out: &mut W,
+) -> io::Result<Played> {
     match parse(text) {
-        Ok(line) => play_event(engine, &line, out),
+        Ok(line) => play_event(alloc, engine, &line, rest, set, out),
         Err(LineError::NotAnEvent) => Ok(Played::NoEvent),
         Err(LineError::Refused(fault)) => {
             print_refused(out, fault)?;
@@ -131,8 +165,18 @@ fn play_line<W: Write>(engine: &mut Engine, text: &[u8], out: &mut W) -> io::Res
 }
 
 /// The same for a line that was read. The lines that the index doesn't know yet are no events.
-fn play_event<W: Write>(engine: &mut Engine, line: &Line<'_>, out: &mut W) -> io::Result<Played> {
-    if let Some(event) = event_of(line) {
+fn play_event<W: Write>(
+    alloc: Global,
+    engine: &mut Engine,
+    line: &Line<'_>,
+    rest: &[u8],
+    set: &mut u32,
+    out: &mut W,
+) -> io::Result<Played> {
+    if let Some(event) = event_of(line, *set) {
+        if let Event::Bulk(_, _) = event {
+            *set = set.saturating_add(1);
+        }
         print_answer(out, &engine.one(event))?;
         return Ok(Played::Answered);
     }
@@ -150,37 +194,51 @@ fn play_event<W: Write>(engine: &mut Engine, line: &Line<'_>, out: &mut W) -> io
             engine.stop_at(*n);
             writeln!(out, "set")?;
         }
-        Line::Crash(crash) => return play_crash(engine, *crash, out),
+        Line::Crash(crash) => return play_crash(alloc, engine, *crash, rest, set, out),
         _ => return Ok(Played::NoEvent),
     }
     Ok(Played::Answered)
 }
 
-/// The event that a line is, if it is one.
-fn event_of(line: &Line<'_>) -> Option<Event>
-    ensures { result ≡ event_of line.now }
+/// The event that a line is, if it is one; a bulk delete's set has this place among the sets.
+fn event_of(line: &Line<'_>, set: u32) -> Option<Event>
+    ensures { result ≡ event_of set line.now }
 {
     match line {
         Line::Insert(session, entry) => Some(Event::Insert(*session, *entry)),
         Line::Scan(session, range) => Some(Event::Scan(*session, *range)),
+        Line::Bulk(session, _) => Some(Event::Bulk(*session, set)),
         Line::Step(session) => Some(Event::Step(*session)),
         Line::Next(session) => Some(Event::Next(*session)),
         Line::End(session) => Some(Event::End(*session)),
         Line::Force => Some(Event::Force),
+        Line::Flush => Some(Event::Flush),
         Line::Checkpoint => Some(Event::Checkpoint),
         _ => None,
     }
 }
 
-/// A crash, and the index opened again.
-fn play_crash<W: Write>(engine: &mut Engine, crash: Crash, out: &mut W) -> io::Result<Played> {
+/// A crash, and the index opened again, with the sets of the lines that follow.
+fn play_crash<W: Write>(
+    alloc: Global,
+    engine: &mut Engine,
+    crash: Crash,
+    rest: &[u8],
+    set: &mut u32,
+    out: &mut W,
+) -> io::Result<Played> {
     let image = match crash {
         Crash::Keep => CrashImage::Keep,
         Crash::Drop => CrashImage::Drop,
         Crash::Tear => CrashImage::Tear,
     };
-    match engine.crash(image) {
+    let reopened = match sets_of(alloc, rest) {
+        Ok(sets) => engine.crash(image, sets),
+        Err(_) => Err(Fault::NoMemory),
+    };
+    match reopened {
         Ok(()) => {
+            *set = 0;
             writeln!(out, "opened")?;
             Ok(Played::Answered)
         }

@@ -1,12 +1,12 @@
-//! How many entries a second an index takes and gives on one core, and how long an open takes over a full log: `index_timing
-//! time` prints it to standard error. Without an argument it fills two small indexes and scans them.
+//! How many entries a second an index takes, gives and deletes on one core, and how long an open takes over a full log:
+//! `index_timing time` prints it to standard error. Without an argument it fills two small indexes, scans them and deletes half.
 #![tactic(auto)]
 
 mod opening;
 
 use access_method::Index;
 use device::MemDevice;
-use index_model::{Entry, Fault, Key, Limits, Range, RowAddr};
+use index_model::{DeadRows, Entry, Fault, Key, Limits, Range, RowAddr};
 use opening::time_open;
 use page_store::Store;
 use recovery::create;
@@ -90,10 +90,31 @@ fn scan(index: &mut Index<Store<MemDevice>>, most: u32) -> Result<u32, Fault> {
     Ok(given)
 }
 
-fn is_filled_and_scanned(alloc: Global, load: Load) -> Result<bool, Fault> {
+/// The rows of every second entry.
+struct EverySecond {}
+
+impl DeadRows for EverySecond {
+    ghost use Rattle.std.specs.Prelude.{◌%◌, nat_eq};
+
+    ghost is_in = { λ set row. nat_eq (row.block % 2) 1 };
+
+    fn is_dead(&self, row: RowAddr) -> bool {
+        row.block() % 2 == 1
+    }
+}
+
+// Deletes every second entry: how many were deleted, and how many were left.
+fn delete(index: &mut Index<Store<MemDevice>>) -> Result<(u64, u64), Fault> {
+    let stats = index.ambulkdelete(&EverySecond {})?;
+    Ok((stats.tuples_removed, stats.num_index_tuples))
+}
+
+fn is_filled_scanned_and_halved(alloc: Global, load: Load) -> Result<bool, Fault> {
     let mut index = empty_index(alloc, load.frames)?;
     fill(&mut index, load)?;
-    Ok(scan(&mut index, load.count.saturating_add(1))? == load.count)
+    let given = scan(&mut index, load.count.saturating_add(1))?;
+    let half = u64::from(load.count / 2);
+    Ok(given == load.count && delete(&mut index)? == (half, half))
 }
 
 fn a_second(count: u32, nanos: u128) -> u128 {
@@ -114,9 +135,12 @@ fn time(rt: &(impl Clock + Eprint), alloc: Global, name: &str, load: Load) -> io
     let start = Instant::now(rt)?;
     let given = scan(&mut index, count.saturating_add(1)).unwrap_or(0);
     let gives = a_second(given, start.elapsed(rt)?.as_nanos());
-    if filled && given == count {
+    let start = Instant::now(rt)?;
+    let halved = delete(&mut index) == Ok((u64::from(count / 2), u64::from(count / 2)));
+    let looks = a_second(count, start.elapsed(rt)?.as_nanos());
+    if filled && given == count && halved {
         eprintln!(rt;
-            "{count} {name}, {frames} frames, a commit every {every}: {taken} inserted, {gives} scanned a second"
+            "{count} {name}, {frames} frames, a commit every {every}: {taken} inserted, {gives} scanned, {looks} looked at by a bulk delete of half, a second"
         )
     } else {
         eprintln!(rt; "{count} {name}: {given} entries were given")
@@ -160,8 +184,8 @@ fn main(rt: HostRuntime) -> io::Result<()> {
             commit_every: 100,
             frames: FRAMES,
         };
-        if is_filled_and_scanned(alloc, load).unwrap_or(false) {
-            println!(rt; "1000 entries inserted and scanned")?;
+        if is_filled_scanned_and_halved(alloc, load).unwrap_or(false) {
+            println!(rt; "1000 entries inserted and scanned, and half of them deleted")?;
         }
     }
     if env::args(&rt)?.count() > 1 {

@@ -1,8 +1,9 @@
 //! Crashes of a world over a device in memory.
 
+use crate::dead::{Blocks, sets_of};
 use crate::dice::Dice;
 use crate::judge::Judge;
-use crate::runs::{NoRows, Outcome, Run, are_right, ends_right, judge_of};
+use crate::runs::{Outcome, Run, are_right, ends_right, judge_of};
 use crate::tally::Tally;
 use device::{CrashImage, MemDevice};
 use index_model::Fault;
@@ -16,7 +17,7 @@ use world::{NotOpened, World};
 const FRAMES: u32 = 1_024;
 
 /// A world over a device in memory.
-type OverDevice = World<Store<MemDevice>, NoRows>;
+type OverDevice = World<Store<MemDevice>, Blocks>;
 
 /// Opens the index that the device holds.
 fn opened(run: Run, device: MemDevice) -> Result<OverDevice, Fault> {
@@ -25,7 +26,7 @@ fn opened(run: Run, device: MemDevice) -> Result<OverDevice, Fault> {
         device,
         FRAMES,
         run.space.sessions,
-        Vec::new(run.alloc),
+        sets_of(run.alloc, run.space)?,
     ) {
         Ok(world) => Ok(world),
         Err(not_opened) => Err(not_opened.fault),
@@ -61,7 +62,7 @@ fn opened_again(
     if dice.roll(2) == 0 {
         left.stop_at(u64::from(dice.roll(20)) + 1);
     }
-    let sets: Vec<NoRows> = Vec::new(run.alloc);
+    let sets = sets_of(run.alloc, run.space)?;
     match World::open(run.alloc, left, FRAMES, run.space.sessions, sets) {
         Ok(world) => opened(run, world.crash(run.alloc, image(dice))?),
         Err(

@@ -16,6 +16,8 @@ pub struct Space {
     pub rows: u32,
     /// How many forces there are for a checkpoint.
     pub forces: u32,
+    /// Whether there are bulk deletes.
+    pub deletes: bool,
 }
 
 /// Gives numbers that look random.
@@ -98,12 +100,17 @@ impl Dice {
     /// An event.
     pub fn event(&mut self, space: Space) -> Event {
         let session = self.session(space);
-        match self.roll(49) {
+        match self.roll(52) {
             0..9 => Event::Insert(session, self.entry(space)),
             9..13 => Event::Scan(session, self.range(space)),
             13..37 => Event::Step(session),
             37..46 => Event::Next(session),
             46 => Event::End(session),
+            47 => Event::Flush,
+            48 | 49 if space.deletes => Event::Bulk(
+                session,
+                self.pick(space.rows.saturating_add(2)),
+            ),
             _ => self.upkeep(space),
         }
     }

@@ -1,12 +1,16 @@
 //! What was asked of an index and what it answered, kept plainly.
 
-use crate::pages::{flagged, is_on, root_level};
+use crate::dead::rows_of;
+use crate::dice::Space;
+use crate::pages::{contents, flagged, is_on, lost, root_level};
 use crate::tally::Tally;
+use crate::waiting::Waiting;
 use index_model::{Entry, Fault};
 use page_codec::Page;
 use plain_histories::{
     PlainAction, PlainAsk, PlainCall, PlainEffect, PlainEnding, actions_are_owned, contents_has,
-    is_among, is_insert_answer, is_scan_answer, is_scan_answer_so_far, is_there_after,
+    is_among, is_bulk_delete_answer, is_insert_answer, is_scan_answer, is_scan_answer_so_far,
+    is_there_after,
 };
 use schedule::Event;
 use session_calls::Answer;
@@ -16,6 +20,7 @@ use std::alloc::{AllocError, Global};
 #[derive(Drop)]
 pub struct Judge {
     alloc: Global,
+    space: Space,
     /// What was there when the run began.
     start: Vec<Entry>,
     history: Vec<PlainAction>,
@@ -26,6 +31,10 @@ pub struct Judge {
     forced: usize,
     /// The pages as the last action left them.
     pages: Vec<Page>,
+    /// Those of them that wait to be written.
+    waiting: Waiting,
+    /// Whether the store has no place to which it writes pages.
+    is_in_memory: bool,
     /// Whether calls of the device are made to fail.
     is_failing: bool,
     /// Whether the log is known to have failed.
@@ -34,25 +43,28 @@ pub struct Judge {
 }
 
 impl Judge {
-    /// Of a run that begins with these pages and the entries on them, and so many sessions without a call.
+    /// Of a run that begins with these pages and the entries on them, and its sessions without a call.
     pub fn new(
         alloc: Global,
+        space: Space,
         pages: Vec<Page>,
         start: Vec<Entry>,
-        sessions: u32,
     ) -> Result<Judge, AllocError> {
         let mut running = Vec::new(alloc);
-        for _ in 0..sessions {
+        for _ in 0..space.sessions {
             running.push(None)?;
         }
         Ok(Judge {
             alloc,
+            space,
             start,
             history: Vec::new(alloc),
             calls: Vec::new(alloc),
             running,
             forced: 0,
             pages,
+            waiting: Waiting::new(alloc),
+            is_in_memory: false,
             is_failing: false,
             is_stopped: false,
             tally: Tally::default(),
@@ -72,6 +84,11 @@ impl Judge {
     /// How many splits are half done.
     fn flagged(&self) -> usize {
         flagged(&self.pages)
+    }
+
+    /// The store keeps its pages in memory alone.
+    pub fn expects_no_writes(&mut self) {
+        self.is_in_memory = true;
     }
 
     /// From now on calls of the device may fail.
@@ -109,16 +126,38 @@ impl Judge {
         }
     }
 
+    /// Whether the session runs a bulk delete.
+    fn is_deleting(&self, session: u32) -> bool {
+        match self.running(session) {
+            Some(call) => matches!(
+                self.calls.get(call),
+                Some(PlainCall {
+                    ask: PlainAsk::Deletes(_),
+                    ..
+                })
+            ),
+            None => false,
+        }
+    }
+
+    /// Whether some session runs a bulk delete.
+    fn one_deletes(&self) -> bool {
+        (0..self.space.sessions).any(|session| self.is_deleting(session))
+    }
+
     /// What an action of the session's call, which left these pages, has done: it adds the call's entry, if that is there
-    /// now and wasn't before.
-    fn effect_of(&self, session: u32, pages: &[Page]) -> PlainEffect {
-        match self.is_to_add(session) {
+    /// now and wasn't before; a bulk delete removes what is there no more.
+    fn effect_of(&self, session: u32, pages: &[Page]) -> Result<PlainEffect, AllocError> {
+        if self.is_deleting(session) {
+            return Ok(PlainEffect::Removes(lost(self.alloc, &self.pages, pages)?));
+        }
+        Ok(match self.is_to_add(session) {
             Some(entry)
                 if is_on(pages, &entry) && !contents_has(&self.start, &self.history, &entry) => {
                 PlainEffect::Adds(entry)
             }
             _ => PlainEffect::Reshapes,
-        }
+        })
     }
 
     /// Keeps an action of the session's call, which left these pages with these entries. It is right if there is such a
@@ -132,9 +171,12 @@ impl Judge {
         let Some(by) = self.running(session) else {
             return Ok(false);
         };
-        let effect = self.effect_of(session, &pages);
+        let effect = self.effect_of(session, &pages)?;
         let adds = matches!(&effect, PlainEffect::Adds(_));
+        let removes = matches!(&effect, PlainEffect::Removes(_));
         self.tally.reach(root_level(&pages));
+        self.waiting
+            .changes(&self.pages, &pages, self.history.len())?;
         self.pages = pages;
         self.history.push(PlainAction { by, effect })?;
         let Some(call) = self.calls.get_mut(by) else {
@@ -143,6 +185,8 @@ impl Judge {
         if adds {
             self.tally.add();
             call.added = Some(self.history.len());
+        } else if removes {
+            self.tally.remove();
         } else {
             self.tally.reshape(call.added.is_none());
         }
@@ -156,7 +200,12 @@ impl Judge {
             self.is_stopped = true;
         }
         match event {
-            Event::Insert(_, _) | Event::Scan(_, _) | Event::Force | Event::Checkpoint
+            Event::Insert(_, _)
+            | Event::Scan(_, _)
+            | Event::Bulk(_, _)
+            | Event::Force
+            | Event::Flush
+            | Event::Checkpoint
                 if self.is_stopped => { Ok(matches!(answer, Answer::Refused(Fault::Stopped))) }
             Event::Step(session) if self.is_stopped => Ok(self.stops(*session, answer)),
             Event::Insert(session, entry) => self.begins(
@@ -165,6 +214,10 @@ impl Judge {
                 answer,
             ),
             Event::Scan(session, range) => self.begins(*session, PlainAsk::Scans(*range), answer),
+            Event::Bulk(session, set) => match rows_of(self.alloc, self.space, *set)? {
+                Some(rows) => self.begins(*session, PlainAsk::Deletes(rows), answer),
+                None => Ok(matches!(answer, Answer::Refused(Fault::NoSession))),
+            },
             Event::Step(session) => Ok(self.steps(*session, answer)),
             Event::Next(session) => self.gives(*session, answer),
             Event::End(session) => Ok(match answer {
@@ -172,6 +225,7 @@ impl Judge {
                 _ => self.is_refused_idle(*session, answer),
             }),
             Event::Force => Ok(self.forces(answer)),
+            Event::Flush => Ok(self.flushes(answer)),
             Event::Checkpoint => Ok(self.checkpoints(answer)),
         }
     }
@@ -181,9 +235,12 @@ impl Judge {
             Answer::Begun => {}
             Answer::Refused(Fault::SessionBusy) => return Ok(self.is_running(session)),
             Answer::Refused(Fault::NoSession) => return Ok(session as usize >= self.running.len()),
+            Answer::Refused(Fault::VacuumRunning) => {
+                return Ok(matches!(&ask, PlainAsk::Deletes(_)) && self.one_deletes());
+            }
             _ => return Ok(false),
         }
-        if self.is_running(session) {
+        if self.is_running(session) || matches!(&ask, PlainAsk::Deletes(_)) && self.one_deletes() {
             return Ok(false);
         }
         let Some(place) = self.running.get_mut(session as usize) else {
@@ -219,7 +276,11 @@ impl Judge {
                     )
             }
             Answer::Done => self.ends(session, PlainEnding::HasFinished),
+            Answer::Finished(stats) => self.ends(session, PlainEnding::HasVacuumed(*stats)),
             Answer::Refused(Fault::NoSession) => !self.is_running(session),
+            Answer::Refused(Fault::LogFull) if self.is_deleting(session) => {
+                self.ends(session, PlainEnding::HasFailed(Fault::LogFull))
+            }
             Answer::Refused(fault) => {
                 self.is_to_add(session).is_some()
                     && matches!(fault, Fault::Exists | Fault::IndexFull | Fault::LogFull)
@@ -260,7 +321,7 @@ impl Judge {
             Answer::Gave(Some(entry)) => call.given.push(*entry)?,
             Answer::Gave(None) => {}
             Answer::Refused(Fault::NoSession) => {
-                return Ok(matches!(&call.ask, PlainAsk::Inserts(_)));
+                return Ok(matches!(&call.ask, PlainAsk::Inserts(_) | PlainAsk::Deletes(_)));
             }
             _ => return Ok(false),
         }
@@ -278,9 +339,22 @@ impl Judge {
         }
     }
 
+    /// A failed checkpoint may have written some pages: then it isn't known which page waits longest.
+    fn flushes(&mut self, answer: &Answer) -> bool {
+        match answer {
+            Answer::Flushed(block) if self.is_in_memory => block.is_none(),
+            Answer::Flushed(block) => self.waiting.writes(*block) || self.is_failing,
+            Answer::Refused(Fault::Io) => self.is_failing,
+            _ => false,
+        }
+    }
+
     fn checkpoints(&mut self, answer: &Answer) -> bool {
         match answer {
-            Answer::Checkpointed(count) => self.is_durable(*count),
+            Answer::Checkpointed(count) => {
+                self.waiting.clear();
+                self.is_durable(*count)
+            }
             Answer::Refused(Fault::Io) => self.is_failing,
             _ => false,
         }
@@ -349,6 +423,41 @@ impl Judge {
                     &call.given,
                 ),
             },
+            PlainAsk::Deletes(rows) => match &call.ending {
+                PlainEnding::HasVacuumed(stats) => is_bulk_delete_answer(
+                    &self.start,
+                    &self.history,
+                    number,
+                    call.began,
+                    until,
+                    rows,
+                    stats,
+                ),
+                PlainEnding::HasAdded(_, _) | PlainEnding::HasFinished => false,
+                _ => true,
+            },
+            PlainAsk::Cleans => false,
+        }
+    }
+
+    /// Whether the last call is a bulk delete that tells how many entries there are now, or that found the log full.
+    pub fn tells_all(&self) -> bool {
+        match self.calls.last() {
+            Some(
+                PlainCall {
+                    ending: PlainEnding::HasVacuumed(stats),
+                    ..
+                },
+            ) => match contents(self.alloc, &self.pages) {
+                Ok(entries) => stats.num_index_tuples == entries.len() as u64,
+                Err(_) => false,
+            },
+            Some(
+                PlainCall {
+                    ending: PlainEnding::HasFailed(Fault::LogFull),
+                    ..
+                },
+            ) => true,
             _ => false,
         }
     }

@@ -5,6 +5,8 @@
 #[cfg(test)]
 mod crashes;
 #[cfg(test)]
+mod dead;
+#[cfg(test)]
 mod dice;
 #[cfg(test)]
 mod judge;
@@ -16,3 +18,5 @@ mod runs;
 mod tally;
 #[cfg(test)]
 mod tests;
+#[cfg(test)]
+mod waiting;

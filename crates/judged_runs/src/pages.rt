@@ -30,7 +30,8 @@ fn are_same_items(a: &Items, b: &Items) -> bool {
     }
 }
 
-fn is_same(a: &Page, b: &Page) -> bool {
+/// Whether they are the same.
+pub fn is_same(a: &Page, b: &Page) -> bool {
     a.block == b.block
         && a.level == b.level
         && a.state == b.state
@@ -38,6 +39,8 @@ fn is_same(a: &Page, b: &Page) -> bool {
         && a.left == b.left
         && a.right == b.right
         && a.high == b.high
+        && a.cycle == b.cycle
+        && a.deletion == b.deletion
         && are_same_items(&a.items, &b.items)
 }
 
@@ -81,6 +84,19 @@ pub fn contents(alloc: Global, pages: &[Page]) -> Result<Vec<Entry>, AllocError>
     let mut found = Vec::new(alloc);
     for page in pages {
         found.extend_from_slice(entries_of(page))?;
+    }
+    Ok(found)
+}
+
+/// The entries that stood on the live leaves of the first pages and don't stand on those of the second.
+pub fn lost(alloc: Global, old: &[Page], new: &[Page]) -> Result<Vec<Entry>, AllocError> {
+    let mut found = Vec::new(alloc);
+    for page in old {
+        for entry in entries_of(page) {
+            if !is_on(new, entry) {
+                found.push(*entry)?;
+            }
+        }
     }
     Ok(found)
 }

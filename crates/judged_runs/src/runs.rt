@@ -1,29 +1,16 @@
 //! Runs of a world that a judge hears.
 
+use crate::dead::Blocks;
 use crate::dice::{Dice, Space};
 use crate::judge::Judge;
 use crate::pages::{are_kept, contents, copies};
 use crate::tally::Tally;
-use index_model::{DeadRows, Fault, Limits, Range, RowAddr};
+use index_model::{Fault, Limits, Range};
 use page_action::PageStore;
 use schedule::Event;
 use session_calls::Answer;
 use std::alloc::{AllocError, Global};
 use world::World;
-
-/// A set without rows.
-#[derive(Drop)]
-pub struct NoRows {}
-
-impl DeadRows for NoRows {
-    ghost use Rattle.std.specs.Prelude.{false};
-
-    ghost is_in = { λ rows row. false };
-
-    fn is_dead(&self, _row: RowAddr) -> bool {
-        false
-    }
-}
 
 /// What stays the same in a run.
 #[derive(Clone, Copy)]
@@ -41,10 +28,10 @@ pub struct Outcome {
 }
 
 /// A judge of a world without calls that has made no action.
-pub fn judge_of<S: PageStore>(run: Run, world: &mut World<S, NoRows>) -> Result<Judge, AllocError> {
+pub fn judge_of<S: PageStore>(run: Run, world: &mut World<S, Blocks>) -> Result<Judge, AllocError> {
     let pages = copies(run.alloc, world)?;
     let start = contents(run.alloc, &pages)?;
-    Judge::new(run.alloc, pages, start, run.space.sessions)
+    Judge::new(run.alloc, run.space, pages, start)
 }
 
 /// The session that an event names.
@@ -52,17 +39,18 @@ fn session_of(event: &Event) -> u32 {
     match event {
         Event::Insert(session, _)
         | Event::Scan(session, _)
+        | Event::Bulk(session, _)
         | Event::Step(session)
         | Event::Next(session)
         | Event::End(session) => *session,
-        Event::Force | Event::Checkpoint => u32::MAX,
+        Event::Force | Event::Flush | Event::Checkpoint => u32::MAX,
     }
 }
 
 /// Keeps the action that the session's call just made: whether it is right.
 fn acts<S: PageStore>(
     alloc: Global,
-    world: &mut World<S, NoRows>,
+    world: &mut World<S, Blocks>,
     judge: &mut Judge,
     session: u32,
 ) -> Result<bool, AllocError> {
@@ -81,7 +69,7 @@ fn is_full_of(answer: &Answer) -> Option<Fault> {
 }
 
 /// Whether what the answer calls full is full: each block is used, or the log has no room for the four images of an act.
-fn is_full<S: PageStore>(world: &World<S, NoRows>, limits: Limits, answer: &Answer) -> bool {
+fn is_full<S: PageStore>(world: &World<S, Blocks>, limits: Limits, answer: &Answer) -> bool {
     match is_full_of(answer) {
         Some(Fault::IndexFull) => world.used() == limits.pages,
         Some(Fault::LogFull) => world.room() <= 4,
@@ -90,14 +78,14 @@ fn is_full<S: PageStore>(world: &World<S, NoRows>, limits: Limits, answer: &Answ
 }
 
 /// Whether the same sessions run calls.
-fn are_running<S: PageStore>(world: &World<S, NoRows>, judge: &Judge, sessions: u32) -> bool {
+fn are_running<S: PageStore>(world: &World<S, Blocks>, judge: &Judge, sessions: u32) -> bool {
     (0..sessions).all(|session| world.is_running(session) == judge.is_running(session))
 }
 
 /// Does one event: its answer, or None where that is wrong, or what it has done.
 fn one<S: PageStore>(
     run: Run,
-    world: &mut World<S, NoRows>,
+    world: &mut World<S, Blocks>,
     judge: &mut Judge,
     event: Event,
 ) -> Result<Option<Answer>, AllocError> {
@@ -119,7 +107,7 @@ fn one<S: PageStore>(
 /// So many random events: whether all are right.
 pub fn are_right<S: PageStore>(
     run: Run,
-    world: &mut World<S, NoRows>,
+    world: &mut World<S, Blocks>,
     judge: &mut Judge,
     dice: &mut Dice,
     events: u32,
@@ -136,7 +124,7 @@ pub fn are_right<S: PageStore>(
 /// Takes what the call of session 0 has ready, and makes a step of it: whether both are right, and nothing blocks it.
 fn goes_on<S: PageStore>(
     run: Run,
-    world: &mut World<S, NoRows>,
+    world: &mut World<S, Blocks>,
     judge: &mut Judge,
 ) -> Result<bool, AllocError> {
     for _ in 0..50 {
@@ -156,7 +144,7 @@ fn goes_on<S: PageStore>(
 /// blocks it.
 fn runs_alone<S: PageStore>(
     run: Run,
-    world: &mut World<S, NoRows>,
+    world: &mut World<S, Blocks>,
     judge: &mut Judge,
     event: Event,
 ) -> Result<bool, AllocError> {
@@ -177,7 +165,7 @@ fn runs_alone<S: PageStore>(
 /// Gives each call up: whether that is right.
 fn gives_all_up<S: PageStore>(
     run: Run,
-    world: &mut World<S, NoRows>,
+    world: &mut World<S, Blocks>,
     judge: &mut Judge,
 ) -> Result<bool, AllocError> {
     for session in 0..run.space.sessions {
@@ -188,11 +176,11 @@ fn gives_all_up<S: PageStore>(
     Ok(true)
 }
 
-/// Gives each call up, and then inserts some entries and scans all, alone: whether that is right, nothing blocks it, and
-/// the scan gives exactly the contents.
+/// Gives each call up, and then inserts some entries, deletes those of one row and scans all, alone: whether that is right,
+/// nothing blocks it, the delete tells how many entries are left, and the scan gives exactly the contents.
 pub fn ends_right<S: PageStore>(
     run: Run,
-    world: &mut World<S, NoRows>,
+    world: &mut World<S, Blocks>,
     judge: &mut Judge,
     dice: &mut Dice,
 ) -> Result<bool, AllocError> {
@@ -210,7 +198,9 @@ pub fn ends_right<S: PageStore>(
         below: None,
     };
     Ok(
-        runs_alone(run, world, judge, Event::Scan(0, all))?
+        runs_alone(run, world, judge, Event::Bulk(0, 0))?
+            && judge.tells_all()
+            && runs_alone(run, world, judge, Event::Scan(0, all))?
             && judge.are_contents(judge.last_given(), judge.actions()),
     )
 }

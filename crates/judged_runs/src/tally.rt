@@ -16,8 +16,14 @@ pub struct Tally {
     pub met: u32,
     /// Inserts that say that their split is left unfinished.
     pub unfinished: u32,
+    /// Actions that remove entries.
+    pub removes: u32,
+    /// Bulk deletes that have finished.
+    pub deletes: u32,
     /// Scans that gave all.
     pub scans: u32,
+    /// Pages written by a flush.
+    pub flushed: u32,
     /// Calls given up.
     pub given_up: u32,
     /// Refusals with `Blocked`.
@@ -59,6 +65,8 @@ impl Tally {
                 ..
             } => count(&mut self.unfinished),
             Answer::Done => count(&mut self.scans),
+            Answer::Finished(_) => count(&mut self.deletes),
+            Answer::Flushed(Some(_)) => count(&mut self.flushed),
             Answer::Ended => count(&mut self.given_up),
             _ => {}
         }
@@ -89,6 +97,11 @@ impl Tally {
         }
     }
 
+    /// Counts an action that removes entries.
+    pub fn remove(&mut self) {
+        count(&mut self.removes);
+    }
+
     /// Marks the level of a root.
     pub fn reach(&mut self, level: u8) {
         self.level = self.level.max(level);
@@ -117,7 +130,10 @@ impl Tally {
         self.shapes = self.shapes.saturating_add(other.shapes);
         self.met = self.met.saturating_add(other.met);
         self.unfinished = self.unfinished.saturating_add(other.unfinished);
+        self.removes = self.removes.saturating_add(other.removes);
+        self.deletes = self.deletes.saturating_add(other.deletes);
         self.scans = self.scans.saturating_add(other.scans);
+        self.flushed = self.flushed.saturating_add(other.flushed);
         self.given_up = self.given_up.saturating_add(other.given_up);
         self.blocked = self.blocked.saturating_add(other.blocked);
         self.exists = self.exists.saturating_add(other.exists);

@@ -1,6 +1,7 @@
 use crate::crashes::crashed;
+use crate::dead::{Blocks, sets_of};
 use crate::dice::{Dice, Space};
-use crate::runs::{NoRows, Outcome, Run, are_right, ends_right, judge_of};
+use crate::runs::{Outcome, Run, are_right, ends_right, judge_of};
 use crate::tally::Tally;
 use arrayvec::ArrayVec;
 use index_model::{Fault, Limits};
@@ -26,11 +27,16 @@ fn page(block: u32, right: Option<u32>, items: Items) -> Page {
 }
 
 /// An empty index in memory: the metapage, and an empty leaf as the root.
-fn in_memory(run: Run) -> Result<World<MapStore, NoRows>, Fault> {
+fn in_memory(run: Run) -> Result<World<MapStore, Blocks>, Fault> {
     let mut store = MapStore::new(run.alloc, run.limits)?;
     store.add(page(0, Some(1), Items::Meta))?;
     store.add(page(1, None, Items::Entries(ArrayVec::new())))?;
-    match World::new(run.alloc, store, run.space.sessions, Vec::new(run.alloc)) {
+    match World::new(
+        run.alloc,
+        store,
+        run.space.sessions,
+        sets_of(run.alloc, run.space)?,
+    ) {
         Ok(world) => Ok(world),
         Err(not_made) => Err(not_made.fault),
     }
@@ -40,6 +46,7 @@ fn in_memory(run: Run) -> Result<World<MapStore, NoRows>, Fault> {
 fn ran(run: Run, seed: u64, events: u32) -> Result<Outcome, Fail> {
     let mut world = in_memory(run)?;
     let mut judge = judge_of(run, &mut world)?;
+    judge.expects_no_writes();
     let mut dice = Dice::new(seed);
     let is_right = are_right(run, &mut world, &mut judge, &mut dice, events)?
         && ends_right(run, &mut world, &mut judge, &mut dice)?;
@@ -63,6 +70,7 @@ fn roomy(alloc: Global, sessions: u32, items: u32) -> Run {
             keys: 24,
             rows: 4,
             forces: 1,
+            deletes: true,
         },
     }
 }
@@ -81,6 +89,7 @@ fn high(alloc: Global, sessions: u32) -> Run {
             keys: 60,
             rows: 5,
             forces: 1,
+            deletes: false,
         },
     }
 }
@@ -99,6 +108,7 @@ fn narrow(alloc: Global, sessions: u32, pages: u32) -> Run {
             keys: 24,
             rows: 4,
             forces: 9,
+            deletes: true,
         },
     }
 }
@@ -133,7 +143,11 @@ fn trees_in_memory(rt: HostRuntime) -> Result<(), Fail> {
     }
     assert!(rt; total.index_full == 0 && total.log_full == 0, "{total:?}");
     assert!(rt;
-        total.met >= 300 && total.exists >= 500 && total.blocked >= 5_000,
+        total.met >= 300
+            && total.exists >= 500
+            && total.blocked >= 5_000
+            && total.deletes >= 100
+            && total.removes >= 300,
         "{total:?}"
     );
     Ok(())
@@ -170,7 +184,7 @@ fn trees_crash(rt: HostRuntime) -> Result<(), Fail> {
     }
     assert!(rt; total.level >= 3, "{total:?}");
     assert!(rt;
-        total.losing >= 60 && total.half_done >= 100 && total.opening >= 20,
+        total.losing >= 60 && total.half_done >= 50 && total.opening >= 20 && total.flushed >= 300,
         "{total:?}"
     );
     Ok(())

@@ -3,7 +3,7 @@ use Rattle.std.proofs.Common.{◌≡◌, ◌≢◌, ℕ, zero, suc, ◌<◌, ◌
 use Rattle.std.specs.Prelude.{unwrap_or}
 use Rattle.std.proofs.lemmas.List.{append-nil, append_cancel_left}
 use Rattle.std.proofs.lemmas.Option.{slice_get_read}
-use Rattle.std.proofs.lemmas.Bool.{cases_eq}
+use Rattle.std.proofs.lemmas.Bool.{cases_eq, ltb-true}
 use Rattle.index_model.specs.Actions.{Effect, Action}
 use Rattle.index_model.specs.Calls.{Call, Meets, IsOwned}
 use Rattle.index_model.specs.Faults.{Circumstances, HasCause}
@@ -11,27 +11,34 @@ use Rattle.index_model.specs.declared.entry.Entry.{Entry}
 use Rattle.index_model.specs.declared.fault.Fault.{Fault}
 use Rattle.index_model.specs.declared.fault.Fault.TheVariants.{Stopped, NoSession, SessionBusy}
 use Rattle.page_action.specs.Causes.{where_forced}
-use Rattle.page_action.specs.States.{State, IsLater, after_begin}
+use Rattle.page_action.specs.States.{State, IsLater}
 use Rattle.page_action.specs.declared.page_store.PageStore.{Ghosts}
 use Rattle.descent.specs.Shared.{OthersRely}
 use Rattle.session_calls.specs.Due.{IsDueIn, HasSteps}
-use Rattle.session_calls.specs.Ops.{asked_by, IsCaused}
-use Rattle.session_calls.specs.Sessions.{Matches, OpRuns, CallFits, SlotFits, IsIdle, acts_of, begun_call, SessionGoes, SessionBegins, OnlyOwnAreFlagged}
+use Rattle.session_calls.specs.Ops.{DeadSets, asked_by, op_before, asks_vacuum, is_vacuum, is_vacuuming, IsOfSets, IsCaused}
+use Rattle.session_calls.specs.Sessions.{Matches, OpRuns, CallFits, SlotFits, IsIdle, acts_of, begun_call, after_request, SessionGoes, SessionBegins, OnlyOwnAreFlagged}
+use Rattle.session_calls.specs.Sweeps.{OpSweeps}
 use Rattle.session_calls.specs.declared.answer.Answer.{Answer}
-use Rattle.session_calls.specs.declared.answer.Answer.TheVariants.{Begun, Refused}
+use Rattle.session_calls.specs.declared.answer.Answer.TheVariants.{Begun, Forced, Flushed, Checkpointed, Refused}
 use Rattle.session_calls.specs.declared.op.Op.{Op}
+use Rattle.session_calls.specs.declared.op.Op.TheVariants.{Insert, Scan, Bulk}
 use Rattle.session_calls.specs.declared.request.Request.{Request}
+use Rattle.session_calls.specs.declared.request.Request.TheVariants.{Insert as ToInsert, Scan as ToScan, Bulk as ToBulk}
+use Rattle.tree_acts.specs.Leaves.{LeavesStay}
 use Rattle.session_calls.proofs.Counting.{due_still}
 use Rattle.session_calls.proofs.Meeting.{grown}
+use Rattle.session_calls.proofs.Sweeping.{sweeps_undisturbed}
 use Rattle.session_calls.proofs.Telling.{told_same}
 use Rattle.session_calls.proofs.Undisturbed.{undisturbed, idle_undisturbed}
-use Rattle.schedule.specs.Snapshots.{Snapshot, here_at, slot_of, IsRunningCall, SlotRuns, IsFree, SlotMatches, Fits, slot_has_call, has_call}
-use Rattle.schedule.specs.Events.{Move, Steps, Takes, GivesUp, Upkeep, Forces, Checkpoints, Kind, BeginsCall, MovesCall, KeepsStore, IsOfSession, Stays, kept_answer, MovesOn, MayBegin, session_to_begin, where_begun_at, where_moving, Happens, where_happening, OthersStay, session_at, EventAlways, CountsSteps, KeepsFlags, LeavesBe, IsDurable, EventDoes}
+use Rattle.schedule.specs.Snapshots.{Snapshot, here_at, slot_of, IsRunningCall, SlotRuns, IsFree, SlotMatches, slot_vacuums, OneVacuums, Fits, slot_has_call, has_call}
+use Rattle.schedule.specs.Events.{Move, Steps, Takes, GivesUp, Upkeep, Forces, Flushes, Checkpoints, UpkeepIsTold, AllAreDurable, Kind, BeginsCall, MovesCall, KeepsStore, IsOfSession, Stays, kept_answer, MovesOn, MayBegin, is_of_sets, session_to_begin, where_begun_at, where_moving, Happens, where_happening, OthersStay, session_at, EventAlways, CountsSteps, KeepsFlags, WaitsForPins, CountsOnEntries, LeavesBe, IsDurable, EventDoes}
 use Rattle.schedule.specs.Runs.{EventRuns}
-use Rattle.schedule.proofs.Frames.{goes_fits}
+use Rattle.schedule.proofs.Frames.{began_within, slot_is, goes_fits}
 use Rattle.schedule.proofs.Keeping.{no_growth}
+use Rattle.schedule.proofs.Leaves.{leaf_same, leaf_stays}
 use Rattle.schedule.proofs.Lists.{get_set_same, get_set_other, length_set, get_within, get_append_some, get_append_new, get_append_cases, same_some}
 use Rattle.schedule.proofs.Owners.{told_durable, acts_few}
+use Rattle.schedule.proofs.Vacuums.{before_vacuum, none_runs, vacuums_still, vacuums_begin}
 
 true_false : true ≡ false → ⊥
 true_false h = cc
@@ -86,7 +93,7 @@ others_stay_set slots session slot s same other apart = get_set_other slots sess
 -- the running call of a session fits
 pub call_fits : {S : Type 0} (g : Ghosts S) (start : Entry → Bool) (old : Snapshot S) (session : ℕ) (op : Op) → Fits g start old
     → (runs : SlotRuns g start old session op) → CallFits (g.state old.store) old.sets start old.history runs.number runs.call op
-call_fits g start old session op fits runs = record { world = fits.matches; running = runs.is.running; meets = fits.meets runs.number runs.call runs.is.found; runs = runs.runs }
+call_fits g start old session op fits runs = record { world = fits.matches; running = runs.is.running; meets = fits.meets runs.number runs.call runs.is.found; runs = runs.runs; sweeps = runs.sweeps }
 
 -- nothing that a moment shows is changed but the log and the device
 pub fits_still : {S : Type 0} (g : Ghosts S) (start : Entry → Bool) (old : Snapshot S) (store : S) → g.state store ≡ g.state old.store → Fits g start old
@@ -94,6 +101,7 @@ pub fits_still : {S : Type 0} (g : Ghosts S) (start : Entry → Bool) (old : Sna
 fits_still {S} g start old store same fits = record {
   matches = subst (λ (st : State). Matches st start old.history) (sym same) fits.matches;
   running = λ u o h. slot_still u o (fits.running u o h);
+  vacuums = subst (λ (st : State). OneVacuums st old.slots) (sym same) fits.vacuums;
   beyond = λ u far. subst (λ (st : State). IsIdle st u) (sym same) (fits.beyond u far);
   known = fits.known;
   meets = fits.meets;
@@ -102,7 +110,14 @@ fits_still {S} g start old store same fits = record {
   where
     slot_still : (u : ℕ) (o : Option Op) → SlotMatches g start old u o → SlotMatches g start (record { store = store; slots = old.slots; sets = old.sets; history = old.history; calls = old.calls }) u o
     slot_still u None h = record { none = h.none; idle = subst (λ (st : State). IsIdle st u) (sym same) h.idle }
-    slot_still u (Some op) h = record { number = h.number; call = h.call; is = h.is; only = h.only; runs = subst (λ (st : State). OpRuns st old.sets start old.history h.call op) (sym same) h.runs }
+    slot_still u (Some op) h = record {
+      number = h.number;
+      call = h.call;
+      is = h.is;
+      only = h.only;
+      runs = subst (λ (st : State). OpRuns st old.sets start old.history h.call op) (sym same) h.runs;
+      sweeps = subst (λ (st : State). OpSweeps st old.sets start old.history h.number h.call.began op) (sym same) h.sweeps;
+    }
 
 -- a move of a running call
 module _ {S : Type 0} (g : Ghosts S) (start : Entry → Bool) (old : Snapshot S) (store : S) (session : ℕ) (op : Op) (slot : Option Op) (move : Move) (at : Circumstances) (answer : Answer)
@@ -111,7 +126,8 @@ module _ {S : Type 0} (g : Ghosts S) (start : Entry → Bool) (old : Snapshot S)
     (where_is : where_moving g old.sets old.store store move (Some (Some op)) ≡ at)
     (always : EventAlways g (MovesCall session move) answer (here_at old) (record { store = store; slots = slice_set old.slots session slot; sets = old.sets }))
     (counts : (start' : Entry → Bool) (l : List Action) (n : ℕ) (c : Call) → SlotFits (g.state old.store) old.sets start' l n c (Some op) → CountsSteps (MovesCall session move) answer (g.state old.store) (g.state store) (Some op) slot)
-    (flagged : (start' : Entry → Bool) (l : List Action) (n : ℕ) (c : Call) → SlotFits (g.state old.store) old.sets start' l n c (Some op) → KeepsFlags (MovesCall session move) answer (g.state old.store) (g.state store) (Some op) slot) where
+    (flagged : (start' : Entry → Bool) (l : List Action) (n : ℕ) (c : Call) → SlotFits (g.state old.store) old.sets start' l n c (Some op) → KeepsFlags (MovesCall session move) answer (g.state old.store) (g.state store) (Some op) slot)
+    (waits : WaitsForPins (MovesCall session move) answer (g.state old.store) (Some op) slot) (entries : CountsOnEntries (MovesCall session move) old.sets answer (g.state old.store) (g.state store) (Some op) slot) where
   runs : SlotRuns g start old session op
   runs = fits.running session (Some op) found
 
@@ -131,7 +147,7 @@ module _ {S : Type 0} (g : Ghosts S) (start : Entry → Bool) (old : Snapshot S)
   unfolding new
   new_fits = goes_fits g start old store session one.after one.effect op slot fits found runs
       (told_same (old.history ++ acts_of runs.number one.effect) (length old.history) one.effect runs.call one.after runs.is.running (grown old.history runs.number one.effect) answer one.told)
-      one.asked others one.world one.meets one.holds
+      one.asked others one.world one.meets one.holds one.cycle one.leaves one.sweeps
 
   no_effect : (effect : Option Effect) → old.history ++ acts_of runs.number effect ≡ old.history → effect ≡ None
   no_effect None same = refl
@@ -158,6 +174,9 @@ module _ {S : Type 0} (g : Ghosts S) (start : Entry → Bool) (old : Snapshot S)
     caused = subst (λ (o : Option (Option Op)). IsCaused (where_moving g old.sets old.store store move o) answer) (sym found) (subst (λ (x : Circumstances). IsCaused x answer) (sym where_is) one.caused);
     counts = at_slots old.slots session (Some op) slot (λ x y. CountsSteps (MovesCall session move) answer (g.state old.store) (g.state store) x y) found (counts start old.history runs.number runs.call fit);
     flagged = at_slots old.slots session (Some op) slot (λ x y. KeepsFlags (MovesCall session move) answer (g.state old.store) (g.state store) x y) found (flagged start old.history runs.number runs.call fit);
+    waits = at_slots old.slots session (Some op) slot (λ x y. WaitsForPins (MovesCall session move) answer (g.state old.store) x y) found waits;
+    entries = at_slots old.slots session (Some op) slot (λ x y. CountsOnEntries (MovesCall session move) old.sets answer (g.state old.store) (g.state store) x y) found entries;
+    leaves = λ other block page apart there pinned. leaf_stays at (g.state old.store) (g.state store) old.sets start old.history runs.number runs.call op slot answer one runs.runs.ask runs.runs.added runs.is.running block page there;
     quiet = leaves_be g (MovesCall session move) old new one.limits one.frames (λ same. one.pages (no_effect one.effect same)) (others_stay_set old.slots session slot);
     durable = told_durable answer (g.backing store).durable (length old.history) one.effect runs.call one.after one.told;
     sets = refl;
@@ -195,6 +214,20 @@ module _ {S : Type 0} (g : Ghosts S) (start : Entry → Bool) (old : Snapshot S)
   flags_stay (MovesCall session GivesUp) before = tt
   flags_stay (KeepsStore upkeep) before = tt
 
+  waits_stay : (kind : Kind) (before : Option Op) → ((session : ℕ) → kind ≡ MovesCall session Steps → before ≡ None) → WaitsForPins kind (Refused fault) (g.state old.store) before before
+  waits_stay (BeginsCall session request) before idle = tt
+  waits_stay (MovesCall session Steps) before idle = subst (λ (o : Option Op). WaitsForPins (MovesCall session Steps) (Refused fault) (g.state old.store) o o) (sym (idle session refl)) tt
+  waits_stay (MovesCall session Takes) before idle = tt
+  waits_stay (MovesCall session GivesUp) before idle = tt
+  waits_stay (KeepsStore upkeep) before idle = tt
+
+  entries_stay : (kind : Kind) (before : Option Op) → ((session : ℕ) → kind ≡ MovesCall session Steps → before ≡ None) → CountsOnEntries kind old.sets (Refused fault) (g.state old.store) (g.state store) before before
+  entries_stay (BeginsCall session request) before idle = tt
+  entries_stay (MovesCall session Steps) before idle = subst (λ (o : Option Op). CountsOnEntries (MovesCall session Steps) old.sets (Refused fault) (g.state old.store) (g.state store) o o) (sym (idle session refl)) tt
+  entries_stay (MovesCall session Takes) before idle = tt
+  entries_stay (MovesCall session GivesUp) before idle = tt
+  entries_stay (KeepsStore upkeep) before idle = tt
+
   stay_with : (kind : Kind) → Happens g start kind (Refused fault) old then_now → EventAlways g kind (Refused fault) (here_at old) (here_at then_now) → IsCaused (where_happening g kind (here_at old) (here_at then_now)) (Refused fault)
       → ((session : ℕ) → kind ≡ MovesCall session Steps → slot_of old.slots (session_at kind) ≡ None)
       → EventDoes g start kind (Refused fault) old then_now
@@ -205,6 +238,9 @@ module _ {S : Type 0} (g : Ghosts S) (start : Entry → Bool) (old : Snapshot S)
     caused = caused;
     counts = not_counted kind (slot_of old.slots (session_at kind)) idle;
     flagged = flags_stay kind (slot_of old.slots (session_at kind));
+    waits = waits_stay kind (slot_of old.slots (session_at kind)) idle;
+    entries = entries_stay kind (slot_of old.slots (session_at kind)) idle;
+    leaves = λ other block page apart there pinned. leaf_same (g.state old.store) (g.state store) (ap (λ (st : State). st.pages) same) block page there;
     quiet = stays_be g kind old then_now same refl;
     durable = tt;
     sets = refl;
@@ -225,18 +261,25 @@ module _ {S : Type 0} (g : Ghosts S) (start : Entry → Bool) (old : Snapshot S)
 -- what is done for the store
 module _ {S : Type 0} (g : Ghosts S) (start : Entry → Bool) (old : Snapshot S) (store : S) (upkeep : Upkeep) (fits : Fits g start old) (same : g.state store ≡ g.state old.store)
     (follows : g.follows old.store store) (later : IsLater (g.backing old.store) (g.backing store)) where
-  kept_durable : (u : Upkeep) (count durable : ℕ) → count ≤ durable → IsDurable durable (kept_answer u count)
-  kept_durable Forces count durable le = le
-  kept_durable Checkpoints count durable le = le
+  kept_durable : (u : Upkeep) (count durable : ℕ) (answer : Answer) → kept_answer u count ≡ Some answer → count ≤ durable → IsDurable durable answer
+  kept_durable Forces count durable answer is le = subst (λ (a : Answer). IsDurable durable a) (same_some (kept_answer Forces count) (Forced count) answer refl is) le
+  kept_durable Flushes count durable answer is le = absurd (let none : kept_answer Flushes count ≡ Some answer = is in cc)
+  kept_durable Checkpoints count durable answer is le = subst (λ (a : Answer). IsDurable durable a) (same_some (kept_answer Checkpoints count) (Checkpointed count) answer refl is) le
 
-  kept_caused : (u : Upkeep) (count : ℕ) (at : Circumstances) → IsCaused at (kept_answer u count)
-  kept_caused Forces count at = tt
-  kept_caused Checkpoints count at = tt
+  kept_caused : (u : Upkeep) (count : ℕ) (at : Circumstances) (answer : Answer) → kept_answer u count ≡ Some answer → IsCaused at answer
+  kept_caused Forces count at answer is = subst (λ (a : Answer). IsCaused at a) (same_some (kept_answer Forces count) (Forced count) answer refl is) tt
+  kept_caused Flushes count at answer is = absurd (let none : kept_answer Flushes count ≡ Some answer = is in cc)
+  kept_caused Checkpoints count at answer is = subst (λ (a : Answer). IsCaused at a) (same_some (kept_answer Checkpoints count) (Checkpointed count) answer refl is) tt
 
-  pub keeps_on_store : (count : ℕ) → count ≡ (g.state old.store).acts → (g.backing store).durable ≡ (g.state old.store).acts
-      → EventAlways g (KeepsStore upkeep) (kept_answer upkeep count) (here_at old) (record { store = store; slots = old.slots; sets = old.sets })
-      → EventRuns g (here_at old) (record { store = store; slots = old.slots; sets = old.sets }) (KeepsStore upkeep) (kept_answer upkeep count) start old.history old.calls
-  keeps_on_store count number durable always =
+  kept_told : (u : Upkeep) (count : ℕ) (answer : Answer) (new : Snapshot S) → kept_answer u count ≡ Some answer → AllAreDurable g u answer old new → UpkeepIsTold g u answer old new
+  kept_told Forces count answer new is all = all
+  kept_told Flushes count answer new is all = absurd (let none : kept_answer Flushes count ≡ Some answer = is in cc)
+  kept_told Checkpoints count answer new is all = all
+
+  pub keeps_on_store : (count : ℕ) (answer : Answer) → kept_answer upkeep count ≡ Some answer → count ≡ (g.state old.store).acts → (g.backing store).durable ≡ (g.state old.store).acts
+      → EventAlways g (KeepsStore upkeep) answer (here_at old) (record { store = store; slots = old.slots; sets = old.sets })
+      → EventRuns g (here_at old) (record { store = store; slots = old.slots; sets = old.sets }) (KeepsStore upkeep) answer start old.history old.calls
+  keeps_on_store count answer told number durable always =
       let then : Snapshot S = record { store = store; slots = old.slots; sets = old.sets; history = old.history; calls = old.calls } in
       record {
         then_history = old.history;
@@ -244,16 +287,21 @@ module _ {S : Type 0} (g : Ghosts S) (start : Entry → Bool) (old : Snapshot S)
         does = record {
           always = always;
           happens = inl (record {
-            told = ap (kept_answer upkeep) (number ∙ fits.matches.count);
-            durable = durable ∙ fits.matches.count;
+            tells = kept_told upkeep count answer then told (record {
+              told = sym (ap (kept_answer upkeep) (number ∙ fits.matches.count)) ∙ told;
+              durable = durable ∙ fits.matches.count;
+            });
             still = record { state_is = same; slots_is = refl; history_is = refl; calls_is = refl };
           });
           grows = no_growth old.history;
-          caused = kept_caused upkeep count (where_forced (g.backing old.store) (g.backing store));
+          caused = kept_caused upkeep count (where_forced (g.backing old.store) (g.backing store)) answer told;
           counts = tt;
           flagged = tt;
+          waits = tt;
+          entries = tt;
+          leaves = λ other block page apart there pinned. leaf_same (g.state old.store) (g.state store) (ap (λ (st : State). st.pages) same) block page there;
           quiet = stays_be g (KeepsStore upkeep) old then same refl;
-          durable = kept_durable upkeep count (g.backing store).durable (let n : count ≡ (g.state old.store).acts = number in let d : (g.backing store).durable ≡ (g.state old.store).acts = durable in omega arith);
+          durable = kept_durable upkeep count (g.backing store).durable answer told (let n : count ≡ (g.state old.store).acts = number in let d : (g.backing store).durable ≡ (g.state old.store).acts = durable in omega arith);
           sets = refl;
           follows = follows;
           later = later;
@@ -261,9 +309,56 @@ module _ {S : Type 0} (g : Ghosts S) (start : Entry → Bool) (old : Snapshot S)
         };
       }
 
+-- a changed page is written to its place
+pub flushes_on_store : {S : Type 0} (g : Ghosts S) (start : Entry → Bool) (old : Snapshot S) (store : S) (fits : Fits g start old) (same : g.state store ≡ g.state old.store)
+    (follows : g.follows old.store store) (later : IsLater (g.backing old.store) (g.backing store)) (block : Option ℕ) → block ≡ slice_get (g.backing old.store).changed 0
+    → EventAlways g (KeepsStore Flushes) (Flushed block) (here_at old) (record { store = store; slots = old.slots; sets = old.sets })
+    → EventRuns g (here_at old) (record { store = store; slots = old.slots; sets = old.sets }) (KeepsStore Flushes) (Flushed block) start old.history old.calls
+flushes_on_store {S} g start old store fits same follows later block first always =
+    let then : Snapshot S = record { store = store; slots = old.slots; sets = old.sets; history = old.history; calls = old.calls } in
+    record {
+      then_history = old.history;
+      then_calls = old.calls;
+      does = record {
+        always = always;
+        happens = inl (record { tells = ap Flushed first; still = record { state_is = same; slots_is = refl; history_is = refl; calls_is = refl } });
+        grows = no_growth old.history;
+        caused = tt;
+        counts = tt;
+        flagged = tt;
+        waits = tt;
+        entries = tt;
+        leaves = λ other block page apart there pinned. leaf_same (g.state old.store) (g.state store) (ap (λ (st : State). st.pages) same) block page there;
+        quiet = stays_be g (KeepsStore Flushes) old then same refl;
+        durable = tt;
+        sets = refl;
+        follows = follows;
+        later = later;
+        fits = fits_still g start old store same fits;
+      };
+    }
+
+-- a call that begins changes neither pages nor limits
+pub request_pages : (v : Bool) (session : ℕ) (st : State) → (after_request v session st).pages ≡ st.pages
+request_pages true session st = refl
+request_pages false session st = refl
+
+pub request_limits : (v : Bool) (session : ℕ) (st : State) → (after_request v session st).limits ≡ st.limits
+request_limits true session st = refl
+request_limits false session st = refl
+
+pub request_frames : (v : Bool) (session : ℕ) (st : State) → (after_request v session st).frames ≡ st.frames
+request_frames true session st = refl
+request_frames false session st = refl
+
+pub request_acts : (v : Bool) (session : ℕ) (st : State) → (after_request v session st).acts ≡ st.acts
+request_acts true session st = refl
+request_acts false session st = refl
+
 -- a call is begun
 module _ {S : Type 0} (g : Ghosts S) (start : Entry → Bool) (old : Snapshot S) (store : S) (session : ℕ) (request : Request) (op : Op)
-    (fits : Fits g start old) (free : slice_get old.slots session ≡ Some None) (begins : SessionBegins (g.state old.store) (g.state store) old.sets start old.history (length old.calls) session request (Some op)) where
+    (fits : Fits g start old) (free : slice_get old.slots session ≡ Some None) (begins : SessionBegins (g.state old.store) (g.state store) old.sets start old.history (length old.calls) session request (Some op))
+    (named : IsOfSets old.sets request) (alone : asks_vacuum request ≡ true → is_vacuuming (g.state old.store) ≡ false) (fresh : op ≡ op_before session request) where
   abbrev call : Call
   call = begun_call session (asked_by old.sets request) (length old.history)
 
@@ -277,18 +372,55 @@ module _ {S : Type 0} (g : Ghosts S) (start : Entry → Bool) (old : Snapshot S)
     | inr b ↦ inr (b.0, sym r.session_is ∙ ap (λ (x : Call). x.session) b.1)
   ]
 
-  begun_slot : (u : ℕ) (o : Option Op) → u ≢ session → SlotMatches g start old u o → SlotMatches g start begun u o
-  begun_slot u None ne h = record {
+  within_slots : session < length old.slots
+  within_slots = get_within old.slots session None free
+
+  -- it is a bulk delete exactly where one was asked for
+  vacuum_is : is_vacuum op ≡ asks_vacuum request
+  vacuum_is = ap is_vacuum fresh ∙ before_vacuum session request
+
+  -- where a bulk delete runs, none begins, and leaves stay
+  stay_for : (u : ℕ) → slot_vacuums (slot_of old.slots u) ≡ true → LeavesStay None (g.state old.store) (g.state store)
+  stay_for u theirs_runs = by (asks_vacuum request) refl
+    where
+      by : (b : Bool) → asks_vacuum request ≡ b → LeavesStay None (g.state old.store) (g.state store)
+      by true is = absurd (none_runs (g.state old.store) old.slots fits.vacuums (alone is) u theirs_runs)
+      by false is = begins.leaves (begins.cycle is)
+
+  sweep_theirs : (u : ℕ) (other : Op) (number began : ℕ) → slot_of old.slots u ≡ Some other → began ≤ length old.history
+      → OpSweeps (g.state old.store) old.sets start old.history number began other → OpSweeps (g.state store) old.sets start old.history number began other
+  sweep_theirs u (Insert x) number began is within h = tt
+  sweep_theirs u (Scan x) number began is within h = tt
+  sweep_theirs u (Bulk set x) number began is within h =
+      subst (λ (l : List Action). OpSweeps (g.state store) old.sets start l number began (Bulk set x)) (append-nil old.history)
+      (sweeps_undisturbed (g.state old.store) (g.state store) old.sets start old.history number (suc number) began None (Bulk set x) (stay_for u (ap slot_vacuums is)) (λ e. absurd (let n : suc number ≡ number = e in omega arith)) within h)
+
+  -- what a bulk delete has to remove that begins: a cycle number is given for it
+  given_cycle : (o : Op) → is_vacuum o ≡ true → OpSweeps (g.state store) old.sets start old.history (length old.calls) (length old.history) o → is_vacuuming (g.state store) ≡ true
+  given_cycle (Insert x) is h = absurd (true_false (sym is))
+  given_cycle (Scan x) is h = absurd (true_false (sym is))
+  given_cycle (Bulk set x) is h = h.1.runs
+
+  begun_vacuums : OneVacuums (g.state store) (slice_set old.slots session (Some op))
+  begun_vacuums = by (asks_vacuum request) refl
+    where
+      by : (b : Bool) → asks_vacuum request ≡ b → OneVacuums (g.state store) (slice_set old.slots session (Some op))
+      by true is = vacuums_begin (g.state old.store) (g.state store) old.slots session (Some op) within_slots (vacuum_is ∙ is) (alone is) (given_cycle op (vacuum_is ∙ is) (begins.sweeps named)) fits.vacuums
+      by false is = vacuums_still (g.state old.store) (g.state store) old.slots session (Some op) within_slots (vacuum_is ∙ is ∙ sym (ap slot_vacuums (slot_is old.slots session None free))) (begins.cycle is) fits.vacuums
+
+  begun_slot : (u : ℕ) (o : Option Op) → u ≢ session → slice_get old.slots u ≡ Some o → SlotMatches g start old u o → SlotMatches g start begun u o
+  begun_slot u None ne in_slot h = record {
     none = λ j c r. elim (old_or_new u j c r) [ inl a ↦ h.none j c a | inr b ↦ ne b.1 ];
     idle = idle_undisturbed (g.state old.store) (g.state store) u (begins.others u ne) h.idle;
   }
-  begun_slot u (Some other) ne h = record {
+  begun_slot u (Some other) ne in_slot h = record {
     number = h.number;
     call = h.call;
     is = record { found = get_append_some old.calls (call ∷ []) h.number h.call h.is.found; session_is = h.is.session_is; running = h.is.running };
     only = λ j c r. elim (old_or_new u j c r) [ inl a ↦ h.only j c a | inr b ↦ absurd (ne b.1) ];
     runs = subst (λ (l : List Action). OpRuns (g.state store) old.sets start l h.call other) (append-nil old.history)
         (undisturbed (g.state old.store) (g.state store) old.sets start old.history [] h.call other (begins.others h.call.session (λ e. ne (sym h.is.session_is ∙ e))) h.runs);
+    sweeps = sweep_theirs u other h.number h.call.began (slot_is old.slots u (Some other) in_slot) (began_within g start old u h.number h.call fits h.is) h.sweeps;
   }
 
   begun_fits : Fits g start begun
@@ -307,9 +439,11 @@ module _ {S : Type 0} (g : Ghosts S) (start : Entry → Bool) (old : Snapshot S)
                 is = record { found = get_append_new old.calls call; session_is = refl; running = refl };
                 only = λ j c r. elim (old_or_new session j c r) [ inl a ↦ absurd (was_free.none j c a) | inr b ↦ b.0 ];
                 runs = begins.holds.1;
+                sweeps = begins.sweeps named;
               })))
-          | inr n ↦ begun_slot u o n (fits.running u o (sym (get_set_other old.slots session u (Some op) n) ∙ h))
+          | inr n ↦ begun_slot u o n (sym (get_set_other old.slots session u (Some op) n) ∙ h) (fits.running u o (sym (get_set_other old.slots session u (Some op) n) ∙ h))
         ];
+        vacuums = begun_vacuums;
         beyond = λ u far. (
             let many : length (slice_set old.slots session (Some op)) ≡ length old.slots = length_set old.slots session (Some op) in
             let apart : u ≢ session = λ e. absurd (let x : u ≡ session = e in omega arith) in
@@ -327,7 +461,7 @@ module _ {S : Type 0} (g : Ghosts S) (start : Entry → Bool) (old : Snapshot S)
             record { call = was.call; found = get_append_some old.calls (call ∷ []) a.by was.call was.found; since = was.since; until = was.until; may = was.may });
       }
 
-  pub begins_on : g.state store ≡ after_begin session (g.state old.store) → g.follows old.store store → IsLater (g.backing old.store) (g.backing store) → HasSteps (g.state old.store) (g.state store) request (Some op)
+  pub begins_on : g.state store ≡ after_request (asks_vacuum request) session (g.state old.store) → g.follows old.store store → IsLater (g.backing old.store) (g.backing store) → HasSteps (g.state old.store) (g.state store) request (Some op)
       → EventAlways g (BeginsCall session request) Begun (here_at old) (record { store = store; slots = slice_set old.slots session (Some op); sets = old.sets })
       → EventRuns g (here_at old) (record { store = store; slots = slice_set old.slots session (Some op); sets = old.sets }) (BeginsCall session request) Begun start old.history old.calls
   begins_on state follows later counts always = record {
@@ -341,7 +475,11 @@ module _ {S : Type 0} (g : Ghosts S) (start : Entry → Bool) (old : Snapshot S)
       caused = tt;
       counts = λ told. subst (λ (x : Option Op). HasSteps (g.state old.store) (g.state store) request x) (sym (slot_set old.slots session (Some op) (get_within old.slots session None free))) counts;
       flagged = tt;
-      quiet = leaves_be g (BeginsCall session request) old begun (ap (λ (st : State). st.limits) state) (ap (λ (st : State). st.frames) state) (λ same. ap (λ (st : State). st.pages) state) (others_stay_set old.slots session (Some op));
+      waits = tt;
+      entries = tt;
+      leaves = λ other block page apart there pinned. leaf_same (g.state old.store) (g.state store) (ap (λ (st : State). st.pages) state ∙ request_pages (asks_vacuum request) session (g.state old.store)) block page there;
+      quiet = leaves_be g (BeginsCall session request) old begun (ap (λ (st : State). st.limits) state ∙ request_limits (asks_vacuum request) session (g.state old.store)) (ap (λ (st : State). st.frames) state ∙ request_frames (asks_vacuum request) session (g.state old.store))
+          (λ same. ap (λ (st : State). st.pages) state ∙ request_pages (asks_vacuum request) session (g.state old.store)) (others_stay_set old.slots session (Some op));
       durable = tt;
       sets = refl;
       follows = follows;
@@ -351,11 +489,18 @@ module _ {S : Type 0} (g : Ghosts S) (start : Entry → Bool) (old : Snapshot S)
   }
 
 -- the session that was found
-pub found : (is_stopped : Bool) (o : Option (Option Op)) (session known : ℕ) → Ok known ≡ session_to_begin is_stopped o session → (is_stopped ≡ false) × (o ≡ Some None) × (known ≡ session)
-found true o session known h = absurd cc
-found false None session known h = absurd cc
-found false (Some None) session known h = (refl, refl, cc)
-found false (Some (Some op)) session known h = absurd cc
+pub found : (is_stopped has_set : Bool) (o : Option (Option Op)) (session known : ℕ) → Ok known ≡ session_to_begin is_stopped has_set o session → (is_stopped ≡ false) × (has_set ≡ true) × (o ≡ Some None) × (known ≡ session)
+found true has_set o session known h = absurd cc
+found false has_set None session known h = absurd cc
+found false false (Some slot) session known h = absurd cc
+found false true (Some None) session known h = (refl, refl, refl, cc)
+found false true (Some (Some op)) session known h = absurd cc
+
+-- a set that is found is there
+pub named_of : (sets : DeadSets) (request : Request) → is_of_sets sets request ≡ true → IsOfSets sets request
+named_of sets (ToInsert e) h = tt
+named_of sets (ToScan range) h = tt
+named_of sets (ToBulk set) h = ltb-true set (length sets) h
 
 -- a refused beginning is one of these, whatever the session has
 pub not_begun : {S : Type 0} (g : Ghosts S) (o : Option (Option Op)) (session : ℕ) (request : Request) (answer : Answer) (old new : Snapshot S) → Stays g answer old new → MayBegin g o session request answer old new
@@ -364,17 +509,19 @@ not_begun g (Some None) session request answer old new h = inr h
 not_begun g (Some (Some op)) session request answer old new h = h
 
 -- a session that isn't found has its cause
-module _ {S : Type 0} (g : Ghosts S) (store : S) (session : ℕ) where
-  pub not_found_why : (is_stopped : Bool) (o : Option (Option Op)) (fault : Fault) → is_stopped ≡ (g.backing store).stopped → Err fault ≡ session_to_begin is_stopped o session → HasCause (where_begun_at g store o) fault
-  not_found_why true None fault same h = (let e : fault ≡ Stopped = cc in rw e (sym same))
-  not_found_why true (Some slot) fault same h = (let e : fault ≡ Stopped = cc in rw (e, ← same) refl)
-  not_found_why false None fault same h = (let e : fault ≡ NoSession = cc in rw e refl)
-  not_found_why false (Some None) fault same h = absurd cc
-  not_found_why false (Some (Some op)) fault same h = (let e : fault ≡ SessionBusy = cc in rw e refl)
+module _ {S : Type 0} (g : Ghosts S) (store : S) (vacuums : Bool) (sets : DeadSets) (request : Request) (session : ℕ) where
+  pub not_found_why : (is_stopped has_set : Bool) (o : Option (Option Op)) (fault : Fault) → is_stopped ≡ (g.backing store).stopped → has_set ≡ is_of_sets sets request → Err fault ≡ session_to_begin is_stopped has_set o session
+      → HasCause (where_begun_at g store vacuums sets request o) fault
+  not_found_why true has_set None fault same there h = (let e : fault ≡ Stopped = cc in rw e (sym same))
+  not_found_why true has_set (Some slot) fault same there h = (let e : fault ≡ Stopped = cc in rw (e, ← same) refl)
+  not_found_why false has_set None fault same there h = (let e : fault ≡ NoSession = cc in rw e refl)
+  not_found_why false false (Some slot) fault same there h = (let e : fault ≡ NoSession = cc in rw (e, ← there) refl)
+  not_found_why false true (Some None) fault same there h = absurd cc
+  not_found_why false true (Some (Some op)) fault same there h = (let e : fault ≡ SessionBusy = cc in rw e refl)
 
-pub not_found_first : (is_stopped : Bool) (o : Option (Option Op)) (session : ℕ) (fault : Fault) → Err fault ≡ session_to_begin is_stopped o session → is_stopped ≡ true → Refused fault ≡ Refused Stopped
-not_found_first true o session fault h is = (let e : fault ≡ Stopped = cc in ap Refused e)
-not_found_first false o session fault h is = absurd cc
+pub not_found_first : (is_stopped has_set : Bool) (o : Option (Option Op)) (session : ℕ) (fault : Fault) → Err fault ≡ session_to_begin is_stopped has_set o session → is_stopped ≡ true → Refused fault ≡ Refused Stopped
+not_found_first true has_set o session fault h is = (let e : fault ≡ Stopped = cc in ap Refused e)
+not_found_first false has_set o session fault h is = absurd cc
 
 pub set_same : (slots : List (Option Op)) (session : ℕ) (slot : Option Op) → slice_get slots session ≡ Some slot → slice_set slots session slot ≡ slots
 set_same [] session slot h = refl

@@ -1,5 +1,6 @@
 -- What an event of one session leaves the others: the frame of a running call's event, of a beginning and of a refusal.
-use Rattle.std.proofs.Common.{◌≡◌, ◌≢◌, ℕ, suc, ◌-◌, ◌<◌, ◌≤◌, Bool, Option, Some, None, List, ◌++◌, length, slice_get, slice_set, sym, ap, subst, arith, inl, inr, ◌∙◌, length-append}
+use Rattle.std.specs.Prelude.{unwrap_or}
+use Rattle.std.proofs.Common.{◌≡◌, ◌≢◌, ℕ, suc, ◌-◌, ◌<◌, ◌≤◌, Bool, true, false, refl, Option, Some, None, List, ◌++◌, length, slice_get, slice_set, sym, ap, subst, arith, inl, inr, ◌∙◌, length-append}
 use Rattle.std.proofs.lemmas.Bool.{cases_eq, cases_lt}
 use Rattle.index_model.specs.Actions.{Effect, Add, Remove, Shape, Action, contents_after, is_there_after}
 use Rattle.index_model.specs.Calls.{Ask, AskInsert, AskScan, AskBulkDelete, AskCleanup, Ending, Running, Added, Finished, Vacuumed, GivenUp, Failed, Call, Meets, MayAct, IsOwned, end_of}
@@ -7,13 +8,19 @@ use Rattle.index_model.specs.declared.entry.Entry.{Entry}
 use Rattle.index_model.proofs.Histories.{there_before, meets_later}
 use Rattle.page_action.specs.declared.page_store.PageStore.{Ghosts}
 use Rattle.descent.specs.Shared.{OthersRely}
-use Rattle.session_calls.specs.Sessions.{Matches, IsIdle, SlotIs, IsAsked, acts_of}
+use Rattle.tree_acts.specs.Leaves.{LeavesStay}
+use Rattle.session_calls.specs.Ops.{asked_of, is_vacuum}
+use Rattle.session_calls.specs.Sessions.{Matches, IsIdle, SlotIs, IsAsked, acts_of, cycle_behind}
+use Rattle.session_calls.specs.Sweeps.{OpSweeps, SlotSweeps}
 use Rattle.session_calls.specs.declared.op.Op.{Op}
+use Rattle.session_calls.specs.declared.op.Op.TheVariants.{Insert, Scan, Bulk}
+use Rattle.session_calls.proofs.Sweeping.{sweeps_undisturbed}
 use Rattle.session_calls.proofs.Telling.{IsSameCall}
 use Rattle.session_calls.proofs.Undisturbed.{undisturbed, idle_undisturbed}
-use Rattle.schedule.specs.Snapshots.{Snapshot, IsRunningCall, SlotRuns, SlotMatches, Fits}
+use Rattle.schedule.specs.Snapshots.{Snapshot, slot_of, IsRunningCall, SlotRuns, SlotMatches, slot_vacuums, Fits}
 use Rattle.schedule.proofs.Lists.{get_set_same, get_set_other, length_set, get_within, get_append, get_append_right, same_some}
 use Rattle.schedule.proofs.Owners.{add_stays, own_action}
+use Rattle.schedule.proofs.Vacuums.{vacuums_go, cycle_kept}
 
 -- what was there before actions that came later
 may_later : (start : Entry → Bool) (history acts : List Action) (before : ℕ) (effect : Effect) (ask : Ask) (added : Option ℕ) → before ≤ length history
@@ -57,12 +64,24 @@ until_of history acts (Vacuumed y) k n h = h
 until_of history acts GivenUp k n h = h
 until_of history acts (Failed f) k n h = h
 
+-- a running call began within the history
+pub began_within : {S : Type 0} (g : Ghosts S) (start : Entry → Bool) (now : Snapshot S) (session number : ℕ) (call : Call) → Fits g start now → IsRunningCall now.calls session number call → call.began ≤ length now.history
+began_within g start now session number call fits is =
+    let meets : call.began ≤ end_of now.history call.ending call.until = (fits.meets number call is.found).began in
+    subst (λ (x : Ending). call.began ≤ end_of now.history x call.until) is.running meets
+
+-- what a session runs, as its slot says
+pub slot_is : (slots : List (Option Op)) (session : ℕ) (slot : Option Op) → slice_get slots session ≡ Some slot → slot_of slots session ≡ slot
+slot_is slots session slot found = ap (λ (o : Option (Option Op)). unwrap_or o None) found
+
 module _ {S : Type 0} (g : Ghosts S) (start : Entry → Bool) (old : Snapshot S) (store : S) (session : ℕ) (after : Call) (effect : Option Effect) (op : Op) (slot : Option Op)
     (fits : Fits g start old) (at : slice_get old.slots session ≡ Some (Some op)) (runs : SlotRuns g start old session op)
     (same : IsSameCall (old.history ++ acts_of runs.number effect) (length old.history) effect runs.call after)
     (asked : IsAsked (contents_after start old.history) runs.call.ask runs.call.added effect)
     (others : OthersRely session (g.state old.store) (g.state store)) (world : Matches (g.state store) start (old.history ++ acts_of runs.number effect)) (meets : Meets start (old.history ++ acts_of runs.number effect) runs.number after)
-    (holds : SlotIs (g.state store) old.sets start (old.history ++ acts_of runs.number effect) after slot) where
+    (holds : SlotIs (g.state store) old.sets start (old.history ++ acts_of runs.number effect) after slot)
+    (cycle : (g.state store).cycle ≡ cycle_behind runs.call.ask slot (g.state old.store).cycle) (leaves : (g.state store).cycle ≡ (g.state old.store).cycle → LeavesStay effect (g.state old.store) (g.state store))
+    (sweeps : SlotSweeps (g.state store) old.sets start (old.history ++ acts_of runs.number effect) runs.number after.began slot) where
   abbrev acts : List Action
   acts = acts_of runs.number effect
 
@@ -92,24 +111,45 @@ module _ {S : Type 0} (g : Ghosts S) (start : Entry → Bool) (old : Snapshot S)
     | inr n ↦ record { found = sym (elsewhere j n) ∙ r.found; session_is = r.session_is; running = r.running }
   ]
 
-  slot_mine : (o : Option Op) → SlotIs (g.state store) old.sets start (old.history ++ acts) after o
+  slot_mine : (o : Option Op) → SlotIs (g.state store) old.sets start (old.history ++ acts) after o → SlotSweeps (g.state store) old.sets start (old.history ++ acts) runs.number after.began o
       → SlotMatches g start (record { store = store; slots = slice_set old.slots session slot; sets = old.sets; history = old.history ++ acts; calls = slice_set old.calls runs.number after }) session o
-  slot_mine None h = record {
+  slot_mine None h to_sweep = record {
     none = λ j c r. h.0 (subst (λ (x : Call). x.ending ≡ Running) (mine j c r).1 r.running);
     idle = subst (λ (u : ℕ). IsIdle (g.state store) u) session_is h.1;
   }
-  slot_mine (Some next) h = record {
+  slot_mine (Some next) h to_sweep = record {
     number = runs.number;
     call = after;
     is = record { found = here; session_is = session_is; running = h.0 };
     only = λ j c r. (mine j c r).0;
     runs = h.1;
+    sweeps = to_sweep;
   }
 
-  slot_theirs : (u : ℕ) (o : Option Op) → u ≢ session → SlotMatches g start old u o
+  -- the cycle number behind the event, by what the session runs
+  cycle_by : (g.state store).cycle ≡ cycle_behind (asked_of old.sets op) slot (g.state old.store).cycle
+  cycle_by = subst (λ (x : Ask). (g.state store).cycle ≡ cycle_behind x slot (g.state old.store).cycle) runs.runs.ask cycle
+
+  -- where another session runs a bulk delete, this one doesn't, and leaves stay
+  stay_for : (u : ℕ) → u ≢ session → slot_vacuums (slot_of old.slots u) ≡ true → LeavesStay effect (g.state old.store) (g.state store)
+  stay_for u ne theirs_runs = by (is_vacuum op) refl
+    where
+      by : (b : Bool) → is_vacuum op ≡ b → LeavesStay effect (g.state old.store) (g.state store)
+      by true is = absurd (ne (fits.vacuums.alone u session theirs_runs (ap slot_vacuums (slot_is old.slots session (Some op) at) ∙ is)))
+      by false is = leaves (cycle_by ∙ cycle_kept old.sets op slot (g.state old.store).cycle is)
+
+  -- what another session's bulk delete has to remove is to come still
+  sweep_theirs : (u : ℕ) (other : Op) (number began : ℕ) → u ≢ session → slot_of old.slots u ≡ Some other → number ≢ runs.number → began ≤ length old.history
+      → OpSweeps (g.state old.store) old.sets start old.history number began other → OpSweeps (g.state store) old.sets start (old.history ++ acts) number began other
+  sweep_theirs u (Insert x) number began ne is apart within h = tt
+  sweep_theirs u (Scan x) number began ne is apart within h = tt
+  sweep_theirs u (Bulk set x) number began ne is apart within h =
+      sweeps_undisturbed (g.state old.store) (g.state store) old.sets start old.history number runs.number began effect (Bulk set x) (stay_for u ne (ap slot_vacuums is)) (λ e. apart (sym e)) within h
+
+  slot_theirs : (u : ℕ) (o : Option Op) → u ≢ session → slice_get old.slots u ≡ Some o → SlotMatches g start old u o
       → SlotMatches g start (record { store = store; slots = slice_set old.slots session slot; sets = old.sets; history = old.history ++ acts; calls = slice_set old.calls runs.number after }) u o
-  slot_theirs u None ne h = record { none = λ j c r. h.none j c (theirs u j c ne r); idle = idle_undisturbed (g.state old.store) (g.state store) u (others u ne) h.idle }
-  slot_theirs u (Some other) ne h =
+  slot_theirs u None ne in_slot h = record { none = λ j c r. h.none j c (theirs u j c ne r); idle = idle_undisturbed (g.state old.store) (g.state store) u (others u ne) h.idle }
+  slot_theirs u (Some other) ne in_slot h =
       let apart : h.number ≢ runs.number = λ e. (
       let k : h.call ≡ runs.call = same_some (slice_get old.calls runs.number) h.call runs.call (subst (λ (i : ℕ). slice_get old.calls i ≡ Some h.call) e h.is.found) runs.is.found in
       ne (sym h.is.session_is ∙ (ap (λ (x : Call). x.session) k ∙ runs.is.session_is))) in
@@ -119,7 +159,12 @@ module _ {S : Type 0} (g : Ghosts S) (start : Entry → Bool) (old : Snapshot S)
         is = record { found = elsewhere h.number apart ∙ h.is.found; session_is = h.is.session_is; running = h.is.running };
         only = λ j c r. h.only j c (theirs u j c ne r);
         runs = undisturbed (g.state old.store) (g.state store) old.sets start old.history acts h.call other (others h.call.session (λ e. ne (sym h.is.session_is ∙ e))) h.runs;
+        sweeps = sweep_theirs u other h.number h.call.began ne (slot_is old.slots u (Some other) in_slot) apart (began_within g start old u h.number h.call fits h.is) h.sweeps;
       }
+
+  -- behind the event, what the session asked is as it was
+  asks_still : (next : Op) → slot ≡ Some next → asked_of old.sets next ≡ asked_of old.sets op
+  asks_still next is = sym (subst (λ (o : Option Op). SlotIs (g.state store) old.sets start (old.history ++ acts) after o) is holds).1.ask ∙ same.ask ∙ runs.runs.ask
 
   -- an action of before is owned still
   owned_still : (before : ℕ) (a : Action) → before < length old.history → IsOwned start old.history old.calls before a
@@ -157,8 +202,7 @@ module _ {S : Type 0} (g : Ghosts S) (start : Entry → Bool) (old : Snapshot S)
       let own = own_action start old.history runs.number runs.call.ask runs.call.added effect asked (before - length old.history) a (sym (get_append_right old.history acts before ge) ∙ h) in
       let q : length old.history ≡ before = (let z : before - length old.history ≡ 0 = own.0 in omega arith) in
       let within : before < length (old.history ++ acts) = get_within (old.history ++ acts) before a h in
-      let meets_at : runs.call.began ≤ end_of old.history runs.call.ending runs.call.until = (fits.meets runs.number runs.call runs.is.found).began in
-      let began : runs.call.began ≤ length old.history = subst (λ (x : Ending). runs.call.began ≤ end_of old.history x runs.call.until) runs.is.running meets_at in
+      let began : runs.call.began ≤ length old.history = began_within g start old session runs.number runs.call fits runs.is in
       record {
         call = after;
         found = subst (λ (j : ℕ). slice_get (slice_set old.calls runs.number after) j ≡ Some after) (sym own.1) here;
@@ -177,9 +221,10 @@ module _ {S : Type 0} (g : Ghosts S) (start : Entry → Bool) (old : Snapshot S)
           let k : o ≡ slot = same_some (slice_get (slice_set old.slots session slot) session) o slot (subst (λ (i : ℕ). slice_get (slice_set old.slots session slot) i ≡ Some o) e h)
           (get_set_same old.slots session slot (get_within old.slots session (Some op) at)) in
           subst (λ (i : ℕ). SlotMatches g start (record { store = store; slots = slice_set old.slots session slot; sets = old.sets; history = old.history ++ acts; calls = slice_set old.calls runs.number after }) i o) (sym e)
-          (subst (λ (x : Option Op). SlotMatches g start (record { store = store; slots = slice_set old.slots session slot; sets = old.sets; history = old.history ++ acts; calls = slice_set old.calls runs.number after }) session x) (sym k) (slot_mine slot holds)))
-      | inr n ↦ slot_theirs u o n (fits.running u o (sym (get_set_other old.slots session u slot n) ∙ h))
+          (subst (λ (x : Option Op). SlotMatches g start (record { store = store; slots = slice_set old.slots session slot; sets = old.sets; history = old.history ++ acts; calls = slice_set old.calls runs.number after }) session x) (sym k) (slot_mine slot holds sweeps)))
+      | inr n ↦ slot_theirs u o n (sym (get_set_other old.slots session u slot n) ∙ h) (fits.running u o (sym (get_set_other old.slots session u slot n) ∙ h))
     ];
+    vacuums = vacuums_go (g.state old.store) (g.state store) old.sets old.slots session op slot (get_within old.slots session (Some op) at) (slot_is old.slots session (Some op) at) cycle_by asks_still fits.vacuums;
     beyond = λ u far. (
         let many : length (slice_set old.slots session slot) ≡ length old.slots = length_set old.slots session slot in
         let within : session < length old.slots = get_within old.slots session (Some op) at in

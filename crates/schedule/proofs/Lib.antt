@@ -1,5 +1,8 @@
 pub mod Lists
+pub mod Unused
 pub mod Owners
+pub mod Vacuums
+pub mod Leaves
 pub mod Frames
 pub mod Keeping
 pub mod Events
@@ -7,3 +10,4 @@ pub mod Making
 pub mod Running
 pub mod Joining
 pub mod Bounds
+pub mod Standing

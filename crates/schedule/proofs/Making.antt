@@ -1,5 +1,5 @@
 -- What each kind of event makes, by what the call behind it promises.
-use Rattle.std.proofs.Common.{◌≡◌, ℕ, suc, Bool, true, false, Option, Some, None, Err, List, length, slice_get, slice_set, refl, sym, ap, subst, inl, inr, ◌∙◌}
+use Rattle.std.proofs.Common.{◌≡◌, ℕ, suc, ◌&&◌, not, Bool, true, false, Option, Some, None, Ok, Err, List, length, slice_get, slice_set, refl, sym, ap, subst, inl, inr, ◌∙◌}
 use Rattle.std.specs.Prelude.{unwrap_or}
 use Rattle.index_model.specs.Actions.{Action}
 use Rattle.index_model.specs.Calls.{Ask, Call}
@@ -8,21 +8,22 @@ use Rattle.index_model.specs.declared.entry.Entry.{Entry}
 use Rattle.index_model.specs.declared.fault.Fault.{Fault}
 use Rattle.index_model.specs.declared.fault.Fault.TheVariants.{Stopped}
 use Rattle.page_action.specs.Causes.{nothing_wrong, where_forced}
-use Rattle.page_action.specs.States.{State, after_end}
+use Rattle.page_action.specs.States.{State}
 use Rattle.page_action.specs.declared.page_store.PageStore.{Ghosts}
 use Rattle.session_calls.specs.Due.{IsDueIn, CountsDown, HasSteps}
-use Rattle.session_calls.specs.Ops.{DeadSets, IsCaused, session_of, asked_of, where_slot_stepped, where_asked_next, where_beginning, AnswersStopped}
-use Rattle.session_calls.specs.Sessions.{Matches, IsIdle, SlotFits, KeepsPages, SessionGoes, SessionBegins, IsBegun, BeginsBy, is_busy, slot_add, LeavesLess, LeavesNoMore, GivesLess, AnswersStep, AnswersNext, AnswersEnd, RefusalChangesNothing, OnlyInsertsAct, OnlyOwnAreFlagged, LeavesOwnFlagged}
+use Rattle.session_calls.specs.Ops.{DeadSets, op_before, asks_vacuum, is_vacuum, is_vacuuming, session_of, asked_of, where_slot_stepped, where_asked_next, where_requesting, where_beginning, AnswersStopped}
+use Rattle.session_calls.specs.Sessions.{Matches, IsIdle, SlotFits, KeepsPages, SessionGoes, SessionBegins, IsBegun, BeginsBy, after_call, let_go, is_busy, slot_add, LeavesLess, LeavesNoMore, GivesLess, AnswersStep, AnswersNext, AnswersEnd, RefusalChangesNothing, OnlyWritersAct, OnlyOwnAreFlagged, LeavesOwnFlagged, KeepsBeforePins, CountsEntries}
 use Rattle.session_calls.specs.declared.answer.Answer.{Answer}
 use Rattle.session_calls.specs.declared.answer.Answer.TheVariants.{Begun, Going, Added, Ready, Done, Finished, Gave, Ended, Forced, Flushed, Checkpointed, Refused}
 use Rattle.session_calls.specs.declared.op.Op.{Op}
 use Rattle.session_calls.specs.declared.request.Request.{Request}
-use Rattle.schedule.specs.Snapshots.{here_with, snapshot_of, slot_of, Fits}
-use Rattle.schedule.specs.Events.{Steps, Takes, GivesUp, Upkeep, Forces, Checkpoints, BeginsCall, MovesCall, KeepsStore, kept_answer, session_to_begin, where_begun_at, DoesOneAct, EventAlways, AnswersUpkeep}
+use Rattle.schedule.specs.Snapshots.{here_with, snapshot_of, slot_of, one_vacuums, Fits}
+use Rattle.schedule.specs.Events.{Steps, Takes, GivesUp, Upkeep, Forces, Flushes, Checkpoints, BeginsCall, MovesCall, KeepsStore, kept_answer, is_of_sets, session_to_begin, where_begun_at, DoesOneAct, EventAlways, AnswersUpkeep}
 use Rattle.schedule.specs.Runs.{EventRuns, Makes}
-use Rattle.schedule.proofs.Events.{at_slots, others_stay_set, moves_on, stays_on, refused_stay, keeps_on_store, begins_on, not_begun, not_found_why, not_found_first, set_same}
+use Rattle.schedule.proofs.Events.{at_slots, others_stay_set, moves_on, stays_on, refused_stay, keeps_on_store, flushes_on_store, begins_on, named_of, request_pages, request_limits, request_frames, request_acts, not_begun, not_found_why, not_found_first, set_same}
 use Rattle.schedule.proofs.Keeping.{Laws}
-use Rattle.schedule.proofs.Lists.{length_set}
+use Rattle.schedule.proofs.Lists.{length_set, get_within, same_some}
+use Rattle.schedule.proofs.Vacuums.{set_is}
 
 -- what does no act
 no_act : (old new : State) → new.acts ≡ old.acts → new.pages ≡ old.pages → new.limits ≡ old.limits → new.frames ≡ old.frames → DoesOneAct old new
@@ -31,6 +32,27 @@ no_act old new acts pages limits frames = record { acts = inl acts; quiet = λ s
 -- what changes no state
 still : (old new : State) → new ≡ old → DoesOneAct old new
 still old new same = no_act old new (ap (λ (st : State). st.acts) same) (ap (λ (st : State). st.pages) same) (ap (λ (st : State). st.limits) same) (ap (λ (st : State). st.frames) same)
+
+-- what a call lets go at its end is neither a page nor a count
+over_acts : (v : Bool) (session : ℕ) (st : State) → (let_go v session st).acts ≡ st.acts
+over_acts true session st = refl
+over_acts false session st = refl
+
+over_pages : (v : Bool) (session : ℕ) (st : State) → (let_go v session st).pages ≡ st.pages
+over_pages true session st = refl
+over_pages false session st = refl
+
+over_limits : (v : Bool) (session : ℕ) (st : State) → (let_go v session st).limits ≡ st.limits
+over_limits true session st = refl
+over_limits false session st = refl
+
+over_frames : (v : Bool) (session : ℕ) (st : State) → (let_go v session st).frames ≡ st.frames
+over_frames true session st = refl
+over_frames false session st = refl
+
+over_begun : (v : Bool) (session : ℕ) (st : State) → (let_go v session st).begun ≡ st.begun
+over_begun true session st = refl
+over_begun false session st = refl
 
 -- a step of a session's running call
 module _ {S : Type 0} (g : Ghosts S) (laws : Laws g) (old new : S) (follows : g.follows old new) (slots : List (Option Op)) (sets : DeadSets) (session : ℕ) (before slot : Option Op) (op : Op) (answer : Answer)
@@ -42,7 +64,7 @@ module _ {S : Type 0} (g : Ghosts S) (laws : Laws g) (old new : S) (follows : g.
   found_op = found_at ∙ ap (λ (o : Option Op). Some o) is
 
   pub step_makes : AnswersStep before slot answer → RefusalChangesNothing (g.state old) (g.state new) before slot answer → ((g.backing old).stopped ≡ true → AnswersStopped (slot_add before) answer)
-      → ((g.backing new).honest ≡ true → LeavesLess (g.state old) (g.state new) before slot answer) → KeepsPages (g.state old) (g.state new) → OnlyInsertsAct before (g.state old) (g.state new)
+      → ((g.backing new).honest ≡ true → LeavesLess (g.state old) (g.state new) before slot answer) → KeepsPages (g.state old) (g.state new) → OnlyWritersAct before (g.state old) (g.state new)
       → ((g.backing new).honest ≡ true → LeavesNoMore (g.state old) (g.state new) before slot)
       → ((g.backing new).honest ≡ true → (start : Entry → Bool) (history : List Action) (number : ℕ) (call : Call) → SlotFits (g.state old) sets start history number call before
       → SessionGoes (where_slot_stepped before (g.state old) (g.backing old) (g.backing new)) (g.state old) (g.state new) sets start history number call slot answer)
@@ -50,8 +72,10 @@ module _ {S : Type 0} (g : Ghosts S) (laws : Laws g) (old new : S) (follows : g.
       → (left : ℕ) → IsDueIn (g.state old) before (suc left) → CountsDown (g.state old) (g.state new) before slot left answer)
       → ((g.backing new).honest ≡ true → (start : Entry → Bool) (history : List Action) (number : ℕ) (call : Call) → SlotFits (g.state old) sets start history number call before
       → OnlyOwnAreFlagged (g.state old) before → LeavesOwnFlagged (g.state new) before slot answer)
+      → ((g.backing new).honest ≡ true → KeepsBeforePins (g.state old) before slot answer)
+      → ((g.backing new).honest ≡ true → CountsEntries sets (g.state old) (g.state new) before slot answer)
       → Makes g (MovesCall session Steps) answer (here_with old slots sets) (here_with new (slice_set slots session slot) sets)
-  step_makes kind refused stopped less kept calm no_more goes due flagged = record {
+  step_makes kind refused stopped less kept calm no_more goes due flagged pins entries = record {
     sessions = length_set slots session slot;
     always = always;
     does = λ honest start history calls fits.
@@ -64,7 +88,9 @@ module _ {S : Type 0} (g : Ghosts S) (laws : Laws g) (old new : S) (follows : g.
           no_more = subst (λ (x : Option Op). LeavesNoMore (g.state old) (g.state new) x slot) is (no_more honest);
         })
         (λ s l n c runs. subst (λ (x : Option Op). OnlyOwnAreFlagged (g.state old) x → LeavesOwnFlagged (g.state new) x slot answer) is
-        (flagged honest s l n c (subst (λ (x : Option Op). SlotFits (g.state old) sets s l n c x) (sym is) runs)));
+        (flagged honest s l n c (subst (λ (x : Option Op). SlotFits (g.state old) sets s l n c x) (sym is) runs)))
+        (subst (λ (x : Option Op). KeepsBeforePins (g.state old) x slot answer) is (pins honest))
+        (subst (λ (x : Option Op). CountsEntries sets (g.state old) (g.state new) x slot answer) is (entries honest));
   }
     where
       always : EventAlways g (MovesCall session Steps) answer (here_with old slots sets) (here_with new (slice_set slots session slot) sets)
@@ -74,13 +100,15 @@ module _ {S : Type 0} (g : Ghosts S) (laws : Laws g) (old new : S) (follows : g.
         stopped = λ h. subst (λ (x : Option Op). AnswersStopped (slot_add x) answer) (sym slot_was) (stopped h);
         less = λ honest. at_slots slots session before slot (λ x y. LeavesLess (g.state old) (g.state new) x y answer) found_at (less honest);
         kept = record { acts = kept.acts; quiet = kept.quiet; limits = kept.limits; frames = kept.frames };
-        calm = subst (λ (x : Option Op). OnlyInsertsAct x (g.state old) (g.state new)) (sym slot_was) calm;
+        calm = subst (λ (x : Option Op). OnlyWritersAct x (g.state old) (g.state new)) (sym slot_was) calm;
         others = others_stay_set slots session slot;
         left = tt;
         causes = tt;
+        order = tt;
+        fresh = tt;
       }
 
-  pub end_makes : AnswersEnd before answer → slot ≡ None → g.backing new ≡ g.backing old → g.state new ≡ after_end (session_of op) (g.state old)
+  pub end_makes : AnswersEnd before answer → slot ≡ None → g.backing new ≡ g.backing old → g.state new ≡ after_call op (g.state old)
       → ((start : Entry → Bool) (history : List Action) (number : ℕ) (call : Call) → SlotFits (g.state old) sets start history number call before → SessionGoes nothing_wrong (g.state old) (g.state new) sets start history number call slot answer)
       → Makes g (MovesCall session GivesUp) answer (here_with old slots sets) (here_with new (slice_set slots session slot) sets)
   end_makes kind over backing given_up goes = record {
@@ -89,7 +117,7 @@ module _ {S : Type 0} (g : Ghosts S) (laws : Laws g) (old new : S) (follows : g.
     does = λ honest start history calls fits.
         moves_on g start (snapshot_of (here_with old slots sets) history calls) new session op slot GivesUp nothing_wrong answer fits found_op follows (laws.follows_later old new follows)
         (λ number call runs. goes start history number call (subst (λ (x : Option Op). SlotFits (g.state old) sets start history number call x) (sym is) runs)) refl always
-        (λ s l n c runs. tt) (λ s l n c runs. tt);
+        (λ s l n c runs. tt) (λ s l n c runs. tt) tt tt;
   }
     where
       ended : answer ≡ Ended
@@ -101,11 +129,14 @@ module _ {S : Type 0} (g : Ghosts S) (laws : Laws g) (old new : S) (follows : g.
         refused = λ fault h. absurd (let a : answer ≡ Ended = ended in cc);
         stopped = tt;
         less = tt;
-        kept = no_act (g.state old) (g.state new) (ap (λ (st : State). st.acts) given_up) (ap (λ (st : State). st.pages) given_up) (ap (λ (st : State). st.limits) given_up) (ap (λ (st : State). st.frames) given_up);
-        calm = ap (λ (st : State). st.acts) given_up;
+        kept = no_act (g.state old) (g.state new) (ap (λ (st : State). st.acts) given_up ∙ over_acts (is_vacuum op) (session_of op) (g.state old)) (ap (λ (st : State). st.pages) given_up ∙ over_pages (is_vacuum op) (session_of op) (g.state old))
+            (ap (λ (st : State). st.limits) given_up ∙ over_limits (is_vacuum op) (session_of op) (g.state old)) (ap (λ (st : State). st.frames) given_up ∙ over_frames (is_vacuum op) (session_of op) (g.state old));
+        calm = ap (λ (st : State). st.acts) given_up ∙ over_acts (is_vacuum op) (session_of op) (g.state old);
         others = others_stay_set slots session slot;
-        left = record { over = at_slots slots session before slot (λ x y. y ≡ None) found_at over; backing = backing; begun = ap (λ (st : State). st.begun) given_up };
+        left = record { over = at_slots slots session before slot (λ x y. y ≡ None) found_at over; backing = backing; begun = ap (λ (st : State). st.begun) given_up ∙ over_begun (is_vacuum op) (session_of op) (g.state old) };
         causes = tt;
+        order = tt;
+        fresh = tt;
       }
 
 -- a `next` of a session's running call, which changes nothing of the store
@@ -138,7 +169,7 @@ module _ {S : Type 0} (g : Ghosts S) (laws : Laws g) (store : S) (slots : List (
         (λ number call runs. subst (λ (a : Ask). SessionGoes (where_asked_next a) (g.state store) (g.state store) sets start history number call slot answer) runs.runs.ask
         (goes (g.state store) start history number call (subst (λ (x : Option Op). SlotFits (g.state store) sets start history number call x) (sym is) runs))) refl always
         (λ s l n c runs steps h. due (g.state store) steps (subst (λ (x : Option Op). IsDueIn (g.state store) x steps) (sym is) h))
-        (λ s l n c runs. tt);
+        (λ s l n c runs. tt) tt tt;
   }
     where
       always : EventAlways g (MovesCall session Takes) answer (here_with store slots sets) (here_with store (slice_set slots session slot) sets)
@@ -155,35 +186,40 @@ module _ {S : Type 0} (g : Ghosts S) (laws : Laws g) (store : S) (slots : List (
         others = others_stay_set slots session slot;
         left = refl;
         causes = tt;
+        order = tt;
+        fresh = tt;
       }
 
 -- what is done for the store
 module _ {S : Type 0} (g : Ghosts S) (laws : Laws g) (old new : S) (follows : g.follows old new) (slots : List (Option Op)) (sets : DeadSets) (upkeep : Upkeep) (same : g.state new ≡ g.state old) where
-  told_so : (u : Upkeep) (count : ℕ) → AnswersUpkeep u (kept_answer u count)
-  told_so Forces count = tt
-  told_so Checkpoints count = tt
+  told_so : (u : Upkeep) (count : ℕ) (answer : Answer) → kept_answer u count ≡ Some answer → AnswersUpkeep u answer
+  told_so Forces count answer is = subst (λ (a : Answer). AnswersUpkeep Forces a) (same_some (kept_answer Forces count) (Forced count) answer refl is) tt
+  told_so Flushes count answer is = absurd (let none : kept_answer Flushes count ≡ Some answer = is in cc)
+  told_so Checkpoints count answer is = subst (λ (a : Answer). AnswersUpkeep Checkpoints a) (same_some (kept_answer Checkpoints count) (Checkpointed count) answer refl is) tt
 
-  not_refused : (u : Upkeep) (count : ℕ) (fault : Fault) → kept_answer u count ≡ Refused fault → ⊥
-  not_refused Forces count fault h = cc
-  not_refused Checkpoints count fault h = cc
+  not_refused : (u : Upkeep) (count : ℕ) (answer : Answer) (fault : Fault) → kept_answer u count ≡ Some answer → answer ≡ Refused fault → ⊥
+  not_refused Forces count answer fault is h = (let e : Some (Forced count) ≡ Some answer = is in cc)
+  not_refused Flushes count answer fault is h = (let e : kept_answer Flushes count ≡ Some answer = is in cc)
+  not_refused Checkpoints count answer fault is h = (let e : Some (Checkpointed count) ≡ Some answer = is in cc)
 
   refused_so : (u : Upkeep) (fault : Fault) → AnswersUpkeep u (Refused fault)
   refused_so Forces fault = tt
+  refused_so Flushes fault = tt
   refused_so Checkpoints fault = tt
 
-  pub kept_makes : (count : ℕ) → count ≡ (g.state old).acts → (g.backing new).durable ≡ (g.state old).acts → ((g.backing old).stopped ≡ true → ⊥)
-      → Makes g (KeepsStore upkeep) (kept_answer upkeep count) (here_with old slots sets) (here_with new slots sets)
-  kept_makes count number durable alive = record {
+  pub kept_makes : (count : ℕ) (answer : Answer) → kept_answer upkeep count ≡ Some answer → count ≡ (g.state old).acts → (g.backing new).durable ≡ (g.state old).acts → ((g.backing old).stopped ≡ true → ⊥)
+      → Makes g (KeepsStore upkeep) answer (here_with old slots sets) (here_with new slots sets)
+  kept_makes count answer told number durable alive = record {
     sessions = refl;
     always = always;
     does = λ honest start history calls fits.
-        keeps_on_store g start (snapshot_of (here_with old slots sets) history calls) new upkeep fits same follows (laws.follows_later old new follows) count number durable always;
+        keeps_on_store g start (snapshot_of (here_with old slots sets) history calls) new upkeep fits same follows (laws.follows_later old new follows) count answer told number durable always;
   }
     where
-      always : EventAlways g (KeepsStore upkeep) (kept_answer upkeep count) (here_with old slots sets) (here_with new slots sets)
+      always : EventAlways g (KeepsStore upkeep) answer (here_with old slots sets) (here_with new slots sets)
       always = record {
-        answers = told_so upkeep count;
-        refused = λ fault h. absurd (not_refused upkeep count fault h);
+        answers = told_so upkeep count answer told;
+        refused = λ fault h. absurd (not_refused upkeep count answer fault told h);
         stopped = λ h. absurd (alive h);
         less = tt;
         kept = still (g.state old) (g.state new) same;
@@ -191,6 +227,8 @@ module _ {S : Type 0} (g : Ghosts S) (laws : Laws g) (old new : S) (follows : g.
         others = λ s of other apart. refl;
         left = tt;
         causes = tt;
+        order = tt;
+        fresh = tt;
       }
 
   pub not_kept_makes : (fault : Fault) → ((g.backing old).stopped ≡ true → fault ≡ Stopped) → HasCause (where_forced (g.backing old) (g.backing new)) fault
@@ -215,13 +253,62 @@ module _ {S : Type 0} (g : Ghosts S) (laws : Laws g) (old new : S) (follows : g.
         others = λ s of other apart. refl;
         left = tt;
         causes = tt;
+        order = tt;
+        fresh = tt;
       }
+
+-- a changed page is written to its place
+pub flush_makes : {S : Type 0} (g : Ghosts S) (laws : Laws g) (old new : S) (follows : g.follows old new) (slots : List (Option Op)) (sets : DeadSets) (same : g.state new ≡ g.state old) (block : Option ℕ)
+    → block ≡ slice_get (g.backing old).changed 0 → ((g.backing old).stopped ≡ true → ⊥) → Makes g (KeepsStore Flushes) (Flushed block) (here_with old slots sets) (here_with new slots sets)
+flush_makes g laws old new follows slots sets same block first alive = record {
+  sessions = refl;
+  always = always;
+  does = λ honest start history calls fits.
+      flushes_on_store g start (snapshot_of (here_with old slots sets) history calls) new fits same follows (laws.follows_later old new follows) block first always;
+}
+  where
+    always : EventAlways g (KeepsStore Flushes) (Flushed block) (here_with old slots sets) (here_with new slots sets)
+    always = record {
+      answers = tt;
+      refused = λ fault h. absurd cc;
+      stopped = λ h. absurd (alive h);
+      less = tt;
+      kept = still (g.state old) (g.state new) same;
+      calm = ap (λ (st : State). st.acts) same;
+      others = λ s of other apart. refl;
+      left = tt;
+      causes = tt;
+      order = tt;
+      fresh = tt;
+    }
+
+-- the cause of a beginning that is refused, where there is the set that it names
+asked_why : (vacuums : Bool) (b : Bool) (c : Circumstances) (fault : Fault) → b ≡ true → HasCause (record c { no_such_session = false; vacuum_runs = vacuums }) fault → HasCause (record c { no_such_session = not b; vacuum_runs = vacuums }) fault
+asked_why vacuums b c fault named h = subst (λ (x : Bool). HasCause (record c { no_such_session = not x; vacuum_runs = vacuums }) fault) (sym named) h
 
 -- a beginning in a session that was found
 module _ {S : Type 0} (g : Ghosts S) (laws : Laws g) (old new : S) (follows : g.follows old new) (slots : List (Option Op)) (sets : DeadSets) (session : ℕ) (request : Request) (before slot : Option Op) (answer : Answer)
-    (alive : (g.backing old).stopped ≡ false) (free : slice_get slots session ≡ Some None) (before_is : before ≡ None) where
+    (alive : (g.backing old).stopped ≡ false) (named : is_of_sets sets request ≡ true) (free : slice_get slots session ≡ Some None) (before_is : before ≡ None) where
   true_false : true ≡ false → ⊥
   true_false h = cc
+
+  -- no fault is the first of those for which no session is found
+  found_one : (fault : Fault) → session_to_begin (g.backing old).stopped (is_of_sets sets request) (slice_get slots session) session ≡ Err fault → ⊥
+  found_one fault h =
+      let found : session_to_begin (g.backing old).stopped (is_of_sets sets request) (slice_get slots session) session ≡ Ok session =
+      ap (λ (b : Bool). session_to_begin b (is_of_sets sets request) (slice_get slots session) session) alive
+      ∙ ap (λ (b : Bool). session_to_begin false b (slice_get slots session) session) named
+      ∙ ap (λ (o : Option (Option Op)). session_to_begin false true o session) free in
+      cc
+
+  -- the cause of a refusal, where a bulk delete runs or none
+  cause_of : (vacuums : Bool) (fault : Fault) → is_vacuuming (g.state old) ≡ vacuums → HasCause (where_requesting (asks_vacuum request) (g.state old) (g.backing old) (is_busy before)) fault
+      → HasCause (where_begun_at g old vacuums sets request (slice_get slots session)) fault
+  cause_of vacuums fault same cause =
+      subst (λ (o : Option (Option Op)). HasCause (where_begun_at g old vacuums sets request o) fault) (sym free)
+      (asked_why (asks_vacuum request && vacuums) (is_of_sets sets request) (where_beginning (g.state old) (g.backing old) false) fault named
+      (subst (λ (v : Bool). HasCause (record (where_beginning (g.state old) (g.backing old) false) { no_such_session = false; vacuum_runs = asks_vacuum request && v }) fault) same
+      (subst (λ (o : Option Op). HasCause (where_requesting (asks_vacuum request) (g.state old) (g.backing old) (is_busy o)) fault) before_is cause)))
 
   always_of : (a : Answer) → BeginsBy (g.state old) (g.backing old) (g.state new) session request before slot a → EventAlways g (BeginsCall session request) a (here_with old slots sets) (here_with new (slice_set slots session slot) sets)
   always_of Begun h = record {
@@ -229,11 +316,14 @@ module _ {S : Type 0} (g : Ghosts S) (laws : Laws g) (old new : S) (follows : g.
     refused = λ fault e. absurd cc;
     stopped = λ is. absurd (true_false (sym is ∙ alive));
     less = tt;
-    kept = no_act (g.state old) (g.state new) (ap (λ (st : State). st.acts) h.state) (ap (λ (st : State). st.pages) h.state) (ap (λ (st : State). st.limits) h.state) (ap (λ (st : State). st.frames) h.state);
-    calm = ap (λ (st : State). st.acts) h.state;
+    kept = no_act (g.state old) (g.state new) (ap (λ (st : State). st.acts) h.state ∙ request_acts (asks_vacuum request) session (g.state old)) (ap (λ (st : State). st.pages) h.state ∙ request_pages (asks_vacuum request) session (g.state old))
+        (ap (λ (st : State). st.limits) h.state ∙ request_limits (asks_vacuum request) session (g.state old)) (ap (λ (st : State). st.frames) h.state ∙ request_frames (asks_vacuum request) session (g.state old));
+    calm = ap (λ (st : State). st.acts) h.state ∙ request_acts (asks_vacuum request) session (g.state old);
     others = others_stay_set slots session slot;
     left = tt;
     causes = tt;
+    order = λ fault e. absurd (found_one fault e);
+    fresh = λ begun. set_is slots session slot (get_within slots session None free) ∙ h.runs;
   }
   always_of (Refused fault) h = record {
     answers = tt;
@@ -244,8 +334,9 @@ module _ {S : Type 0} (g : Ghosts S) (laws : Laws g) (old new : S) (follows : g.
     calm = ap (λ (st : State). st.acts) h.state;
     others = others_stay_set slots session slot;
     left = tt;
-    causes = subst (λ (o : Option (Option Op)). IsCaused (where_begun_at g old o) (Refused fault)) (sym free)
-        (subst (λ (o : Option Op). HasCause (where_beginning (g.state old) (g.backing old) (is_busy o)) fault) before_is h.cause);
+    causes = cause_of (is_vacuuming (g.state old)) fault refl h.cause;
+    order = λ f e. absurd (found_one f e);
+    fresh = λ e. absurd cc;
   }
   always_of Going h = absurd h
   always_of (Added x u) h = absurd h
@@ -270,21 +361,18 @@ module _ {S : Type 0} (g : Ghosts S) (laws : Laws g) (old new : S) (follows : g.
             → EventRuns g (here_with old slots sets) (here_with new (slice_set slots session o) sets) (BeginsCall session request) Begun start history calls
         begun_with None b always began steps = absurd (began.holds.0 refl)
         begun_with (Some op) b always began steps =
-            begins_on g start (snapshot_of (here_with old slots sets) history calls) new session request op fits free began b.state follows (laws.follows_later old new follows) steps always
+            begins_on g start (snapshot_of (here_with old slots sets) history calls) new session request op fits free began (named_of sets request named) b.alone (let e : Some op ≡ Some (op_before session request) = b.runs in cc)
+            b.state follows (laws.follows_later old new follows) steps always
     does_of (Refused fault) is h =
         let slots_is : slice_set slots session slot ≡ slots = ap (λ (x : Option Op). slice_set slots session x) (h.slot_is ∙ before_is) ∙ set_same slots session None free in
         let snap = snapshot_of (here_with old slots sets) history calls in
         let later = laws.follows_later old new follows in
-        let cause = subst (λ (o : Option Op). HasCause (where_beginning (g.state old) (g.backing old) (is_busy o)) fault) before_is h.cause in
         subst (λ (s : List (Option Op)). EventRuns g (here_with old slots sets) (here_with new s sets) (BeginsCall session request) (Refused fault) start history calls) (sym slots_is)
         (stays_on g start snap new fault fits h.state follows later (BeginsCall session request)
         (not_begun g (slice_get slots session) session request (Refused fault) snap _ (refused_stay g start snap new fault fits h.state follows later))
         (subst (λ (s : List (Option Op)). EventAlways g (BeginsCall session request) (Refused fault) (here_with old slots sets) (here_with new s sets)) slots_is (always_of (Refused fault) h))
-        (subst (λ (o : Option (Option Op)). HasCause (where_of o) fault) (sym free) cause)
+        (cause_of (one_vacuums slots) fault fits.vacuums.cycle h.cause)
         (λ s e. absurd cc))
-      where
-        where_of : Option (Option Op) → Circumstances
-        where_of o = where_begun_at g old o
     does_of Going is h = absurd h
     does_of (Added x u) is h = absurd h
     does_of (Ready r) is h = absurd h
@@ -308,7 +396,7 @@ module _ {S : Type 0} (g : Ghosts S) (laws : Laws g) (old new : S) (follows : g.
 
 -- a beginning that finds no session
 pub not_found_makes : {S : Type 0} (g : Ghosts S) (laws : Laws g) (store : S) (slots : List (Option Op)) (sets : DeadSets) (session : ℕ) (request : Request) (fault : Fault)
-    → Err fault ≡ session_to_begin (g.backing store).stopped (slice_get slots session) session → Makes g (BeginsCall session request) (Refused fault) (here_with store slots sets) (here_with store slots sets)
+    → Err fault ≡ session_to_begin (g.backing store).stopped (is_of_sets sets request) (slice_get slots session) session → Makes g (BeginsCall session request) (Refused fault) (here_with store slots sets) (here_with store slots sets)
 not_found_makes g laws store slots sets session request fault none = record {
   sessions = refl;
   always = always;
@@ -318,18 +406,20 @@ not_found_makes g laws store slots sets session request fault none = record {
       let later = laws.follows_later store store follows in
       stays_on g start snap store fault fits refl follows later (BeginsCall session request)
       (not_begun g (slice_get slots session) session request (Refused fault) snap _ (refused_stay g start snap store fault fits refl follows later)) always
-      (not_found_why g store session (g.backing store).stopped (slice_get slots session) fault refl none) (λ s e. absurd cc));
+      (not_found_why g store (one_vacuums slots) sets request session (g.backing store).stopped (is_of_sets sets request) (slice_get slots session) fault refl refl none) (λ s e. absurd cc));
 }
   where
     always : EventAlways g (BeginsCall session request) (Refused fault) (here_with store slots sets) (here_with store slots sets)
     always = record {
       answers = tt;
       refused = λ f h. record { state_is = refl; slots_is = refl };
-      stopped = not_found_first (g.backing store).stopped (slice_get slots session) session fault none;
+      stopped = not_found_first (g.backing store).stopped (is_of_sets sets request) (slice_get slots session) session fault none;
       less = tt;
       kept = still (g.state store) (g.state store) refl;
       calm = refl;
       others = λ s of other apart. refl;
       left = tt;
-      causes = not_found_why g store session (g.backing store).stopped (slice_get slots session) fault refl none;
+      causes = not_found_why g store (is_vacuuming (g.state store)) sets request session (g.backing store).stopped (is_of_sets sets request) (slice_get slots session) fault refl refl none;
+      order = λ f e. ap Refused (let both : Err fault ≡ Err f = none ∙ e in cc);
+      fresh = λ e. absurd cc;
     }

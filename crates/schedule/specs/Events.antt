@@ -1,5 +1,5 @@
 -- What an event does, by what it answers.
-use Rattle.std.specs.Prelude.{◌≡◌, ◌≢◌, ◌⊎◌, ℕ, suc, ◌≤◌, Bool, true, false, Option, Some, None, Result, Ok, Err, List, [], ◌∷◌, ◌++◌, length, slice_get, slice_set}
+use Rattle.std.specs.Prelude.{◌≡◌, ◌≢◌, ◌⊎◌, ℕ, suc, ◌≤◌, ◌&&◌, nat_lt, not, Bool, true, false, Option, Some, None, Result, Ok, Err, List, [], ◌∷◌, ◌++◌, length, slice_get, slice_set}
 use Rattle.index_model.specs.Actions.{Effect, Action, contents_after}
 use Rattle.index_model.specs.Calls.{Call}
 use Rattle.index_model.specs.Faults.{Circumstances, HasCause}
@@ -9,18 +9,21 @@ use Rattle.index_model.specs.declared.fault.Fault.TheVariants.{Stopped, NoSessio
 use Rattle.page_action.specs.Causes.{nothing_wrong, where_forced}
 use Rattle.page_action.specs.States.{State, IsLater}
 use Rattle.page_action.specs.declared.page_store.PageStore.{Ghosts}
+use Rattle.latch_table.specs.Holdings.{has_pin, holding_of}
+use Rattle.page_codec.specs.declared.page.Page.{Page}
+use Rattle.tree_acts.specs.Leaves.{IsLeafAt, WasLeaf}
 use Rattle.descent.specs.Shared.{OthersRely, MovesFlags}
 use Rattle.session_calls.specs.Due.{IsDueIn, CountsDown, HasSteps}
-use Rattle.session_calls.specs.Ops.{DeadSets, asked_by, asked_of, where_stepped, where_asked_next, where_beginning, IsCaused, AnswersStopped}
-use Rattle.session_calls.specs.Sessions.{Told, IsAsked, acts_of, begun_call, is_busy, slot_add, LeavesLess, LeavesNoMore, GivesLess, AnswersStep, AnswersNext, AnswersEnd, RefusalChangesNothing, OnlyInsertsAct, OnlyOwnAreFlagged, LeavesOwnFlagged}
+use Rattle.session_calls.specs.Ops.{DeadSets, asked_by, op_before, asks_vacuum, is_vacuuming, asked_of, where_stepped, where_asked_next, where_beginning, IsCaused, AnswersStopped}
+use Rattle.session_calls.specs.Sessions.{Told, IsAsked, acts_of, begun_call, is_busy, slot_add, LeavesLess, LeavesNoMore, GivesLess, AnswersStep, AnswersNext, AnswersEnd, RefusalChangesNothing, OnlyWritersAct, OnlyOwnAreFlagged, LeavesOwnFlagged, KeepsBeforePins, CountsEntries}
 use Rattle.session_calls.specs.declared.answer.Answer.{Answer}
-use Rattle.session_calls.specs.declared.answer.Answer.TheVariants.{Begun, Forced, Checkpointed, Refused}
+use Rattle.session_calls.specs.declared.answer.Answer.TheVariants.{Begun, Forced, Flushed, Checkpointed, Refused}
 use Rattle.session_calls.specs.declared.op.Op.{Op}
 use Rattle.session_calls.specs.declared.request.Request.{Request}
-use Rattle.session_calls.specs.declared.request.Request.TheVariants.{Insert as ToInsert, Scan as ToScan}
-use Rattle.schedule.specs.Snapshots.{StoreAndSlots, Snapshot, here_at, slot_of, IsRunningCall, has_call, Fits}
+use Rattle.session_calls.specs.declared.request.Request.TheVariants.{Insert as ToInsert, Scan as ToScan, Bulk as ToBulk}
+use Rattle.schedule.specs.Snapshots.{StoreAndSlots, Snapshot, here_at, slot_of, IsRunningCall, has_call, one_vacuums, Fits}
 use Rattle.schedule.specs.declared.event.Event.{Event}
-use Rattle.schedule.specs.declared.event.Event.TheVariants.{Insert, Scan, Step, Next, End, Force, Checkpoint}
+use Rattle.schedule.specs.declared.event.Event.TheVariants.{Insert, Scan, Bulk, Step, Next, End, Force, Flush, Checkpoint}
 
 -- what may be done with a running call: a step, asking for the next entry, giving it up
 pub data Move : Type 0 where
@@ -28,9 +31,10 @@ pub data Move : Type 0 where
   Takes : Move
   GivesUp : Move
 
--- what may be done for the store: its acts made durable, or a checkpoint
+-- what may be done for the store: its acts made durable, a changed page written to its place, or a checkpoint
 pub data Upkeep : Type 0 where
   Forces : Upkeep
+  Flushes : Upkeep
   Checkpoints : Upkeep
 
 -- an event begins a session's call, moves its running call, or is of the store
@@ -42,10 +46,12 @@ pub data Kind : Type 0 where
 abbrev pub kind_of : Event → Kind
 kind_of (Insert session e) = BeginsCall session (ToInsert e)
 kind_of (Scan session range) = BeginsCall session (ToScan range)
+kind_of (Bulk session set) = BeginsCall session (ToBulk set)
 kind_of (Step session) = MovesCall session Steps
 kind_of (Next session) = MovesCall session Takes
 kind_of (End session) = MovesCall session GivesUp
 kind_of Force = KeepsStore Forces
+kind_of Flush = KeepsStore Flushes
 kind_of Checkpoint = KeepsStore Checkpoints
 
 -- the kind is of this session, or of no session
@@ -98,23 +104,34 @@ pub record Stays {S : Type 0} (g : Ghosts S) (answer : Answer) (old new : Snapsh
   pub refused : answer ≡ Refused fault
   pub still : IsStill g old new
 
--- what is answered where so many actions are durable
-abbrev pub kept_answer : Upkeep → ℕ → Answer
-kept_answer Forces count = Forced count
-kept_answer Checkpoints count = Checkpointed count
+-- what is answered where so many actions are durable; a flush tells no such number
+abbrev pub kept_answer : Upkeep → ℕ → Option Answer
+kept_answer Forces count = Some (Forced count)
+kept_answer Flushes count = None
+kept_answer Checkpoints count = Some (Checkpointed count)
 
--- all actions are durable, and so many; nothing else is changed
-pub record UpkeepIsDone {S : Type 0} (g : Ghosts S) (upkeep : Upkeep) (answer : Answer) (old new : Snapshot S) : Type 0 where
-  pub told : answer ≡ kept_answer upkeep (length old.history)
+-- all actions are durable, and so many
+pub record AllAreDurable {S : Type 0} (g : Ghosts S) (upkeep : Upkeep) (answer : Answer) (old new : Snapshot S) : Type 0 where
+  pub told : kept_answer upkeep (length old.history) ≡ Some answer
   pub durable : (g.backing new.store).durable ≡ length old.history
+
+-- what is told of it: a flush answers the block of the page that waited longest, or that none waited
+abbrev pub UpkeepIsTold : {S : Type 0} → Ghosts S → Upkeep → Answer → Snapshot S → Snapshot S → Type 0
+UpkeepIsTold g Forces answer old new = AllAreDurable g Forces answer old new
+UpkeepIsTold g Flushes answer old new = answer ≡ Flushed (slice_get (g.backing old.store).changed 0)
+UpkeepIsTold g Checkpoints answer old new = AllAreDurable g Checkpoints answer old new
+
+-- what was to be done for the store is done; nothing that a history tells of is changed
+pub record UpkeepIsDone {S : Type 0} (g : Ghosts S) (upkeep : Upkeep) (answer : Answer) (old new : Snapshot S) : Type 0 where
+  pub tells : UpkeepIsTold g upkeep answer old new
   pub still : IsStill g old new
 
 -- What was done for the store, whatever the pages are: these are as they were; where it is told as done, so many acts were
 -- done, and all are durable; a refusal has its cause.
 pub record StoreIsKept {S : Type 0} (g : Ghosts S) (upkeep : Upkeep) (answer : Answer) (old new : S) : Type 0 where
   pub state_is : g.state new ≡ g.state old
-  pub number : (count : ℕ) → answer ≡ kept_answer upkeep count → count ≡ (g.state old).acts
-  pub durable : (count : ℕ) → answer ≡ kept_answer upkeep count → (g.backing new).durable ≡ (g.state old).acts
+  pub number : (count : ℕ) → kept_answer upkeep count ≡ Some answer → count ≡ (g.state old).acts
+  pub durable : (count : ℕ) → kept_answer upkeep count ≡ Some answer → (g.backing new).durable ≡ (g.state old).acts
   pub caused : (fault : Fault) → answer ≡ Refused fault → HasCause (where_forced (g.backing old) (g.backing new)) fault
 
 -- a session's running call goes on; without one the event is refused
@@ -138,13 +155,20 @@ Happens g start (KeepsStore upkeep) answer old new = UpkeepIsDone g upkeep answe
 abbrev pub where_no_call : Bool → Circumstances
 where_no_call is_stopped = record nothing_wrong { is_stopped = is_stopped; no_such_session = true }
 
--- the session that may begin a call, where the log hasn't failed, there is such a session, and it has no call: refused
--- for the first of these that isn't so
-abbrev pub session_to_begin : Bool → Option (Option Op) → ℕ → Result ℕ Fault
-session_to_begin true slot session = Err Stopped
-session_to_begin false None session = Err NoSession
-session_to_begin false (Some None) session = Ok session
-session_to_begin false (Some (Some op)) session = Err SessionBusy
+-- the set that a request names is there
+abbrev pub is_of_sets : DeadSets → Request → Bool
+is_of_sets sets (ToInsert e) = true
+is_of_sets sets (ToScan range) = true
+is_of_sets sets (ToBulk set) = nat_lt set (length sets)
+
+-- the session that may begin a call, where the log hasn't failed, there is such a session and the set that is named, and it
+-- has no call: refused for the first of these that isn't so
+abbrev pub session_to_begin : Bool → Bool → Option (Option Op) → ℕ → Result ℕ Fault
+session_to_begin true has_set slot session = Err Stopped
+session_to_begin false has_set None session = Err NoSession
+session_to_begin false false (Some slot) session = Err NoSession
+session_to_begin false true (Some None) session = Ok session
+session_to_begin false true (Some (Some op)) session = Err SessionBusy
 
 -- the circumstances of an event of a call: of one that runs, or of none
 abbrev pub where_moved : Circumstances → (Op → Circumstances) → Option (Option Op) → Circumstances
@@ -152,10 +176,13 @@ where_moved idle running None = idle
 where_moved idle running (Some None) = idle
 where_moved idle running (Some (Some op)) = running op
 
--- the circumstances of a beginning
-abbrev pub where_begun_at : {S : Type 0} → Ghosts S → S → Option (Option Op) → Circumstances
-where_begun_at g store None = where_no_call (g.backing store).stopped
-where_begun_at g store (Some slot) = where_beginning (g.state store) (g.backing store) (is_busy slot)
+-- the circumstances of a beginning with these sets, while a bulk delete runs or none
+abbrev pub where_begun_at : {S : Type 0} → Ghosts S → S → Bool → DeadSets → Request → Option (Option Op) → Circumstances
+where_begun_at g store vacuums sets request None = where_no_call (g.backing store).stopped
+where_begun_at g store vacuums sets request (Some slot) = record (where_beginning (g.state store) (g.backing store) (is_busy slot)) {
+  no_such_session = not (is_of_sets sets request);
+  vacuum_runs = asks_vacuum request && vacuums;
+}
 
 -- the circumstances of a move of a session's call, with these sets, from this store to that
 abbrev pub where_moving : {S : Type 0} → Ghosts S → DeadSets → S → S → Move → Option (Option Op) → Circumstances
@@ -166,7 +193,8 @@ where_moving g sets old new GivesUp slot = where_moved (where_no_call false) (λ
 
 -- the circumstances of an event
 abbrev pub where_happening : {S : Type 0} → Ghosts S → Kind → StoreAndSlots S → StoreAndSlots S → Circumstances
-where_happening g (BeginsCall session request) old new = where_begun_at g old.store (slice_get old.slots session)
+where_happening g (BeginsCall session request) old new =
+    where_begun_at g old.store (one_vacuums old.slots) old.sets request (slice_get old.slots session)
 where_happening g (MovesCall session move) old new = where_moving g old.sets old.store new.store move (slice_get old.slots session)
 where_happening g (KeepsStore upkeep) old new = where_forced (g.backing old.store) (g.backing new.store)
 
@@ -179,6 +207,7 @@ AnswersBeginning answer = ⊥
 -- what was done for the store is told so, or refused
 abbrev pub AnswersUpkeep : Upkeep → Answer → Type 0
 AnswersUpkeep Forces (Forced count) = Unit {0}
+AnswersUpkeep Flushes (Flushed block) = Unit {0}
 AnswersUpkeep Checkpoints (Checkpointed count) = Unit {0}
 AnswersUpkeep upkeep (Refused fault) = Unit {0}
 AnswersUpkeep upkeep answer = ⊥
@@ -199,7 +228,7 @@ AnswersEvent (KeepsStore upkeep) answer old new = AnswersUpkeep upkeep answer
 abbrev pub RefusesStopped : Bool → Answer → Type 0
 RefusesStopped is_stopped answer = is_stopped ≡ true → answer ≡ Refused Stopped
 
--- on a stopped log every beginning, step, force and checkpoint is refused with Stopped before all else; the step of an
+-- on a stopped log every beginning, step, force, flush and checkpoint is refused with Stopped before all else; the step of an
 -- insert whose entry is logged ends as added, with that fault
 abbrev pub StopsFirst : Kind → Bool → Answer → List (Option Op) → Type 0
 StopsFirst (BeginsCall session request) is_stopped answer slots = RefusesStopped is_stopped answer
@@ -255,21 +284,34 @@ pub record DoesOneAct (old new : State) : Type 0 where
   pub limits : new.limits ≡ old.limits
   pub frames : new.frames ≡ old.frames
 
--- only a step of an insert does an act
+-- only a step of an insert or of a bulk delete does an act
 abbrev pub OnlyStepsAct : Kind → Option Op → State → State → Type 0
-OnlyStepsAct (MovesCall session Steps) slot old new = OnlyInsertsAct slot old new
+OnlyStepsAct (MovesCall session Steps) slot old new = OnlyWritersAct slot old new
 OnlyStepsAct kind slot old new = new.acts ≡ old.acts
 
--- a beginning that is refused has its cause
+-- a beginning that is refused has its cause; whatever the slots are, a bulk delete runs where the store has a cycle number
 abbrev pub BeginningIsCaused : {S : Type 0} → Ghosts S → Kind → Answer → StoreAndSlots S → Type 0
 BeginningIsCaused g (BeginsCall session request) answer old =
-    IsCaused (where_begun_at g old.store (slice_get old.slots session)) answer
+    IsCaused (where_begun_at g old.store (is_vacuuming (g.state old.store)) old.sets request (slice_get old.slots session)) answer
 BeginningIsCaused g kind answer old = Unit {0}
+
+-- a beginning for which no session is found is refused for that, whatever else is so
+abbrev pub RefusesInOrder : {S : Type 0} → Ghosts S → Kind → Answer → StoreAndSlots S → Type 0
+RefusesInOrder g (BeginsCall session request) answer old =
+    (fault : Fault)
+    → session_to_begin (g.backing old.store).stopped (is_of_sets old.sets request) (slice_get old.slots session) session ≡ Err fault
+    → answer ≡ Refused fault
+RefusesInOrder g kind answer old = Unit {0}
+
+-- a call that has begun is what was asked for, before its first step
+abbrev pub StartsFresh : Kind → Answer → Option Op → Type 0
+StartsFresh (BeginsCall session request) answer after = answer ≡ Begun → after ≡ Some (op_before session request)
+StartsFresh kind answer after = Unit {0}
 
 -- What holds of an event whatever the pages are: what it may answer; that a refusal changes nothing; that a stopped log
 -- refuses it first; what is left to do for its call, over a device that keeps its model; that it does one act at most, and
--- only a step of an insert does one; that no other session's slot is changed; what it leaves; and that a beginning that is refused has
--- its cause.
+-- only a step of an insert or of a bulk delete does one; that no other session's slot is changed; what it leaves; that a
+-- beginning that is refused has its cause, the first that there is; and what a beginning begins.
 pub record EventAlways {S : Type 0} (g : Ghosts S) (kind : Kind) (answer : Answer) (old new : StoreAndSlots S) : Type 0 where
   pub answers : AnswersEvent kind answer old.slots new.slots
   pub refused : RefusalKeeps g kind answer old new
@@ -280,6 +322,8 @@ pub record EventAlways {S : Type 0} (g : Ghosts S) (kind : Kind) (answer : Answe
   pub others : (session : ℕ) → IsOfSession session kind → OthersStay session old.slots new.slots
   pub left : IsLeft g kind old new
   pub causes : BeginningIsCaused g kind answer old
+  pub order : RefusesInOrder g kind answer old
+  pub fresh : StartsFresh kind answer (slot_of new.slots (session_at kind))
 
 -- A step: a call that was due comes to what is awaited at its last step, and each step before leaves one fewer. While no
 -- action is logged, no more is left to do than before, whether it was due or not.
@@ -306,6 +350,22 @@ abbrev pub KeepsFlags : Kind → Answer → State → State → Option Op → Op
 KeepsFlags (MovesCall session Steps) answer old new before after = OnlyOwnAreFlagged old before → LeavesOwnFlagged new before after answer
 KeepsFlags kind answer old new before after = Unit {0}
 
+-- a step of a bulk delete doesn't come past a leaf that another session has pinned, nor to its end
+abbrev pub WaitsForPins : Kind → Answer → State → Option Op → Option Op → Type 0
+WaitsForPins (MovesCall session Steps) answer st before after = KeepsBeforePins st before after answer
+WaitsForPins kind answer st before after = Unit {0}
+
+-- a live leaf that another session has pinned stays one
+abbrev pub KeepsPinnedLeaves : Kind → State → State → Type 0
+KeepsPinnedLeaves kind old new =
+    (session block : ℕ) (page : Page) → (IsOfSession session kind → ⊥) → IsLeafAt old.pages block page
+    → has_pin (holding_of old.table session).pins block ≡ true → WasLeaf new.pages block
+
+-- a step of a bulk delete, beside which nobody has acted, counts on; at its end it tells how many entries there are
+abbrev pub CountsOnEntries : Kind → DeadSets → Answer → State → State → Option Op → Option Op → Type 0
+CountsOnEntries (MovesCall session Steps) sets answer old new before after = CountsEntries sets old new before after answer
+CountsOnEntries kind sets answer old new before after = Unit {0}
+
 -- What an event leaves as it was: the limits and the number of frames; and where it appends no action, the pages. So an event
 -- of others that appends no action costs a call that is due no step.
 pub record LeavesBe {S : Type 0} (g : Ghosts S) (kind : Kind) (old new : Snapshot S) : Type 0 where
@@ -328,8 +388,9 @@ pub record GrowsByOne (old new : List Action) : Type 0 where
   pub few : length acts ≤ 1
 
 -- One event of this kind, of what is fitted: what happens, why it is refused, how many steps its call takes, which pages it
--- leaves flagged, what it leaves as it was, the sets among it, and what fits then. The store follows the one before, so no
--- count goes back, and each crash in between is told of.
+-- leaves flagged, which pins a bulk delete waits for and what it counts, that pinned leaves stay, what it leaves as it was, the
+-- sets among it, and what fits then. The store follows the one before, so no count goes back, and each crash in between is told
+-- of.
 pub record EventDoes {S : Type 0} (g : Ghosts S) (start : Entry → Bool) (kind : Kind) (answer : Answer) (old new : Snapshot S) : Type 0 where
   pub always : EventAlways g kind answer (here_at old) (here_at new)
   pub happens : Happens g start kind answer old new
@@ -337,6 +398,9 @@ pub record EventDoes {S : Type 0} (g : Ghosts S) (start : Entry → Bool) (kind 
   pub caused : IsCaused (where_happening g kind (here_at old) (here_at new)) answer
   pub counts : CountsSteps kind answer (g.state old.store) (g.state new.store) (slot_of old.slots (session_at kind)) (slot_of new.slots (session_at kind))
   pub flagged : KeepsFlags kind answer (g.state old.store) (g.state new.store) (slot_of old.slots (session_at kind)) (slot_of new.slots (session_at kind))
+  pub waits : WaitsForPins kind answer (g.state old.store) (slot_of old.slots (session_at kind)) (slot_of new.slots (session_at kind))
+  pub entries : CountsOnEntries kind old.sets answer (g.state old.store) (g.state new.store) (slot_of old.slots (session_at kind)) (slot_of new.slots (session_at kind))
+  pub leaves : KeepsPinnedLeaves kind (g.state old.store) (g.state new.store)
   pub quiet : LeavesBe g kind old new
   pub durable : IsDurable (g.backing new.store).durable answer
   pub sets : new.sets ≡ old.sets

@@ -9,6 +9,8 @@ pub enum Event {
     Insert(u32, Entry),
     /// Begins a scan of the range.
     Scan(u32, Range),
+    /// Begins a bulk delete of the entries whose rows are in the set at this place among the sets.
+    Bulk(u32, u32),
     /// Makes one step of the session's call.
     Step(u32),
     /// Takes the next entry that the session's scan has ready.
@@ -17,6 +19,8 @@ pub enum Event {
     End(u32),
     /// Makes all actions durable.
     Force,
+    /// Writes the changed page that waits longest to its place, and makes its actions durable before.
+    Flush,
     /// Makes all actions durable, writes each changed page to its place and closes the log.
     Checkpoint,
 }

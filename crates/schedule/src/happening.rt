@@ -7,7 +7,7 @@ ghost use Rattle.session_calls.specs.Ops.{DeadSets};
 ghost use Rattle.session_calls.specs.Sessions.{no_call};
 ghost use Rattle.session_calls.specs.declared.op.Op.{Op};
 ghost use Rattle.schedule.specs.Snapshots.{here_with, has_call};
-ghost use Rattle.schedule.specs.Events.{BeginsCall, MovesCall, Steps, Takes, GivesUp, KeepsStore, Forces, Checkpoints, kind_of, session_to_begin, AnswersUpkeep, StoreIsKept, EventAlways};
+ghost use Rattle.schedule.specs.Events.{BeginsCall, MovesCall, Steps, Takes, GivesUp, KeepsStore, Forces, Flushes, Checkpoints, kind_of, is_of_sets, session_to_begin, AnswersUpkeep, StoreIsKept, EventAlways};
 ghost use Rattle.schedule.specs.Runs.{Carries, Runs, Makes, answers_behind};
 
 use crate::event::Event;
@@ -16,8 +16,9 @@ use page_action::PageStore;
 use session_calls::{Answer, Op, Request};
 
 /// Does one event on a store, whose session i runs what the slot i has, and answers what the event gave, a refusal among
-/// the answers. Where several refusals apply, the first of `Stopped`, `NoSession`, `SessionBusy` is answered. There are 64
-/// slots at most. The sets of dead rows are those that calls name by their places, the same at each event.
+/// the answers. Where several refusals apply, the first of `Stopped` (3), `NoSession` (12), `SessionBusy` (13) and
+/// `VacuumRunning` (11) is answered; a bulk delete of a set that isn't there is refused with `NoSession`. There are 64 slots
+/// at most. The sets of dead rows are those that calls name by their places, the same at each event.
 pub fn one<S: PageStore, T: DeadRows>(
     store: &mut S,
     slots: &mut [Option<Op>],
@@ -88,28 +89,37 @@ fn pick<S: PageStore, T: DeadRows>(
         (here_with store.new slots.new (map T.is_in sets.now)) }
 {
     match event {
-        Event::Insert(session, entry) => begin(store, slots, session, Request::Insert(entry)),
-        Event::Scan(session, range) => begin(store, slots, session, Request::Scan(range)),
+        Event::Insert(session, entry) => begin(store, slots, sets, session, Request::Insert(entry)),
+        Event::Scan(session, range) => begin(store, slots, sets, session, Request::Scan(range)),
+        Event::Bulk(session, set) => begin(store, slots, sets, session, Request::Bulk(set)),
         Event::Step(session) => step(store, slots, sets, session),
         Event::Next(session) => next(store, slots, session),
         Event::End(session) => end(store, slots, session),
         Event::Force => make_force(store, slots),
+        Event::Flush => make_flush(store, slots),
         Event::Checkpoint => make_checkpoint(store, slots),
     }
 }
 
-fn begin<S: PageStore>(
+fn begin<S: PageStore, T: DeadRows>(
     store: &mut S,
     slots: &mut [Option<Op>],
+    sets: &[T],
     session: u32,
     request: Request,
 ) -> Answer
     requires few { length slots.old ≤ 64 }
     ensures steps { Continues S.follows store.old store.new }
-    ensures makes { (sets : DeadSets) → Makes S.PageStore (BeginsCall session request) result
-        (here_with store.old slots.old sets) (here_with store.new slots.new sets) }
+    ensures makes { Makes S.PageStore (BeginsCall session request) result
+        (here_with store.old slots.old (map T.is_in sets.now))
+        (here_with store.new slots.new (map T.is_in sets.now)) }
 {
-    match find(store.is_stopped(), slots, session) {
+    match find(
+        store.is_stopped(),
+        is_of_sets(sets, &request),
+        slots,
+        session,
+    ) {
         Ok(known) => session_calls::begin(store, known, request, &mut slots[session as usize]),
         Err(fault) => Answer::Refused(fault),
     }
@@ -197,6 +207,17 @@ fn make_force<S: PageStore>(store: &mut S, slots: &[Option<Op>]) -> Answer
     }
 }
 
+fn make_flush<S: PageStore>(store: &mut S, slots: &[Option<Op>]) -> Answer
+    ensures steps { Continues S.follows store.old store.new }
+    ensures makes { (sets : DeadSets) → Makes S.PageStore (KeepsStore Flushes) result
+        (here_with store.old slots.now sets) (here_with store.new slots.now sets) }
+{
+    match store.flush() {
+        Ok(block) => Answer::Flushed(block),
+        Err(fault) => Answer::Refused(fault),
+    }
+}
+
 fn make_checkpoint<S: PageStore>(store: &mut S, slots: &[Option<Op>]) -> Answer
     ensures steps { Continues S.follows store.old store.new }
     ensures makes { (sets : DeadSets) → Makes S.PageStore (KeepsStore Checkpoints) result
@@ -212,17 +233,32 @@ fn make_checkpoint<S: PageStore>(store: &mut S, slots: &[Option<Op>]) -> Answer
     }
 }
 
-// The session that may begin a call: refused where the log failed before, then where there is none of this number,
-// then where it has a call.
-fn find(is_stopped: bool, slots: &[Option<Op>], session: u32) -> Result<Session, Fault>
+// Whether the set that a request names is there.
+fn is_of_sets<T: DeadRows>(sets: &[T], request: &Request) -> bool
+    ensures { result ≡ is_of_sets (map T.is_in sets.now) request.now }
+{
+    match request {
+        Request::Bulk(set) => (*set as usize) < sets.len(),
+        _ => true,
+    }
+}
+
+// The session that may begin a call: refused where the log failed before, then where there is none of this number or the set
+// that is named isn't there, then where it has a call.
+fn find(
+    is_stopped: bool,
+    has_set: bool,
+    slots: &[Option<Op>],
+    session: u32,
+) -> Result<Session, Fault>
     requires few { length slots.now ≤ 64 }
-    ensures { result ≡ session_to_begin is_stopped (slice_get slots.now session) session }
+    ensures { result ≡ session_to_begin is_stopped has_set (slice_get slots.now session) session }
 {
     if is_stopped {
         return Err(Fault::Stopped);
     }
     let at = session as usize;
-    if at >= slots.len() {
+    if at >= slots.len() || !has_set {
         return Err(Fault::NoSession);
     }
     if slots[at].is_some() {

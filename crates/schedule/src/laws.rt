@@ -1,6 +1,7 @@
 //! The laws.
 
 ghost use Rattle.schedule.specs.Bounds.{WorkIsBounded};
+ghost use Rattle.schedule.specs.Stands.{BulkDeletesWait, BegunBulkDeletesWait};
 
 use page_action::PageStore;
 
@@ -8,4 +9,11 @@ use page_action::PageStore;
 /// stay as they are.
 pub fn work_is_bounded<S: PageStore>()
     ensures { WorkIsBounded S.PageStore }
+{}
+
+/// Does nothing: its clauses say that a bulk delete that began while another session's scan stood on a leaf doesn't finish
+/// while it stands there, and that one that hasn't come to the leaf doesn't come past it.
+pub fn bulk_deletes_wait_for_scans<S: PageStore>()
+    ensures begun { BegunBulkDeletesWait S.PageStore }
+    ensures running { BulkDeletesWait S.PageStore }
 {}

@@ -37,6 +37,32 @@ impl DeadRows for NoRows {
 
 const NO_SETS: [NoRows; 0] = [];
 
+// The rows of one block.
+#[derive(Drop)]
+struct Block {
+    number: u32,
+}
+
+impl DeadRows for Block {
+    ghost use Rattle.std.specs.Prelude.{◌==◌};
+
+    ghost is_in = { λ rows row. row.block == rows.number };
+
+    fn is_dead(&self, row: RowAddr) -> bool {
+        row.block() == self.number
+    }
+}
+
+const SETS: [Block; 2] = [Block { number: 0 }, Block { number: 1 }];
+
+// An entry whose row is in one of the two sets.
+fn entry_in(key: u8, block: u32) -> Entry {
+    Entry {
+        key: Key::new(&[key]).unwrap_or(Key::EMPTY),
+        row: RowAddr::new(block, 1).unwrap_or_default(),
+    }
+}
+
 fn entry(key: u8) -> Entry {
     Entry {
         key: Key::new(&[key]).unwrap_or(Key::EMPTY),
@@ -232,5 +258,146 @@ fn refused_events_in_a_run(rt: HostRuntime) -> Result<(), Fail> {
     assert!(rt; matches!(answers[4], Answer::Refused(Fault::NoSession)));
     assert!(rt; matches!(answers[5], Answer::Ended));
     assert!(rt; matches!(answers[6], Answer::Forced(0)));
+    Ok(())
+}
+
+// The answer to the first step of the session that isn't `Going`.
+fn finish(store: &mut MapStore, slots: &mut [Option<Op>], session: u32) -> Answer {
+    for _ in 0..100 {
+        let answer = one(store, slots, &SETS, Event::Step(session));
+        if !matches!(answer, Answer::Going) {
+            return answer;
+        }
+    }
+    Answer::Going
+}
+
+#[test]
+fn a_bulk_delete_is_refused_in_order(rt: HostRuntime) -> Result<(), Fail> {
+    let mut store = empty_store(rt.alloc())?;
+    let mut slots: [Option<Op>; 3] = array::from_fn(|_| None);
+    let events = [
+        Event::Bulk(3, 0),
+        Event::Bulk(0, 2),
+        Event::Bulk(0, 1),
+        Event::Bulk(0, 2),
+        Event::Bulk(0, 0),
+        Event::Bulk(1, 2),
+        Event::Bulk(1, 1),
+        Event::Insert(1, entry_in(1, 1)),
+        Event::Bulk(1, 0),
+        Event::Next(0),
+        Event::End(0),
+        Event::Bulk(2, 0),
+    ];
+    let mut answers = Vec::new(rt.alloc());
+    run(&mut store, &mut slots, &SETS, &events, &mut answers)?;
+    assert_eq!(rt; answers.len(), events.len());
+    assert!(rt; matches!(answers[0], Answer::Refused(Fault::NoSession)));
+    assert!(rt; matches!(answers[1], Answer::Refused(Fault::NoSession)));
+    assert!(rt; matches!(answers[2], Answer::Begun));
+    assert!(rt; matches!(answers[3], Answer::Refused(Fault::NoSession)));
+    assert!(rt; matches!(answers[4], Answer::Refused(Fault::SessionBusy)));
+    assert!(rt; matches!(answers[5], Answer::Refused(Fault::NoSession)));
+    assert!(rt; matches!(answers[6], Answer::Refused(Fault::VacuumRunning)));
+    assert!(rt; matches!(answers[7], Answer::Begun));
+    assert!(rt; matches!(answers[8], Answer::Refused(Fault::SessionBusy)));
+    assert!(rt; matches!(answers[9], Answer::Refused(Fault::NoSession)));
+    assert!(rt; matches!(answers[10], Answer::Ended));
+    assert!(rt; matches!(answers[11], Answer::Begun));
+    Ok(())
+}
+
+#[test]
+fn a_bulk_delete_waits_for_a_scan(rt: HostRuntime) -> Result<(), Fail> {
+    let mut store = empty_store(rt.alloc())?;
+    let mut slots: [Option<Op>; 3] = array::from_fn(|_| None);
+    for key in 1..=3 {
+        let _begun = one(
+            &mut store,
+            &mut slots,
+            &SETS,
+            Event::Insert(0, entry_in(key, u32::from(key) % 2)),
+        );
+        let added = finish(&mut store, &mut slots, 0);
+        assert!(rt; matches!(added, Answer::Added { .. }));
+    }
+    let _begun = one(&mut store, &mut slots, &SETS, Event::Scan(1, ALL));
+    let ready = finish(&mut store, &mut slots, 1);
+    assert!(rt; matches!(ready, Answer::Ready(3)));
+    let begun = one(&mut store, &mut slots, &SETS, Event::Bulk(2, 1));
+    assert!(rt; matches!(begun, Answer::Begun));
+    for _ in 0..3 {
+        let blocked = finish(&mut store, &mut slots, 2);
+        assert!(rt; matches!(blocked, Answer::Refused(Fault::Blocked(1))));
+    }
+    let ended = one(&mut store, &mut slots, &SETS, Event::End(1));
+    assert!(rt; matches!(ended, Answer::Ended));
+    let Answer::Finished(stats) = finish(&mut store, &mut slots, 2) else {
+        assert!(rt; false);
+        return Ok(());
+    };
+    assert_eq!(rt; (stats.tuples_removed, stats.num_index_tuples), (2, 1));
+    Ok(())
+}
+
+// Two sessions insert entries of both sets, a third runs one bulk delete of the second set after the other, each of them one
+// event in turn: how many inserts were added, and how many bulk deletes have finished, or None for a wrong answer.
+fn delete_beside(
+    store: &mut MapStore,
+    slots: &mut [Option<Op>; 3],
+    turns: u32,
+) -> Option<(u8, u8)> {
+    let (mut begun, mut added, mut finished) = (0u8, 0u8, 0u8);
+    for turn in 0..turns {
+        let session = turn % 3;
+        let event = if session == 2 && !is_running(slots, session) {
+            Event::Bulk(session, 1)
+        } else if is_running(slots, session) || session == 2 || begun == MOST {
+            Event::Step(session)
+        } else {
+            let key = u8::try_from(u32::from(begun.saturating_add(1)) * 7 % 23).unwrap_or(0);
+            Event::Insert(session, entry_in(key, u32::from(key) % 2))
+        };
+        match one(store, slots, &SETS, event) {
+            Answer::Begun if session != 2 => begun = begun.saturating_add(1),
+            Answer::Added {
+                unfinished: None,
+                ..
+            } => added = added.saturating_add(1),
+            Answer::Finished(_) => finished = finished.saturating_add(1),
+            Answer::Begun | Answer::Going | Answer::Refused(Fault::Blocked(_) | Fault::NoSession) =>
+                {}
+            _ => return None,
+        }
+    }
+    Some((added, finished))
+}
+
+#[test]
+fn two_insert_while_a_third_deletes(rt: HostRuntime) -> Result<(), Fail> {
+    let mut store = empty_store(rt.alloc())?;
+    let mut slots: [Option<Op>; 3] = array::from_fn(|_| None);
+    let Some((added, finished)) = delete_beside(&mut store, &mut slots, 900) else {
+        assert!(rt; false);
+        return Ok(());
+    };
+    assert_eq!(rt; added, MOST);
+    assert!(rt; finished > 2);
+    let _ended = one(&mut store, &mut slots, &SETS, Event::End(2));
+    let _begun = one(&mut store, &mut slots, &SETS, Event::Bulk(2, 1));
+    let Answer::Finished(stats) = finish(&mut store, &mut slots, 2) else {
+        assert!(rt; false);
+        return Ok(());
+    };
+    assert_eq!(rt; stats.num_index_tuples, u64::from(MOST / 2));
+    let Some(given) = scan_alone(&mut store, &mut slots) else {
+        assert!(rt; false);
+        return Ok(());
+    };
+    assert_eq!(rt; given.len(), usize::from(MOST / 2));
+    for (place, found) in given.iter().enumerate() {
+        assert!(rt; *found == entry_in(u8::try_from(place * 2 + 2).unwrap_or(0), 0));
+    }
     Ok(())
 }

@@ -8,7 +8,9 @@ use Rattle.index_model.specs.Range.{matches, from_admits, below_admits, start_of
 use Rattle.index_model.specs.declared.entry.Entry.{Entry}
 use Rattle.index_model.specs.declared.range.Range.{Range}
 use Rattle.index_model.proofs.Order.{from_key}
-use Rattle.page_action.specs.States.{State, after_begin}
+use Rattle.page_action.specs.States.{State, after_begin, after_start_cycle, next_cycle}
+use Rattle.tree_acts.proofs.Leaving.{leaves_same}
+use Rattle.vacuum.proofs.Lasting.{all_to_come}
 use Rattle.page_codec.specs.declared.page.Page.{Page}
 use Rattle.descent.specs.Shared.{NumbersStay, IsInOrder, OthersRely}
 use Rattle.insert_split.proofs.Lasting.{bounded as insert_bounded}
@@ -16,13 +18,18 @@ use Rattle.scan.proofs.Lasting.{bounded as scan_bounded}
 use Rattle.descent.specs.Ways.{root_level, NoneIsFlagged}
 use Rattle.session_calls.specs.Due.{IsServable, IsDueIn, steps_for, HasSteps}
 use Rattle.session_calls.proofs.Counting.{due_still}
-use Rattle.session_calls.specs.Ops.{DeadSets, asked_by, op_before}
-use Rattle.session_calls.specs.Sessions.{Matches, IsIdle, HasStarted, OpRuns, begun_call, work_left, SessionBegins}
+use Rattle.session_calls.specs.Ops.{DeadSets, asked_by, op_before, IsOfSets, asks_vacuum, set_at}
+use Rattle.session_calls.specs.Sweeps.{IsSweepSoFar, SlotSweeps}
+use Rattle.session_calls.proofs.Bounds.{bulk_few}
+use Rattle.session_calls.specs.Sessions.{Matches, IsIdle, OpRuns, begun_call, work_left, work_in, after_request, SessionBegins}
 use Rattle.session_calls.specs.declared.request.Request.{Request}
-use Rattle.session_calls.specs.declared.request.Request.TheVariants.{Insert as ToInsert, Scan as ToScan}
+use Rattle.session_calls.specs.declared.request.Request.TheVariants.{Insert as ToInsert, Scan as ToScan, Bulk as ToBulk}
 use Rattle.session_calls.specs.declared.op.Op.{Op}
 use Rattle.session_calls.proofs.Lists.{get_set_same, get_set_other}
-use Rattle.std.proofs.lemmas.Bool.{and_parts}
+use Rattle.std.proofs.lemmas.Bool.{and_parts, lt-ltb}
+use Rattle.std.proofs.lemmas.List.{drop_all}
+use Rattle.index_model.specs.Calls.{removed_by}
+use Rattle.std.specs.Prelude.{◌==◌, suc, nat_lt, if◌then◌else◌}
 
 begun_order : (st : State) (session : ℕ) → IsInOrder st → IsInOrder (after_begin session st)
 begun_order st session order = record {
@@ -49,6 +56,51 @@ begun_others st session other differ = record {
   numbers = λ start runs. begun_numbers st session start;
 }
 
+-- a cycle number is of the store alone
+cycled_order : (st : State) → IsInOrder st → IsInOrder (after_start_cycle st)
+cycled_order st order = record {
+  tree = record { tree = order.tree.tree; stored = order.tree.stored; counted = order.tree.counted };
+  apart = order.apart;
+  holdings = order.holdings;
+  calls = order.calls;
+}
+
+cycled_numbers : (st : State) (session start : ℕ) → NumbersStay start st (after_start_cycle (after_begin session st))
+cycled_numbers st session start = record {
+  places = λ level aim clear block aims place. record { tree = place.tree; in_tree = place.in_tree; place = place.place };
+  trails = λ level block moves trail. record { tree = trail.tree; in_tree = trail.in_tree; passed = trail.passed; count = trail.count; distinct = trail.distinct; steps = trail.steps; trail = trail.trail };
+}
+
+requested_matches : (v : Bool) (st : State) (session : ℕ) (start : Entry → Bool) (history : List Action) → Matches st start history → Matches (after_request v session st) start history
+requested_matches false st session start history m = begun_matches st session start history m
+requested_matches true st session start history m =
+    record { contents = m.contents; count = m.count; order = cycled_order (after_begin session st) (begun_order st session m.order) }
+
+requested_others : (v : Bool) (st : State) (session : ℕ) → OthersRely session st (after_request v session st)
+requested_others false st session other differ = begun_others st session other differ
+requested_others true st session other differ = record {
+  held = refl;
+  number = get_set_other st.running session other (Some st.begun) differ;
+  pages = λ block alone. refl;
+  numbers = λ start runs. cycled_numbers st session start;
+}
+
+requested_pages : (v : Bool) (st : State) (session : ℕ) → (after_request v session st).pages ≡ st.pages
+requested_pages false st session = refl
+requested_pages true st session = refl
+
+requested_limits : (v : Bool) (st : State) (session : ℕ) → (after_request v session st).limits ≡ st.limits
+requested_limits false st session = refl
+requested_limits true st session = refl
+
+requested_cycle : (v : Bool) (st : State) (session : ℕ) → v ≡ false → (after_request v session st).cycle ≡ st.cycle
+requested_cycle false st session none = refl
+requested_cycle true st session none = absurd cc
+
+-- a cycle number isn't 0
+cycle_runs : (counter : ℕ) → nat_lt 0 (next_cycle counter) ≡ true
+cycle_runs counter = elim (counter == 4294967295) as (λ b. nat_lt 0 (if b then 1 else suc counter) ≡ true) [ true ↦ refl | false ↦ lt-ltb 0 (suc counter) (omega arith) ]
+
 -- an entry lies beyond the start of a range exactly if its key isn't before the range
 pub past_start : (range : Range) (e : Entry) → is_past (start_of range) e ≡ from_admits range.from e.key
 past_start range e = by range.from
@@ -71,14 +123,14 @@ nothing_given : (start : Entry → Bool) (history : List Action) (range : Range)
 nothing_given start history range began = record { ascending = tt; matched = λ e h. absurd cc; was_there = λ e h. absurd cc }
 
 module _ (old : State) (sets : DeadSets) (start : Entry → Bool) (history : List Action) (number session : ℕ) (low : session < 64) (m : Matches old start history) (idle : IsIdle old session) where
-  abbrev then_state : State
-  then_state = after_begin session old
+  abbrev then_state : Request → State
+  then_state request = after_request (asks_vacuum request) session old
 
-  starts : slice_get then_state.running session ≡ Some (Some old.begun)
+  starts : slice_get (after_begin session old).running session ≡ Some (Some old.begun)
   starts = (let many : length old.running ≡ 64 = m.order.calls in get_set_same old.running session (Some old.begun) (omega arith))
 
-  has_started : HasStarted then_state session
-  has_started = record { number = old.begun; is = ap (λ (o : Option (Option ℕ)). unwrap_or o None) starts }
+  started_is : unwrap_or (slice_get (after_begin session old).running session) None ≡ Some old.begun
+  started_is = ap (λ (o : Option (Option ℕ)). unwrap_or o None) starts
 
   begun_meets : (request : Request) → Meets start history number (begun_call session (asked_by sets request) (length history))
   begun_meets (ToInsert e) = record { began = omega arith; until = omega arith; right = record { add = tt; end = tt } }
@@ -87,14 +139,15 @@ module _ (old : State) (sets : DeadSets) (start : Entry → Bool) (history : Lis
     until = omega arith;
     right = record { only = nothing_given start history range (length history); all = λ e within match through. absurd within };
   }
+  begun_meets (ToBulk set) = record { began = omega arith; until = omega arith; right = tt }
 
-  begun_runs : (request : Request) → OpRuns then_state sets start history (begun_call session (asked_by sets request) (length history)) (op_before session request)
-  begun_runs (ToInsert e) = record { ask = refl; session = refl; added = refl; started = has_started; fits = record { session = low; start = old.begun; running = starts; stands = idle.holds; to_come = refl }; knows = tt }
+  begun_runs : (request : Request) → OpRuns (then_state request) sets start history (begun_call session (asked_by sets request) (length history)) (op_before session request)
+  begun_runs (ToInsert e) = record { ask = refl; session = refl; added = refl; started = record { number = old.begun; is = started_is }; fits = record { session = low; start = old.begun; running = starts; stands = idle.holds; to_come = refl }; knows = tt }
   begun_runs (ToScan range) = record {
     ask = refl;
     session = refl;
     added = refl;
-    started = has_started;
+    started = record { number = old.begun; is = started_is };
     fits = record { session = low; start = old.begun; running = starts; held = idle.holds; stands = refl; started = λ e past. sym (past_start range e) ∙ past; few = omega arith };
     knows = record {
       ascending = tt;
@@ -105,35 +158,58 @@ module _ (old : State) (sets : DeadSets) (start : Entry → Bool) (history : Lis
       onward = λ e not. tt;
     };
   }
+  begun_runs (ToBulk set) = record { ask = refl; session = refl; added = refl; started = record { number = old.begun; is = started_is }; fits = record { session = low; start = old.begun; running = starts; held = idle.holds; back = tt }; knows = tt }
+
+  begun_sweep : (set : ℕ) → IsSweepSoFar (after_start_cycle (after_begin session old)) (set_at sets set) start history number (length history) (record { session = session; cursor = 1; back = None; left = 0; removed = 0 })
+  begun_sweep set = record {
+    runs = cycle_runs old.counter;
+    to_come = λ due are. all_to_come due (after_start_cycle (after_begin session old)) session (cycled_order (after_begin session old) (begun_order old session m.order));
+    removed = sym (ap (λ (l : List Action). removed_by number l) (drop_all (length history) history (omega arith)));
+  }
+
+  begun_sweeps : (request : Request) → IsOfSets sets request → SlotSweeps (then_state request) sets start history number (length history) (Some (op_before session request))
+  begun_sweeps (ToInsert e) there = tt
+  begun_sweeps (ToScan range) there = tt
+  begun_sweeps (ToBulk set) there = (there, begun_sweep set)
 
   running_from : (request : Request) → (begun_call session (asked_by sets request) (length history)).ending ≡ Running
   running_from request = refl
 
-  pub begins : (new : State) (request : Request) (slot : Option Op) → new ≡ after_begin session old → slot ≡ Some (op_before session request) → SessionBegins old new sets start history number session request slot
+  pub begins : (new : State) (request : Request) (slot : Option Op) → new ≡ after_request (asks_vacuum request) session old → slot ≡ Some (op_before session request) → SessionBegins old new sets start history number session request slot
   begins new request slot is slot_is =
       subst (λ (st : State). SessionBegins old st sets start history number session request slot) (sym is)
-      (subst (λ (x : Option Op). SessionBegins old then_state sets start history number session request x) (sym slot_is) (record {
-        world = begun_matches old session start history m;
-        others = begun_others old session;
+      (subst (λ (x : Option Op). SessionBegins old (then_state request) sets start history number session request x) (sym slot_is) (record {
+        world = requested_matches (asks_vacuum request) old session start history m;
+        others = requested_others (asks_vacuum request) old session;
         meets = begun_meets request;
         holds = (refl, begun_runs request);
+        cycle = requested_cycle (asks_vacuum request) old session;
+        leaves = leaves_same old (then_state request) (requested_pages (asks_vacuum request) old session);
+        sweeps = begun_sweeps request;
       }))
 
 few_from : (most : ℕ) (pages : List Page) (session : ℕ) (request : Request) → most ≤ 65536 → length pages ≤ 65536 → work_left most pages (Some (op_before session request)) < 281474976710656
 few_from most pages session (ToInsert e) low few = insert_bounded most pages low
 few_from most pages session (ToScan range) low few = scan_bounded most pages session range low few
+few_from most pages session (ToBulk set) low few = (let k = bulk_few most (length pages) 1 None low few in omega arith)
 
 -- a request that its leaf can serve is due after so many steps
 due_from : (old : State) (session : ℕ) (request : Request) → NoneIsFlagged old.pages → IsServable old request
     → IsDueIn old (Some (op_before session request)) (root_level old.pages + steps_for request)
 due_from old session (ToInsert e) whole servable = record { steps_are = refl; whole = whole; way = tt; absent = servable.0; room = servable.1 }
 due_from old session (ToScan range) whole servable = record { steps_are = refl; whole = whole; way = tt; none = refl }
+due_from old session (ToBulk set) whole servable = absurd servable
 
-pub has_steps : (old new : State) (session : ℕ) (request : Request) (slot : Option Op) → new ≡ after_begin session old → slot ≡ Some (op_before session request)
+few_begun : (v : Bool) (old : State) (session : ℕ) (request : Request) → old.limits.pages ≤ 65536 → length old.pages ≤ 65536
+    → work_in (after_request v session old) (Some (op_before session request)) < 281474976710656
+few_begun false old session request low few = few_from old.limits.pages old.pages session request low few
+few_begun true old session request low few = few_from old.limits.pages old.pages session request low few
+
+pub has_steps : (old new : State) (session : ℕ) (request : Request) (slot : Option Op) → new ≡ after_request (asks_vacuum request) session old → slot ≡ Some (op_before session request)
     → old.limits.pages ≤ 65536 → length old.pages ≤ 65536 → HasSteps old new request slot
 has_steps old new session request slot is slot_is low few =
-    subst (λ (st : State). HasSteps old st request slot) (sym is) (subst (λ (x : Option Op). HasSteps old (after_begin session old) request x) (sym slot_is)
+    subst (λ (st : State). HasSteps old st request slot) (sym is) (subst (λ (x : Option Op). HasSteps old (after_request (asks_vacuum request) session old) request x) (sym slot_is)
     (record {
-      due = λ whole servable. due_still old (after_begin session old) (Some (op_before session request)) (root_level old.pages + steps_for request) refl refl (due_from old session request whole servable);
-      bounded = few_from old.limits.pages old.pages session request low few;
+      due = λ whole servable. due_still old (after_request (asks_vacuum request) session old) (Some (op_before session request)) (root_level old.pages + steps_for request) (requested_limits (asks_vacuum request) old session) (requested_pages (asks_vacuum request) old session) (due_from old session request whole servable);
+      bounded = few_begun (asks_vacuum request) old session request low few;
     }))

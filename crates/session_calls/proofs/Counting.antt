@@ -24,10 +24,14 @@ use Rattle.scan.specs.Straight.{straight_steps as scan_steps, IsStraight as IsOn
 use Rattle.scan.specs.declared.steps.ScanAt.{ScanAt}
 use Rattle.scan.specs.declared.steps.ScanAt.TheVariants.{Start as ScanStart, At as ScanReads, Last}
 use Rattle.scan.specs.declared.steps.ScanOp.{ScanOp}
-use Rattle.session_calls.specs.Due.{InsertIsDue, ScanIsDue, IsDueIn, CountsDown}
-use Rattle.session_calls.specs.declared.answer.Answer.TheVariants.{Going}
+use Rattle.session_calls.specs.Due.{InsertIsDue, ScanIsDue, IsDueIn, IsHindered, CountsDown}
+use Rattle.index_model.specs.declared.fault.Fault.{Fault}
+use Rattle.index_model.specs.declared.fault.Fault.TheVariants.{NoMemory, Io, Stopped, Blocked, Exists, KeyTooLong, BadRow, IndexFull, LogFull, NoFrame, VacuumRunning, NoSession, SessionBusy, BadSuper, BadVersion, LogDamaged, PageDamaged, BadLimits, TooTall, DeviceTooSmall}
+use Rattle.session_calls.specs.Sessions.{OnlyOwnAreFlagged, LeavesOwnFlagged}
+use Rattle.session_calls.specs.declared.answer.Answer.{Answer}
+use Rattle.session_calls.specs.declared.answer.Answer.TheVariants.{Begun, Going, Added, Ready, Done, Finished, Gave, Ended, Forced, Flushed, Checkpointed, Refused}
 use Rattle.session_calls.specs.declared.op.Op.{Op}
-use Rattle.session_calls.specs.declared.op.Op.TheVariants.{Insert, Scan}
+use Rattle.session_calls.specs.declared.op.Op.TheVariants.{Insert, Scan, Bulk}
 
 abbrev paged : State → List Page → State
 paged st pages = record st { pages = pages }
@@ -58,6 +62,7 @@ scan_way_still old new frontier Last same h = absurd h
 -- a call that is due stays so while pages and limits are as they were
 pub due_still : (old new : State) (slot : Option Op) (steps : ℕ) → new.limits ≡ old.limits → new.pages ≡ old.pages → IsDueIn old slot steps → IsDueIn new slot steps
 due_still old new None steps limits same due = absurd due
+due_still old new (Some (Bulk set op)) steps limits same due = absurd due
 due_still old new (Some (Insert op)) steps limits same due = record {
   steps_are = due.steps_are ∙ sym (ap (λ (ps : List Page). insert_steps ps op.at) same);
   whole = subst NoneIsFlagged (sym same) due.whole;
@@ -146,3 +151,60 @@ scan_counts old new before after left due step way fewer =
       subst (λ (n : ℕ). 0 < n) (sym left_is) (some_reads old after.frontier after.at way),
       record { pages = pages; limits = step.does.limits; due = due_still old new (Some (Scan after)) left step.does.limits pages then_due },
     )
+
+-- what is flagged is of the pages alone
+own_on : (mid new : State) (slot : Option Op) → new.pages ≡ mid.pages → OnlyOwnAreFlagged mid slot → OnlyOwnAreFlagged new slot
+own_on mid new None same h = λ block is. h block (subst (λ (ps : List Page). (nodes_of ps block).split ≡ true) same is)
+own_on mid new (Some op) same h = λ block is. h block (subst (λ (ps : List Page). (nodes_of ps block).split ≡ true) same is)
+
+pub flagged_on : (mid new : State) (before after : Option Op) (answer : Answer) → new.pages ≡ mid.pages → LeavesOwnFlagged mid before after answer → LeavesOwnFlagged new before after answer
+flagged_on mid new before after (Added action (Some fault)) same h = own_on mid new before same h
+flagged_on mid new before after (Added action None) same h = own_on mid new None same h
+flagged_on mid new before after (Refused fault) same h = own_on mid new before same h
+flagged_on mid new before after Begun same h = own_on mid new after same h
+flagged_on mid new before after Going same h = own_on mid new after same h
+flagged_on mid new before after (Ready count) same h = own_on mid new after same h
+flagged_on mid new before after Done same h = own_on mid new after same h
+flagged_on mid new before after (Finished stats) same h = own_on mid new after same h
+flagged_on mid new before after (Gave entry) same h = own_on mid new after same h
+flagged_on mid new before after Ended same h = own_on mid new after same h
+flagged_on mid new before after (Forced count) same h = own_on mid new after same h
+flagged_on mid new before after (Flushed block) same h = own_on mid new after same h
+flagged_on mid new before after (Checkpointed count) same h = own_on mid new after same h
+
+-- a call that is over isn't due
+hindered_over : (old mid new : State) (steps : ℕ) (fault : Fault) → IsHindered old mid None steps fault → IsHindered old new None steps fault
+hindered_over old mid new steps (Blocked b) h = absurd h.due
+hindered_over old mid new steps NoMemory h = h
+hindered_over old mid new steps Io h = h
+hindered_over old mid new steps Stopped h = h
+hindered_over old mid new steps Exists h = h
+hindered_over old mid new steps KeyTooLong h = h
+hindered_over old mid new steps BadRow h = h
+hindered_over old mid new steps IndexFull h = h
+hindered_over old mid new steps LogFull h = h
+hindered_over old mid new steps NoFrame h = h
+hindered_over old mid new steps VacuumRunning h = h
+hindered_over old mid new steps NoSession h = h
+hindered_over old mid new steps SessionBusy h = h
+hindered_over old mid new steps BadSuper h = h
+hindered_over old mid new steps BadVersion h = h
+hindered_over old mid new steps LogDamaged h = h
+hindered_over old mid new steps (PageDamaged b) h = h
+hindered_over old mid new steps BadLimits h = h
+hindered_over old mid new steps TooTall h = h
+hindered_over old mid new steps DeviceTooSmall h = h
+
+pub counts_over : (old mid new : State) (before : Option Op) (left : ℕ) (answer : Answer) → CountsDown old mid before None left answer → CountsDown old new before None left answer
+counts_over old mid new before left Going h = absurd h.1.due
+counts_over old mid new before left (Refused fault) h = hindered_over old mid new (suc left) fault h
+counts_over old mid new before left Begun h = h
+counts_over old mid new before left (Added action unfinished) h = h
+counts_over old mid new before left (Ready count) h = h
+counts_over old mid new before left Done h = h
+counts_over old mid new before left (Finished stats) h = h
+counts_over old mid new before left (Gave entry) h = h
+counts_over old mid new before left Ended h = h
+counts_over old mid new before left (Forced count) h = h
+counts_over old mid new before left (Flushed block) h = h
+counts_over old mid new before left (Checkpointed count) h = h

@@ -1,5 +1,5 @@
 -- What a step does to the pages, over histories; and the end of a call, which lets go what its session held.
-use Rattle.std.proofs.Common.{◌≡◌, ℕ, suc, ◌<◌, Bool, Option, Some, None, List, [], ◌∷◌, ◌++◌, length, refl, sym, ap, subst, ◌∙◌, arith, length-append, length-set}
+use Rattle.std.proofs.Common.{◌≡◌, ℕ, suc, ◌<◌, Bool, true, false, Option, Some, None, List, [], ◌∷◌, ◌++◌, length, refl, sym, ap, subst, ◌∙◌, arith, length-append, length-set}
 use Rattle.std.specs.Prelude.{unwrap_or}
 use Rattle.std.proofs.lemmas.List.{append-nil}
 use Rattle.index_model.specs.Actions.{Effect, Add, Remove, Shape, Action, said_of}
@@ -8,10 +8,15 @@ use Rattle.index_model.proofs.Histories.{contents_after-append}
 use Rattle.latch_table.specs.Holdings.{Holding, nothing_held, latches_exclude}
 use Rattle.latch_table.specs.declared.mode.Mode.TheVariants.{Shared}
 use Rattle.latch_table.proofs.Tables.{length-with_holding, holding_of-with_holding, holding_of-with_holding_other}
-use Rattle.page_action.specs.States.{State, after_end}
+use Rattle.page_action.specs.States.{State, after_end, after_stop_cycle}
+use Rattle.tree_acts.specs.Leaves.{LeavesStay}
 use Rattle.descent.specs.Shared.{IsRaised, NumbersStay, IsInOrder, MayRely, OthersRely, MovesFlags, level_in, Does}
 use Rattle.descent.proofs.Tables.{apart_nothing}
-use Rattle.session_calls.specs.Sessions.{Matches, IsIdle, HasStarted, acts_of}
+use Rattle.index_model.specs.Calls.{Ask, AskInsert, AskScan, AskBulkDelete, AskCleanup}
+use Rattle.session_calls.specs.Ops.{DeadSets, asked_of, is_vacuum}
+use Rattle.session_calls.specs.Sessions.{Matches, IsIdle, HasStarted, acts_of, let_go, cycle_behind}
+use Rattle.session_calls.specs.declared.op.Op.{Op}
+use Rattle.session_calls.specs.declared.op.Op.TheVariants.{Insert, Scan, Bulk}
 use Rattle.session_calls.proofs.Lists.{get_set_same, get_set_other}
 
 -- the pages match the history with the event's action
@@ -104,3 +109,82 @@ ended_idle session st low order =
       holds = holding_of-with_holding st.table session nothing_held (omega arith);
       number = ap (λ (o : Option (Option ℕ)). unwrap_or o None) (get_set_same st.running session None (omega arith));
     }
+
+-- that no bulk delete runs any more, is of the cycle number alone
+stopped_order : (st : State) → IsInOrder st → IsInOrder (after_stop_cycle st)
+stopped_order st order = record {
+  tree = record { tree = order.tree.tree; stored = order.tree.stored; counted = order.tree.counted };
+  apart = order.apart;
+  holdings = order.holdings;
+  calls = order.calls;
+}
+
+stopped_numbers : (st : State) (start : ℕ) → NumbersStay start st (after_stop_cycle st)
+stopped_numbers st start = record {
+  places = λ level aim clear block aims place. record { tree = place.tree; in_tree = place.in_tree; place = place.place };
+  trails = λ level block moves trail. record { tree = trail.tree; in_tree = trail.in_tree; passed = trail.passed; count = trail.count; distinct = trail.distinct; steps = trail.steps; trail = trail.trail };
+}
+
+stopped_raised : (old new : State) (level : ℕ) (raised : Option ℕ) → IsRaised old new level raised → IsRaised old (after_stop_cycle new) level raised
+stopped_raised old new level None h = tt
+stopped_raised old new level (Some b) h = h
+
+stopped_flags : (old new : State) (effect : Option Effect) → MovesFlags effect old new → MovesFlags effect old (after_stop_cycle new)
+stopped_flags old new None h = tt
+stopped_flags old new (Some (Add e)) h = record { raised = h.raised; leaf = stopped_raised old new 0 h.raised h.leaf; moves = h.moves; most = h.most }
+stopped_flags old new (Some (Remove es)) h = h
+stopped_flags old new (Some Shape) h =
+    record { cleared = h.cleared; was = h.was; raised = h.raised; higher = stopped_raised old new (suc (level_in new h.cleared)) h.raised h.higher; moves = h.moves; less = h.less }
+
+-- what holds where a call has ended, be it a bulk delete or not
+pub go_matches : (v : Bool) (st : State) (session : ℕ) (start : Entry → Bool) (history : List Action) → session < 64 → Matches st start history → Matches (let_go v session st) start history
+go_matches false st session start history low m = ended_matches st session start history low m
+go_matches true st session start history low m =
+    let k = ended_matches st session start history low m in
+    record { contents = k.contents; count = k.count; order = stopped_order (after_end session st) k.order }
+
+pub go_flags : (v : Bool) (old new : State) (session : ℕ) (effect : Option Effect) → MovesFlags effect old new → MovesFlags effect old (let_go v session new)
+go_flags false old new session effect h = ended_flags old new session effect h
+go_flags true old new session effect h = stopped_flags old (after_end session new) effect (ended_flags old new session effect h)
+
+pub go_others : (v : Bool) (old st : State) (session : ℕ) → OthersRely session old st → OthersRely session old (let_go v session st)
+go_others false old st session rely other differ = ended_others old st session rely other differ
+go_others true old st session rely other differ = rely_trans other old (after_end session st) (after_stop_cycle (after_end session st)) (ended_others old st session rely other differ) (record {
+  held = refl;
+  number = refl;
+  pages = λ block alone. refl;
+  numbers = λ start runs. stopped_numbers (after_end session st) start;
+})
+
+pub go_idle : (v : Bool) (session : ℕ) (st : State) → session < 64 → IsInOrder st → IsIdle (let_go v session st) session
+go_idle false session st low order = ended_idle session st low order
+go_idle true session st low order = (let k = ended_idle session st low order in record { holds = k.holds; number = k.number })
+
+pub go_limits : (v : Bool) (session : ℕ) (st : State) → (let_go v session st).limits ≡ st.limits
+go_limits false session st = refl
+go_limits true session st = refl
+
+pub go_frames : (v : Bool) (session : ℕ) (st : State) → (let_go v session st).frames ≡ st.frames
+go_frames false session st = refl
+go_frames true session st = refl
+
+pub go_pages : (v : Bool) (session : ℕ) (st : State) → (let_go v session st).pages ≡ st.pages
+go_pages false session st = refl
+go_pages true session st = refl
+
+-- leaves stay, as the pages do
+pub go_leaves : (v : Bool) (old mid : State) (session : ℕ) (effect : Option Effect) → LeavesStay effect old mid → (let_go v session mid).cycle ≡ old.cycle → LeavesStay effect old (let_go v session mid)
+go_leaves false old mid session effect h same = record { cycle = same; each = h.each; others = h.others }
+go_leaves true old mid session effect h same = record { cycle = same; each = h.each; others = h.others }
+
+-- the end of a bulk delete alone moves the cycle number
+pub go_cycle : (sets : DeadSets) (op : Op) (mid : State) (session cycle : ℕ) → mid.cycle ≡ cycle → (let_go (is_vacuum op) session mid).cycle ≡ cycle_behind (asked_of sets op) None cycle
+go_cycle sets (Insert op) mid session cycle same = same
+go_cycle sets (Scan op) mid session cycle same = same
+go_cycle sets (Bulk set op) mid session cycle same = refl
+
+pub cycle_stays : (ask : Ask) (op : Op) (cycle : ℕ) → cycle ≡ cycle_behind ask (Some op) cycle
+cycle_stays (AskInsert e) op cycle = refl
+cycle_stays (AskScan range) op cycle = refl
+cycle_stays (AskBulkDelete dead) op cycle = refl
+cycle_stays AskCleanup op cycle = refl

@@ -2,52 +2,59 @@
 use Rattle.std.proofs.Common.{◌≡◌, ℕ, suc, ◌+◌, ◌<◌, Bool, true, false, if◌then◌else◌, Option, Some, None, List, [], ◌++◌, length, refl, sym, ap, subst, ◌∙◌}
 use Rattle.std.proofs.lemmas.List.{append-nil}
 use Rattle.index_model.specs.Actions.{Effect, Action, contents_after}
-use Rattle.index_model.specs.Calls.{AskInsert, Running, Added as EndsAdded, GivenUp, Failed, Call, InsertMayFail, Meets}
+use Rattle.index_model.specs.Calls.{Ask, AskInsert, Running, Added as EndsAdded, GivenUp, Failed, Call, InsertMayFail, Meets}
 use Rattle.index_model.specs.Faults.{Circumstances, HasCause}
 use Rattle.index_model.specs.declared.entry.Entry.{Entry}
 use Rattle.index_model.specs.declared.fault.Fault.{Fault}
 use Rattle.page_action.specs.Contents.{entry_on_live_leaf}
-use Rattle.page_action.specs.States.{State, after_end}
+use Rattle.page_action.specs.States.{State}
 use Rattle.descent.specs.Shared.{Does}
 use Rattle.descent.proofs.Acting.{nothing_else}
-use Rattle.session_calls.specs.Ops.{DeadSets, session_of, asked_of, add_of, OpFits, OpKnows, IsCaused, IsFaultCaused, is_last, ends_call}
-use Rattle.session_calls.specs.Sessions.{Matches, OpRuns, CallFits, acts_of, act_count, IsAsked, add_after, noted, ended, Told, SessionGoes, OpGoes, HoldsOn}
+use Rattle.session_calls.specs.Ops.{DeadSets, session_of, is_vacuum, asked_of, add_of, OpFits, OpKnows, IsCaused, IsFaultCaused, is_last, ends_call}
+use Rattle.session_calls.specs.Sessions.{Matches, OpRuns, CallFits, acts_of, act_count, IsAsked, add_after, noted, ended, Told, let_go, after_call, cycle_behind, SessionGoes, OpGoes, HoldsOn}
+use Rattle.session_calls.specs.Sweeps.{OpSweeps}
 use Rattle.session_calls.specs.declared.answer.Answer.{Answer}
 use Rattle.session_calls.specs.declared.answer.Answer.TheVariants.{Going, Added, Ready, Ended, Refused}
 use Rattle.session_calls.specs.declared.op.Op.{Op}
-use Rattle.session_calls.specs.declared.op.Op.TheVariants.{Insert, Scan}
+use Rattle.session_calls.specs.declared.op.Op.TheVariants.{Insert, Scan, Bulk}
 use Rattle.page_action.specs.Causes.{nothing_wrong}
 use Rattle.session_calls.proofs.Telling.{told_same}
-use Rattle.session_calls.proofs.Effects.{matches_after, started_after, pages_stay, ended_flags, ended_matches, ended_others, ended_idle}
+use Rattle.session_calls.proofs.Effects.{matches_after, started_after, pages_stay, go_flags, go_matches, go_others, go_idle, go_limits, go_frames, go_pages, go_leaves, go_cycle, cycle_stays}
 use Rattle.session_calls.proofs.Meeting.{grown, began_before, meets_noted, meets_failed, meets_given_up, meets_ended_added, there_at_present}
 
 -- a step of an operation is an event of its session; where its answer is the last, what the session held is let go
-module _ {sets : DeadSets} (at : Circumstances) (old mid new : State) (start : Entry → Bool) (history : List Action) (number : ℕ) (call : Call) (op : Op) (answer : Answer)
-    (matches : Matches old start history) (low : call.session < 64) (goes : OpGoes at old mid sets start history number call op answer) where
+module _ {sets : DeadSets} (at : Circumstances) (old mid new : State) (start : Entry → Bool) (history : List Action) (number : ℕ) (call : Call) (before op : Op) (answer : Answer)
+    (ask : call.ask ≡ asked_of sets before) (matches : Matches old start history) (low : call.session < 64) (goes : OpGoes at old mid sets start history number call op answer) where
   mid_matches : Matches mid start (history ++ acts_of number goes.effect)
   mid_matches = matches_after call.session goes.effect old mid start history number matches goes.does
 
   mid_pages : goes.effect ≡ None → mid.pages ≡ old.pages
   mid_pages none = pages_stay call.session old mid (subst (λ (x : Option Effect). Does call.session x old mid) none goes.does)
 
-  by_last : (b : Bool) → new ≡ (if b then after_end call.session mid else mid) → HoldsOn b mid sets start (history ++ acts_of number goes.effect) goes.then_call op → goes.then_call.session ≡ call.session
+  abbrev vacuums : Bool
+  vacuums = is_vacuum before
+
+  by_last : (b : Bool) → is_last answer ≡ b → new ≡ (if b then let_go vacuums call.session mid else mid) → HoldsOn b mid sets start (history ++ acts_of number goes.effect) goes.then_call op → goes.then_call.session ≡ call.session
       → SessionGoes at old new sets start history number call (if b then None else Some op) answer
-  by_last true is holds same = subst (λ (st : State). SessionGoes at old st sets start history number call None answer) (sym is) (record {
+  by_last true last is holds same = subst (λ (st : State). SessionGoes at old st sets start history number call None answer) (sym is) (record {
     effect = goes.effect;
     after = goes.then_call;
     asked = goes.asked;
     told = goes.told;
     caused = goes.caused;
-    world = ended_matches mid call.session start (history ++ acts_of number goes.effect) low mid_matches;
-    flags = ended_flags old mid call.session goes.effect goes.does.flags;
-    limits = goes.does.limits;
-    frames = goes.does.frames;
-    pages = mid_pages;
-    others = ended_others old mid call.session goes.does.others;
+    world = go_matches vacuums mid call.session start (history ++ acts_of number goes.effect) low mid_matches;
+    flags = go_flags vacuums old mid call.session goes.effect goes.does.flags;
+    limits = go_limits vacuums call.session mid ∙ goes.does.limits;
+    frames = go_frames vacuums call.session mid ∙ goes.does.frames;
+    pages = λ none. go_pages vacuums call.session mid ∙ mid_pages none;
+    others = go_others vacuums old mid call.session goes.does.others;
+    cycle = go_cycle sets before mid call.session old.cycle goes.does.leaves.cycle ∙ sym (ap (λ (a : Ask). cycle_behind a None old.cycle) ask);
+    leaves = λ stays. go_leaves vacuums old mid call.session goes.effect goes.does.leaves stays;
     meets = goes.meets;
-    holds = (holds, rw same (ended_idle call.session mid low mid_matches.order));
+    holds = (holds, rw same (go_idle vacuums call.session mid low mid_matches.order));
+    sweeps = tt;
   })
-  by_last false is holds same = subst (λ (st : State). SessionGoes at old st sets start history number call (Some op) answer) (sym is) (record {
+  by_last false last is holds same = subst (λ (st : State). SessionGoes at old st sets start history number call (Some op) answer) (sym is) (record {
     effect = goes.effect;
     after = goes.then_call;
     asked = goes.asked;
@@ -59,32 +66,37 @@ module _ {sets : DeadSets} (at : Circumstances) (old mid new : State) (start : E
     frames = goes.does.frames;
     pages = mid_pages;
     others = goes.does.others;
+    cycle = goes.does.leaves.cycle ∙ cycle_stays call.ask op old.cycle;
+    leaves = λ stays. goes.does.leaves;
     meets = goes.meets;
     holds = holds;
+    sweeps = goes.sweeps last;
   })
 
   same_session : call.ending ≡ Running → goes.then_call.session ≡ call.session
   same_session running = (told_same (history ++ acts_of number goes.effect) (length history) goes.effect call goes.then_call running (grown history number goes.effect) answer goes.told).session
 
-  pub event_of_last : is_last answer ≡ true → new ≡ after_end call.session mid → call.ending ≡ Running → SessionGoes at old new sets start history number call None answer
-  event_of_last last is running = by_last true is
+  pub event_of_last : is_last answer ≡ true → new ≡ let_go vacuums call.session mid → call.ending ≡ Running → SessionGoes at old new sets start history number call None answer
+  event_of_last last is running = by_last true last is
       (subst (λ (b : Bool). HoldsOn b mid sets start (history ++ acts_of number goes.effect) goes.then_call op) last goes.holds) (same_session running)
 
   pub event_of_more : is_last answer ≡ false → new ≡ mid → call.ending ≡ Running → SessionGoes at old new sets start history number call (Some op) answer
-  event_of_more more is running = by_last false is
+  event_of_more more is running = by_last false more is
       (subst (λ (b : Bool). HoldsOn b mid sets start (history ++ acts_of number goes.effect) goes.then_call op) more goes.holds) (same_session running)
 
 -- an operation is one of a session that exists
 pub low_of : (st : State) (op : Op) → OpFits st op → session_of op < 64
 low_of st (Insert op) fits = fits.session
 low_of st (Scan op) fits = fits.session
+low_of st (Bulk set op) fits = fits.session
 
 -- a running call that is given up
-pub event_of_end : {sets : DeadSets} (old new : State) (start : Entry → Bool) (history : List Action) (number : ℕ) (call : Call) (op : Op) → CallFits old sets start history number call op → new ≡ after_end (session_of op) old
+pub event_of_end : {sets : DeadSets} (old new : State) (start : Entry → Bool) (history : List Action) (number : ℕ) (call : Call) (op : Op) → CallFits old sets start history number call op → new ≡ after_call op old
     → SessionGoes nothing_wrong old new sets start history number call None Ended
 event_of_end {sets} old new start history number call op fits is =
     let low : call.session < 64 = subst (λ (t : ℕ). t < 64) fits.runs.session (low_of old op fits.runs.fits) in
-    let mine : new ≡ after_end call.session old = is ∙ ap (λ (t : ℕ). after_end t old) fits.runs.session in
+    let mine : new ≡ let_go (is_vacuum op) call.session old = is ∙ ap (λ (t : ℕ). let_go (is_vacuum op) t old) fits.runs.session in
+    let none = nothing_else call.session old old refl fits.world.order in
     subst (λ (st : State). SessionGoes nothing_wrong old st sets start history number call None Ended) (sym mine) (record {
       effect = None;
       after = ended call GivenUp (length history);
@@ -92,20 +104,24 @@ event_of_end {sets} old new start history number call op fits is =
       told = record { none = refl; after_is = refl };
       caused = tt;
       flags = tt;
-      world = subst (λ (l : List Action). Matches (after_end call.session old) start l) (sym (append-nil history)) (ended_matches old call.session start history low fits.world);
-      limits = refl;
-      frames = refl;
-      pages = λ none. refl;
-      others = ended_others old old call.session (nothing_else call.session old old refl fits.world.order).others;
+      world = subst (λ (l : List Action). Matches (let_go (is_vacuum op) call.session old) start l) (sym (append-nil history)) (go_matches (is_vacuum op) old call.session start history low fits.world);
+      limits = go_limits (is_vacuum op) call.session old;
+      frames = go_frames (is_vacuum op) call.session old;
+      pages = λ quiet. go_pages (is_vacuum op) call.session old;
+      others = go_others (is_vacuum op) old old call.session none.others;
+      cycle = go_cycle sets op old call.session old.cycle refl ∙ sym (ap (λ (a : Ask). cycle_behind a None old.cycle) fits.runs.ask);
+      leaves = λ stays. go_leaves (is_vacuum op) old old call.session None none.leaves stays;
       meets = subst (λ (l : List Action). Meets start l number (ended call GivenUp (length history))) (sym (append-nil history)) (meets_given_up start history number call fits.meets fits.running);
-      holds = (λ h. cc, ended_idle call.session old low fits.world.order);
+      holds = (λ h. cc, go_idle (is_vacuum op) call.session old low fits.world.order);
+      sweeps = tt;
     })
 
 -- an event with no action, which changes nothing of the pages
 pub event_of_nothing : {sets : DeadSets} (at : Circumstances) (old new : State) (start : Entry → Bool) (history : List Action) (number : ℕ) (call after : Call) (op : Op) (answer : Answer)
     → Matches old start history → new ≡ old → Told answer (length history) None call after → IsCaused at answer → Meets start history number after → after.ending ≡ Running → OpRuns new sets start history after op
+    → OpSweeps new sets start history number after.began op
     → SessionGoes at old new sets start history number call (Some op) answer
-event_of_nothing {sets} at old new start history number call after op answer m same told caused meets running runs = record {
+event_of_nothing {sets} at old new start history number call after op answer m same told caused meets running runs sweeps = record {
   effect = None;
   after = after;
   asked = tt;
@@ -117,9 +133,15 @@ event_of_nothing {sets} at old new start history number call after op answer m s
   frames = ap (λ (st : State). st.frames) same;
   pages = λ none. ap (λ (st : State). st.pages) same;
   others = (nothing_else call.session old new same m.order).others;
+  cycle = ap (λ (st : State). st.cycle) same ∙ cycle_stays call.ask op old.cycle;
+  leaves = λ stays. (nothing_else call.session old new same m.order).leaves;
   meets = subst (λ (l : List Action). Meets start l number after) (sym (append-nil history)) meets;
   holds = (running, subst (λ (l : List Action). OpRuns new sets start l after op) (sym (append-nil history)) runs);
+  sweeps = subst (λ (l : List Action). OpSweeps new sets start l number after.began op) (sym (append-nil history)) sweeps;
 }
+
+true_false : true ≡ false → ⊥
+true_false h = cc
 
 -- the steps of an operation that runs a call
 module _ {sets : DeadSets} (at : Circumstances) (old new : State) (start : Entry → Bool) (history : List Action) (number : ℕ) (call : Call) (before after : Op)
@@ -127,8 +149,9 @@ module _ {sets : DeadSets} (at : Circumstances) (old new : State) (start : Entry
   -- one that goes on
   pub step_goes_on : (effect : Option Effect) → Does (session_of before) effect old new → IsAsked (contents_after start history) call.ask call.added effect
       → add_of after ≡ add_after (add_of before) (suc (length history)) effect → OpFits new after → OpKnows start (history ++ acts_of number effect) call.began call.given after
+      → OpSweeps new sets start (history ++ acts_of number effect) number call.began after
       → OpGoes at old new sets start history number call after Going
-  step_goes_on effect does asked add then_fits knows =
+  step_goes_on effect does asked add then_fits knows sweeps =
       let mine : Does call.session effect old new = subst (λ (t : ℕ). Does t effect old new) fits.runs.session does in
       record {
         effect = effect;
@@ -149,12 +172,13 @@ module _ {sets : DeadSets} (at : Circumstances) (old new : State) (start : Entry
             knows = knows;
           },
         );
+        sweeps = λ more. sweeps;
       }
 
   -- one that finds entries
   pub step_is_ready : (count : ℕ) → Does (session_of before) None old new → add_of after ≡ add_of before → OpFits new after → OpKnows start history call.began call.given after
-      → OpGoes at old new sets start history number call after (Ready count)
-  step_is_ready count does add then_fits knows =
+      → OpSweeps new sets start history number call.began after → OpGoes at old new sets start history number call after (Ready count)
+  step_is_ready count does add then_fits knows sweeps =
       let mine : Does call.session None old new = subst (λ (t : ℕ). Does t None old new) fits.runs.session does in
       record {
         effect = None;
@@ -175,6 +199,7 @@ module _ {sets : DeadSets} (at : Circumstances) (old new : State) (start : Entry
             knows = knows;
           }),
         );
+        sweeps = λ more. subst (λ (l : List Action). OpSweeps new sets start l number call.began after) (sym (append-nil history)) sweeps;
       }
 
   -- an insert that is over with its Add, which it may make now
@@ -195,6 +220,7 @@ module _ {sets : DeadSets} (at : Circumstances) (old new : State) (start : Entry
         meets = subst (λ (n : ℕ). Meets start more number (ended then_call (EndsAdded action unfinished) n)) (grown history number effect)
             (meets_ended_added start more number then_call (meets_noted start history number call fits.meets fits.running effect asked) fits.running e action unfinished (fits.runs.ask ∙ inserts) noted_is);
         holds = λ h. absurd cc;
+        sweeps = λ more. absurd (true_false more);
       }
 
   -- one that is refused
@@ -224,6 +250,7 @@ module _ {sets : DeadSets} (at : Circumstances) (old new : State) (start : Entry
         meets = subst (λ (l : List Action). Meets start l number (ended call (Failed fault) (length history))) (sym (append-nil history))
             (meets_failed start history number call fits.meets fits.running fault (may ends));
         holds = subst (λ (b : Bool). HoldsOn b new sets start (history ++ []) (ended call (Failed fault) (length history)) after) (sym ends) (λ h. cc);
+        sweeps = λ more. absurd (true_false (sym ends ∙ more));
       }
       by_end false ends = record {
         effect = None;
@@ -238,4 +265,6 @@ module _ {sets : DeadSets} (at : Circumstances) (old new : State) (start : Entry
           subst (λ (l : List Action). OpRuns new sets start l call after) (sym (append-nil history))
               (subst (λ (st : State). OpRuns st sets start history call after) (sym same) (subst (λ (op : Op). OpRuns old sets start history call op) (sym same_op) fits.runs)),
         );
+        sweeps = λ more. subst (λ (l : List Action). OpSweeps new sets start l number call.began after) (sym (append-nil history))
+            (subst (λ (st : State). OpSweeps st sets start history number call.began after) (sym same) (subst (λ (op : Op). OpSweeps old sets start history number call.began op) (sym same_op) fits.sweeps));
       }

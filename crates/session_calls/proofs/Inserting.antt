@@ -74,7 +74,7 @@ module _ {sets : DeadSets} (old new : State) (first second : Backing) (start : E
   pub insert_goes_on : InsertGoesOn old new before after → OpGoes at_op old new sets start history number call (Insert after) Going
   insert_goes_on step =
       step_goes_on at_op old new start history number call (Insert before) (Insert after) fits session (ap AskInsert entry) step.effect step.does
-      (asked step.effect after.added step.does.changes step.noted) (noted_is step.effect after.added step.noted) step.fits tt
+      (asked step.effect after.added step.does.changes step.noted) (noted_is step.effect after.added step.noted) step.fits tt tt
 
   left_caused : (effect : Option Effect) (unfinished : Option Fault) → IsLeft old first new second before effect unfinished → IsFaultCaused at_op unfinished
   left_caused effect None h = tt

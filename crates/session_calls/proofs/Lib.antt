@@ -5,6 +5,8 @@ pub mod Effects
 pub mod Going
 pub mod Inserting
 pub mod Scanning
+pub mod Sweeping
+pub mod Deleting
 pub mod Undisturbed
 pub mod Bounds
 pub mod Beginning

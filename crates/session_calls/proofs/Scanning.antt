@@ -196,14 +196,14 @@ gave_goes {sets} at st start history number call before after e fits next =
         reached = rw (same, frontier, where_at) far.reached;
         onward = rw (same, frontier, where_at) far.onward;
       };
-    })
+    }) tt
 
 -- what `next` answers
 pub next_goes : {sets : DeadSets} (at : Circumstances) (st : State) (start : Entry → Bool) (history : List Action) (number : ℕ) (call : Call) (before after : ScanOp) (answer : Option Entry)
     → CallFits st sets start history number call (Scan before) → IsNext before answer after → SessionGoes at st st sets start history number call (Some (Scan after)) (Gave answer)
 next_goes {sets} at st start history number call before after None fits next =
     event_of_nothing at st st start history number call call (Scan after) (Gave None) fits.world refl (record { none = refl; after_is = refl }) tt fits.meets fits.running
-    (subst (λ (op : ScanOp). OpRuns st sets start history call (Scan op)) (sym next.1) fits.runs)
+    (subst (λ (op : ScanOp). OpRuns st sets start history call (Scan op)) (sym next.1) fits.runs) tt
 next_goes {sets} at st start history number call before after (Some e) fits next = gave_goes at st start history number call before after e fits next
 
 -- on a way a scan has read beyond what isn't beyond its frontier
@@ -234,14 +234,14 @@ module _ {sets : DeadSets} (at : Circumstances) (old new : State) (start : Entry
     (fits : CallFits old sets start history number call (Scan before)) (session : after.session ≡ before.session) (range : after.range ≡ before.range) where
   pub reading_goes : (count : ℕ) → IsReading old new before after count → OpGoes at old new sets start history number call (Scan after) (Ready count)
   reading_goes count step = step_is_ready at old new start history number call (Scan before) (Scan after) fits session (ap AskScan range) count step.does refl step.fits
-      (so_far_read old start history call.began call.given before after fits.world (began_before start history number call fits.meets fits.running) range step.none step.way step.from step.read fits.runs.knows)
+      (so_far_read old start history call.began call.given before after fits.world (began_before start history number call fits.meets fits.running) range step.none step.way step.from step.read fits.runs.knows) tt
 
   pub ready_goes : (count : ℕ) → IsWaiting old new before after count ⊎ IsReading old new before after count → OpGoes at old new sets start history number call (Scan after) (Ready count)
   ready_goes count (inr step) = reading_goes count step
   ready_goes count (inl step) = step_is_ready at old new start history number call (Scan before) (Scan after) fits session (ap AskScan range) count
       (nothing_else before.session old new step.state fits.world.order) refl
       (subst (λ (st : State). ScanFits st after) (sym step.state) (subst (λ (op : ScanOp). ScanFits old op) (sym step.op) fits.runs.fits))
-      (subst (λ (op : ScanOp). IsScanSoFar start history call.began call.given op) (sym step.op) fits.runs.knows)
+      (subst (λ (op : ScanOp). IsScanSoFar start history call.began call.given op) (sym step.op) fits.runs.knows) tt
 
   -- the step that finds all given
   pub done_goes : IsDone old new before after → OpGoes at old new sets start history number call (Scan after) Done
@@ -269,10 +269,11 @@ module _ {sets : DeadSets} (at : Circumstances) (old new : State) (start : Entry
           right = subst (λ (a : Ask). AnswersRight start history number call.began (length history) a call.given call.added EndsFinished) (sym fits.runs.ask) answer;
         });
         holds = λ h. cc;
+        sweeps = λ more. absurd (let k : true ≡ false = more in cc);
       }
 
   -- a step that goes on to another page
   pub moving_goes : IsMoving old new before after → OpGoes at old new sets start history number call (Scan after) Going
   moving_goes step = step_goes_on at old new start history number call (Scan before) (Scan after) fits session (ap AskScan range) None step.does tt refl step.fits
       (subst (λ (l : List Action). IsScanSoFar start l call.began call.given after) (sym (append-nil history))
-      (subst (λ (op : ScanOp). IsScanSoFar start history call.began call.given op) (sym step.op) (goes_to start history call.began call.given before step.way step.from fits.runs.knows)))
+      (subst (λ (op : ScanOp). IsScanSoFar start history call.began call.given op) (sym step.op) (goes_to start history call.began call.given before step.way step.from fits.runs.knows))) tt

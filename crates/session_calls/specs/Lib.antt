@@ -1,4 +1,5 @@
 pub mod Ops
+pub mod Sweeps
 pub mod Sessions
 pub mod Due
 pub mod Undisturbed

@@ -7,19 +7,22 @@ use Rattle.index_model.specs.Order.{is_among}
 use Rattle.index_model.specs.declared.entry.Entry.{Entry}
 use Rattle.index_model.specs.declared.fault.Fault.{Fault}
 use Rattle.index_model.specs.declared.fault.Fault.TheVariants.{Stopped, NoSession}
-use Rattle.latch_table.specs.Holdings.{holding_of, nothing_held}
+use Rattle.latch_table.specs.Holdings.{has_pin, holding_of, nothing_held}
 use Rattle.page_action.specs.Contents.{entry_on_live_leaf}
-use Rattle.page_action.specs.States.{State, Backing, Continues, after_begin, after_end}
+use Rattle.page_action.specs.States.{State, Backing, Continues, after_begin, after_end, after_start_cycle, after_stop_cycle}
 use Rattle.page_action.specs.declared.page_store.PageStore.{Ghosts}
 use Rattle.page_codec.specs.declared.page.Page.{Page}
 use Rattle.split_finish.specs.Targets.{OnlyTargetsAreFlagged}
 use Rattle.descent.specs.Steps.{IsApt}
 use Rattle.descent.specs.Shared.{IsInOrder, Does, OthersRely, MovesFlags, IsOneStep}
-use Rattle.session_calls.specs.Ops.{DeadSets, asked_by, op_before, session_of, asked_of, add_of, ready_of, OpFits, OpKnows, where_beginning, IsCaused, ends_call, is_last, OpAnswers, AnswersStopped, op_work, op_targets}
+use Rattle.vacuum.specs.Counts.{IsCounted, entries_below}
+use Rattle.session_calls.specs.Ops.{DeadSets, set_at, asked_by, op_before, session_of, asked_of, add_of, ready_of, OpFits, OpKnows, where_requesting, asks_vacuum, is_vacuum, is_vacuuming, IsOfSets, IsCaused, ends_call, is_last, OpAnswers, AnswersStopped, op_work, op_targets}
+use Rattle.tree_acts.specs.Leaves.{LeavesStay, IsLeafAt}
+use Rattle.session_calls.specs.Sweeps.{OpSweeps, SlotSweeps}
 use Rattle.session_calls.specs.declared.answer.Answer.{Answer}
 use Rattle.session_calls.specs.declared.answer.Answer.TheVariants.{Begun, Going, Added, Ready, Done, Finished, Gave, Ended, Forced, Flushed, Checkpointed, Refused}
 use Rattle.session_calls.specs.declared.op.Op.{Op}
-use Rattle.session_calls.specs.declared.op.Op.TheVariants.{Insert, Scan}
+use Rattle.session_calls.specs.declared.op.Op.TheVariants.{Insert, Scan, Bulk}
 use Rattle.session_calls.specs.declared.request.Request.{Request}
 
 -- the contents of the pages are those after the history, the acts are as many as its actions, and all is in order
@@ -57,6 +60,7 @@ pub record CallFits (st : State) (sets : DeadSets) (start : Entry → Bool) (his
   pub running : call.ending ≡ Running
   pub meets : Meets start history number call
   pub runs : OpRuns st sets start history call op
+  pub sweeps : OpSweeps st sets start history number call.began op
 
 -- the session's slot runs this call
 abbrev pub SlotFits : State → DeadSets → (Entry → Bool) → List Action → ℕ → Call → Option Op → Type 0
@@ -155,10 +159,17 @@ abbrev pub IsDrained : Option Op → Type 0
 IsDrained None = Unit {0}
 IsDrained (Some op) = ready_of op ≡ []
 
--- while no act is done, a step that ends no call leaves less to do: each `Going`, and each `Ready` where all that was ready
--- had been given
+-- where a step that goes on owes to leave less to do: each of a bulk delete does, any other where no act is done
+abbrev pub OwesLess : Option Op → State → State → Type 0
+OwesLess None old new = new.acts ≡ old.acts
+OwesLess (Some (Insert op)) old new = new.acts ≡ old.acts
+OwesLess (Some (Scan op)) old new = new.acts ≡ old.acts
+OwesLess (Some (Bulk set op)) old new = Unit {0}
+
+-- a step that ends no call leaves less to do: each `Going` that owes it, and each `Ready` where all that was ready had been
+-- given
 abbrev pub LeavesLess : State → State → Option Op → Option Op → Answer → Type 0
-LeavesLess old new before after Going = new.acts ≡ old.acts → work_in new after < work_in old before
+LeavesLess old new before after Going = OwesLess before old new → work_in new after < work_in old before
 LeavesLess old new before after (Ready count) = IsDrained before → work_in new after < work_in old before
 LeavesLess old new before after answer = Unit {0}
 
@@ -183,6 +194,8 @@ AnswersStep (Some (Insert op)) after (Added action unfinished) = Unit {0}
 AnswersStep (Some (Scan op)) after Going = Unit {0}
 AnswersStep (Some (Scan op)) after (Ready count) = count ≡ ready_count after
 AnswersStep (Some (Scan op)) after Done = Unit {0}
+AnswersStep (Some (Bulk set op)) after Going = Unit {0}
+AnswersStep (Some (Bulk set op)) after (Finished stats) = Unit {0}
 AnswersStep before after (Refused fault) = Unit {0}
 AnswersStep before after answer = ⊥
 
@@ -207,9 +220,17 @@ abbrev pub slot_add : Option Op → Option ℕ
 slot_add None = None
 slot_add (Some op) = add_of op
 
+-- after a session's call has ended: what it held is let go; and where it was a bulk delete, none runs now
+abbrev pub let_go : Bool → ℕ → State → State
+let_go false session st = after_end session st
+let_go true session st = after_stop_cycle (after_end session st)
+
+abbrev pub after_call : Op → State → State
+after_call op st = let_go (is_vacuum op) (session_of op) st
+
 -- a refusal ends the call, or leaves it as it was; nothing else is changed
 pub record StepIsRefused (old new : State) (op : Op) (after : Option Op) (fault : Fault) : Type 0 where
-  pub state : new ≡ (if ends_call fault then after_end (session_of op) old else old)
+  pub state : new ≡ (if ends_call fault then after_call op old else old)
   pub slot_is : after ≡ (if ends_call fault then None else Some op)
 
 -- a refused step changes nothing, but that the call is over where it was not blocked
@@ -227,10 +248,11 @@ pub record KeepsPages (old new : State) : Type 0 where
   pub frames : new.frames ≡ old.frames
   pub begun : new.begun ≡ old.begun
 
--- only an insert does an act
-abbrev pub OnlyInsertsAct : Option Op → State → State → Type 0
-OnlyInsertsAct (Some (Insert op)) old new = Unit {0}
-OnlyInsertsAct slot old new = new.acts ≡ old.acts
+-- only an insert and a bulk delete do acts
+abbrev pub OnlyWritersAct : Option Op → State → State → Type 0
+OnlyWritersAct (Some (Insert op)) old new = Unit {0}
+OnlyWritersAct (Some (Bulk set op)) old new = Unit {0}
+OnlyWritersAct slot old new = new.acts ≡ old.acts
 
 -- only those pages are flagged whose splits the session's insert is to finish
 abbrev pub OnlyOwnAreFlagged : State → Option Op → Type 0
@@ -245,9 +267,15 @@ LeavesOwnFlagged new before after (Added action None) = OnlyOwnAreFlagged new No
 LeavesOwnFlagged new before after (Refused fault) = OnlyOwnAreFlagged new before
 LeavesOwnFlagged new before after answer = OnlyOwnAreFlagged new after
 
+-- the cycle number behind an event: it is as it was, but none behind the end of a bulk delete
+abbrev pub cycle_behind : Ask → Option Op → ℕ → ℕ
+cycle_behind (AskBulkDelete dead) None cycle = 0
+cycle_behind ask slot cycle = cycle
+
 -- One event of a running call: it appends at most one action, which the call was asked for; what is told of it; its cause;
 -- the pages match the longer history; which flags move; the limits stay, and where no action is logged, the pages; others may
--- rely; the call goes on meeting its definition; and what the slot holds then.
+-- rely; the cycle number stays until a bulk delete ends, and with it leaves stay, or are split as a bulk delete needs; the
+-- call goes on meeting its definition; what the slot holds then; and what a bulk delete is to remove still.
 pub record SessionGoes (at : Circumstances) (old new : State) (sets : DeadSets) (start : Entry → Bool) (history : List Action) (number : ℕ) (call : Call) (slot : Option Op) (answer : Answer) : Type 0 where
   pub effect : Option Effect
   pub after : Call
@@ -260,8 +288,42 @@ pub record SessionGoes (at : Circumstances) (old new : State) (sets : DeadSets) 
   pub frames : new.frames ≡ old.frames
   pub pages : effect ≡ None → new.pages ≡ old.pages
   pub others : OthersRely call.session old new
+  pub cycle : new.cycle ≡ cycle_behind call.ask slot old.cycle
+  pub leaves : new.cycle ≡ old.cycle → LeavesStay effect old new
   pub meets : Meets start (history ++ acts_of number effect) number after
   pub holds : SlotIs new sets start (history ++ acts_of number effect) after slot
+  pub sweeps : SlotSweeps new sets start (history ++ acts_of number effect) number after.began slot
+
+-- it is still before the leaf, if it is a bulk delete that runs on
+abbrev pub IsStillBefore : ℕ → Option Op → Answer → Type 0
+IsStillBefore block after (Finished stats) = ⊥
+IsStillBefore block (Some (Bulk set op)) answer = op.cursor ≤ block
+IsStillBefore block after answer = Unit {0}
+
+-- a bulk delete doesn't come past a leaf that another session has pinned, nor to its end
+abbrev pub KeepsBeforePins : State → Option Op → Option Op → Answer → Type 0
+KeepsBeforePins st (Some (Bulk set op)) after answer =
+    (other block : ℕ) (page : Page) → other ≢ op.session → IsLeafAt st.pages block page → has_pin (holding_of st.table other).pins block ≡ true
+    → op.cursor ≤ block → IsStillBefore block after answer
+KeepsBeforePins st before after answer = Unit {0}
+
+-- what it has counted are the entries that it has left, if it is a bulk delete that runs on
+abbrev pub SlotIsCounted : DeadSets → State → Option Op → Type 0
+SlotIsCounted sets st None = Unit {0}
+SlotIsCounted sets st (Some (Insert op)) = Unit {0}
+SlotIsCounted sets st (Some (Scan op)) = Unit {0}
+SlotIsCounted sets st (Some (Bulk set op)) = IsCounted (set_at sets set) st op
+
+-- one that has finished tells how many entries there are
+abbrev pub TellsAllEntries : State → Answer → Type 0
+TellsAllEntries st (Finished stats) = stats.num_index_tuples ≡ entries_below st.pages (length st.pages)
+TellsAllEntries st answer = Unit {0}
+
+-- where nobody else acts, what a bulk delete has counted are the entries that it has left; at the end all of them
+abbrev pub CountsEntries : DeadSets → State → State → Option Op → Option Op → Answer → Type 0
+CountsEntries sets old new (Some (Bulk set op)) after answer =
+    IsCounted (set_at sets set) old op → SlotIsCounted sets new after × TellsAllEntries new answer
+CountsEntries sets old new before after answer = Unit {0}
 
 -- a call that begins with so many actions before it
 abbrev pub begun_call : ℕ → Ask → ℕ → Call
@@ -271,31 +333,41 @@ abbrev pub is_busy : Option Op → Bool
 is_busy None = false
 is_busy (Some op) = true
 
--- a call has begun: it gets a start number, and the session's slot runs it from its first step on
+-- after a call has begun, which may be a bulk delete
+abbrev pub after_request : Bool → ℕ → State → State
+after_request false session st = after_begin session st
+after_request true session st = after_start_cycle (after_begin session st)
+
+-- a call has begun: it gets a start number, a bulk delete, where none runs, a cycle number, and the session's slot runs it
+-- from its first step on
 pub record IsBegun (old new : State) (session : ℕ) (request : Request) (before after : Option Op) : Type 0 where
-  pub state : new ≡ after_begin session old
+  pub state : new ≡ after_request (asks_vacuum request) session old
   pub was_free : before ≡ None
+  pub alone : asks_vacuum request ≡ true → is_vacuuming old ≡ false
   pub runs : after ≡ Some (op_before session request)
 
 -- a call isn't begun: nothing is changed, and there is a cause
-pub record IsNotBegun (old : State) (old_backing : Backing) (new : State) (before after : Option Op) (fault : Fault) : Type 0 where
+pub record IsNotBegun (old : State) (old_backing : Backing) (new : State) (request : Request) (before after : Option Op) (fault : Fault) : Type 0 where
   pub state : new ≡ old
   pub slot_is : after ≡ before
-  pub cause : HasCause (where_beginning old old_backing (is_busy before)) fault
+  pub cause : HasCause (where_requesting (asks_vacuum request) old old_backing (is_busy before)) fault
 
 -- what a beginning does, by what it answers
 abbrev pub BeginsBy : State → Backing → State → ℕ → Request → Option Op → Option Op → Answer → Type 0
 BeginsBy old old_backing new session request before after Begun = IsBegun old new session request before after
-BeginsBy old old_backing new session request before after (Refused fault) = IsNotBegun old old_backing new before after fault
+BeginsBy old old_backing new session request before after (Refused fault) = IsNotBegun old old_backing new request before after fault
 BeginsBy old old_backing new session request before after answer = ⊥
 
 -- a call that has begun over a history of so many actions: the pages match it still, others may rely, the call meets its
--- definition, and the slot runs it
+-- definition, and the slot runs it; but for a bulk delete's the cycle number stays; and all that is due to it is to come
 pub record SessionBegins (old new : State) (sets : DeadSets) (start : Entry → Bool) (history : List Action) (number session : ℕ) (request : Request) (slot : Option Op) : Type 0 where
   pub world : Matches new start history
   pub others : OthersRely session old new
   pub meets : Meets start history number (begun_call session (asked_by sets request) (length history))
   pub holds : SlotIs new sets start history (begun_call session (asked_by sets request) (length history)) slot
+  pub cycle : asks_vacuum request ≡ false → new.cycle ≡ old.cycle
+  pub leaves : new.cycle ≡ old.cycle → LeavesStay None old new
+  pub sweeps : IsOfSets sets request → SlotSweeps new sets start history number (length history) slot
 
 -- what an operation runs after a step: nothing, where its answer is the last
 abbrev pub slot_after : Answer → Op → Option Op
@@ -306,11 +378,12 @@ slot_after answer op = if is_last answer then None else Some op
 pub record OpSteps {S : Type 0} (g : Ghosts S) (before after : Op) (old new : S) (answer : Answer) : Type 0 where
   pub steps : Continues g.follows old new
   pub session : session_of after ≡ session_of before
+  pub vacuum : is_vacuum after ≡ is_vacuum before
   pub kind : OpAnswers before after answer
   pub refused : (fault : Fault) → answer ≡ Refused fault → (g.state new ≡ g.state old) × (after ≡ before)
   pub stopped : (g.backing old).stopped ≡ true → AnswersStopped (add_of before) answer
   pub kept : IsOneStep (g.state old) (g.state new)
-  pub calm : OnlyInsertsAct (Some before) (g.state old) (g.state new)
+  pub calm : OnlyWritersAct (Some before) (g.state old) (g.state new)
   pub less : (g.backing new).honest ≡ true → LeavesLess (g.state old) (g.state new) (Some before) (Some after) answer
   pub no_more : (g.backing new).honest ≡ true → LeavesNoMore (g.state old) (g.state new) (Some before) (slot_after answer after)
 
@@ -329,3 +402,4 @@ pub record OpGoes (at : Circumstances) (old new : State) (sets : DeadSets) (star
   pub caused : IsCaused at answer
   pub meets : Meets start (history ++ acts_of number effect) number then_call
   pub holds : HoldsOn (is_last answer) new sets start (history ++ acts_of number effect) then_call op
+  pub sweeps : is_last answer ≡ false → OpSweeps new sets start (history ++ acts_of number effect) number then_call.began op

@@ -4,11 +4,11 @@ ghost use Rattle.std.specs.Prelude.{◌≡◌, ◌<◌, ◌≤◌, true, false, 
 ghost use Rattle.index_model.specs.Actions.{Action};
 ghost use Rattle.index_model.specs.Faults.{HasCause};
 ghost use Rattle.index_model.specs.declared.entry.Entry.{Entry};
-ghost use Rattle.page_action.specs.States.{Continues, after_begin};
+ghost use Rattle.page_action.specs.States.{Continues};
 ghost use Rattle.session_calls.specs.Due.{HasSteps};
-ghost use Rattle.session_calls.specs.Ops.{DeadSets, op_before, where_beginning};
-ghost use Rattle.session_calls.specs.Sessions.{Matches, IsIdle, BeginsBy, SessionBegins};
-ghost use Rattle.session_calls.specs.declared.request.Request.TheVariants.{Insert as ToInsert, Scan as ToScan};
+ghost use Rattle.session_calls.specs.Ops.{DeadSets, op_before, asks_vacuum, is_vacuuming, where_requesting};
+ghost use Rattle.session_calls.specs.Sessions.{Matches, IsIdle, BeginsBy, SessionBegins, after_request};
+ghost use Rattle.session_calls.specs.declared.request.Request.TheVariants.{Insert as ToInsert, Scan as ToScan, Bulk as ToBulk};
 
 use crate::answer::Answer;
 use crate::op::Op;
@@ -17,9 +17,10 @@ use index_model::{Entry, Fault, Range, Session};
 use insert_split::InsertOp;
 use page_action::PageStore;
 use scan::ScanOp;
+use vacuum::BulkDeleteOp;
 
-/// Begins a call of a session. Refused with `Stopped` (3); with `SessionBusy` (13) where the session has a call: nothing is
-/// changed then.
+/// Begins a call of a session. Refused with `Stopped` (3); with `SessionBusy` (13) where the session has a call; with
+/// `VacuumRunning` (11) for a bulk delete where one runs: nothing is changed then.
 ///
 /// On its own, into a leaf with room, an insert takes three steps more than the root's level; the first entries of a scan
 /// are ready after two more.
@@ -42,11 +43,18 @@ pub fn begin<S: PageStore>(
     ensures counts { result ≡ Answer.Begun → HasSteps (S.state store.old)
         (S.state store.new) request slot.new }
 {
-    if let Err(fault) = start(store, session, slot.is_some()) {
+    if let Err(fault) = start(store, session, slot.is_some(), asks_vacuum(&request)) {
         return Answer::Refused(fault);
     }
     fill(slot, session, request);
     Answer::Begun
+}
+
+// Whether it is a request of a bulk delete.
+fn asks_vacuum(request: &Request) -> bool
+    ensures { result ≡ asks_vacuum request.now }
+{
+    matches!(request, Request::Bulk(_))
 }
 
 // Puts the call that a session asks for into the slot.
@@ -56,6 +64,7 @@ fn fill(slot: &mut Option<Op>, session: Session, request: Request)
     match request {
         Request::Insert(entry) => fill_insert(slot, session, entry),
         Request::Scan(range) => fill_scan(slot, session, range),
+        Request::Bulk(set) => fill_bulk(slot, session, set),
     }
 }
 
@@ -73,19 +82,35 @@ fn fill_scan(slot: &mut Option<Op>, session: Session, range: Range)
     *slot = Some(Op::Scan(ScanOp::new(session, range)));
 }
 
-// The start number of a call that begins.
-fn start<S: PageStore>(store: &mut S, session: Session, busy: bool) -> Result<(), Fault>
+fn fill_bulk(slot: &mut Option<Op>, session: Session, set: u32)
+    ensures { slot.new ≡ Some (op_before session (ToBulk set)) }
+{
+    *slot = Some(Op::Bulk {
+        set,
+        op: BulkDeleteOp::new(session),
+    });
+}
+
+// The start number of a call that begins, and the cycle number of a bulk delete.
+fn start<S: PageStore>(
+    store: &mut S,
+    session: Session,
+    busy: bool,
+    vacuums: bool,
+) -> Result<(), Fault>
     ensures steps { Continues S.follows store.old store.new }
     ensures backing { S.backing store.new ≡ S.backing store.old }
     ensures free { OnOk result (busy ≡ false) }
-    ensures done { OnOk result (S.state store.new ≡ after_begin session (S.state store.old)) }
+    ensures alone { OnOk result (vacuums ≡ true → is_vacuuming (S.state store.old) ≡ false) }
+    ensures done { OnOk result (S.state store.new
+        ≡ after_request vacuums session (S.state store.old)) }
     ensures low { session < 64 }
     ensures limits { (S.state store.old).limits.pages ≤ 65536 }
     ensures few { length (S.state store.old).pages ≤ 65536 }
     ensures stopped { (S.backing store.old).stopped ≡ true → result ≡ Err Fault.Stopped }
     ensures refused { OnErr result (S.state store.new ≡ S.state store.old) }
     ensures cause { IfErr result
-        (HasCause (where_beginning (S.state store.old) (S.backing store.old) busy)) }
+        (HasCause (where_requesting vacuums (S.state store.old) (S.backing store.old) busy)) }
 {
     let _number = session.number();
     let _limits = store.limits();
@@ -95,6 +120,12 @@ fn start<S: PageStore>(store: &mut S, session: Session, busy: bool) -> Result<()
     if busy {
         return Err(Fault::SessionBusy);
     }
+    if vacuums && store.cycle() > 0 {
+        return Err(Fault::VacuumRunning);
+    }
     store.begin(session)?;
+    if vacuums {
+        store.start_cycle();
+    }
     Ok(())
 }

@@ -15,7 +15,7 @@ pub use bounded::calls_are_bounded;
 pub use moves::{end, next, step};
 pub use op::Op;
 pub use request::Request;
-pub use stable::calls_are_undisturbed;
+pub use stable::{calls_are_undisturbed, sweeps_are_undisturbed};
 
 #[cfg(test)]
 mod tests;

@@ -5,14 +5,14 @@ ghost use Rattle.index_model.specs.Actions.{Action};
 ghost use Rattle.index_model.specs.Calls.{Call};
 ghost use Rattle.index_model.specs.declared.entry.Entry.{Entry};
 ghost use Rattle.page_action.specs.Causes.{nothing_wrong};
-ghost use Rattle.page_action.specs.States.{State, Continues, after_end};
+ghost use Rattle.page_action.specs.States.{State, Continues};
 ghost use Rattle.session_calls.specs.Due.{IsDueIn, CountsDown};
-ghost use Rattle.session_calls.specs.Ops.{DeadSets, session_of, where_slot_stepped, where_asked_next, is_last, AnswersStopped};
-ghost use Rattle.session_calls.specs.Sessions.{SlotFits, SessionGoes, KeepsPages, OnlyInsertsAct, OnlyOwnAreFlagged, LeavesOwnFlagged, LeavesLess, LeavesNoMore, GivesLess, AnswersStep, AnswersNext, AnswersEnd, RefusalChangesNothing, no_call, slot_add};
+ghost use Rattle.session_calls.specs.Ops.{DeadSets, where_slot_stepped, where_asked_next, is_last, AnswersStopped};
+ghost use Rattle.session_calls.specs.Sessions.{SlotFits, SessionGoes, KeepsPages, OnlyWritersAct, OnlyOwnAreFlagged, LeavesOwnFlagged, KeepsBeforePins, CountsEntries, LeavesLess, LeavesNoMore, GivesLess, AnswersStep, AnswersNext, AnswersEnd, RefusalChangesNothing, no_call, slot_add, after_call};
 ghost use Rattle.session_calls.specs.declared.op.Op.{Op};
 
 use crate::answer::Answer;
-use crate::op::Op;
+use crate::op::{Op, idle};
 use index_model::{DeadRows, Fault};
 use page_action::PageStore;
 
@@ -31,7 +31,7 @@ pub fn step<S: PageStore, T: DeadRows>(store: &mut S, slot: &mut Option<Op>, set
         → AnswersStopped (slot_add slot.old) result }
     ensures kind { AnswersStep slot.old slot.new result }
     ensures kept { KeepsPages (S.state store.old) (S.state store.new) }
-    ensures calm { OnlyInsertsAct slot.old (S.state store.old) (S.state store.new) }
+    ensures calm { OnlyWritersAct slot.old (S.state store.old) (S.state store.new) }
     ensures less { (S.backing store.new).honest ≡ true
         → LeavesLess (S.state store.old) (S.state store.new) slot.old slot.new result }
     ensures no_more { (S.backing store.new).honest ≡ true
@@ -48,6 +48,11 @@ pub fn step<S: PageStore, T: DeadRows>(store: &mut S, slot: &mut Option<Op>, set
         → SlotFits (S.state store.old) (map T.is_in sets.now) start history number call slot.old
         → OnlyOwnAreFlagged (S.state store.old) slot.old
         → LeavesOwnFlagged (S.state store.new) slot.old slot.new result }
+    ensures pins { (S.backing store.new).honest ≡ true
+        → KeepsBeforePins (S.state store.old) slot.old slot.new result }
+    ensures entries { (S.backing store.new).honest ≡ true
+        → CountsEntries (map T.is_in sets.now) (S.state store.old) (S.state store.new) slot.old
+        slot.new result }
     ensures due { (S.backing store.new).honest ≡ true
         → (start : Entry → Bool) (history : List Action) (number : ℕ) (call : Call)
         → SlotFits (S.state store.old) (map T.is_in sets.now) start history number call slot.old
@@ -57,10 +62,9 @@ pub fn step<S: PageStore, T: DeadRows>(store: &mut S, slot: &mut Option<Op>, set
     let Some(op) = slot else {
         return idle(store.is_stopped());
     };
-    let session = op.session();
     let answer = op.step(store, sets);
     if is_last(&answer) {
-        store.end(session);
+        let_go(store, op);
         clear(slot);
     }
     answer
@@ -74,14 +78,15 @@ fn clear(slot: &mut Option<Op>)
     *slot = None;
 }
 
-// A session with no call has no step.
-fn idle(is_stopped: bool) -> Answer
-    ensures { result ≡ no_call is_stopped }
+// Lets go what the session of a call holds that ends; and where it is a bulk delete, none runs now.
+fn let_go<S: PageStore>(store: &mut S, op: &Op)
+    ensures steps { Continues S.follows store.old store.new }
+    ensures backing { S.backing store.new ≡ S.backing store.old }
+    ensures state { S.state store.new ≡ after_call op.now (S.state store.old) }
 {
-    if is_stopped {
-        Answer::Refused(Fault::Stopped)
-    } else {
-        Answer::Refused(Fault::NoSession)
+    store.end(op.session());
+    if op.is_vacuum() {
+        store.stop_cycle();
     }
 }
 
@@ -125,7 +130,7 @@ pub fn end<S: PageStore>(store: &mut S, slot: &mut Option<Op>) -> Answer
     ensures over { slot.new ≡ None }
     ensures backing { S.backing store.new ≡ S.backing store.old }
     ensures given_up { (op : Op) → slot.old ≡ Some op
-        → S.state store.new ≡ after_end (session_of op) (S.state store.old) }
+        → S.state store.new ≡ after_call op (S.state store.old) }
     ensures goes { (sets : DeadSets) (start : Entry → Bool) (history : List Action) (number : ℕ)
         (call : Call)
         → SlotFits (S.state store.old) sets start history number call slot.old
@@ -135,7 +140,7 @@ pub fn end<S: PageStore>(store: &mut S, slot: &mut Option<Op>) -> Answer
     let Some(op) = slot else {
         return Answer::Refused(Fault::NoSession);
     };
-    store.end(op.session());
+    let_go(store, op);
     clear(slot);
     Answer::Ended
 }

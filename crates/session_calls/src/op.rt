@@ -5,6 +5,7 @@ ghost use Rattle.index_model.specs.Actions.{Action};
 ghost use Rattle.index_model.specs.Calls.{Call};
 ghost use Rattle.index_model.specs.declared.entry.Entry.{Entry};
 ghost use Rattle.descent.specs.Shared.{IsInOrder};
+ghost use Rattle.session_calls.specs.Sessions.{no_call};
 
 use crate::answer::Answer;
 use crate::request::Request;
@@ -12,18 +13,21 @@ use index_model::{DeadRows, Fault, Session};
 use insert_split::{InsertOp, InsertStep};
 use page_action::PageStore;
 use scan::{ScanOp, ScanStep};
+use vacuum::{BulkDeleteOp, BulkDeleteStep};
 
 /// A running call of a session.
 #[derive(Drop)]
 pub enum Op {
     Insert(InsertOp),
     Scan(ScanOp),
+    /// A bulk delete, with the place of its set among the sets.
+    Bulk { set: u32, op: BulkDeleteOp },
 }
 
 impl Op {
     ghost use Rattle.session_calls.specs.Due.{IsDueIn, CountsDown};
-    ghost use Rattle.session_calls.specs.Ops.{op_before, session_of, add_of, OpFits, where_stepped};
-    ghost use Rattle.session_calls.specs.Sessions.{CallFits, OpSteps, OpGoes, OnlyOwnAreFlagged, LeavesOwnFlagged, slot_after};
+    ghost use Rattle.session_calls.specs.Ops.{op_before, session_of, is_vacuum, add_of, OpFits, where_stepped};
+    ghost use Rattle.session_calls.specs.Sessions.{CallFits, OpSteps, OpGoes, OnlyOwnAreFlagged, LeavesOwnFlagged, KeepsBeforePins, CountsEntries, slot_after};
 
     /// The call that a session asks for, before its first step.
     pub fn new(session: Session, request: Request) -> Op
@@ -32,6 +36,10 @@ impl Op {
         match request {
             Request::Insert(entry) => Op::Insert(InsertOp::new(session, entry)),
             Request::Scan(range) => Op::Scan(ScanOp::new(session, range)),
+            Request::Bulk(set) => Op::Bulk {
+                set,
+                op: BulkDeleteOp::new(session),
+            },
         }
     }
 
@@ -42,7 +50,15 @@ impl Op {
         match self {
             Op::Insert(op) => op.session,
             Op::Scan(op) => op.session,
+            Op::Bulk { op, .. } => op.session,
         }
+    }
+
+    // Whether it is a bulk delete.
+    pub(crate) fn is_vacuum(&self) -> bool
+        ensures { result ≡ is_vacuum self.now }
+    {
+        matches!(self, Op::Bulk { .. })
     }
 
     /// The number of the action that added its entry, where it is an insert whose entry is added.
@@ -51,7 +67,7 @@ impl Op {
     {
         match self {
             Op::Insert(op) => op.added,
-            Op::Scan(_) => None,
+            Op::Scan(_) | Op::Bulk { .. } => None,
         }
     }
 
@@ -70,6 +86,12 @@ impl Op {
             → OnlyOwnAreFlagged (S.state store.old) (Some self.old)
             → LeavesOwnFlagged (S.state store.new) (Some self.old) (slot_after result self.new)
             result }
+        ensures pins { (S.backing store.new).honest ≡ true
+            → KeepsBeforePins (S.state store.old) (Some self.old) (slot_after result self.new)
+            result }
+        ensures entries { (S.backing store.new).honest ≡ true
+            → CountsEntries (map T.is_in sets.now) (S.state store.old) (S.state store.new)
+            (Some self.old) (slot_after result self.new) result }
         ensures due { (S.backing store.new).honest ≡ true → IsInOrder (S.state store.old)
             → OpFits (S.state store.old) self.old
             → (left : ℕ) → IsDueIn (S.state store.old) (Some self.old) (suc left)
@@ -91,6 +113,25 @@ impl Op {
                 Ok(ScanStep::Done) => Answer::Done,
                 Err(fault) => Answer::Refused(fault),
             },
+            Op::Bulk { set, op } => match sets.get(*set as usize) {
+                None => idle(store.is_stopped()),
+                Some(dead) => match op.step(store, dead) {
+                    Ok(BulkDeleteStep::Going) => Answer::Going,
+                    Ok(BulkDeleteStep::Finished(stats)) => Answer::Finished(stats),
+                    Err(fault) => Answer::Refused(fault),
+                },
+            },
         }
+    }
+}
+
+// A session with no call, or with no set for it, has no step.
+pub(crate) fn idle(is_stopped: bool) -> Answer
+    ensures { result ≡ no_call is_stopped }
+{
+    if is_stopped {
+        Answer::Refused(Fault::Stopped)
+    } else {
+        Answer::Refused(Fault::NoSession)
     }
 }

@@ -9,4 +9,6 @@ pub enum Request {
     Insert(Entry),
     /// To give the entries of the range, in ascending order.
     Scan(Range),
+    /// To remove the entries whose rows are in the set at this place among the sets.
+    Bulk(u32),
 }

@@ -1,8 +1,13 @@
 //! What a running call may count on.
 
-ghost use Rattle.session_calls.specs.Undisturbed.{CallsAreUndisturbed};
+ghost use Rattle.session_calls.specs.Undisturbed.{CallsAreUndisturbed, SweepsAreUndisturbed};
 
 /// Does nothing: its clause says that what others do leaves a running call what it stands on.
 pub fn calls_are_undisturbed()
     ensures { CallsAreUndisturbed }
+{}
+
+/// Does nothing: its clause says that others whose acts leave its leaves leave a bulk delete what it is to remove.
+pub fn sweeps_are_undisturbed()
+    ensures { SweepsAreUndisturbed }
 {}

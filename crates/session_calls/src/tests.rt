@@ -40,6 +40,22 @@ impl DeadRows for NoRows {
     }
 }
 
+// The rows of one block.
+#[derive(Drop)]
+struct Block {
+    number: u32,
+}
+
+impl DeadRows for Block {
+    ghost use Rattle.std.specs.Prelude.{◌==◌};
+
+    ghost is_in = { λ rows row. row.block == rows.number };
+
+    fn is_dead(&self, row: RowAddr) -> bool {
+        row.block() == self.number
+    }
+}
+
 const NO_SETS: [NoRows; 0] = [];
 
 // The metapage, and a leaf with these entries as the root.
@@ -186,4 +202,50 @@ fn a_leaf_and_the_root_are_split(rt: HostRuntime) {
     assert!(rt; matches!(next(&mut slot), Answer::Gave(None)));
     let (done, _) = run(&mut store, &mut slot);
     assert!(rt; matches!(done, Answer::Done));
+}
+
+#[test]
+fn a_bulk_delete_runs_alone(rt: HostRuntime) {
+    let entries = [entry(1, 7), entry(2, 8), entry(3, 9), entry(4, 8)];
+    let (Ok(mut store), Ok(session), Ok(other)) = (
+        tree(rt.alloc(), &entries),
+        Session::new(5),
+        Session::new(6),
+    ) else {
+        assert!(rt; false);
+        return;
+    };
+    let sets = [Block { number: 7 }, Block { number: 8 }];
+    let (mut slot, mut second) = (None, None);
+    let begun = begin(&mut store, session, Request::Bulk(1), &mut slot);
+    assert!(rt; matches!(begun, Answer::Begun));
+    let running = begin(&mut store, other, Request::Bulk(0), &mut second);
+    assert!(rt; matches!(running, Answer::Refused(Fault::VacuumRunning)));
+    let begun = begin(&mut store, other, Request::Insert(entry(1, 8)), &mut second);
+    assert!(rt; matches!(begun, Answer::Begun));
+    assert!(rt; matches!(end(&mut store, &mut second), Answer::Ended));
+    assert_eq!(rt; store.cycle(), 1);
+
+    assert!(rt; matches!(step(&mut store, &mut slot, &sets), Answer::Going));
+    assert!(rt; matches!(next(&mut slot), Answer::Refused(Fault::NoSession)));
+    let Answer::Finished(stats) = step(&mut store, &mut slot, &sets) else {
+        assert!(rt; false);
+        return;
+    };
+    assert_eq!(rt; (stats.tuples_removed, stats.num_index_tuples), (2, 2));
+    assert!(rt; slot.is_none());
+    assert_eq!(rt; (store.cycle(), store.acts()), (0, 1));
+
+    let begun = begin(&mut store, other, Request::Bulk(0), &mut second);
+    assert!(rt; matches!(begun, Answer::Begun));
+    assert!(rt; matches!(end(&mut store, &mut second), Answer::Ended));
+    assert_eq!(rt; store.cycle(), 0);
+    let begun = begin(&mut store, other, Request::Bulk(2), &mut second);
+    assert!(rt; matches!(begun, Answer::Begun));
+    assert!(rt;
+        matches!(
+            step(&mut store, &mut second, &sets),
+            Answer::Refused(Fault::NoSession)
+        )
+    );
 }

@@ -10,11 +10,11 @@ use Rattle.index_model.specs.declared.fault.Fault.{Fault}
 use Rattle.index_model.specs.declared.range.Range.{Range}
 use Rattle.page_action.specs.States.{State}
 use Rattle.page_action.specs.declared.page_store.PageStore.{Ghosts}
-use Rattle.session_calls.specs.Sessions.{IsDrained, LeavesLess, GivesLess, OnlyInsertsAct, AnswersStep, AnswersNext, work_in, noted, given_one, ended}
+use Rattle.session_calls.specs.Sessions.{IsDrained, OwesLess, LeavesLess, GivesLess, OnlyWritersAct, AnswersStep, AnswersNext, work_in, noted, given_one, ended}
 use Rattle.session_calls.specs.declared.answer.Answer.{Answer}
 use Rattle.session_calls.specs.declared.answer.Answer.TheVariants.{Begun, Going, Added, Ready, Done, Finished, Gave, Ended, Forced, Flushed, Checkpointed, Refused}
 use Rattle.session_calls.specs.declared.op.Op.{Op}
-use Rattle.session_calls.specs.declared.op.Op.TheVariants.{Insert as Inserts, Scan as Scans}
+use Rattle.session_calls.specs.declared.op.Op.TheVariants.{Insert as Inserts, Scan as Scans, Bulk as Bulks}
 use Rattle.schedule.specs.Snapshots.{Snapshot, IsRunningCall, Fits}
 use Rattle.schedule.proofs.Lists.{get_set_same, get_set_other, get_within}
 use Rattle.whole_calls.specs.Going.{CameBy}
@@ -28,15 +28,24 @@ no_gave : (mid after : Option Op) (entry : Option Entry) → AnswersStep mid aft
 no_gave None after entry h = h
 no_gave (Some (Inserts op)) after entry h = h
 no_gave (Some (Scans op)) after entry h = h
+no_gave (Some (Bulks set op)) after entry h = h
 
 -- only a scan gives none, so the step behind it does no act
-pub calm_scan : (old new : State) (before mid : Option Op) → AnswersNext before (Gave None) → mid ≡ before → OnlyInsertsAct mid old new → new.acts ≡ old.acts
-calm_scan old new before mid gave same calm = of before gave (subst (λ (o : Option Op). OnlyInsertsAct o old new) same calm)
+pub calm_scan : (old new : State) (before mid : Option Op) → AnswersNext before (Gave None) → mid ≡ before → OnlyWritersAct mid old new → new.acts ≡ old.acts
+calm_scan old new before mid gave same calm = of before gave (subst (λ (o : Option Op). OnlyWritersAct o old new) same calm)
   where
-    of : (b : Option Op) → AnswersNext b (Gave None) → OnlyInsertsAct b old new → new.acts ≡ old.acts
+    of : (b : Option Op) → AnswersNext b (Gave None) → OnlyWritersAct b old new → new.acts ≡ old.acts
     of None gave h = h
     of (Some (Inserts op)) gave h = absurd gave
     of (Some (Scans op)) gave h = h
+    of (Some (Bulks set op)) gave h = absurd gave
+
+-- where no act is done, every step owes to leave less
+pub owes : (slot : Option Op) (old new : State) → new.acts ≡ old.acts → OwesLess slot old new
+owes None old new calm = calm
+owes (Some (Inserts op)) old new calm = calm
+owes (Some (Scans op)) old new calm = calm
+owes (Some (Bulks set op)) old new calm = tt
 
 pub step_down : (old new : State) (before mid after : Option Op) (result : Result Answer Fault) → GivesLess before mid (Gave None) → new.acts ≡ old.acts → StepLeavesLess old new mid after result → IfOk result (AnswersStep mid after) → GoesDownBy old new before after result
 step_down old new before mid after (Err fault) gives calm less kind = tt
@@ -44,7 +53,7 @@ step_down old new before mid after (Ok answer) gives calm less kind = of answer 
   where
     of : (a : Answer) → LeavesLess old new mid after a → AnswersStep mid after a → GoesDown old new before after a
     of Begun h k = tt
-    of Going h k = subst (λ (o : Option Op). work_in new after < work_in old o) gives.0 (h calm)
+    of Going h k = subst (λ (o : Option Op). work_in new after < work_in old o) gives.0 (h (owes mid old new calm))
     of (Added a u) h k = tt
     of (Ready r) h k = subst (λ (o : Option Op). work_in new after < work_in old o) gives.0 (h (subst IsDrained (sym gives.0) gives.1))
     of Done h k = tt
@@ -96,6 +105,18 @@ next_down old new (Some (Scans op)) after Ended h less same = absurd h
 next_down old new (Some (Scans op)) after (Forced n) h less same = absurd h
 next_down old new (Some (Scans op)) after (Flushed b) h less same = absurd h
 next_down old new (Some (Scans op)) after (Checkpointed n) h less same = absurd h
+next_down old new (Some (Bulks set op)) after (Refused f) h less same = tt
+next_down old new (Some (Bulks set op)) after Begun h less same = absurd h
+next_down old new (Some (Bulks set op)) after Going h less same = absurd h
+next_down old new (Some (Bulks set op)) after (Added a u) h less same = absurd h
+next_down old new (Some (Bulks set op)) after (Ready r) h less same = absurd h
+next_down old new (Some (Bulks set op)) after Done h less same = absurd h
+next_down old new (Some (Bulks set op)) after (Finished s) h less same = absurd h
+next_down old new (Some (Bulks set op)) after (Gave e) h less same = absurd h
+next_down old new (Some (Bulks set op)) after Ended h less same = absurd h
+next_down old new (Some (Bulks set op)) after (Forced n) h less same = absurd h
+next_down old new (Some (Bulks set op)) after (Flushed b) h less same = absurd h
+next_down old new (Some (Bulks set op)) after (Checkpointed n) h less same = absurd h
 
 -- a `next` that isn't without an entry is one of the answers
 pub next_kind : (before : Option Op) (answer : Answer) → AnswersNext before answer → (answer ≡ Gave None → ⊥) → AnswersAdvance (Ok answer)
@@ -138,6 +159,19 @@ next_kind (Some (Scans op)) Ended h none = absurd h
 next_kind (Some (Scans op)) (Forced n) h none = absurd h
 next_kind (Some (Scans op)) (Flushed b) h none = absurd h
 next_kind (Some (Scans op)) (Checkpointed n) h none = absurd h
+next_kind (Some (Bulks set op)) (Refused f) h none = tt
+next_kind (Some (Bulks set op)) Begun h none = absurd h
+next_kind (Some (Bulks set op)) Going h none = tt
+next_kind (Some (Bulks set op)) (Added a u) h none = absurd h
+next_kind (Some (Bulks set op)) (Ready r) h none = tt
+next_kind (Some (Bulks set op)) Done h none = tt
+next_kind (Some (Bulks set op)) (Finished s) h none = absurd h
+next_kind (Some (Bulks set op)) (Gave None) h none = absurd h
+next_kind (Some (Bulks set op)) (Gave (Some e)) h none = tt
+next_kind (Some (Bulks set op)) Ended h none = absurd h
+next_kind (Some (Bulks set op)) (Forced n) h none = absurd h
+next_kind (Some (Bulks set op)) (Flushed b) h none = absurd h
+next_kind (Some (Bulks set op)) (Checkpointed n) h none = absurd h
 
 -- only a scan gives none, so the step behind it is a scan's
 pub scan_steps : (before mid after : Option Op) (answer : Answer) → AnswersNext before (Gave None) → mid ≡ before → AnswersStep mid after answer → AnswersAdvance (Ok answer)
@@ -146,6 +180,7 @@ scan_steps before mid after answer gave same h = of before gave answer (subst (�
     of : (b : Option Op) → AnswersNext b (Gave None) → (a : Answer) → AnswersStep b after a → AnswersAdvance (Ok a)
     of None gave a h = absurd gave
     of (Some (Inserts op)) gave a h = absurd gave
+    of (Some (Bulks set op)) gave a h = absurd gave
     of (Some (Scans op)) gave Going h = tt
     of (Some (Scans op)) gave (Ready r) h = tt
     of (Some (Scans op)) gave Done h = tt

@@ -82,7 +82,7 @@ one_add number e call count (Add x ∷ effects) action ask none some own =
 one_add number e call count (Remove es ∷ effects) action ask none some own = absurd (rw ask at own.0)
 
 -- a call that has come to its end, in a session that had none
-ended_none : {S : Type 0} (session : ℕ) (x y : Snapshot S) (after : Call) → HasNone session x → y.calls ≡ x.calls ++ after ∷ [] → (after.ending ≡ Running → ⊥) → HasNone session y
+pub ended_none : {S : Type 0} (session : ℕ) (x y : Snapshot S) (after : Call) → HasNone session x → y.calls ≡ x.calls ++ after ∷ [] → (after.ending ≡ Running → ⊥) → HasNone session y
 ended_none session x y after none calls over number call is =
     elim (get_append_cases x.calls after number call (ap (λ (l : List Call). slice_get l number) (sym calls) ∙ is.found)) [
       | inl old ↦ none number call (record { found = old; session_is = is.session_is; running = is.running })

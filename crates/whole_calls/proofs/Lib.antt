@@ -5,3 +5,5 @@ pub mod Inserting
 pub mod Spending
 pub mod Given
 pub mod Beginning
+pub mod Counting
+pub mod Swept

@@ -13,11 +13,11 @@ use Rattle.tree_shape.specs.Nodes.{Node, nodes_of}
 use Rattle.tree_acts.specs.Weights.{weight_of, weight_up_to, weight}
 use Rattle.descent.specs.Shared.{MovesFlags}
 use Rattle.session_calls.specs.Ops.{DeadSets, asked_of, add_of}
-use Rattle.session_calls.specs.Sessions.{IsAsked, acts_of, add_after}
+use Rattle.session_calls.specs.Sessions.{IsAsked, acts_of, add_after, work_in, OwesLess}
 use Rattle.session_calls.specs.declared.answer.Answer.{Answer}
 use Rattle.session_calls.specs.declared.answer.Answer.TheVariants.{Going, Refused}
 use Rattle.session_calls.specs.declared.op.Op.{Op}
-use Rattle.session_calls.specs.declared.op.Op.TheVariants.{Insert, Scan}
+use Rattle.session_calls.specs.declared.op.Op.TheVariants.{Insert, Scan, Bulk}
 use Rattle.schedule.specs.Snapshots.{StoreAndSlots, Snapshot, snapshot_of, slot_of, IsRunningCall, Fits, has_call}
 use Rattle.schedule.specs.Events.{MovesCall, Steps, CallGoesOn, Stays, MovesOn, EventDoes}
 use Rattle.schedule.specs.Runs.{Carries, Runs}
@@ -25,8 +25,9 @@ use Rattle.schedule.specs.declared.event.Event.TheVariants.{Step}
 use Rattle.schedule.proofs.Bounds.{work_bounded}
 use Rattle.schedule.proofs.Keeping.{Laws}
 use Rattle.schedule.proofs.Lists.{get_set_same, get_within}
-use Rattle.whole_calls.specs.Spending.{brought_by, brought, steps_left, TakesFewer}
+use Rattle.whole_calls.specs.Spending.{brought_by, acts_left, steps_left, TakesFewer}
 use Rattle.whole_calls.proofs.Composing.{event_of}
+use Rattle.whole_calls.proofs.Given.{owes}
 use Rattle.whole_calls.proofs.Tellings.{runs_in_slot, one_runs}
 
 weight_low : (split : Bool) (level : ℕ) → weight_of split level ≤ 32
@@ -40,14 +41,15 @@ weights_low at (suc n) =
     let b = weight_low (at n).split (at n).level in
     omega (arith, a, b)
 
-brought_low : (slot : Option Op) → brought slot ≤ 33
+brought_low : (added : Option ℕ) → brought_by added ≤ 33
 brought_low None = omega arith
-brought_low (Some (Insert op)) = by op.added
-  where
-    by : (added : Option ℕ) → brought_by added ≤ 33
-    by None = omega arith
-    by (Some a) = omega arith
-brought_low (Some (Scan op)) = omega arith
+brought_low (Some a) = omega arith
+
+acts_low : (st : State) (slot : Option Op) → acts_left st slot ≤ weight st + 33
+acts_low st None = omega arith
+acts_low st (Some (Insert op)) = (let b = brought_low op.added in omega (arith, b))
+acts_low st (Some (Scan op)) = omega arith
+acts_low st (Some (Bulk set op)) = omega arith
 
 -- there are fewer steps than are counted
 pub steps_few : {S : Type 0} (g : Ghosts S) (laws : Laws g) (start : Entry → Bool) (now : Snapshot S) (session : ℕ) → Fits g start now → (g.state now.store).limits.pages ≤ 65536
@@ -56,40 +58,55 @@ steps_few g laws start now session fits low =
     let work = work_bounded g start now fits low session in
     let few = laws.few now.store in
     let heavy = weights_low (nodes_of (g.state now.store).pages) (length (g.state now.store).pages) in
-    let bring = brought_low (slot_of now.slots session) in
-    omega (arith, work, few, low, heavy, bring)
+    let acts = acts_low (g.state now.store) (slot_of now.slots session) in
+    omega (arith, work, few, low, heavy, acts)
 
--- what a call brings, by what it was asked and by its Add
-abbrev brings : Ask → Option ℕ → ℕ
-brings (AskInsert e) added = brought_by added
-brings (AskScan range) added = 0
-brings (AskBulkDelete dead) added = 0
-brings AskCleanup added = 0
+-- how many actions a call may append, by what it was asked and by its Add
+abbrev left_by : State → Ask → Option ℕ → ℕ
+left_by st (AskInsert e) added = weight st + brought_by added
+left_by st (AskScan range) added = weight st
+left_by st (AskBulkDelete dead) added = 0
+left_by st AskCleanup added = 0
 
-brought_is : (sets : DeadSets) (op : Op) → brought (Some op) ≡ brings (asked_of sets op) (add_of op)
-brought_is sets (Insert op) = refl
-brought_is sets (Scan op) = refl
+left_is : (st : State) (sets : DeadSets) (op : Op) → acts_left st (Some op) ≡ left_by st (asked_of sets op) (add_of op)
+left_is st sets (Insert op) = refl
+left_is st sets (Scan op) = refl
+left_is st sets (Bulk set op) = refl
 
--- what the session runs brings what its running call does
-slot_brings : {S : Type 0} (g : Ghosts S) (start : Entry → Bool) (now : Snapshot S) (session number : ℕ) (call : Call) → Fits g start now → IsRunningCall now.calls session number call
-    → brought (slot_of now.slots session) ≡ brings call.ask call.added
-slot_brings g start now session number call fits is =
+-- what the session runs may append what its running call may
+slot_left : {S : Type 0} (g : Ghosts S) (start : Entry → Bool) (now : Snapshot S) (session number : ℕ) (call : Call) (st : State) → Fits g start now → IsRunningCall now.calls session number call
+    → acts_left st (slot_of now.slots session) ≡ left_by st call.ask call.added
+slot_left g start now session number call st fits is =
     let r = runs_in_slot g start now fits session number call is in
     let same : r.2.call ≡ call = (one_runs g start now fits session number r.2.number call r.2.call is r.2.is).1 in
     let slot : slot_of now.slots session ≡ Some r.0 = ap (λ (o : Option (Option Op)). unwrap_or o None) r.1 in
-    ap brought slot ∙ brought_is now.sets r.0 ∙ ap (λ (a : Ask). brings a (add_of r.0)) (sym r.2.runs.ask) ∙ ap (λ (o : Option ℕ). brings r.2.call.ask o) (sym r.2.runs.added)
-    ∙ ap (λ (c : Call). brings c.ask c.added) same
+    ap (acts_left st) slot ∙ left_is st now.sets r.0 ∙ ap (λ (a : Ask). left_by st a (add_of r.0)) (sym r.2.runs.ask) ∙ ap (λ (o : Option ℕ). left_by st r.2.call.ask o) (sym r.2.runs.added)
+    ∙ ap (λ (c : Call). left_by st c.ask c.added) same
+
+-- the steps between its actions are counted anew
+abbrev IsCountedAnew : Op → Type 0
+IsCountedAnew (Insert op) = Unit {0}
+IsCountedAnew (Scan op) = Unit {0}
+IsCountedAnew (Bulk set op) = ⊥
 
 -- an event that appends an action leaves fewer to be appended
-acts_fewer : (was_there : Entry → Bool) (sets : DeadSets) (op : Op) (added : Option ℕ) (count : ℕ) (effect : Effect) (old new : State) → IsAsked was_there (asked_of sets op) added (Some effect) → MovesFlags (Some effect) old new
-    → weight new + brings (asked_of sets op) (add_after added (suc count) (Some effect)) < weight old + brings (asked_of sets op) added
-acts_fewer was_there sets (Insert op) None count (Add e) old new asked flags = (let m = flags.most in omega (arith, m))
-acts_fewer was_there sets (Insert op) (Some a) count (Add e) old new asked flags = absurd (let n : Some a ≡ None = asked.0.1 in cc)
-acts_fewer was_there sets (Insert op) added count (Remove es) old new asked flags = absurd asked.0
-acts_fewer was_there sets (Insert op) added count Shape old new asked flags = (let l = flags.less in omega (arith, l))
-acts_fewer was_there sets (Scan op) added count (Add e) old new asked flags = absurd asked.0
-acts_fewer was_there sets (Scan op) added count (Remove es) old new asked flags = absurd asked.0
-acts_fewer was_there sets (Scan op) added count Shape old new asked flags = absurd asked.0
+acts_fewer : (was_there : Entry → Bool) (sets : DeadSets) (op : Op) (added : Option ℕ) (count : ℕ) (effect : Effect) (old new : State) → IsCountedAnew op → IsAsked was_there (asked_of sets op) added (Some effect) → MovesFlags (Some effect) old new
+    → left_by new (asked_of sets op) (add_after added (suc count) (Some effect)) < left_by old (asked_of sets op) added
+acts_fewer was_there sets (Insert op) None count (Add e) old new anew asked flags = (let m = flags.most in omega (arith, m))
+acts_fewer was_there sets (Insert op) (Some a) count (Add e) old new anew asked flags = absurd (let n : Some a ≡ None = asked.0.1 in cc)
+acts_fewer was_there sets (Insert op) added count (Remove es) old new anew asked flags = absurd asked.0
+acts_fewer was_there sets (Insert op) added count Shape old new anew asked flags = (let l = flags.less in omega (arith, l))
+acts_fewer was_there sets (Scan op) added count (Add e) old new anew asked flags = absurd asked.0
+acts_fewer was_there sets (Scan op) added count (Remove es) old new anew asked flags = absurd asked.0
+acts_fewer was_there sets (Scan op) added count Shape old new anew asked flags = absurd asked.0
+acts_fewer was_there sets (Bulk set op) added count effect old new anew asked flags = absurd anew
+
+-- pages that weigh the same leave as much
+same_left : (old new : State) (ask : Ask) (added : Option ℕ) → weight new ≡ weight old → left_by new ask added ≡ left_by old ask added
+same_left old new (AskInsert e) added same = ap (λ (n : ℕ). n + brought_by added) same
+same_left old new (AskScan range) added same = same
+same_left old new (AskBulkDelete dead) added same = refl
+same_left old new AskCleanup added same = refl
 
 -- a step that goes on leaves fewer
 module _ {S : Type 0} (g : Ghosts S) (start : Entry → Bool) (session : ℕ) (x y : Snapshot S) (honest : (g.backing y.store).honest ≡ true) (fits : Fits g start x) (does : EventDoes g start (MovesCall session Steps) Going x y)
@@ -106,22 +123,25 @@ module _ {S : Type 0} (g : Ghosts S) (start : Entry → Bool) (session : ℕ) (x
   low_now : now.limits.pages ≤ 65536
   low_now = subst (λ (l : Limits). l.pages ≤ 65536) (sym does.quiet.limits) low
 
-  goes_by : (c : CallGoesOn g start session Going x y) (effect : Option Effect) → y.history ≡ x.history ++ acts_of c.number effect → IsAsked (contents_after start x.history) c.call.ask c.call.added effect → MovesFlags effect old now
-      → brought (slot_of x.slots session) ≡ brings c.call.ask c.call.added → brought (slot_of y.slots session) ≡ brings c.call.ask (add_after c.call.added (suc (length x.history)) effect)
+  -- the step leaves less
+  less_by : OwesLess (slot_of x.slots session) old now → work_in now (slot_of y.slots session) < work_in old (slot_of x.slots session)
+  less_by owed = does.always.less honest owed
+
+  goes_by : (c : CallGoesOn g start session Going x y) (op : Op) (effect : Option Effect) → IsCountedAnew op → c.call.ask ≡ asked_of x.sets op → y.history ≡ x.history ++ acts_of c.number effect
+      → IsAsked (contents_after start x.history) c.call.ask c.call.added effect → MovesFlags effect old now
+      → acts_left old (slot_of x.slots session) ≡ left_by old c.call.ask c.call.added → acts_left now (slot_of y.slots session) ≡ left_by now c.call.ask (add_after c.call.added (suc (length x.history)) effect)
       → fewer_left
-  goes_by c None history asked flags before behind =
+  goes_by c op None anew ask history asked flags before behind =
       let same : y.history ≡ x.history = history ∙ append-nil x.history in
       let acts : now.acts ≡ old.acts = does.fits.matches.count ∙ ap (λ (l : List Action). length l) same ∙ sym fits.matches.count in
       let weighs : weight now ≡ weight old = ap (λ (ps : List Page). weight_up_to (nodes_of ps) (length ps)) (does.quiet.pages same) in
-      let less = does.always.less honest acts in
-      omega (arith, weighs, less, before, behind)
-  goes_by c (Some e) history asked flags before behind =
-      let r = runs_in_slot g start x fits session c.number c.call c.is in
-      let same : r.2.call ≡ c.call = (one_runs g start x fits session c.number r.2.number c.call r.2.call c.is r.2.is).1 in
-      let ask : c.call.ask ≡ asked_of x.sets r.0 = ap (λ (k : Call). k.ask) (sym same) ∙ r.2.runs.ask in
-      let fewer = acts_fewer (contents_after start x.history) x.sets r.0 c.call.added (length x.history) e old now (subst (λ (a : Ask). IsAsked (contents_after start x.history) a c.call.added (Some e)) ask asked) flags in
-      let was : brought (slot_of x.slots session) ≡ brings (asked_of x.sets r.0) c.call.added = before ∙ ap (λ (a : Ask). brings a c.call.added) ask in
-      let is : brought (slot_of y.slots session) ≡ brings (asked_of x.sets r.0) (add_after c.call.added (suc (length x.history)) (Some e)) = behind ∙ ap (λ (a : Ask). brings a (add_after c.call.added (suc (length x.history)) (Some e))) ask in
+      let left : left_by now c.call.ask c.call.added ≡ left_by old c.call.ask c.call.added = same_left old now c.call.ask c.call.added weighs in
+      let less = less_by (owes (slot_of x.slots session) old now acts) in
+      omega (arith, left, less, before, behind)
+  goes_by c op (Some e) anew ask history asked flags before behind =
+      let fewer = acts_fewer (contents_after start x.history) x.sets op c.call.added (length x.history) e old now anew (subst (λ (a : Ask). IsAsked (contents_after start x.history) a c.call.added (Some e)) ask asked) flags in
+      let was : acts_left old (slot_of x.slots session) ≡ left_by old (asked_of x.sets op) c.call.added = before ∙ ap (λ (a : Ask). left_by old a c.call.added) ask in
+      let is : acts_left now (slot_of y.slots session) ≡ left_by now (asked_of x.sets op) (add_after c.call.added (suc (length x.history)) (Some e)) = behind ∙ ap (λ (a : Ask). left_by now a (add_after c.call.added (suc (length x.history)) (Some e))) ask in
       let work = work_bounded g start y does.fits low_now session in
       omega (arith, fewer, was, is, work)
 
@@ -132,9 +152,22 @@ module _ {S : Type 0} (g : Ghosts S) (start : Entry → Bool) (session : ℕ) (x
         session_is = ap (λ (k : Call). k.session) c.told ∙ c.is.session_is;
         running = ap (λ (k : Call). k.ending) c.told ∙ c.is.running;
       } in
-      let before : brought (slot_of x.slots session) ≡ brings c.call.ask c.call.added = slot_brings g start x session c.number c.call fits c.is in
-      let behind : brought (slot_of y.slots session) ≡ brings c.call.ask (add_after c.call.added (suc (length x.history)) c.effect) = slot_brings g start y session c.number c.after does.fits runs ∙ ap (λ (k : Call). brings k.ask k.added) c.told in
-      goes_by c c.effect c.history_is c.asked c.flags before behind
+      let r = runs_in_slot g start x fits session c.number c.call c.is in
+      let same : r.2.call ≡ c.call = (one_runs g start x fits session c.number r.2.number c.call r.2.call c.is r.2.is).1 in
+      let ask : c.call.ask ≡ asked_of x.sets r.0 = ap (λ (k : Call). k.ask) (sym same) ∙ r.2.runs.ask in
+      let slot : slot_of x.slots session ≡ Some r.0 = ap (λ (o : Option (Option Op)). unwrap_or o None) r.1 in
+      let before : acts_left old (slot_of x.slots session) ≡ left_by old c.call.ask c.call.added = slot_left g start x session c.number c.call old fits c.is in
+      let behind : acts_left now (slot_of y.slots session) ≡ left_by now c.call.ask (add_after c.call.added (suc (length x.history)) c.effect) = slot_left g start y session c.number c.after now does.fits runs ∙ ap (λ (k : Call). left_by now k.ask k.added) c.told in
+      by r.0 slot ask before behind
+    where
+      by : (op : Op) → slot_of x.slots session ≡ Some op → c.call.ask ≡ asked_of x.sets op → acts_left old (slot_of x.slots session) ≡ left_by old c.call.ask c.call.added
+          → acts_left now (slot_of y.slots session) ≡ left_by now c.call.ask (add_after c.call.added (suc (length x.history)) c.effect) → fewer_left
+      by (Insert op) slot ask before behind = goes_by c (Insert op) c.effect tt ask c.history_is c.asked c.flags before behind
+      by (Scan op) slot ask before behind = goes_by c (Scan op) c.effect tt ask c.history_is c.asked c.flags before behind
+      by (Bulk set op) slot ask before behind =
+          let none : acts_left now (slot_of y.slots session) ≡ 0 = behind ∙ ap (λ (a : Ask). left_by now a (add_after c.call.added (suc (length x.history)) c.effect)) ask in
+          let less = less_by (subst (λ (o : Option Op). OwesLess o old now) (sym slot) tt) in
+          omega (arith, none, less)
 
   goes_or_not : (b : Bool) → MovesOn g start b session Going x y → fewer_left
   goes_or_not true c = goes_on c

@@ -4,7 +4,7 @@ use Rattle.std.specs.Prelude.{unwrap_or}
 use Rattle.std.proofs.lemmas.List.{append-nil}
 use Rattle.index_model.specs.Actions.{Effect, Action, contents_after}
 use Rattle.index_model.specs.Calls.{Ask, GivenUp, Call}
-use Rattle.index_model.specs.Faults.{HasCause}
+use Rattle.index_model.specs.Faults.{Circumstances, HasCause}
 use Rattle.index_model.specs.declared.entry.Entry.{Entry}
 use Rattle.index_model.specs.declared.fault.Fault.{Fault}
 use Rattle.index_model.specs.declared.fault.Fault.TheVariants.{Exists, NoSession}
@@ -16,9 +16,9 @@ use Rattle.session_calls.specs.Sessions.{Told, IsAsked, acts_of, ended, AnswersS
 use Rattle.session_calls.specs.declared.answer.Answer.{Answer}
 use Rattle.session_calls.specs.declared.answer.Answer.TheVariants.{Begun, Going, Added, Ready, Done, Finished, Gave, Ended, Forced, Flushed, Checkpointed, Refused}
 use Rattle.session_calls.specs.declared.op.Op.{Op}
-use Rattle.session_calls.specs.declared.op.Op.TheVariants.{Insert as Inserts, Scan as Scans}
+use Rattle.session_calls.specs.declared.op.Op.TheVariants.{Insert as Inserts, Scan as Scans, Bulk as Bulks}
 use Rattle.session_calls.specs.declared.request.Request.{Request}
-use Rattle.schedule.specs.Snapshots.{Snapshot, slot_of, IsRunningCall, SlotRuns, SlotMatches, Fits, has_call}
+use Rattle.schedule.specs.Snapshots.{Snapshot, slot_of, IsRunningCall, SlotRuns, SlotMatches, Fits, has_call, one_vacuums}
 use Rattle.schedule.specs.Events.{Move, Steps, Takes, Upkeep, KeepsStore, BeginsCall, MovesCall, GivesUp, CallGoesOn, CallBegins, Stays, MovesOn, MayBegin, where_begun_at, EventDoes, AnswersMove}
 use Rattle.schedule.proofs.Lists.{get_some, get_within, get_append_new, get_append_some, get_append_cases, same_some}
 use Rattle.whole_calls.specs.Telling.{IsSilent, MayAnswer, IsOwnEffect, IsTold, TellsStep, HasNone, HasBegun, begun_of, BeginTold, TellsEnd, with_call, first_call, NextTold, HasCome}
@@ -88,6 +88,18 @@ step_may sets (Scans op) after Ended h = absurd h
 step_may sets (Scans op) after (Forced n) h = absurd h
 step_may sets (Scans op) after (Flushed b) h = absurd h
 step_may sets (Scans op) after (Checkpointed n) h = absurd h
+step_may sets (Bulks set op) after Begun h = absurd h
+step_may sets (Bulks set op) after Going h = tt
+step_may sets (Bulks set op) after (Added a u) h = absurd h
+step_may sets (Bulks set op) after (Ready r) h = absurd h
+step_may sets (Bulks set op) after Done h = absurd h
+step_may sets (Bulks set op) after (Finished s) h = tt
+step_may sets (Bulks set op) after (Gave e) h = absurd h
+step_may sets (Bulks set op) after Ended h = absurd h
+step_may sets (Bulks set op) after (Forced n) h = absurd h
+step_may sets (Bulks set op) after (Flushed b) h = absurd h
+step_may sets (Bulks set op) after (Checkpointed n) h = absurd h
+step_may sets (Bulks set op) after (Refused f) h = tt
 
 next_may : (sets : DeadSets) (op : Op) (answer : Answer) → AnswersNext (Some op) answer → MayAnswer (asked_of sets op) answer
 next_may sets (Inserts op) (Refused f) h = tt
@@ -114,6 +126,18 @@ next_may sets (Scans op) Ended h = absurd h
 next_may sets (Scans op) (Forced n) h = absurd h
 next_may sets (Scans op) (Flushed b) h = absurd h
 next_may sets (Scans op) (Checkpointed n) h = absurd h
+next_may sets (Bulks set op) Begun h = absurd h
+next_may sets (Bulks set op) Going h = absurd h
+next_may sets (Bulks set op) (Added a u) h = absurd h
+next_may sets (Bulks set op) (Ready r) h = absurd h
+next_may sets (Bulks set op) Done h = absurd h
+next_may sets (Bulks set op) (Finished s) h = absurd h
+next_may sets (Bulks set op) (Gave e) h = absurd h
+next_may sets (Bulks set op) Ended h = absurd h
+next_may sets (Bulks set op) (Forced n) h = absurd h
+next_may sets (Bulks set op) (Flushed b) h = absurd h
+next_may sets (Bulks set op) (Checkpointed n) h = absurd h
+next_may sets (Bulks set op) (Refused f) h = tt
 
 -- a step, or asking for the next entry
 abbrev pub GoesOnBy : Move → Type 0
@@ -154,28 +178,34 @@ moves_tells g start x y session move answer of fits does number call is =
     own_of c (Some e) h = h.0
 
 -- a beginning is not refused because an entry was there
-begin_not_exists : {S : Type 0} (g : Ghosts S) (store : S) (o : Option (Option Op)) (fault : Fault) → HasCause (where_begun_at g store o) fault → fault ≢ Exists
-begin_not_exists g store None fault cause e = let c : HasCause (where_begun_at g store None) Exists = subst (λ (f : Fault). HasCause (where_begun_at g store None) f) e cause in absurd (true_false (sym c))
-begin_not_exists g store (Some slot) fault cause e = let c : HasCause (where_begun_at g store (Some slot)) Exists = subst (λ (f : Fault). HasCause (where_begun_at g store (Some slot)) f) e cause in absurd (true_false (sym c))
+begin_not_exists : {S : Type 0} (g : Ghosts S) (store : S) (vacuums : Bool) (sets : DeadSets) (request : Request) (o : Option (Option Op)) (fault : Fault) → HasCause (where_begun_at g store vacuums sets request o) fault → fault ≢ Exists
+begin_not_exists g store vacuums sets request None fault cause e =
+    let c : HasCause (where_begun_at g store vacuums sets request None) Exists = subst (λ (f : Fault). HasCause (where_begun_at g store vacuums sets request None) f) e cause in absurd (true_false (sym c))
+begin_not_exists g store vacuums sets request (Some slot) fault cause e =
+    let c : HasCause (where_begun_at g store vacuums sets request (Some slot)) Exists = subst (λ (f : Fault). HasCause (where_begun_at g store vacuums sets request (Some slot)) f) e cause in absurd (true_false (sym c))
 
 -- nor is a checkpoint
 pub kept_not_exists : (old new : Backing) (fault : Fault) → HasCause (where_forced old new) fault → fault ≢ Exists
 kept_not_exists old new fault cause e = let c : HasCause (where_forced old new) Exists = subst (λ (f : Fault). HasCause (where_forced old new) f) e cause in absurd (true_false (sym c))
 
+-- the circumstances of a beginning
+abbrev begins_at : {S : Type 0} → Ghosts S → ℕ → Request → Snapshot S → Circumstances
+begins_at g session request x = where_begun_at g x.store (one_vacuums x.slots) x.sets request (slice_get x.slots session)
+
 -- a beginning
 pub begins_told : {S : Type 0} (g : Ghosts S) (start : Entry → Bool) (session : ℕ) (request : Request) (answer : Answer) (x y : Snapshot S) → EventDoes g start (BeginsCall session request) answer x y → BeginTold session request (begun_of answer) x y
-begins_told {S} g start session request answer x y does = of (slice_get x.slots session) does.happens (begin_not_exists g x.store (slice_get x.slots session))
+begins_told {S} g start session request answer x y does = of (slice_get x.slots session) does.happens (begin_not_exists g x.store (one_vacuums x.slots) x.sets request (slice_get x.slots session))
   where
-    stays : ((fault : Fault) → HasCause (where_begun_at g x.store (slice_get x.slots session)) fault → fault ≢ Exists) → Stays g answer x y → BeginTold session request (begun_of answer) x y
+    stays : ((fault : Fault) → HasCause (begins_at g session request x) fault → fault ≢ Exists) → Stays g answer x y → BeginTold session request (begun_of answer) x y
     stays why s = subst (λ (a : Answer). BeginTold session request (begun_of a) x y) (sym s.refused) (record {
       silent = record { history_is = s.still.history_is; calls_is = s.still.calls_is };
-      not_exists = why s.fault (subst (λ (a : Answer). IsCaused (where_begun_at g x.store (slice_get x.slots session)) a) s.refused does.caused);
+      not_exists = why s.fault (subst (λ (a : Answer). IsCaused (begins_at g session request x) a) s.refused does.caused);
     })
 
     begun : CallBegins g session request answer x y → BeginTold session request (begun_of answer) x y
     begun b = subst (λ (a : Answer). BeginTold session request (begun_of a) x y) (sym b.told) (record { history_is = b.history_is; calls_is = b.calls_is })
 
-    of : (p : Option (Option Op)) → MayBegin g p session request answer x y → ((fault : Fault) → HasCause (where_begun_at g x.store (slice_get x.slots session)) fault → fault ≢ Exists) → BeginTold session request (begun_of answer) x y
+    of : (p : Option (Option Op)) → MayBegin g p session request answer x y → ((fault : Fault) → HasCause (begins_at g session request x) fault → fault ≢ Exists) → BeginTold session request (begun_of answer) x y
     of None h why = stays why h
     of (Some None) h why = elim h [ inl b ↦ begun b | inr s ↦ stays why s ]
     of (Some (Some op)) h why = stays why h

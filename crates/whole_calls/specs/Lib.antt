@@ -1,5 +1,6 @@
 pub mod Going
 pub mod Telling
 pub mod Giving
+pub mod Sweeping
 pub mod Spending
 pub mod Inserting

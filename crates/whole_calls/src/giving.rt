@@ -3,6 +3,7 @@
 ghost use Rattle.std.specs.Prelude.{◌≡◌, ◌≤◌, true, length, map, slice_get, OnErr, IfErr, None};
 ghost use Rattle.index_model.specs.Faults.{HasCause};
 ghost use Rattle.page_action.specs.States.{Continues};
+ghost use Rattle.session_calls.specs.Ops.{is_vacuuming};
 ghost use Rattle.session_calls.specs.declared.request.Request.TheVariants.{Scan as ToScan};
 ghost use Rattle.schedule.specs.Snapshots.{here_with, slot_of};
 ghost use Rattle.schedule.specs.Events.{OthersStay, IsUnchanged, where_begun_at};
@@ -148,7 +149,8 @@ pub fn open<S: PageStore, T: DeadRows>(
         (here_with store.old slots.old (map T.is_in sets.now))
         (here_with store.new slots.new (map T.is_in sets.now))) }
     ensures cause { IfErr result
-        (HasCause (where_begun_at S.PageStore store.old (slice_get slots.old session))) }
+        (HasCause (where_begun_at S.PageStore store.old (is_vacuuming (S.state store.old))
+        (map T.is_in sets.now) (ToScan range) (slice_get slots.old session))) }
 {
     begun(one(store, slots, sets, Event::Scan(session, range)))
 }

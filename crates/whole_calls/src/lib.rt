@@ -4,10 +4,12 @@
 mod giving;
 mod inserted;
 mod running;
+mod sweeping;
 
 pub use giving::{give, open};
 pub use inserted::Inserted;
 pub use running::{finish, give_up, insert, put};
+pub use sweeping::bulk_delete;
 
 #[cfg(test)]
 mod tests;

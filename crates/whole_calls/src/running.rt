@@ -7,7 +7,7 @@ ghost use Rattle.index_model.specs.Faults.{HasCause};
 ghost use Rattle.page_action.specs.Causes.{where_forced};
 ghost use Rattle.page_action.specs.States.{Continues};
 ghost use Rattle.session_calls.specs.Ops.{DeadSets};
-ghost use Rattle.session_calls.specs.Sessions.{AnswersStep, OnlyInsertsAct, slot_add};
+ghost use Rattle.session_calls.specs.Sessions.{AnswersStep, OnlyWritersAct, slot_add};
 ghost use Rattle.session_calls.specs.declared.request.Request.TheVariants.{Insert as ToInsert};
 ghost use Rattle.schedule.specs.Snapshots.{here_with, slot_of};
 ghost use Rattle.schedule.specs.Events.{OthersStay, IsUnchanged};
@@ -16,6 +16,7 @@ ghost use Rattle.whole_calls.specs.Going.{CallGoes};
 ghost use Rattle.whole_calls.specs.Giving.{StepLeavesLess};
 ghost use Rattle.whole_calls.specs.Inserting.{InsertGoes};
 ghost use Rattle.whole_calls.specs.Spending.{TakesFewer};
+ghost use Rattle.whole_calls.specs.Sweeping.{CountsThrough};
 ghost use Rattle.whole_calls.specs.Telling.{RoomIsMade, IsSilent, TellsStep, TellsEnd, HasCome, left_behind, outcome_of, BeginTold, begun_of, step_came, begin_came, room_came};
 
 use crate::inserted::Inserted;
@@ -69,8 +70,12 @@ pub(crate) fn step<S: PageStore, T: DeadRows>(
         (here_with store.new slots.new (map T.is_in sets.now)) (λ start history calls.
         TakesFewer (S.state store.old) (S.state store.new) (slot_of slots.old session)
         (slot_of slots.new session) result) }
+    ensures entries { Carries S.PageStore (here_with store.old slots.old (map T.is_in sets.now))
+        (here_with store.new slots.new (map T.is_in sets.now)) (λ start history calls.
+        CountsThrough (map T.is_in sets.now) (S.state store.old) (S.state store.new)
+        (slot_of slots.old session) (slot_of slots.new session) result) }
     ensures limits { (S.state store.new).limits ≡ (S.state store.old).limits }
-    ensures calm { OnlyInsertsAct (slot_of slots.old session) (S.state store.old)
+    ensures calm { OnlyWritersAct (slot_of slots.old session) (S.state store.old)
         (S.state store.new) }
     ensures less { (S.backing store.new).honest ≡ true
         → StepLeavesLess (S.state store.old) (S.state store.new)
@@ -101,6 +106,10 @@ pub fn finish<S: PageStore, T: DeadRows>(
     ensures goes { CallGoes S.PageStore session (TellsStep session result) (step_came result)
         (here_with store.old slots.old (map T.is_in sets.now))
         (here_with store.new slots.new (map T.is_in sets.now)) }
+    ensures entries { Carries S.PageStore (here_with store.old slots.old (map T.is_in sets.now))
+        (here_with store.new slots.new (map T.is_in sets.now)) (λ start history calls.
+        CountsThrough (map T.is_in sets.now) (S.state store.old) (S.state store.new)
+        (slot_of slots.old session) (slot_of slots.new session) result) }
     ensures over { result ≢ Ok Answer.Going }
 {
     let _limits = store.limits();
@@ -228,6 +237,7 @@ pub fn give_up<S: PageStore, T: DeadRows>(
     ensures others { OthersStay session slots.old slots.new }
     ensures over { slot_of slots.new session ≡ None }
     ensures backing { S.backing store.new ≡ S.backing store.old }
+    ensures pages { (S.state store.new).pages ≡ (S.state store.old).pages }
     ensures begun { (S.state store.new).begun ≡ (S.state store.old).begun }
     ensures goes { CallGoes S.PageStore session (TellsEnd session) None
         (here_with store.old slots.old (map T.is_in sets.now))

@@ -37,6 +37,7 @@ opened_unused limits frames pages counted counter tree stored count = record {
     calls = refl;
   };
   acts = refl;
+  cycle = refl;
   idle = λ session. record { holds = held_by_none session; number = all_same 64 session None };
 }
 

@@ -1,4 +1,5 @@
-use Rattle.std.proofs.Common.{sym, ◌∙◌}
+use Rattle.std.proofs.Common.{refl, sym, ◌∙◌}
+use Rattle.session_calls.specs.declared.answer.Answer.TheVariants.{Checkpointed}
 use Rattle.schedule.specs.Events.{Checkpoints}
 use Rattle.schedule.proofs.Making.{kept_makes, not_kept_makes}
 use Rattle.schedule.proofs.happening.make_checkpoint.Goals as goal
@@ -6,7 +7,7 @@ use Rattle.schedule.proofs.happening.make_checkpoint.Goals as goal
 pub returns-in-Ok-clause-makes : goal.returns-in-Ok-clause-makes
 returns-in-Ok-clause-makes g c sets =
     let laws = g.met.S.PageStore.laws in
-    kept_makes g.S.PageStore laws c.args.store.now c.checkpoint.new.self (c.checkpoint.ensures.steps _ (laws.follows_same _)) c.args.slots.now sets Checkpoints c.checkpoint.ensures.state c.in-Ok.count c.in-Ok.ensures.number c.in-Ok.ensures.durable
+    kept_makes g.S.PageStore laws c.args.store.now c.checkpoint.new.self (c.checkpoint.ensures.steps _ (laws.follows_same _)) c.args.slots.now sets Checkpoints c.checkpoint.ensures.state c.in-Ok.count (Checkpointed c.in-Ok.count) refl c.in-Ok.ensures.number c.in-Ok.ensures.durable
     (λ stopped. (let e = sym c.in-Ok.is ∙ c.checkpoint.ensures.stopped stopped in cc))
 
 pub returns-in-Err-clause-makes : goal.returns-in-Err-clause-makes

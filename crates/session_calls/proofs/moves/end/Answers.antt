@@ -1,5 +1,4 @@
-use Rattle.std.proofs.Common.{Option, ap, subst, ◌∙◌, ℕ}
-use Rattle.page_action.specs.States.{after_end}
+use Rattle.std.proofs.Common.{Option, subst}
 use Rattle.session_calls.specs.Sessions.{SlotFits}
 use Rattle.session_calls.specs.declared.op.Op.{Op}
 use Rattle.session_calls.proofs.Going.{event_of_end}
@@ -7,6 +6,6 @@ use Rattle.session_calls.proofs.moves.end.Goals as goal
 
 pub returns-clause-goes : goal.returns-clause-goes
 returns-clause-goes g c sets start history number call fits =
-    rw c.clear.ensures (event_of_end (g.S.PageStore.state c.args.store.now) (g.S.PageStore.state c.end.new.self) start history number call c.in-Some.op
+    rw c.clear.ensures (event_of_end (g.S.PageStore.state c.args.store.now) (g.S.PageStore.state c.let_go.new.store) start history number call c.in-Some.op
     (subst (λ (slot : Option Op). SlotFits (g.S.PageStore.state c.args.store.now) sets start history number call slot) c.in-Some.is fits)
-    (c.end.ensures.state ∙ ap (λ (t : ℕ). after_end t (g.S.PageStore.state c.args.store.now)) c.session.ensures))
+    c.let_go.ensures.state)

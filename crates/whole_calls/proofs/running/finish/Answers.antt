@@ -11,6 +11,9 @@ use Rattle.whole_calls.specs.Telling.{TellsStep, step_came}
 use Rattle.whole_calls.proofs.Composing.{goes_then, goes_nowhere, goes_told}
 use Rattle.whole_calls.proofs.Gone.{HasGoneFar, far_nowhere, far_then, far_last}
 use Rattle.whole_calls.proofs.Spending.{steps_few}
+use Rattle.whole_calls.proofs.Counting.{counts_behind}
+use Rattle.whole_calls.specs.Sweeping.{CountsThrough}
+use Rattle.schedule.specs.Runs.{Carries}
 use Rattle.whole_calls.proofs.running.finish.Goals as goal
 use Rattle.whole_calls.proofs.running.finish.Given.{Over}
 use Rattle.whole_calls.proofs.running.finish.Goals.{After-step}
@@ -22,6 +25,7 @@ loop-left-init g c = record {
   others = λ o ne. refl;
   limits = refl;
   goes = goes_nowhere g.S.PageStore g.met.S.PageStore.laws c.args.session (HasGoneFar c.args.session) (here_with c.args.store.now c.args.slots.now (map g.T.DeadRows.is_in c.args.sets.now)) (λ x. far_nowhere c.args.session x);
+  entries = λ honest start history calls fits counted. counted;
   budget = λ low honest start history calls fits. omega arith;
 }
 
@@ -42,12 +46,32 @@ answered : (g : Over) (c : After-step g) (r : Result Answer Fault) → c.step.re
     → CallGoes g.S.PageStore c.args.session (TellsStep c.args.session r) (step_came r) (here_with c.args.store.now c.args.slots.now (map g.T.DeadRows.is_in c.args.sets.now)) (here_with c.step.new.store c.step.new.slots (map g.T.DeadRows.is_in c.args.sets.now))
 answered g c r is = subst (λ (s : Result Answer Fault). CallGoes g.S.PageStore c.args.session (TellsStep c.args.session s) (step_came s) (here_with c.args.store.now c.args.slots.now (map g.T.DeadRows.is_in c.args.sets.now)) (here_with c.step.new.store c.step.new.slots (map g.T.DeadRows.is_in c.args.sets.now))) is (last g c)
 
+-- ... and what it counts
+counted : (g : Over) (c : After-step g)
+    → Carries g.S.PageStore (here_with c.args.store.now c.args.slots.now (map g.T.DeadRows.is_in c.args.sets.now)) (here_with c.step.new.store c.step.new.slots (map g.T.DeadRows.is_in c.args.sets.now)) (λ start history calls.
+    CountsThrough (map g.T.DeadRows.is_in c.args.sets.now) (g.S.PageStore.state c.args.store.now) (g.S.PageStore.state c.step.new.store) (slot_of c.args.slots.now c.args.session) (slot_of c.step.new.slots c.args.session) c.step.result)
+counted g c honest start history calls fits =
+    let laws = g.met.S.PageStore.laws in
+    let later = laws.follows_later c.loop-left.store c.step.new.store (c.step.ensures.steps _ (laws.follows_same _)) in
+    let r = c.loop-left.invariant.goes (later.honest honest) start history calls fits in
+    counts_behind (map g.T.DeadRows.is_in c.args.sets.now) (g.S.PageStore.state c.args.store.now) (g.S.PageStore.state c.loop-left.store) (g.S.PageStore.state c.step.new.store)
+    (slot_of c.args.slots.now c.args.session) (slot_of c.loop-left.slots c.args.session) (slot_of c.step.new.slots c.args.session) c.step.result
+    (c.loop-left.invariant.entries (later.honest honest) start history calls fits) (c.step.ensures.entries honest start r.then_history r.then_calls r.ran.fits)
+
+counted_as : (g : Over) (c : After-step g) (r : Result Answer Fault) → c.step.result ≡ r
+    → Carries g.S.PageStore (here_with c.args.store.now c.args.slots.now (map g.T.DeadRows.is_in c.args.sets.now)) (here_with c.step.new.store c.step.new.slots (map g.T.DeadRows.is_in c.args.sets.now)) (λ start history calls.
+    CountsThrough (map g.T.DeadRows.is_in c.args.sets.now) (g.S.PageStore.state c.args.store.now) (g.S.PageStore.state c.step.new.store) (slot_of c.args.slots.now c.args.session) (slot_of c.step.new.slots c.args.session) r)
+counted_as g c r is honest start history calls fits =
+    subst (λ (s : Result Answer Fault). CountsThrough (map g.T.DeadRows.is_in c.args.sets.now) (g.S.PageStore.state c.args.store.now) (g.S.PageStore.state c.step.new.store) (slot_of c.args.slots.now c.args.session) (slot_of c.step.new.slots c.args.session) s) is
+    (counted g c honest start history calls fits)
+
 pub returns-in-Ok : goal.returns-in-Ok
 returns-in-Ok g c = record {
   steps = λ f h. c.step.ensures.steps f (c.loop-left.invariant.steps f h);
   sessions = c.step.ensures.sessions ∙ c.loop-left.invariant.sessions;
   others = λ o ne. c.step.ensures.others o ne ∙ c.loop-left.invariant.others o ne;
   goes = answered g ((goal.at.returns-in-Ok g c).After-step) (Ok c.in-Ok.answer) (search rules);
+  entries = counted_as g ((goal.at.returns-in-Ok g c).After-step) (Ok c.in-Ok.answer) (search rules);
   over = λ is. search rules;
 }
 
@@ -57,6 +81,7 @@ returns-in-Err g c = record {
   sessions = c.step.ensures.sessions ∙ c.loop-left.invariant.sessions;
   others = λ o ne. c.step.ensures.others o ne ∙ c.loop-left.invariant.others o ne;
   goes = answered g ((goal.at.returns-in-Err g c).After-step) (Err c.in-Err.fault) c.in-Err.is;
+  entries = counted_as g ((goal.at.returns-in-Err g c).After-step) (Err c.in-Err.fault) c.in-Err.is;
   over = λ is. absurd cc;
 }
 
@@ -76,6 +101,7 @@ loop-left-preserved g c =
           (here_with c.args.store.now c.args.slots.now (map g.T.DeadRows.is_in c.args.sets.now)) (here_with c.loop-left.store c.loop-left.slots (map g.T.DeadRows.is_in c.args.sets.now)) (here_with c.step.new.store c.step.new.slots (map g.T.DeadRows.is_in c.args.sets.now))
           c.loop-left.invariant.steps c.step.ensures.steps c.loop-left.invariant.goes c.step.ensures.goes
           (λ start x y z at then_at fx fy fz one two. far_then session x y z one (subst (λ (r : Result Answer Fault). TellsStep session r y z) whole two)));
+      entries = counted_as g ((goal.at.loop-left-preserved g c).After-step) (Ok Going) whole;
       budget = λ low honest start history calls fits. (
           let later = laws.follows_later c.loop-left.store c.step.new.store (c.step.ensures.steps _ (laws.follows_same _)) in
           let most = c.loop-left.invariant.budget low (later.honest honest) start history calls fits in

@@ -10,6 +10,8 @@ use Rattle.whole_calls.proofs.Composing.{goes_then, goes_by, goes_told}
 use Rattle.whole_calls.proofs.Gone.{gone_nowhere, silent_then}
 use Rattle.whole_calls.proofs.Tellings.{moves_tells, kept_not_exists}
 use Rattle.whole_calls.proofs.Spending.{run_fewer}
+use Rattle.whole_calls.proofs.Counting.{run_counts}
+use Rattle.whole_calls.specs.Sweeping.{CountsThrough}
 use Rattle.session_calls.specs.declared.answer.Answer.TheVariants.{Refused}
 use Rattle.whole_calls.proofs.running.step.Goals as goal
 
@@ -49,3 +51,15 @@ returns-in-Ok-clause-fewer g c honest start history calls fits =
 
 pub returns-in-Err-clause-fewer : goal.returns-in-Err-clause-fewer
 returns-in-Err-clause-fewer g c honest start history calls fits low is = absurd cc
+
+pub returns-in-Ok-clause-entries : goal.returns-in-Ok-clause-entries
+returns-in-Ok-clause-entries g c honest start history calls fits =
+    let laws = g.met.S.PageStore.laws in
+    let session = c.args.session in
+    let sets = map g.T.DeadRows.is_in c.args.sets.now in
+    let here = here_with c.make_room.new.store c.args.slots.now sets in
+    let there = here_with c.one.new.store c.one.new.slots sets in
+    let later = laws.follows_later c.make_room.new.store c.one.new.store (c.one.ensures.steps _ (laws.follows_same _)) in
+    let r = c.make_room.ensures.goes session sets (later.honest honest) start history calls fits in
+    subst (λ (st : State). CountsThrough sets st (g.S.PageStore.state c.one.new.store) (slot_of c.args.slots.now session) (slot_of c.one.new.slots session) (Ok c.one.result)) c.make_room.ensures.state
+    (run_counts g.S.PageStore session c.one.result here there c.one.ensures.runs honest start r.then_history r.then_calls r.ran.fits)

@@ -5,16 +5,16 @@ use Rattle.access_method.proofs.Results.{number_told, durable_told, cause_told, 
 use Rattle.access_method.proofs.index.Index.checkpoint.Goals as goal
 
 pub returns-clause-runs : goal.returns-clause-runs
-returns-clause-runs g c = goes_told_kept g.S.PageStore g.met.S.PageStore.laws Checkpoints Checkpoint c.checkpoint.result _ _ _ c.count.ensures refl c.checkpoint.ensures.answers (c.checkpoint.ensures.runs [])
+returns-clause-runs g c = goes_told_kept g.S.PageStore g.met.S.PageStore.laws Checkpoints Checkpoint c.checkpoint.result _ _ _ c.count.ensures refl tt c.checkpoint.ensures.answers (c.checkpoint.ensures.runs [])
 
 pub returns-clause-number : goal.returns-clause-number
-returns-clause-number g c = number_told g.S.PageStore Checkpoints c.checkpoint.result _ _ _ c.count.ensures c.checkpoint.ensures.answers c.checkpoint.ensures.kept
+returns-clause-number g c = number_told g.S.PageStore Checkpoints c.checkpoint.result _ _ _ c.count.ensures tt c.checkpoint.ensures.answers c.checkpoint.ensures.kept
 
 pub returns-clause-durable : goal.returns-clause-durable
-returns-clause-durable g c = durable_told g.S.PageStore Checkpoints c.checkpoint.result _ _ _ c.count.ensures c.checkpoint.ensures.answers c.checkpoint.ensures.kept
+returns-clause-durable g c = durable_told g.S.PageStore Checkpoints c.checkpoint.result _ _ _ c.count.ensures tt c.checkpoint.ensures.answers c.checkpoint.ensures.kept
 
 pub returns-clause-cause : goal.returns-clause-cause
-returns-clause-cause g c = cause_told g.S.PageStore Checkpoints c.checkpoint.result _ _ _ c.count.ensures c.checkpoint.ensures.answers c.checkpoint.ensures.kept
+returns-clause-cause g c = cause_told g.S.PageStore Checkpoints c.checkpoint.result _ _ _ c.count.ensures tt c.checkpoint.ensures.answers c.checkpoint.ensures.kept
 
 pub returns-clause-room : goal.returns-clause-room
 returns-clause-room g c = room_told _ c.checkpoint.result _ c.count.ensures c.checkpoint.ensures.answers c.checkpoint.ensures.room

@@ -5,13 +5,13 @@ use Rattle.access_method.proofs.Results.{number_told, durable_told, cause_told, 
 use Rattle.access_method.proofs.index.Index.commit.Goals as goal
 
 pub returns-clause-runs : goal.returns-clause-runs
-returns-clause-runs g c = goes_told_kept g.S.PageStore g.met.S.PageStore.laws Forces Force c.force.result _ _ _ c.count.ensures refl c.force.ensures.answers (c.force.ensures.runs [])
+returns-clause-runs g c = goes_told_kept g.S.PageStore g.met.S.PageStore.laws Forces Force c.force.result _ _ _ c.count.ensures refl tt c.force.ensures.answers (c.force.ensures.runs [])
 
 pub returns-clause-number : goal.returns-clause-number
-returns-clause-number g c = number_told g.S.PageStore Forces c.force.result _ _ _ c.count.ensures c.force.ensures.answers c.force.ensures.kept
+returns-clause-number g c = number_told g.S.PageStore Forces c.force.result _ _ _ c.count.ensures tt c.force.ensures.answers c.force.ensures.kept
 
 pub returns-clause-durable : goal.returns-clause-durable
-returns-clause-durable g c = durable_told g.S.PageStore Forces c.force.result _ _ _ c.count.ensures c.force.ensures.answers c.force.ensures.kept
+returns-clause-durable g c = durable_told g.S.PageStore Forces c.force.result _ _ _ c.count.ensures tt c.force.ensures.answers c.force.ensures.kept
 
 pub returns-clause-cause : goal.returns-clause-cause
-returns-clause-cause g c = cause_told g.S.PageStore Forces c.force.result _ _ _ c.count.ensures c.force.ensures.answers c.force.ensures.kept
+returns-clause-cause g c = cause_told g.S.PageStore Forces c.force.result _ _ _ c.count.ensures tt c.force.ensures.answers c.force.ensures.kept

@@ -8,6 +8,7 @@ returns c =
     let empty = c.in_ok-create.ensures.own in
     let tree = fresh_tree empty.meta empty.leaf empty.is_meta empty.is_leaf in
     record {
+      sets = c.in_ok-opened.ensures.sets;
       empty = record {
         pages = empty.meta ∷ empty.leaf ∷ [];
         empty = fresh_empty empty.meta empty.leaf empty.is_meta empty.is_leaf;

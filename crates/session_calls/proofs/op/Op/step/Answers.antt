@@ -1,5 +1,5 @@
 use Rattle.std.specs.Prelude.{map}
-use Rattle.std.proofs.Common.{subst, Some, suc}
+use Rattle.std.proofs.Common.{subst, sym, Some, suc}
 use Rattle.session_calls.specs.Due.{IsDueIn}
 use Rattle.session_calls.specs.Ops.{OpFits}
 use Rattle.session_calls.specs.Sessions.{CallFits}
@@ -8,6 +8,16 @@ use Rattle.session_calls.proofs.Counting.{insert_counts, scan_counts}
 use Rattle.session_calls.proofs.Hindering.{insert_hindered}
 use Rattle.session_calls.proofs.Inserting.{insert_goes_on, insert_ends, insert_is_refused}
 use Rattle.session_calls.proofs.Scanning.{moving_goes, ready_goes, done_goes}
+use Rattle.std.proofs.Common.{Bool}
+use Rattle.index_model.specs.Row.{Row}
+use Rattle.vacuum.specs.BulkDeletes.{BulkDeleteGoesOn, IsDueOf}
+use Rattle.std.proofs.Common.{ap, refl}
+use Rattle.index_model.specs.Calls.{AskScan}
+use Rattle.scan.specs.declared.steps.ScanOp.{ScanOp}
+use Rattle.session_calls.specs.declared.op.Op.TheVariants.{Scan}
+use Rattle.session_calls.proofs.Going.{step_is_refused}
+use Rattle.vacuum.specs.Counts.{IsCounted}
+use Rattle.session_calls.proofs.Deleting.{counted_on, set_found, bulk_goes_on, bulk_finishes}
 use Rattle.session_calls.proofs.op.Op.step.Goals as goal
 
 pub returns-in-Ok-Going-clause-goes : goal.returns-in-Ok-Going-clause-goes
@@ -76,3 +86,67 @@ returns-in-Ok-Going-step-clause-due g c honest order fits left due =
     let counted = rw c.in-Ok-Going-step.field-0-is at (all.straight honest order mine_due.whole mine_due.none mine_due.way) in
     scan_counts old (g.S.PageStore.state c.step-in-Scan.new.store) c.in-Scan.op c.step-in-Scan.new.self left mine_due
     (rw c.in-Ok-Going-step.field-0-is at (all.stepped honest order mine)) counted.0 counted.1
+
+pub returns-in-Ok-Going-step-2-clause-goes : goal.returns-in-Ok-Going-step-2-clause-goes
+returns-in-Ok-Going-step-2-clause-goes g c honest start history number call fits =
+    let old = g.S.PageStore.state c.args.store.now in
+    let new = g.S.PageStore.state c.step-in-Some.new.store in
+    let sets = map g.T.DeadRows.is_in c.args.sets.now in
+    let mine = subst (λ (op : Op). CallFits old sets start history number call op) c.in-Bulk.is fits in
+    let dead_is = set_found g.T.DeadRows.is_in c.args.sets.now c.in-Bulk.set c.in-Some.dead.now c.in-Some.ensures.lookup.3.0 c.in-Some.ensures.lookup.1 in
+    let step = rw c.in-Ok-Going-step-2.field-0-is at (c.in-Ok-Going-step-2.ensures.stepped honest mine.world.order mine.runs.fits) in
+    let comes = c.in-Ok-Going-step-2.ensures.due honest in
+    rw c.in-Bulk.is (bulk_goes_on old new (g.S.PageStore.backing c.args.store.now) (g.S.PageStore.backing c.step-in-Some.new.store) start history number call c.in-Bulk.set c.in-Bulk.op c.step-in-Some.new.self mine
+    c.step-in-Some.ensures.session (subst (λ (d : Row → Bool). BulkDeleteGoesOn d old new c.in-Bulk.op c.step-in-Some.new.self) dead_is step)
+    (λ due are before. rw c.in-Ok-Going-step-2.field-0-is at (comes due (subst (λ (d : Row → Bool). IsDueOf d due) (sym dead_is) are) before)))
+
+pub returns-in-Ok-Finished-clause-goes : goal.returns-in-Ok-Finished-clause-goes
+returns-in-Ok-Finished-clause-goes g c honest start history number call fits =
+    let old = g.S.PageStore.state c.args.store.now in
+    let new = g.S.PageStore.state c.step-in-Some.new.store in
+    let sets = map g.T.DeadRows.is_in c.args.sets.now in
+    let mine = subst (λ (op : Op). CallFits old sets start history number call op) c.in-Bulk.is fits in
+    let dead_is = set_found g.T.DeadRows.is_in c.args.sets.now c.in-Bulk.set c.in-Some.dead.now c.in-Some.ensures.lookup.3.0 c.in-Some.ensures.lookup.1 in
+    let step = rw c.in-Ok-Finished.field-0-is at (c.in-Ok-Finished.ensures.stepped honest mine.world.order mine.runs.fits) in
+    let told = rw c.in-Ok-Finished.field-0-is at c.in-Ok-Finished.ensures.stats in
+    let comes = c.in-Ok-Finished.ensures.due honest in
+    rw c.in-Bulk.is (bulk_finishes old new (g.S.PageStore.backing c.args.store.now) (g.S.PageStore.backing c.step-in-Some.new.store) start history number call c.in-Bulk.set c.in-Bulk.op c.step-in-Some.new.self mine
+    c.step-in-Some.ensures.session c.in-Ok-Finished.stats step told
+    (λ due are before. rw c.in-Ok-Finished.field-0-is at (comes due (subst (λ (d : Row → Bool). IsDueOf d due) (sym dead_is) are) before)))
+
+pub returns-in-Err-step-clause-goes : goal.returns-in-Err-step-clause-goes
+returns-in-Err-step-clause-goes g c honest start history number call fits =
+    let old = g.S.PageStore.state c.args.store.now in
+    let mine = subst (λ (op : Op). CallFits old (map g.T.DeadRows.is_in c.args.sets.now) start history number call op) c.in-Scan.is fits in
+    rw c.in-Scan.is (step_is_refused _ old (g.S.PageStore.state c.step-in-Scan.new.store) start history number call (Scan c.in-Scan.op) (Scan c.step-in-Scan.new.self) mine
+    c.step-in-Scan.ensures.session (ap AskScan c.step-in-Scan.ensures.range) c.in-Err-step.fault c.in-Err-step.ensures.refused.state
+    (ap (λ (op : ScanOp). Scan op) c.in-Err-step.ensures.refused.op) (c.in-Err-step.ensures.stepped honest mine.world.order mine.runs.fits) (λ ends. refl) (λ e asks there. absurd cc))
+
+pub returns-in-Ok-Going-step-2-clause-pins : goal.returns-in-Ok-Going-step-2-clause-pins
+returns-in-Ok-Going-step-2-clause-pins g c honest =
+    let pins = c.in-Ok-Going-step-2.ensures.pins honest in
+    rw c.in-Bulk.is (λ other block page differ leaf pinned before. rw c.in-Ok-Going-step-2.field-0-is at (pins other block page differ leaf pinned before))
+
+pub returns-in-Ok-Finished-clause-pins : goal.returns-in-Ok-Finished-clause-pins
+returns-in-Ok-Finished-clause-pins g c honest =
+    let pins = c.in-Ok-Finished.ensures.pins honest in
+    rw c.in-Bulk.is (λ other block page differ leaf pinned before. rw c.in-Ok-Finished.field-0-is at (pins other block page differ leaf pinned before))
+
+pub returns-in-Ok-Going-step-2-clause-entries : goal.returns-in-Ok-Going-step-2-clause-entries
+returns-in-Ok-Going-step-2-clause-entries g c honest =
+    let old = g.S.PageStore.state c.args.store.now in
+    let new = g.S.PageStore.state c.step-in-Some.new.store in
+    let sets = map g.T.DeadRows.is_in c.args.sets.now in
+    let dead_is = set_found g.T.DeadRows.is_in c.args.sets.now c.in-Bulk.set c.in-Some.dead.now c.in-Some.ensures.lookup.3.0 c.in-Some.ensures.lookup.1 in
+    let counts = c.in-Ok-Going-step-2.ensures.counts honest in
+    rw c.in-Bulk.is (λ counted. (
+      counted_on sets c.in-Bulk.set (g.T.DeadRows.is_in c.in-Some.dead.now) new c.step-in-Some.new.self dead_is (rw c.in-Ok-Going-step-2.field-0-is at (counts (subst (λ (d : Row → Bool). IsCounted d old c.in-Bulk.op) (sym dead_is) counted))),
+      tt,
+    ))
+
+pub returns-in-Ok-Finished-clause-entries : goal.returns-in-Ok-Finished-clause-entries
+returns-in-Ok-Finished-clause-entries g c honest =
+    let old = g.S.PageStore.state c.args.store.now in
+    let dead_is = set_found g.T.DeadRows.is_in c.args.sets.now c.in-Bulk.set c.in-Some.dead.now c.in-Some.ensures.lookup.3.0 c.in-Some.ensures.lookup.1 in
+    let counts = c.in-Ok-Finished.ensures.counts honest in
+    rw c.in-Bulk.is (λ counted. (tt, rw c.in-Ok-Finished.field-0-is at (counts (subst (λ (d : Row → Bool). IsCounted d old c.in-Bulk.op) (sym dead_is) counted))))

@@ -1,0 +1,59 @@
+use Rattle.std.specs.Prelude.{map, []}
+use Rattle.std.proofs.Common.{◌≡◌, ◌∷◌, ℕ, Bool, Option, Some, None, List, Result, refl, sym, ap, subst}
+use Rattle.index_model.specs.Actions.{Action}
+use Rattle.index_model.specs.Calls.{Call}
+use Rattle.index_model.specs.Row.{Row}
+use Rattle.index_model.specs.declared.entry.Entry.{Entry}
+use Rattle.schedule.specs.Snapshots.{here_with, snapshot_of, slot_of, Fits}
+use Rattle.schedule.specs.Crashes.{KeepsHistory, IsCrashSafe}
+use Rattle.schedule.specs.Runs.{Carries}
+use Rattle.schedule.proofs.Unused.{fits_with, no_set_runs}
+use Rattle.whole_calls.specs.Going.{CallGoes, CallRuns}
+use Rattle.whole_calls.specs.Sweeping.{SweepTold, swept_came, TellsEntries}
+use Rattle.access_method.specs.Indexes.{slots_within, slots_with, IndexFits}
+use Rattle.access_method.proofs.Sweeps.{swept_or_less, none_sweeps, safe_within}
+use Rattle.access_method.proofs.index.Index.ambulkdelete.Given.{Over}
+use Rattle.access_method.proofs.index.Index.ambulkdelete.Goals.{After-bulk_delete}
+use Rattle.access_method.proofs.index.Index.ambulkdelete.Goals as goal
+
+-- the run over the one set
+goes : (g : Over) (c : After-bulk_delete g)
+    → CallGoes g.S.PageStore 63 (SweepTold 63 0 c.bulk_delete.result) (swept_came c.bulk_delete.result) (slots_with (g.T.DeadRows.is_in c.args.dead.now) c.args.self.now) (here_with c.bulk_delete.new.store c.bulk_delete.new.slots (g.T.DeadRows.is_in c.args.dead.now ∷ []))
+goes g c = subst (λ (l : List (Row → Bool)). CallGoes g.S.PageStore 63 (SweepTold 63 0 c.bulk_delete.result) (swept_came c.bulk_delete.result) (here_with c.args.self.now.store c.args.self.now.slots l) (here_with c.bulk_delete.new.store c.bulk_delete.new.slots l))
+    refl c.bulk_delete.ensures.goes
+
+counted : (g : Over) (c : After-bulk_delete g)
+    → Carries g.S.PageStore (slots_with (g.T.DeadRows.is_in c.args.dead.now) c.args.self.now) (here_with c.bulk_delete.new.store c.bulk_delete.new.slots (g.T.DeadRows.is_in c.args.dead.now ∷ [])) (λ start history calls.
+    TellsEntries (g.S.PageStore.state c.bulk_delete.new.store) c.bulk_delete.result)
+counted g c = subst (λ (l : List (Row → Bool)). Carries g.S.PageStore (here_with c.args.self.now.store c.args.self.now.slots l) (here_with c.bulk_delete.new.store c.bulk_delete.new.slots l) (λ start history calls.
+    TellsEntries (g.S.PageStore.state c.bulk_delete.new.store) c.bulk_delete.result))
+    refl c.bulk_delete.ensures.entries
+
+-- what fitted fits with the set
+fits_then : (g : Over) (c : After-bulk_delete g) (start : Entry → Bool) (history : List Action) (calls : List Call) → IndexFits g.S.PageStore c.args.self.now start history calls
+    → Fits g.S.PageStore start (snapshot_of (slots_with (g.T.DeadRows.is_in c.args.dead.now) c.args.self.now) history calls)
+fits_then g c start history calls fits =
+    let now = snapshot_of (slots_within c.args.self.now) history calls in
+    fits_with g.S.PageStore start now (g.T.DeadRows.is_in c.args.dead.now ∷ []) (no_set_runs g.S.PageStore start now refl fits) fits
+
+pub returns-clause-sweeps : goal.returns-clause-sweeps
+returns-clause-sweeps g c honest start history calls fits =
+    let after = (goal.at.returns-clause-sweeps g c).After-bulk_delete in
+    let dead = g.T.DeadRows.is_in c.args.dead.now in
+    let now = snapshot_of (slots_within c.args.self.now) history calls in
+    let r = goes g after honest start history calls (fits_then g after start history calls fits) in
+    let behind = snapshot_of (here_with c.bulk_delete.new.store c.bulk_delete.new.slots (dead ∷ [])) r.then_history r.then_calls in
+    record {
+      sweeps = r;
+      fits = fits_with g.S.PageStore start behind [] (none_sweeps c.args.self.now.slots c.bulk_delete.new.slots c.bulk_delete.ensures.others (c.bulk_delete.ensures.over c.args.self.now.agree.inserts)
+          (no_set_runs g.S.PageStore start now refl fits)) r.ran.fits;
+      safe = λ keeps. safe_within g.S.PageStore start now behind (dead ∷ []) [] r.ran.crash keeps;
+    }
+
+pub returns-clause-deletes : goal.returns-clause-deletes
+returns-clause-deletes g c honest start history calls fits =
+    let after = (goal.at.returns-clause-deletes g c).After-bulk_delete in
+    let dead = g.T.DeadRows.is_in c.args.dead.now in
+    let then_fits = fits_then g after start history calls fits in
+    let r = goes g after honest start history calls then_fits in
+    swept_or_less g.S.PageStore dead (slots_with dead c.args.self.now) (here_with c.bulk_delete.new.store c.bulk_delete.new.slots (dead ∷ [])) refl start history calls then_fits c.bulk_delete.result r (counted g after honest start history calls then_fits)

@@ -1,0 +1,39 @@
+//! The sets of dead rows that a script's `bulk` lines name.
+
+use crate::line::{Line, Rows};
+use index_model::{DeadRows, RowAddr};
+use std::alloc::{AllocError, Global};
+
+/// The rows of a `bulk` line.
+#[derive(Drop)]
+pub struct DeadList {
+    rows: Vec<RowAddr>,
+}
+
+impl DeadRows for DeadList {
+    ghost use Rattle.std.specs.List.{list_any};
+
+    ghost is_in = { λ list row. list_any (λ dead. ⟦<RowAddr as PartialEq>⟧.eq dead row) list.rows.items };
+
+    fn is_dead(&self, row: RowAddr) -> bool {
+        self.rows.contains(&row)
+    }
+}
+
+/// The set of a line, if it is a `bulk` line.
+pub fn dead_of(alloc: Global, line: Line<'_>) -> Result<Option<DeadList>, AllocError> {
+    match line {
+        Line::Bulk(_, rows) => Ok(Some(DeadList {
+            rows: listed(alloc, rows)?,
+        })),
+        _ => Ok(None),
+    }
+}
+
+fn listed(alloc: Global, mut words: Rows<'_>) -> Result<Vec<RowAddr>, AllocError> {
+    let mut rows = Vec::new(alloc);
+    while let Some(row) = words.next() {
+        rows.push(row)?;
+    }
+    Ok(rows)
+}

@@ -1,0 +1,325 @@
+-- A bulk delete waits for a scan that stands on a leaf that it hasn't come to, over runs.
+use Rattle.std.specs.Prelude.{unwrap_or}
+use Rattle.std.proofs.Common.{◌≡◌, ◌≢◌, ℕ, suc, ◌≤◌, ◌||◌, Bool, true, false, Option, Some, None, List, [], ◌∷◌, ◌++◌, length, slice_get, slice_set, refl, sym, ap, subst, arith, inl, inr, ◌∙◌}
+use Rattle.std.proofs.lemmas.Bool.{cases_eq, eq-eqb}
+use Rattle.index_model.specs.Calls.{Call}
+use Rattle.index_model.specs.declared.entry.Entry.{Entry}
+use Rattle.index_model.specs.declared.stats.VacuumStats.{VacuumStats}
+use Rattle.latch_table.specs.Holdings.{Holding, has_pin, holding_of}
+use Rattle.page_codec.specs.declared.page.Page.{Page}
+use Rattle.page_action.proofs.StoredPages.{stored_page}
+use Rattle.page_action.specs.States.{State}
+use Rattle.page_action.specs.declared.page_store.PageStore.{Ghosts}
+use Rattle.tree_acts.specs.Leaves.{IsLeafAt}
+use Rattle.tree_acts.proofs.Removing.{leaf_is}
+use Rattle.descent.specs.Shared.{IsInOrder}
+use Rattle.scan.specs.Scans.{leaf_pinned}
+use Rattle.session_calls.specs.Ops.{DeadSets, op_before, asked_of}
+use Rattle.session_calls.specs.Sessions.{AnswersStep, AnswersNext, AnswersEnd, IsStillBefore, KeepsBeforePins, OnlyWritersAct, acts_of}
+use Rattle.session_calls.specs.declared.answer.Answer.{Answer}
+use Rattle.session_calls.specs.declared.answer.Answer.TheVariants.{Begun, Going, Added, Ready, Done, Finished, Gave, Ended, Forced, Flushed, Checkpointed, Refused}
+use Rattle.session_calls.specs.declared.op.Op.{Op}
+use Rattle.session_calls.specs.declared.op.Op.TheVariants.{Insert, Scan, Bulk}
+use Rattle.session_calls.specs.declared.request.Request.{Request}
+use Rattle.session_calls.specs.declared.request.Request.TheVariants.{Insert as ToInsert, Scan as ToScan, Bulk as ToBulk}
+use Rattle.session_calls.proofs.Meeting.{grown}
+use Rattle.session_calls.proofs.Telling.{IsSameCall, told_same}
+use Rattle.schedule.specs.Snapshots.{Snapshot, slot_of, SlotRuns, slot_vacuums, slot_has_call, Fits}
+use Rattle.vacuum.specs.declared.steps.BulkDeleteOp.{BulkDeleteOp}
+use Rattle.schedule.specs.Events.{Move, Steps, Takes, GivesUp, Upkeep, Forces, Flushes, Checkpoints, Kind, BeginsCall, MovesCall, KeepsStore, kind_of, CallGoesOn, Stays, MovesOn, AnswersBeginning, AnswersUpkeep, EventDoes}
+use Rattle.schedule.specs.Stands.{StandsOn, HasLeaf, HasNotCome, NoneHasCome, BulkDeletesWait, BegunBulkDeletesWait}
+use Rattle.schedule.proofs.Frames.{slot_is}
+use Rattle.schedule.proofs.Leaves.{leaf_same}
+use Rattle.schedule.proofs.Lists.{get_set_same, get_set_other, get_within, same_some}
+use Rattle.schedule.proofs.Vacuums.{asked_vacuum}
+
+true_false : true ≡ false → ⊥
+true_false h = cc
+
+-- a leaf isn't the metapage
+leaf_above : (st : State) (block : ℕ) (page : Page) → IsInOrder st → IsLeafAt st.pages block page → 1 ≤ block
+leaf_above st block page order at =
+    let s = stored_page st.limits block st.pages page order.tree.stored at.found in
+    let above = (leaf_is page s.storable.admitted at.leaf).0 in
+    subst (λ (b : ℕ). 1 ≤ b) s.block_is (omega (arith, above))
+
+-- a session that runs something has a slot
+slot_found : (slots : List (Option Op)) (session : ℕ) (op : Op) → slot_of slots session ≡ Some op → slice_get slots session ≡ Some (Some op)
+slot_found slots session op is = by (slice_get slots session) is
+  where
+    by : (o : Option (Option Op)) → unwrap_or o None ≡ Some op → o ≡ Some (Some op)
+    by None h = (let e : (let n : Option Op = None in n) ≡ Some op = h in cc)
+    by (Some slot) h = ap (λ (x : Option Op). Some x) h
+
+-- only a bulk delete comes anywhere
+not_vacuum_come : (block : ℕ) (slot : Option Op) → slot_vacuums slot ≡ false → HasNotCome block slot
+not_vacuum_come block None h = tt
+not_vacuum_come block (Some (Insert op)) h = tt
+not_vacuum_come block (Some (Scan op)) h = tt
+not_vacuum_come block (Some (Bulk set op)) h = absurd (true_false h)
+
+-- a bulk delete that begins has come to no leaf
+fresh_come : (block session : ℕ) (request : Request) → 1 ≤ block → HasNotCome block (Some (op_before session request))
+fresh_come block session (ToInsert e) above = tt
+fresh_come block session (ToScan range) above = tt
+fresh_come block session (ToBulk set) above = above
+
+-- one that is still before a leaf hasn't come to it
+still_come : (block : ℕ) (after : Option Op) (answer : Answer) → IsStillBefore block after answer → HasNotCome block after
+still_come block None answer h = tt
+still_come block (Some (Insert op)) answer h = tt
+still_come block (Some (Scan op)) answer h = tt
+still_come block (Some (Bulk set op)) answer h = by answer h
+  where
+    by : (a : Answer) → IsStillBefore block (Some (Bulk set op)) a → op.cursor ≤ block
+    by Begun h = h
+    by Going h = h
+    by (Added x u) h = h
+    by (Ready r) h = h
+    by Done h = h
+    by (Finished s) h = absurd h
+    by (Gave x) h = h
+    by Ended h = h
+    by (Forced n) h = h
+    by (Flushed b) h = h
+    by (Checkpointed n) h = h
+    by (Refused f) h = h
+
+module _ {S : Type 0} (g : Ghosts S) (start : Entry → Bool) where
+  -- the leaf on which a scan stands is pinned
+  stands_pinned : (session block : ℕ) (now : Snapshot S) → Fits g start now → StandsOn session block now → has_pin (holding_of (g.state now.store).table session).pins block ≡ true
+  stands_pinned session block now fits stands =
+      let runs : SlotRuns g start now session (Scan stands.op) = fits.running session (Some (Scan stands.op)) (slot_found now.slots session (Scan stands.op) stands.runs) in
+      let is : stands.op.session ≡ session = runs.runs.session ∙ runs.is.session_is in
+      let held : holding_of (g.state now.store).table session ≡ leaf_pinned (Some block) =
+      subst (λ (s : ℕ). holding_of (g.state now.store).table s ≡ leaf_pinned (Some block)) is (runs.runs.fits.held ∙ ap leaf_pinned stands.leaf) in
+      ap (λ (h : Holding). has_pin h.pins block) held ∙ ap (λ (b : Bool). b || false) (eq-eqb block block refl)
+
+  -- behind an event of a session's running call, what it runs was asked the same
+  moved_asks : (session : ℕ) (move : Move) (answer : Answer) (old new : Snapshot S) → Fits g start old → EventDoes g start (MovesCall session move) answer old new
+      → (op next : Op) → slice_get old.slots session ≡ Some (Some op) → slice_get new.slots session ≡ Some (Some next) → asked_of new.sets next ≡ asked_of old.sets op
+  moved_asks session move answer old new fits does op next was is =
+      let before : SlotRuns g start old session op = fits.running session (Some op) was in
+      let behind : SlotRuns g start new session next = does.fits.running session (Some next) is in
+      let goes : CallGoesOn g start session answer old new = subst (λ (b : Bool). MovesOn g start b session answer old new) (ap slot_has_call was) does.happens in
+      let number_is : goes.number ≡ before.number = before.only goes.number goes.call goes.is in
+      let call_is : goes.call ≡ before.call = same_some (slice_get old.calls before.number) goes.call before.call (subst (λ (n : ℕ). slice_get old.calls n ≡ Some goes.call) number_is goes.is.found) before.is.found in
+      let found : slice_get (slice_set old.calls goes.number goes.after) behind.number ≡ Some behind.call = subst (λ (l : List Call). slice_get l behind.number ≡ Some behind.call) goes.calls_is behind.is.found in
+      let same : behind.number ≡ goes.number = elim (cases_eq behind.number goes.number) [
+        | inl e ↦ e
+        | inr n ↦ absurd (n (before.only behind.number behind.call (record { found = sym (get_set_other old.calls goes.number behind.number goes.after n) ∙ found; session_is = behind.is.session_is; running = behind.is.running }) ∙ sym number_is))
+      ] in
+      let after_is : behind.call ≡ goes.after = same_some (slice_get (slice_set old.calls goes.number goes.after) goes.number) behind.call goes.after
+      (subst (λ (n : ℕ). slice_get (slice_set old.calls goes.number goes.after) n ≡ Some behind.call) same found) (get_set_same old.calls goes.number goes.after (get_within old.calls goes.number goes.call goes.is.found)) in
+      let kept : IsSameCall (old.history ++ acts_of goes.number goes.effect) (length old.history) goes.effect goes.call goes.after =
+      told_same (old.history ++ acts_of goes.number goes.effect) (length old.history) goes.effect goes.call goes.after goes.is.running (grown old.history goes.number goes.effect) answer goes.told in
+      sym behind.runs.ask ∙ ap (λ (c : Call). c.ask) after_is ∙ kept.ask ∙ ap (λ (c : Call). c.ask) call_is ∙ before.runs.ask
+
+  -- ... so it is a bulk delete only where it was one
+  moved_vacuum : (session : ℕ) (move : Move) (answer : Answer) (old new : Snapshot S) → Fits g start old → EventDoes g start (MovesCall session move) answer old new
+      → slot_vacuums (slot_of old.slots session) ≡ false → slot_vacuums (slot_of new.slots session) ≡ false
+  moved_vacuum session move answer old new fits does idle = by (slice_get old.slots session) refl
+    where
+      same_slots : (slot_has_call (slice_get old.slots session)) ≡ false → slot_vacuums (slot_of new.slots session) ≡ false
+      same_slots none =
+          let stays : Stays g answer old new = subst (λ (b : Bool). MovesOn g start b session answer old new) none does.happens in
+          ap (λ (l : List (Option Op)). slot_vacuums (slot_of l session)) stays.still.slots_is ∙ idle
+
+      to : (op : Op) → slice_get old.slots session ≡ Some (Some op) → (o : Option (Option Op)) → slice_get new.slots session ≡ o → slot_vacuums (unwrap_or o None) ≡ false
+      to op was None is = refl
+      to op was (Some None) is = refl
+      to op was (Some (Some next)) is =
+          asked_vacuum old.sets next op (subst (λ (sets : DeadSets). asked_of sets next ≡ asked_of old.sets op) does.sets (moved_asks session move answer old new fits does op next was is))
+          ∙ sym (ap slot_vacuums (slot_is old.slots session (Some op) was)) ∙ idle
+
+      by : (o : Option (Option Op)) → slice_get old.slots session ≡ o → slot_vacuums (slot_of new.slots session) ≡ false
+      by None was = same_slots (ap slot_has_call was)
+      by (Some None) was = same_slots (ap slot_has_call was)
+      by (Some (Some op)) was = to op was (slice_get new.slots session) refl
+
+  module _ (stander block : ℕ) (old new : Snapshot S) (fits : Fits g start old) (stands : StandsOn stander block old) (leaf : HasLeaf g block old) (none : NoneHasCome block old) where
+    -- the slots of other sessions are as they were
+    as_before : (session : ℕ) → slice_get new.slots session ≡ slice_get old.slots session → HasNotCome block (slot_of new.slots session)
+    as_before session same = subst (λ (o : Option (Option Op)). HasNotCome block (unwrap_or o None)) (sym same) (none session)
+
+    all_as_before : new.slots ≡ old.slots → NoneHasCome block new
+    all_as_before same session = as_before session (ap (λ (l : List (Option Op)). slice_get l session) same)
+
+    -- a beginning
+    begins_keep : (session : ℕ) (request : Request) (answer : Answer) → EventDoes g start (BeginsCall session request) answer old new → ((stats : VacuumStats) → answer ≢ Finished stats) × NoneHasCome block new
+    begins_keep session request answer does = (
+      λ stats is. subst (λ (a : Answer). AnswersBeginning a) is does.always.answers,
+      λ w. elim (cases_eq w session) [
+        | inl e ↦ subst (λ (s : ℕ). HasNotCome block (slot_of new.slots s)) (sym e) (by answer refl does.always.answers)
+        | inr n ↦ as_before w (does.always.others session refl w n)
+      ],
+    )
+      where
+        by : (a : Answer) → answer ≡ a → AnswersBeginning a → HasNotCome block (slot_of new.slots session)
+        by Begun is h = subst (λ (o : Option Op). HasNotCome block o) (sym (does.always.fresh is)) (fresh_come block session request (leaf_above (g.state old.store) block leaf.page fits.matches.order leaf.was))
+        by (Refused fault) is h = all_as_before (does.always.refused fault is).slots_is session
+        by Going is h = absurd h
+        by (Added x u) is h = absurd h
+        by (Ready r) is h = absurd h
+        by Done is h = absurd h
+        by (Finished s) is h = absurd h
+        by (Gave x) is h = absurd h
+        by Ended is h = absurd h
+        by (Forced n) is h = absurd h
+        by (Flushed b) is h = absurd h
+        by (Checkpointed n) is h = absurd h
+
+    -- what is done for the store
+    upkeep_keeps : (upkeep : Upkeep) (answer : Answer) → EventDoes g start (KeepsStore upkeep) answer old new → ((stats : VacuumStats) → answer ≢ Finished stats) × NoneHasCome block new
+    upkeep_keeps upkeep answer does = (
+      λ stats is. not_finished upkeep stats (subst (λ (a : Answer). AnswersUpkeep upkeep a) is does.always.answers),
+      λ w. as_before w (does.always.others (suc w) tt w (λ e. absurd (let n : w ≡ suc w = e in omega arith))),
+    )
+      where
+        not_finished : (u : Upkeep) (stats : VacuumStats) → AnswersUpkeep u (Finished stats) → ⊥
+        not_finished Forces stats h = h
+        not_finished Flushes stats h = h
+        not_finished Checkpoints stats h = h
+
+    -- a move of a call that is no bulk delete
+    calm_moves : (session : ℕ) (move : Move) (answer : Answer) → EventDoes g start (MovesCall session move) answer old new → slot_vacuums (slot_of old.slots session) ≡ false → NoneHasCome block new
+    calm_moves session move answer does idle w = elim (cases_eq w session) [
+      | inl e ↦ subst (λ (s : ℕ). HasNotCome block (slot_of new.slots s)) (sym e) (not_vacuum_come block (slot_of new.slots session) (moved_vacuum session move answer old new fits does idle))
+      | inr n ↦ as_before w (does.always.others session refl w n)
+    ]
+
+    -- ... and of a bulk delete, by what it leaves
+    moved_come : (session : ℕ) (move : Move) (answer : Answer) → EventDoes g start (MovesCall session move) answer old new → HasNotCome block (slot_of new.slots session) → NoneHasCome block new
+    moved_come session move answer does here w = elim (cases_eq w session) [
+      | inl e ↦ subst (λ (s : ℕ). HasNotCome block (slot_of new.slots s)) (sym e) here
+      | inr n ↦ as_before w (does.always.others session refl w n)
+    ]
+
+    -- a step of a bulk delete is still before the leaf
+    step_before : (session set : ℕ) (op : BulkDeleteOp) (answer : Answer) → EventDoes g start (MovesCall session Steps) answer old new → slot_of old.slots session ≡ Some (Bulk set op)
+        → IsStillBefore block (slot_of new.slots session) answer
+    step_before session set op answer does is =
+        let runs : SlotRuns g start old session (Bulk set op) = fits.running session (Some (Bulk set op)) (slot_found old.slots session (Bulk set op) is) in
+        let session_is : op.session ≡ session = runs.runs.session ∙ runs.is.session_is in
+        let apart : stander ≢ op.session = λ e. (let both : Some (Scan stands.op) ≡ Some (Bulk set op) = sym stands.runs ∙ ap (λ (s : ℕ). slot_of old.slots s) (e ∙ session_is) ∙ is in cc) in
+        let waits : KeepsBeforePins (g.state old.store) (Some (Bulk set op)) (slot_of new.slots session) answer = subst (λ (o : Option Op). KeepsBeforePins (g.state old.store) o (slot_of new.slots session) answer) is does.waits in
+        let before : op.cursor ≤ block = subst (λ (o : Option Op). HasNotCome block o) is (none session) in
+        waits stander block leaf.page apart leaf.was (stands_pinned stander block old fits stands) before
+
+    -- a step
+    steps_keep : (session : ℕ) (answer : Answer) → EventDoes g start (MovesCall session Steps) answer old new → ((stats : VacuumStats) → answer ≢ Finished stats) × NoneHasCome block new
+    steps_keep session answer does = by (slot_of old.slots session) refl
+      where
+        answers_of : (slot : Option Op) → slot_of old.slots session ≡ slot → (stats : VacuumStats) → answer ≡ Finished stats → AnswersStep slot (slot_of new.slots session) (Finished stats)
+        answers_of slot is stats finished = subst (λ (a : Answer). AnswersStep slot (slot_of new.slots session) a) finished (subst (λ (o : Option Op). AnswersStep o (slot_of new.slots session) answer) is does.always.answers)
+
+        by : (slot : Option Op) → slot_of old.slots session ≡ slot → ((stats : VacuumStats) → answer ≢ Finished stats) × NoneHasCome block new
+        by None is = (λ stats finished. answers_of None is stats finished, calm_moves session Steps answer does (ap slot_vacuums is))
+        by (Some (Insert op)) is = (λ stats finished. answers_of (Some (Insert op)) is stats finished, calm_moves session Steps answer does (ap slot_vacuums is))
+        by (Some (Scan op)) is = (λ stats finished. answers_of (Some (Scan op)) is stats finished, calm_moves session Steps answer does (ap slot_vacuums is))
+        by (Some (Bulk set op)) is =
+            let before : IsStillBefore block (slot_of new.slots session) answer = step_before session set op answer does is in (
+              λ stats finished. subst (λ (a : Answer). IsStillBefore block (slot_of new.slots session) a) finished before,
+              moved_come session Steps answer does (still_come block (slot_of new.slots session) answer before),
+            )
+
+    -- asking for the next entry
+    takes_keep : (session : ℕ) (answer : Answer) → EventDoes g start (MovesCall session Takes) answer old new → ((stats : VacuumStats) → answer ≢ Finished stats) × NoneHasCome block new
+    takes_keep session answer does = (λ stats finished. not_finished (slot_of old.slots session) stats (subst (λ (a : Answer). AnswersNext (slot_of old.slots session) a) finished does.always.answers), by (slot_of old.slots session) refl)
+      where
+        not_finished : (slot : Option Op) (stats : VacuumStats) → AnswersNext slot (Finished stats) → ⊥
+        not_finished None stats h = h
+        not_finished (Some (Insert op)) stats h = h
+        not_finished (Some (Scan op)) stats h = h
+        not_finished (Some (Bulk set op)) stats h = h
+
+        refused : (set : ℕ) (op : BulkDeleteOp) (a : Answer) → answer ≡ a → AnswersNext (Some (Bulk set op)) a → new.slots ≡ old.slots
+        refused set op (Refused fault) is h = (does.always.refused fault is).slots_is
+        refused set op Begun is h = absurd h
+        refused set op Going is h = absurd h
+        refused set op (Added x u) is h = absurd h
+        refused set op (Ready r) is h = absurd h
+        refused set op Done is h = absurd h
+        refused set op (Finished s) is h = absurd h
+        refused set op (Gave x) is h = absurd h
+        refused set op Ended is h = absurd h
+        refused set op (Forced n) is h = absurd h
+        refused set op (Flushed b) is h = absurd h
+        refused set op (Checkpointed n) is h = absurd h
+
+        by : (slot : Option Op) → slot_of old.slots session ≡ slot → NoneHasCome block new
+        by None is = calm_moves session Takes answer does (ap slot_vacuums is)
+        by (Some (Insert op)) is = calm_moves session Takes answer does (ap slot_vacuums is)
+        by (Some (Scan op)) is = calm_moves session Takes answer does (ap slot_vacuums is)
+        by (Some (Bulk set op)) is = all_as_before (refused set op answer refl (subst (λ (o : Option Op). AnswersNext o answer) is does.always.answers))
+
+    -- giving a call up
+    gives_up_keep : (session : ℕ) (answer : Answer) → EventDoes g start (MovesCall session GivesUp) answer old new → ((stats : VacuumStats) → answer ≢ Finished stats) × NoneHasCome block new
+    gives_up_keep session answer does = (
+      λ stats finished. not_finished (slot_of old.slots session) stats (subst (λ (a : Answer). AnswersEnd (slot_of old.slots session) a) finished does.always.answers),
+      moved_come session GivesUp answer does (subst (λ (o : Option Op). HasNotCome block o) (sym does.always.left.over) tt),
+    )
+      where
+        not_finished : (slot : Option Op) (stats : VacuumStats) → AnswersEnd slot (Finished stats) → ⊥
+        not_finished None stats h = cc
+        not_finished (Some op) stats h = cc
+
+    -- any event
+    event_keeps : (kind : Kind) (answer : Answer) → EventDoes g start kind answer old new → ((stats : VacuumStats) → answer ≢ Finished stats) × NoneHasCome block new
+    event_keeps (BeginsCall session request) answer does = begins_keep session request answer does
+    event_keeps (MovesCall session Steps) answer does = steps_keep session answer does
+    event_keeps (MovesCall session Takes) answer does = takes_keep session answer does
+    event_keeps (MovesCall session GivesUp) answer does = gives_up_keep session answer does
+    event_keeps (KeepsStore upkeep) answer does = upkeep_keeps upkeep answer does
+
+    -- where no act is done, pages are as they were
+    leaf_quiet : (kind : Kind) (answer : Answer) → EventDoes g start kind answer old new → (g.state new.store).acts ≡ (g.state old.store).acts → HasLeaf g block new
+    leaf_quiet kind answer does same = leaf_same (g.state old.store) (g.state new.store) (does.always.kept.quiet same) block leaf.page leaf.was
+
+    -- a scan's own step does no act, and others leave it its leaf
+    leaf_behind : (kind : Kind) (answer : Answer) → EventDoes g start kind answer old new → HasLeaf g block new
+    leaf_behind (BeginsCall session request) answer does = leaf_quiet (BeginsCall session request) answer does does.always.calm
+    leaf_behind (MovesCall session Steps) answer does = elim (cases_eq session stander) [
+      | inl e ↦ leaf_quiet (MovesCall session Steps) answer does (subst (λ (o : Option Op). OnlyWritersAct o (g.state old.store) (g.state new.store)) (ap (λ (s : ℕ). slot_of old.slots s) e ∙ stands.runs) does.always.calm)
+      | inr n ↦ does.leaves stander block leaf.page n leaf.was (stands_pinned stander block old fits stands)
+    ]
+    leaf_behind (MovesCall session Takes) answer does = leaf_quiet (MovesCall session Takes) answer does does.always.calm
+    leaf_behind (MovesCall session GivesUp) answer does = leaf_quiet (MovesCall session GivesUp) answer does does.always.calm
+    leaf_behind (KeepsStore upkeep) answer does = leaf_quiet (KeepsStore upkeep) answer does does.always.calm
+
+pub bulk_deletes_wait : {S : Type 0} (g : Ghosts S) → BulkDeletesWait g
+bulk_deletes_wait {S} g start told [] [] first last fits run session block stands leaf none = (tt, subst (λ (m : Snapshot S). NoneHasCome block m) run none, subst (λ (m : Snapshot S). HasLeaf g block m) run leaf)
+bulk_deletes_wait g start told (event ∷ events) (answer ∷ answers) first last fits run session block stands leaf none =
+    let one = event_keeps g start session block first run.1.0 fits stands.0 leaf none (kind_of event) answer run.1.1.does in
+    let still = leaf_behind g start session block first run.1.0 fits stands.0 leaf none (kind_of event) answer run.1.1.does in
+    let rest = bulk_deletes_wait g start (told ++ answer ∷ []) events answers run.1.0 last run.1.1.does.fits run.1.2 session block stands.1 still one.1 in
+    ((one.0, rest.0), rest.1, rest.2)
+bulk_deletes_wait g start told [] (answer ∷ answers) first last fits run session block stands leaf none = absurd run
+bulk_deletes_wait g start told (event ∷ events) [] first last fits run session block stands leaf none = absurd run
+
+pub begun_bulk_deletes_wait : {S : Type 0} (g : Ghosts S) → BegunBulkDeletesWait g
+begun_bulk_deletes_wait {S} g start told vacuumer set events answers first last fits run session block stands leaf =
+    bulk_deletes_wait g start (told ++ Begun ∷ []) events answers next last does.fits run.1.2 session block stands.1 still none
+  where
+    next : Snapshot S
+    next = run.1.0
+
+    does : EventDoes g start (BeginsCall vacuumer (ToBulk set)) Begun first next
+    does = run.1.1.does
+
+    above : 1 ≤ block
+    above = leaf_above (g.state first.store) block leaf.page fits.matches.order leaf.was
+
+    still : HasLeaf g block next
+    still = leaf_same (g.state first.store) (g.state next.store) (does.always.kept.quiet does.always.calm) block leaf.page leaf.was
+
+    -- only the one that has begun runs
+    none : NoneHasCome block next
+    none w = by (slot_vacuums (slot_of next.slots w)) refl
+      where
+        by : (b : Bool) → slot_vacuums (slot_of next.slots w) ≡ b → HasNotCome block (slot_of next.slots w)
+        by false is = not_vacuum_come block (slot_of next.slots w) is
+        by true is =
+            let here : slot_of next.slots vacuumer ≡ Some (op_before vacuumer (ToBulk set)) = does.always.fresh refl in
+            let same : w ≡ vacuumer = does.fits.vacuums.alone w vacuumer is (ap slot_vacuums here) in
+            subst (λ (s : ℕ). HasNotCome block (slot_of next.slots s)) (sym same) (subst (λ (o : Option Op). HasNotCome block o) (sym here) above)

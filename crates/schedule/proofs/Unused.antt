@@ -1,0 +1,83 @@
+-- Moments that fit before any call, and with other sets.
+use Rattle.std.proofs.Common.{◌≡◌, ℕ, zero, suc, ◌<◌, Bool, true, false, Option, Some, None, unwrap_or, List, [], ◌∷◌, length, slice_get, replicate, refl, sym, ap, subst, ◌∙◌, arith}
+use Rattle.std.specs.Prelude.{◌||◌}
+use Rattle.index_model.specs.declared.entry.Entry.{Entry}
+use Rattle.page_action.specs.Contents.{entry_on_live_leaf}
+use Rattle.page_action.specs.States.{State}
+use Rattle.page_action.specs.declared.page_store.PageStore.{Ghosts}
+use Rattle.vacuum.specs.declared.steps.BulkDeleteOp.{BulkDeleteOp}
+use Rattle.session_calls.specs.Ops.{DeadSets, is_vacuuming}
+use Rattle.session_calls.specs.declared.op.Op.{Op}
+use Rattle.session_calls.specs.declared.op.Op.TheVariants.{Insert, Scan, Bulk}
+use Rattle.schedule.specs.Snapshots.{Snapshot, SlotRuns, SlotMatches, OneVacuums, Fits, IsUnused, here_with, snapshot_of, slot_of, slot_vacuums, one_vacuums}
+
+-- what stands in a list of one thing
+pub in_replicate : {X : Type 0} (n : ℕ) (x y : X) (i : ℕ) → slice_get (replicate n x) i ≡ Some y → y ≡ x
+in_replicate zero x y i h = absurd cc
+in_replicate (suc n) x y zero h = cc
+in_replicate (suc n) x y (suc i) h = in_replicate n x y i h
+
+-- no session runs anything
+pub empty_at : (n i : ℕ) (slots : List (Option Op)) → slots ≡ replicate n None → slot_of slots i ≡ None
+empty_at n i slots is = of (slice_get slots i) refl
+  where
+    of : (o : Option (Option Op)) → slice_get slots i ≡ o → unwrap_or o None ≡ None
+    of None at = refl
+    of (Some o) at = in_replicate n None o i (ap (λ (l : List (Option Op)). slice_get l i) (sym is) ∙ at)
+
+none_vacuums : (n : ℕ) → one_vacuums (replicate n None) ≡ false
+none_vacuums zero = refl
+none_vacuums (suc n) = none_vacuums n
+
+-- an unused store with empty slots is fitted by the contents of its pages
+pub unused_fits : {S : Type 0} (g : Ghosts S) (store : S) (slots : List (Option Op)) (sets : DeadSets) (n : ℕ) → slots ≡ replicate n None → IsUnused (g.state store)
+    → Fits g (entry_on_live_leaf (g.state store).pages) (snapshot_of (here_with store slots sets) [] [])
+unused_fits {S} g store slots sets n is unused = record {
+  matches = record { contents = λ e. refl; count = unused.acts; order = unused.order };
+  running = λ session slot h. of session slot (in_replicate n None slot session (ap (λ (l : List (Option Op)). slice_get l session) (sym is) ∙ h));
+  vacuums = record {
+    alone = λ session other h k. absurd (let none : slot_vacuums (slot_of slots session) ≡ false = ap slot_vacuums (empty_at n session slots is) in cc);
+    cycle = ap (λ (c : ℕ). is_cycle c) unused.cycle ∙ sym (ap one_vacuums is ∙ none_vacuums n);
+  };
+  beyond = λ session h. unused.idle session;
+  known = λ number call h. absurd cc;
+  meets = λ number call h. absurd cc;
+  owned = λ before action h. absurd cc;
+}
+  where
+    is_cycle : ℕ → Bool
+    is_cycle c = is_vacuuming (record (g.state store) { cycle = c })
+
+    of : (session : ℕ) (slot : Option Op) → slot ≡ None → SlotMatches g (entry_on_live_leaf (g.state store).pages) (snapshot_of (here_with store slots sets) [] []) session slot
+    of session None e = record { none = λ number call h. (let f = h.found in absurd cc); idle = unused.idle session }
+    of session (Some op) e = absurd cc
+
+-- where no bulk delete runs, a moment fits with any sets
+module _ {S : Type 0} (g : Ghosts S) (start : Entry → Bool) (now : Snapshot S) (sets : DeadSets) where
+  abbrev then : Snapshot S
+  then = record now { sets = sets }
+
+  same_slot : (session : ℕ) (slot : Option Op) → ((set : ℕ) (op : BulkDeleteOp) → slot ≡ Some (Bulk set op) → ⊥) → SlotMatches g start now session slot → SlotMatches g start then session slot
+  same_slot session None without h = record { none = h.none; idle = h.idle }
+  same_slot session (Some (Insert op)) without h = record { number = h.number; call = h.call; is = h.is; only = h.only; runs = record { ask = h.runs.ask; session = h.runs.session; added = h.runs.added; started = h.runs.started; fits = h.runs.fits; knows = h.runs.knows }; sweeps = tt }
+  same_slot session (Some (Scan op)) without h = record { number = h.number; call = h.call; is = h.is; only = h.only; runs = record { ask = h.runs.ask; session = h.runs.session; added = h.runs.added; started = h.runs.started; fits = h.runs.fits; knows = h.runs.knows }; sweeps = tt }
+  same_slot session (Some (Bulk set op)) without h = absurd (without set op refl)
+
+  pub fits_with : ((session set : ℕ) (op : BulkDeleteOp) → slice_get now.slots session ≡ Some (Some (Bulk set op)) → ⊥) → Fits g start now → Fits g start then
+  fits_with without fits = record {
+    matches = fits.matches;
+    running = λ session slot h. same_slot session slot (λ set op is. without session set op (h ∙ ap Some is)) (fits.running session slot h);
+    vacuums = fits.vacuums;
+    beyond = fits.beyond;
+    known = fits.known;
+    meets = fits.meets;
+    owned = fits.owned;
+  }
+
+-- with no sets no bulk delete runs
+pub no_set_runs : {S : Type 0} (g : Ghosts S) (start : Entry → Bool) (now : Snapshot S) → now.sets ≡ [] → Fits g start now → (session set : ℕ) (op : BulkDeleteOp) → slice_get now.slots session ≡ Some (Some (Bulk set op)) → ⊥
+no_set_runs g start now none fits session set op at =
+    let runs : SlotRuns g start now session (Bulk set op) = fits.running session (Some (Bulk set op)) at in
+    let within : set < length now.sets = runs.sweeps.0 in
+    let zero_is : length now.sets ≡ 0 = ap (λ (l : DeadSets). length l) none in
+    omega (arith, within, zero_is)

@@ -1,0 +1,68 @@
+-- A bulk delete doesn't finish while another session's scan stands on a leaf that it hasn't read.
+use Rattle.std.specs.Prelude.{◌≡◌, ◌≢◌, ℕ, ◌≤◌, Bool, Option, Some, None, List, [], ◌∷◌, ◌++◌}
+use Rattle.index_model.specs.declared.entry.Entry.{Entry}
+use Rattle.index_model.specs.declared.stats.VacuumStats.{VacuumStats}
+use Rattle.page_action.specs.declared.page_store.PageStore.{Ghosts}
+use Rattle.tree_acts.specs.Leaves.{WasLeaf}
+use Rattle.scan.specs.declared.steps.ScanOp.{ScanOp}
+use Rattle.session_calls.specs.declared.answer.Answer.{Answer}
+use Rattle.session_calls.specs.declared.answer.Answer.TheVariants.{Begun, Finished}
+use Rattle.session_calls.specs.declared.op.Op.{Op}
+use Rattle.session_calls.specs.declared.op.Op.TheVariants.{Insert, Scan, Bulk}
+use Rattle.schedule.specs.Snapshots.{Snapshot, slot_of, Fits}
+use Rattle.schedule.specs.Runs.{IsRun}
+use Rattle.schedule.specs.declared.event.Event.{Event}
+use Rattle.schedule.specs.declared.event.Event.TheVariants.{Bulk as BulkEvent}
+
+-- the session's scan stands on the leaf of this block: it is the last page that it has read
+pub record StandsOn {S : Type 0} (session block : ℕ) (now : Snapshot S) : Type 0 where
+  pub op : ScanOp
+  pub runs : slot_of now.slots session ≡ Some (Scan op)
+  pub leaf : op.leaf ≡ Some block
+
+-- the page of the block is a live leaf at this moment
+abbrev pub HasLeaf : {S : Type 0} → Ghosts S → ℕ → Snapshot S → Type 0
+HasLeaf g block now = WasLeaf (g.state now.store).pages block
+
+-- this holds before each event of a run
+abbrev pub BeforeEach : {S : Type 0} (g : Ghosts S) (start : Entry → Bool) (Holds : Snapshot S → Type 0) (told : List Answer) (events : List Event) (answers : List Answer) (first last : Snapshot S)
+    → IsRun g start told events answers first last → Type 0
+BeforeEach g start Holds told [] [] first last run = Unit {0}
+BeforeEach g start Holds told (event ∷ events) (answer ∷ answers) first last run =
+    Holds first × BeforeEach g start Holds (told ++ answer ∷ []) events answers run.1.0 last run.1.2
+BeforeEach g start Holds told [] (answer ∷ answers) first last run = ⊥
+BeforeEach g start Holds told (event ∷ events) [] first last run = ⊥
+
+-- none of these answers tells of a bulk delete that has finished
+abbrev pub NoneFinishes : List Answer → Type 0
+NoneFinishes [] = Unit {0}
+NoneFinishes (answer ∷ answers) = ((stats : VacuumStats) → answer ≢ Finished stats) × NoneFinishes answers
+
+-- a session's bulk delete, if it runs one, hasn't read the page of this block in block order
+abbrev pub HasNotCome : ℕ → Option Op → Type 0
+HasNotCome block None = Unit {0}
+HasNotCome block (Some (Insert op)) = Unit {0}
+HasNotCome block (Some (Scan op)) = Unit {0}
+HasNotCome block (Some (Bulk set op)) = op.cursor ≤ block
+
+-- ... nor has any session's
+abbrev pub NoneHasCome : {S : Type 0} → ℕ → Snapshot S → Type 0
+NoneHasCome block now = (session : ℕ) → HasNotCome block (slot_of now.slots session)
+
+-- In a run before each event of which a scan stands on a page that is a live leaf at first: where no bulk delete has come to it
+-- at first, none has at last, none finishes, and it is a live leaf still.
+abbrev pub BulkDeletesWait : {S : Type 0} → Ghosts S → Type 0
+BulkDeletesWait {S} g =
+    (start : Entry → Bool) (told : List Answer) (events : List Event) (answers : List Answer) (first last : Snapshot S) → Fits g start first
+    → (run : IsRun g start told events answers first last) → (session block : ℕ) → BeforeEach g start (StandsOn session block) told events answers first last run
+    → HasLeaf g block first → NoneHasCome block first → NoneFinishes answers × NoneHasCome block last × HasLeaf g block last
+
+-- A bulk delete that begins while another session's scan stands on a leaf doesn't finish while it stands there: in a run that
+-- begins with this beginning, and before each event of which the scan stands on the leaf, no bulk delete finishes, none has
+-- come to the leaf at last, and it is a live leaf still.
+abbrev pub BegunBulkDeletesWait : {S : Type 0} → Ghosts S → Type 0
+BegunBulkDeletesWait {S} g =
+    (start : Entry → Bool) (told : List Answer) (vacuumer set : ℕ) (events : List Event) (answers : List Answer) (first last : Snapshot S) → Fits g start first
+    → (run : IsRun g start told (BulkEvent vacuumer set ∷ events) (Begun ∷ answers) first last) → (session block : ℕ)
+    → BeforeEach g start (StandsOn session block) told (BulkEvent vacuumer set ∷ events) (Begun ∷ answers) first last run
+    → HasLeaf g block first → NoneFinishes answers × NoneHasCome block last × HasLeaf g block last
