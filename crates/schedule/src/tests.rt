@@ -262,7 +262,7 @@ fn refused_events_in_a_run(rt: HostRuntime) -> Result<(), Fail> {
 }
 
 // The answer to the first step of the session that isn't `Going`.
-fn finish(store: &mut MapStore, slots: &mut [Option<Op>], session: u32) -> Answer {
+fn finish(store: &mut MapStore, slots: &mut [Option<Op>; 3], session: u32) -> Answer {
     for _ in 0..100 {
         let answer = one(store, slots, &SETS, Event::Step(session));
         if !matches!(answer, Answer::Going) {
