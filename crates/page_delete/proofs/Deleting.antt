@@ -15,11 +15,12 @@ use Rattle.page_action.specs.Stored.{IsStorable, AreActable}
 use Rattle.tree_shape.specs.Deletion.{as_deleted}
 use Rattle.tree_shape.proofs.Deleting.{is_dead}
 use Rattle.tree_acts.specs.Deletions.{PageIsUnlinked, IsLinkedTo, leftmost, neighbour, StartsAreBelow}
-use Rattle.tree_acts.proofs.Unlinking.{unlink_lasts, unlink_flags, unlink_goes, unlink_links}
+use Rattle.tree_acts.proofs.Unlinking.{edit as unlink_edit, unlink_lasts, unlink_flags, unlink_goes, unlink_links}
 use Rattle.tree_acts.proofs.Overlays.{page_length}
 use Rattle.descent.specs.Shared.{IsInOrder}
 use Rattle.descent.proofs.Acting.{AreFree, numbers_stay, does_delete}
 use Rattle.page_delete.specs.Parts.{IsTaken, IsTakenLeft, IsTakenRight, DeletesOn, SiblingsLink, unlinked}
+use Rattle.page_delete.specs.Spares.{goes as goes_edit}
 use Rattle.page_delete.proofs.Siblings.{left_apart, right_apart, sides_apart, siblings}
 
 -- pages with other links are pages
@@ -173,6 +174,7 @@ module _ (st : State) (session : ℕ) (page right : Page) (order : IsInOrder st)
                 flags = unlink_flags st page right (as_deleted page st.begun) (record right { left = page.left }) mended order.tree is;
                 links = λ within. unlink_links st page right (as_deleted page st.begun) (record right { left = page.left }) mended order.tree within is;
               }) free;
+          edit = goes_edit page.block above taken.used (unlink_edit st page right (as_deleted page st.begun) (record right { left = page.left }) mended order.tree is);
         }
 
     pub does_unlink : (left : Option Page) → IsTakenLeft st true session page page.left left → AreActable st.limits (length st.pages) (unlinked left page right st.begun)

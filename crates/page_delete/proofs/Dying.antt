@@ -19,7 +19,7 @@ use Rattle.tree_shape.specs.Edits.{IsLinkHandedOn, with_links}
 use Rattle.tree_shape.specs.LinkPlaces.{HasLinks, child_at}
 use Rattle.tree_shape.specs.Nodes.{node_of, links_of}
 use Rattle.tree_acts.specs.Deletions.{LeafIsHalfDead}
-use Rattle.tree_acts.proofs.Dying.{half_death_lasts, half_death_flags, half_death_dies, half_death_links}
+use Rattle.tree_acts.proofs.Dying.{edit as half_death_edit, half_death_lasts, half_death_flags, half_death_dies, half_death_links}
 use Rattle.tree_acts.proofs.Overlays.{inside, page_length}
 use Rattle.tree_acts.proofs.Removing.{leaf_is}
 use Rattle.descent.specs.Shared.{IsInOrder}
@@ -27,6 +27,7 @@ use Rattle.descent.proofs.Acting.{numbers_stay, does_delete}
 use Rattle.vacuum.proofs.Holding.{free_for_all}
 use Rattle.page_delete.specs.Judging.{IsHandingOn}
 use Rattle.page_delete.specs.Parts.{IsCandidate, IsTaken, DeletesOn, SiblingsAllow, SiblingsLink}
+use Rattle.page_delete.specs.Spares.{dies as dies_edit}
 use Rattle.page_delete.proofs.Siblings.{siblings}
 
 -- the pages of the act, as they are written
@@ -52,6 +53,8 @@ dies st session leaf parent leaf_after parent_after right at order candidate all
             subst (λ (b : ℕ). is_held_by_another st.table session b Exclusive ≡ false) (sym (ap (λ (p : Page). p.block) dying.leaf_is)) (free_for_all st.table session leaf.block Exclusive candidate.free),
             (subst (λ (b : ℕ). is_held_by_another st.table session b Exclusive ≡ false) (sym dying.block_is) taken.free, tt),
           );
+      edit = dies_edit leaf.block parent.block (leaf_is leaf candidate.stored.storable.admitted candidate.may_die.leaf).0 candidate.used
+          (half_death_edit st leaf allow.page parent leaf_after parent_after order.tree is);
     }
   where
     right_block : allow.page.block ≡ right

@@ -4,6 +4,8 @@ pub mod Trying
 pub mod Dying
 pub mod Deleting
 pub mod Moving
+pub mod Pinned
 pub mod Cleaning
+pub mod Sparing
 pub mod Stepping
 pub mod Lasting

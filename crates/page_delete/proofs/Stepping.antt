@@ -34,12 +34,14 @@ use Rattle.page_delete.specs.Cleanups.{IsUnderway, CleanupFits, CleanupSteps, wh
 use Rattle.page_delete.specs.Counts.{IsEmptyAt, IsFoundEmpty, IsCleaned, AllIsCleaned}
 use Rattle.page_delete.specs.Ops.{is_counted_out, cleanup_stats, turned_to, gone_past, gone_past_deleted, TurnsAt, unlinks, tries, passes}
 use Rattle.page_delete.specs.Parts.{IsTried, DeletesOn, AreInUse, LeafDies, IsSpared, IsInUse, PageGoes, IsNotDead, left_to, left_root, left_page, left_answer}
+use Rattle.page_delete.specs.Spares.{IsAlone, IsSought, IsSparing, EditsALeaf}
 use Rattle.page_delete.specs.Turns.{TurnsFrom}
 use Rattle.page_delete.specs.Work.{cleanup_left}
 use Rattle.page_delete.proofs.Cleaning.{cleaned_past, cleaned_at, cleaned_dying, cleaned_deleted, cleaned_looking, cleaned_all}
 use Rattle.page_delete.proofs.Measuring.{look_starts, look_unlinks, look_passes, start_passes, start_goes_down, down_goes_on, down_judges, judge_unlinks, judge_passes, unlink_passes}
 use Rattle.page_delete.proofs.Siblings.{trail_in_use, dead_begins_trail}
-use Rattle.page_delete.proofs.Trying.{same_page}
+use Rattle.page_delete.proofs.Sparing.{spared_at, spared_looking, spared_judged, spared_dying, spared_deleted, spared_all, no_root_leaf}
+use Rattle.page_delete.proofs.Trying.{same_page, pinned_same}
 use Rattle.page_delete.specs.declared.steps.CleanupAt.{CleanupAt}
 use Rattle.page_delete.specs.declared.steps.CleanupAt.TheVariants.{Look, Start, Down, Judge, Unlink}
 use Rattle.page_delete.specs.declared.steps.CleanupOp.{CleanupOp}
@@ -85,8 +87,10 @@ refuses g op old new fault steps same stops cause = record {
   stopped = λ h. ap Err (stops h);
   stats = tt;
   less = tt;
+  pins = λ honest. pinned_same op.session (g.state old) (g.state new) same;
   counts = λ honest fits h. subst (λ (st : State). IsCleaned st op) (sym same) h;
   stepped = λ honest order below fits. cause honest order fits;
+  spares = λ honest order below fits alone h. subst (λ (st : State). IsSparing st op) (sym same) h;
 }
 
 -- the last step
@@ -102,8 +106,10 @@ ends g op store stats alive at last told steps = record {
   stopped = λ h. runs_no_more (g.backing store).stopped alive h;
   stats = told;
   less = tt;
+  pins = λ honest. pinned_same op.session (g.state store) (g.state store) refl;
   counts = λ honest fits h. subst (λ (s : VacuumStats). AllIsCleaned (g.state store) s.num_index_tuples) (sym told) (cleaned_all (g.state store) op h last);
   stepped = λ honest order below fits. record { state = refl; op = refl; at = at; last = last };
+  spares = λ honest order below fits alone h. spared_all (g.state store) op h last;
 }
 
 -- a call that goes on, at another step
@@ -122,8 +128,9 @@ pub moves : {S : Type 0} (g : Ghosts S) (before after : CleanupOp) (old new : S)
     → ((g.backing new).honest ≡ true → IsInOrder (g.state old) → (fits : CleanupFits (g.state old) before)
     → TurnsFrom before.at (g.state old) before None after × IsUnderway (g.state old) fits.start after.cursor after.at)
     → ((g.backing new).honest ≡ true → CleanupFits (g.state old) before → IsCleaned (g.state old) before → IsCleaned (g.state old) after)
+    → ((g.backing new).honest ≡ true → IsInOrder (g.state old) → CleanupFits (g.state old) before → IsAlone (g.state old) before.session → IsSparing (g.state old) before → IsSparing (g.state old) after)
     → CleanupSteps g before after old new (Ok Going)
-moves g before after old new steps same session alive less stepped cleans = record {
+moves g before after old new steps same session alive less stepped cleans spares = record {
   steps = steps;
   session = session;
   kept = one_nothing (g.state old) (g.state new) same;
@@ -133,6 +140,7 @@ moves g before after old new steps same session alive less stepped cleans = reco
   stopped = λ h. runs_no_more (g.backing old).stopped alive h;
   stats = tt;
   less = subst (λ (st : State). cleanup_left st.limits.pages (length st.pages) after.cursor after.at < cleanup_left (g.state old).limits.pages (length (g.state old).pages) before.cursor before.at) (sym same) less;
+  pins = λ honest. pinned_same before.session (g.state old) (g.state new) same;
   counts = λ honest fits h. subst (λ (st : State). IsCleaned st after) (sym same) (cleans honest fits h);
   stepped = λ honest order below fits.
       let s = stepped honest order fits in
@@ -142,6 +150,7 @@ moves g before after old new steps same session alive less stepped cleans = reco
         turns = s.0;
         fits = subst (λ (st : State). CleanupFits st after) (sym same) (fits_at (g.state old) before after fits session s.1);
       };
+  spares = λ honest order below fits alone h. subst (λ (st : State). IsSparing st after) (sym same) (spares honest order fits alone h);
 }
 
 -- ... or with one
@@ -150,8 +159,9 @@ pub acts : {S : Type 0} (g : Ghosts S) (sure : State → Type 0) (change : State
     → TurnsFrom before.at (g.state old) before (Some Shape) after
     → (IsInOrder (g.state old) → (fits : CleanupFits (g.state old) before) → DeletesOn before.session (g.state old) (g.state new) → IsUnderway (g.state new) fits.start after.cursor after.at)
     → (IsCleaned (g.state old) before → change (g.state old) (g.state new) → IsCleaned (g.state new) after)
+    → (IsInOrder (g.state old) → IsSparing (g.state old) before → change (g.state old) (g.state new) → EditsALeaf (g.state old) (g.state new) → IsSparing (g.state new) after)
     → CleanupSteps g before after old new (Ok Going)
-acts g sure change reason before after old new tried session alive less turns under cleans = record {
+acts g sure change reason before after old new tried session alive less turns under cleans spares = record {
   steps = tried.steps;
   session = session;
   kept = tried.kept;
@@ -164,6 +174,7 @@ acts g sure change reason before after old new tried session alive less turns un
       let most : (g.state new).limits.pages ≡ (g.state old).limits.pages = ap (λ (l : _). l.pages) tried.kept.limits in
       subst (λ (n : ℕ). cleanup_left (g.state new).limits.pages n after.cursor after.at < cleanup_left (g.state old).limits.pages (length (g.state old).pages) before.cursor before.at) (sym tried.used)
       (subst (λ (m : ℕ). cleanup_left m (length (g.state old).pages) after.cursor after.at < cleanup_left (g.state old).limits.pages (length (g.state old).pages) before.cursor before.at) (sym most) less);
+  pins = tried.pins;
   counts = λ honest fits h. cleans h (tried.changed honest refl);
   stepped = λ honest order below fits.
       let d = tried.does honest order below refl in
@@ -179,6 +190,7 @@ acts g sure change reason before after old new tried session alive less turns un
           at = under order fits d;
         };
       };
+  spares = λ honest order below fits alone h. spares order h (tried.changed honest refl) (tried.does honest order below refl).edit;
 }
 
 -- a part that may do one act is refused
@@ -214,6 +226,7 @@ module _ {S : Type 0} (g : Ghosts S) (before : CleanupOp) (parent : ℕ) (old ne
       (subst (λ (a : CleanupAt). TurnsFrom a (g.state old) before (Some Shape) (turned_to before Unlink)) (sym at) (inl (refl, refl)))
       (λ order fits d. (d.own fits.start fits.running).trails 0 before.cursor 0 (under fits).0)
       (λ h moved. cleaned_dying (g.state old) (g.state new) before h moved (found_empty h).0)
+      (λ order h moved edit. spared_dying (g.state old) (g.state new) before parent at tried.used h moved edit)
 
   pub leaf_spared : IsTried g before.session (AreInUse before.cursor parent) (LeafDies before.cursor) (IsSpared before.session before.cursor parent) old new (Ok false) → CleanupSteps g before (gone_past before 0) old new (Ok Going)
   leaf_spared tried =
@@ -221,6 +234,7 @@ module _ {S : Type 0} (g : Ghosts S) (before : CleanupOp) (parent : ℕ) (old ne
       (subst (λ (a : CleanupAt). cleanup_left most used (suc before.cursor) Look < cleanup_left most used before.cursor a) (sym at) (judge_passes most used before.cursor parent))
       (λ honest order fits. (subst (λ (a : CleanupAt). TurnsFrom a (g.state old) before None (gone_past before 0)) (sym at) (inr (refl, refl, tried.passes honest (has_room (g.state old) before fits) refl)), tt))
       (λ honest fits h. cleaned_past (g.state old) before 0 h (found_empty h).0 (found_empty h).1)
+      (λ honest order fits alone h. spared_judged (g.state old) before parent order alone at h (tried.passes honest (has_room (g.state old) before fits) refl))
 
 -- a page that isn't half-dead, or none
 never_dead : (pages : List Page) (b : ℕ) → ((page : Page) → slice_get pages b ≡ Some page → page.state ≢ HalfDead) → (nodes_of pages b).state ≢ HalfDead
@@ -248,6 +262,7 @@ module _ {S : Type 0} (g : Ghosts S) (before : CleanupOp) (old new : S) (at : be
       (subst (λ (a : CleanupAt). TurnsFrom a (g.state old) before (Some Shape) (gone_past_deleted before)) (sym at) (inl (refl, refl)))
       (λ order fits d. tt)
       (λ h moved. cleaned_deleted (g.state old) (g.state new) before h moved (subst (IsFoundEmpty (g.state old) before.cursor) at h.empty))
+      (λ order h moved edit. spared_deleted (g.state old) (g.state new) before order.tree at tried.used h moved edit)
 
   pub page_stays : IsTried g before.session (IsInUse before.cursor) (PageGoes before.cursor) (IsNotDead before.cursor) old new (Ok false) → CleanupSteps g before (gone_past before 0) old new (Ok Going)
   page_stays tried =
@@ -255,6 +270,7 @@ module _ {S : Type 0} (g : Ghosts S) (before : CleanupOp) (old new : S) (at : be
       (subst (λ (a : CleanupAt). cleanup_left (g.state old).limits.pages (length (g.state old).pages) (suc before.cursor) Look < cleanup_left (g.state old).limits.pages (length (g.state old).pages) before.cursor a) (sym at) (unlink_passes (g.state old).limits.pages (length (g.state old).pages) before.cursor))
       (λ honest order fits. (subst (λ (a : CleanupAt). TurnsFrom a (g.state old) before None (gone_past before 0)) (sym at) (inr (refl, refl, tried.passes honest (has_room (g.state old) before fits) refl)), tt))
       (λ honest fits h. cleaned_past (g.state old) before 0 h (subst (IsFoundEmpty (g.state old) before.cursor) at h.empty) (not_dead (tried.passes honest (has_room (g.state old) before fits) refl)))
+      (λ honest order fits alone h. absurd (not_dead (tried.passes honest (has_room (g.state old) before fits) refl) (subst (IsSought (g.state old) before.cursor) at h.sought)))
 
 -- the page at the cursor is looked at
 pub looks : {S : Type 0} (g : Ghosts S) (before after : CleanupOp) (old new : S) (page : Page) → before.at ≡ Look → (g.backing old).stopped ≡ false → Continues g.follows old new → g.state new ≡ g.state old
@@ -269,6 +285,7 @@ looks g before after old new page at alive steps same inside stored found turn =
       under honest order fits turn,
     ))
     (λ honest fits h. cleaned_looking (g.state old) before after page (found honest) h turn)
+    (λ honest order fits alone h. spared_looking (g.state old) before after page order.tree (found honest) at h turn)
   where
     session_is : TurnsAt page before after → after.session ≡ before.session
     session_is (unlinks dead is) = ap (λ (op : CleanupOp). op.session) is
@@ -295,6 +312,12 @@ page_low page h = by page.items h.kind
     by Meta k = k.level
     by (Entries v) k = (let z = k.level in omega (arith, z))
     by (Downlinks v) k = k.level.1
+
+start_differs : {high : Bound} → Start high ≡ Unlink → ⊥
+start_differs e = cc
+
+down_differs : {high : Bound} {way : Way} → Down high way ≡ Unlink → ⊥
+down_differs e = cc
 
 -- the metapage is read
 pub starts : {S : Type 0} (g : Ghosts S) (before after : CleanupOp) (high : Bound) (old new : S) (meta : Page) (way : Way) → before.at ≡ Start high → (g.backing old).stopped ≡ false → Continues g.follows old new
@@ -326,6 +349,9 @@ starts g before after high old new meta way at alive steps same admitted found l
           rw is0 tt,
         ))
         (λ honest fits h. let e = found_empty h in rw is0 (cleaned_past (g.state old) before 0 h e.0 e.1))
+        (λ honest order fits alone h. absurd (no_root_leaf (g.state old) before.cursor high order.tree
+        (ap (λ (p : Page). p.level) (same_page (g.state old).pages 0 order.tree.tree.meta meta order.tree.tree.meta_at (found honest)) ∙ sym level ∙ z)
+        (subst (IsSought (g.state old) before.cursor) at h.sought)))
     by (suc n) some is1 = moves g before after old new steps same (ap (λ (op : CleanupOp). op.session) is1) alive
         (subst (λ (a : CleanupAt). cleanup_left (g.state old).limits.pages (length (g.state old).pages) after.cursor after.at < cleanup_left (g.state old).limits.pages (length (g.state old).pages) before.cursor a) (sym at)
         (rw is1 (start_goes_down (g.state old).limits.pages (length (g.state old).pages) before.cursor high way (subst (λ (k : ℕ). k ≤ 31) (sym level) (page_low meta admitted)))))
@@ -350,6 +376,7 @@ starts g before after high old new meta way at alive steps same admitted found l
           ),
         ))
         (λ honest fits h. let e = found_empty h in rw is1 (cleaned_at (g.state old) before (Down high way) h e))
+        (λ honest order fits alone h. rw is1 (spared_at (g.state old) before (Down high way) h (λ e. start_differs (sym at ∙ e)) (subst (IsSought (g.state old) before.cursor) at h.sought)))
 
 -- a page on the way is read
 pub descends : {S : Type 0} (g : Ghosts S) (before after : CleanupOp) (high : Bound) (way : Way) (old new : S) (onward : Option Onward) (result : Result CleanupStep Fault) → before.at ≡ Down high way
@@ -368,7 +395,8 @@ descends g before after high way old new (Some (LeadsOn on)) result at alive ste
       subst (λ (a : CleanupAt). TurnsFrom a (g.state old) before None after) (sym at) (refl, inl (on, op)),
       rw op (u.0, leads honest fits.start order u.1),
     ))
-    (λ honest fits h. rw op (cleaned_at (g.state old) before (Down high on) h (subst (IsFoundEmpty (g.state old) before.cursor) at h.empty))))
+    (λ honest fits h. rw op (cleaned_at (g.state old) before (Down high on) h (subst (IsFoundEmpty (g.state old) before.cursor) at h.empty)))
+    (λ honest order fits alone h. rw op (spared_at (g.state old) before (Down high on) h (λ e. down_differs (sym at ∙ e)) (subst (IsSought (g.state old) before.cursor) at h.sought))))
 descends g before after high way old new (Some Here) result at alive steps same some less leads op is = subst (CleanupSteps g before after old new) (sym is)
     (moves g before after old new steps same (ap (λ (o : CleanupOp). o.session) op) alive
     (subst (λ (a : CleanupAt). cleanup_left (g.state old).limits.pages (length (g.state old).pages) after.cursor after.at < cleanup_left (g.state old).limits.pages (length (g.state old).pages) before.cursor a) (sym at)
@@ -383,4 +411,9 @@ descends g before after high way old new (Some Here) result at alive steps same 
             (trail_begins_here (g.state old) fits.start way.level (bound_aim high) false way.block order.tree u.1.place),
       ),
     ))
-    (λ honest fits h. rw op (cleaned_at (g.state old) before (Judge way.block) h (subst (IsFoundEmpty (g.state old) before.cursor) at h.empty))))
+    (λ honest fits h. rw op (cleaned_at (g.state old) before (Judge way.block) h (subst (IsFoundEmpty (g.state old) before.cursor) at h.empty)))
+    (λ honest order fits alone h. rw op (spared_at (g.state old) before (Judge way.block) h (λ e. down_differs (sym at ∙ e)) (record {
+      high = high;
+      leaf = subst (IsSought (g.state old) before.cursor) at h.sought;
+      above = (leads honest fits.start order (subst (IsUnderway (g.state old) fits.start before.cursor) at fits.at).1).1;
+    }))))

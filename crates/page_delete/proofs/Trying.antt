@@ -8,10 +8,11 @@ use Rattle.page_codec.specs.declared.page.Page.{Page}
 use Rattle.page_action.specs.States.{State, Continues, IsLater, after_act}
 use Rattle.page_action.specs.declared.page_store.PageStore.{Ghosts}
 use Rattle.tree_acts.specs.Deletions.{StartsAreBelow}
+use Rattle.tree_acts.specs.Leaves.{WasLeaf}
 use Rattle.descent.specs.Shared.{IsInOrder, IsOneStep, where_working}
 use Rattle.descent.proofs.Acting.{one_act, one_nothing}
 use Rattle.descent.proofs.Working.{working_later}
-use Rattle.page_delete.specs.Parts.{IsCandidate, IsTaken, IsTakenLeft, DeletesOn, IsTried}
+use Rattle.page_delete.specs.Parts.{IsCandidate, IsTaken, IsTakenLeft, DeletesOn, PinnedLeavesStay, IsTried}
 
 -- two answers are the same
 abbrev Path_result : Result Bool Fault → Result Bool Fault → Type 0
@@ -24,6 +25,11 @@ err_map (Err e) P Q f h = f h
 pub if_err_map : (r : Result Bool Fault) (P Q : Fault → Type 0) → ((e : Fault) → P e → Q e) → IfErr r P → IfErr r Q
 if_err_map (Ok b) P Q f h = h
 if_err_map (Err e) P Q f h = f e h
+
+-- where nothing was changed, leaves are as they were
+pub pinned_same : (session : ℕ) (old new : State) → new ≡ old → PinnedLeavesStay session old new
+pinned_same session old new same other block page differ at pin =
+    subst (λ (st : State). WasLeaf st.pages block) (sym same) (record { page = page; was = at })
 
 -- what a reading leaves of why a later part is refused
 pub record HasRead {S : Type 0} (g : Ghosts S) (old mid : S) : Type 0 where
@@ -58,6 +64,7 @@ module _ {S : Type 0} (g : Ghosts S) (session : ℕ) where
       stays = λ is. t.stays is ∙ r.state;
       passes = λ honest room is. subst reason r.state (t.passes honest (subst (λ (st : State). HasRoom st.table session) (sym r.state) room) is);
       changed = λ honest is. subst (λ (st : State). change st (g.state new)) r.state (t.changed honest is);
+      pins = λ honest. subst (λ (st : State). PinnedLeavesStay session st (g.state new)) r.state (t.pins honest);
       does = λ honest order below is. subst (λ (st : State). DeletesOn session st (g.state new)) r.state
           (t.does honest (subst IsInOrder (sym r.state) order) (subst StartsAreBelow (sym r.state) below) is);
       cause = λ honest order room there. if_err_map result _ _ (λ fault h. cause_later old mid new fault r h)
@@ -77,6 +84,7 @@ module _ {S : Type 0} (g : Ghosts S) (session : ℕ) where
       stays = λ is. same;
       passes = λ honest room is. passes honest room;
       changed = λ honest is. absurd (clash is);
+      pins = λ honest. pinned_same session (g.state old) (g.state new) same;
       does = λ honest order below is. absurd (clash is);
       cause = λ honest order room there. tt;
     }
@@ -98,6 +106,7 @@ module _ {S : Type 0} (g : Ghosts S) (session : ℕ) where
       stays = λ is. absurd (clash is);
       passes = λ honest room is. absurd (clash is);
       changed = λ honest is. absurd (clash is);
+      pins = λ honest. pinned_same session (g.state old) (g.state new) same;
       does = λ honest order below is. absurd (clash is);
       cause = cause;
     }
@@ -107,10 +116,10 @@ module _ {S : Type 0} (g : Ghosts S) (session : ℕ) where
 
     -- one act was done
     pub tried_acted : (old new : S) (changed : List Page) → Continues g.follows old new → g.state new ≡ after_act changed (g.state old) → length (g.state new).pages ≡ length (g.state old).pages
-        → ((g.backing new).honest ≡ true → change (g.state old) (g.state new))
+        → ((g.backing new).honest ≡ true → change (g.state old) (g.state new)) → ((g.backing new).honest ≡ true → PinnedLeavesStay session (g.state old) (g.state new))
         → ((g.backing new).honest ≡ true → IsInOrder (g.state old) → StartsAreBelow (g.state old) → DeletesOn session (g.state old) (g.state new))
         → IsTried g session sure change reason old new (Ok true)
-    tried_acted old new changed steps done used changes does = record {
+    tried_acted old new changed steps done used changes pins does = record {
       steps = steps;
       kept = one_act (g.state old) (g.state new) changed done;
       table = ap (λ (st : State). st.table) done;
@@ -120,6 +129,7 @@ module _ {S : Type 0} (g : Ghosts S) (session : ℕ) where
       stays = λ is. absurd (clash is);
       passes = λ honest room is. absurd (clash is);
       changed = λ honest is. changes honest;
+      pins = pins;
       does = λ honest order below is. does honest order below;
       cause = λ honest order room there. tt;
     }

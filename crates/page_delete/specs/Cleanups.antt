@@ -15,6 +15,8 @@ use Rattle.descent.specs.Onward.{IsOnWay}
 use Rattle.descent.specs.Shared.{IsInOrder, CleansUp, IsOneStep, where_working}
 use Rattle.page_delete.specs.Counts.{IsCleaned, CleansOn}
 use Rattle.page_delete.specs.Ops.{is_counted_out, cleanup_stats}
+use Rattle.page_delete.specs.Parts.{PinnedLeavesStay}
+use Rattle.page_delete.specs.Spares.{IsAlone, IsSparing, SparesOn}
 use Rattle.page_delete.specs.Turns.{TurnsFrom}
 use Rattle.page_delete.specs.Work.{cleanup_left}
 use Rattle.page_delete.specs.declared.steps.CleanupAt.{CleanupAt}
@@ -95,8 +97,9 @@ CleanupLeavesLess old new before after (Err fault) = Unit {0}
 
 -- A step of a cleanup. On any pages: it does one act at most and holds nothing behind it, a refused one changes nothing, a
 -- stopped log refuses it, each that goes on leaves less to do, and the statistics are told as they are. Over a device that
--- keeps its model: where nobody else acts, it counts the entries, and leaves no half-dead page behind it; on pages in order:
--- what it does, where it goes on, and why it is refused.
+-- keeps its model: live leaves that others have pinned stay; where nobody else acts, it counts the entries, and leaves no
+-- half-dead page behind it; on pages in order: what it does, where it goes on, why it is refused, and, where nobody else holds
+-- a page, which empty leaves stay.
 pub record CleanupSteps {S : Type 0} (g : Ghosts S) (before after : CleanupOp) (old new : S)
     (result : Result CleanupStep Fault) : Type 0 where
   pub steps : Continues g.follows old new
@@ -108,9 +111,15 @@ pub record CleanupSteps {S : Type 0} (g : Ghosts S) (before after : CleanupOp) (
   pub stopped : (g.backing old).stopped ≡ true → result ≡ Err Stopped
   pub stats : StatsAreTold (g.state old) before result
   pub less : CleanupLeavesLess (g.state old) (g.state new) before after result
+  pub pins : (g.backing new).honest ≡ true
+      → PinnedLeavesStay before.session (g.state old) (g.state new)
   pub counts : (g.backing new).honest ≡ true → CleanupFits (g.state old) before
       → IsCleaned (g.state old) before → CleansOn (g.state new) after result
   pub stepped : (g.backing new).honest ≡ true → IsInOrder (g.state old)
       → StartsAreBelow (g.state old) → CleanupFits (g.state old) before
       → CleanupStepped (g.state old) (g.backing old) (g.state new) (g.backing new) before after
       result
+  pub spares : (g.backing new).honest ≡ true → IsInOrder (g.state old)
+      → StartsAreBelow (g.state old) → CleanupFits (g.state old) before
+      → IsAlone (g.state old) before.session → IsSparing (g.state old) before
+      → SparesOn (g.state new) after result

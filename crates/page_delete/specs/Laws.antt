@@ -1,10 +1,13 @@
 -- What holds of cleanups beside their steps.
-use Rattle.std.specs.Prelude.{ℕ, ◌≤◌, ◌<◌, length}
+use Rattle.std.specs.Prelude.{◌≢◌, ℕ, ◌≤◌, ◌<◌, length}
+use Rattle.page_codec.specs.declared.page.PageState.TheVariants.{HalfDead}
 use Rattle.page_action.specs.States.{State}
+use Rattle.tree_acts.specs.Deletions.{state_in}
 use Rattle.descent.specs.Shared.{IsInOrder, MayRely}
 use Rattle.page_delete.specs.Cleanups.{CleanupFits}
 use Rattle.page_delete.specs.Counts.{IsCleaned}
 use Rattle.page_delete.specs.Ops.{fresh_cleanup}
+use Rattle.page_delete.specs.Spares.{IsSparing}
 use Rattle.page_delete.specs.Work.{cleanup_left}
 use Rattle.page_delete.specs.declared.steps.CleanupOp.{CleanupOp}
 
@@ -24,3 +27,9 @@ CleanupsAreBounded =
 abbrev pub NothingIsCleaned : Type 0
 NothingIsCleaned =
     (st : State) (session : ℕ) → IsInOrder st → IsCleaned st (fresh_cleanup session)
+
+-- ... and where no page is half-dead, no other empty leaf is left behind than has to stay
+abbrev pub NothingIsSpared : Type 0
+NothingIsSpared =
+    (st : State) (session : ℕ) → IsInOrder st → ((block : ℕ) → state_in st block ≢ HalfDead)
+    → IsSparing st (fresh_cleanup session)

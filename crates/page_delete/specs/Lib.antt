@@ -1,6 +1,7 @@
 pub mod Ops
 pub mod Judging
 pub mod Turns
+pub mod Spares
 pub mod Parts
 pub mod Work
 pub mod Counts

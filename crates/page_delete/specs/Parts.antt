@@ -5,7 +5,7 @@ use Rattle.index_model.specs.Faults.{HasCause}
 use Rattle.index_model.specs.declared.bound.Bound.{Bound}
 use Rattle.index_model.specs.declared.fault.Fault.{Fault}
 use Rattle.index_model.specs.declared.fault.Fault.TheVariants.{PageDamaged}
-use Rattle.latch_table.specs.Holdings.{HasRoom, is_held_by_another}
+use Rattle.latch_table.specs.Holdings.{HasRoom, is_held_by_another, has_pin, holding_of}
 use Rattle.latch_table.specs.declared.mode.Mode.TheVariants.{Exclusive, Cleanup}
 use Rattle.page_codec.specs.declared.page.Page.{Page}
 use Rattle.page_codec.specs.declared.page.PageState.{PageState}
@@ -15,6 +15,7 @@ use Rattle.page_action.specs.Stored.{IsStored}
 use Rattle.page_action.specs.declared.page_store.PageStore.{Ghosts}
 use Rattle.tree_shape.specs.Deletion.{MayDie, as_deleted}
 use Rattle.tree_acts.specs.Deletions.{IsWholeAt, StartsAreBelow, state_in}
+use Rattle.tree_acts.specs.Leaves.{IsLeafAt, WasLeaf}
 use Rattle.descent.specs.Shared.{IsInOrder, CleansUp, IsOneStep, NumbersStay, where_working}
 use Rattle.descent.specs.declared.way.Onward.{Onward}
 use Rattle.descent.specs.declared.way.Onward.TheVariants.{Going as LeadsOn, Here}
@@ -22,6 +23,7 @@ use Rattle.descent.specs.declared.way.Way.{Way}
 use Rattle.vacuum.specs.Counts.{entry_count}
 use Rattle.page_delete.specs.Judging.{IsToDie}
 use Rattle.page_delete.specs.Ops.{turned_to, gone_past}
+use Rattle.page_delete.specs.Spares.{EditsALeaf}
 use Rattle.page_delete.specs.declared.looking.Seen.{Seen}
 use Rattle.page_delete.specs.declared.steps.CleanupAt.TheVariants.{Down, Judge}
 use Rattle.page_delete.specs.declared.steps.CleanupOp.{CleanupOp}
@@ -116,9 +118,17 @@ pub record DeletesOn (session : ℕ) (old new : State) : Type 0 where
   pub does : CleansUp session (Some Shape) old new
   pub own : (start : ℕ) → slice_get old.running session ≡ Some (Some start)
       → NumbersStay start old new
+  pub edit : EditsALeaf old new
+
+-- a live leaf that another session has pinned stays one
+abbrev pub PinnedLeavesStay : ℕ → State → State → Type 0
+PinnedLeavesStay session old new =
+    (other block : ℕ) (page : Page) → other ≢ session → IsLeafAt old.pages block page
+    → has_pin (holding_of old.table other).pins block ≡ true → WasLeaf new.pages block
 
 -- A part of a step that may do one act, by which a leaf goes on its way out of the tree: it answers whether it did. Where it
--- did not, nothing is changed, and there is a reason; nor where it is refused, and on pages in order there is a cause.
+-- did not, nothing is changed, and there is a reason; nor where it is refused, and on pages in order there is a cause. Leaves
+-- that others have pinned stay.
 pub record IsTried {S : Type 0} (g : Ghosts S) (session : ℕ) (sure : State → Type 0)
     (change : State → State → Type 0) (reason : State → Type 0) (old new : S)
     (result : Result Bool Fault) : Type 0 where
@@ -133,6 +143,7 @@ pub record IsTried {S : Type 0} (g : Ghosts S) (session : ℕ) (sure : State →
       → result ≡ Ok false → reason (g.state old)
   pub changed : (g.backing new).honest ≡ true → result ≡ Ok true
       → change (g.state old) (g.state new)
+  pub pins : (g.backing new).honest ≡ true → PinnedLeavesStay session (g.state old) (g.state new)
   pub does : (g.backing new).honest ≡ true → IsInOrder (g.state old)
       → StartsAreBelow (g.state old) → result ≡ Ok true
       → DeletesOn session (g.state old) (g.state new)

@@ -1,6 +1,6 @@
 //! The laws.
 
-ghost use Rattle.page_delete.specs.Laws.{CleanupsAreUndisturbed, CleanupsAreBounded, NothingIsCleaned};
+ghost use Rattle.page_delete.specs.Laws.{CleanupsAreUndisturbed, CleanupsAreBounded, NothingIsCleaned, NothingIsSpared};
 
 /// Does nothing: its clause says that what others do leaves a cleanup what it knows.
 pub fn cleanups_are_undisturbed()
@@ -12,7 +12,9 @@ pub fn cleanups_are_bounded()
     ensures { CleanupsAreBounded }
 {}
 
-/// Does nothing: its clause says that at the beginning of a cleanup nothing is counted, and no half-dead page is behind it.
+/// Does nothing: its clauses say that at the beginning of a cleanup nothing is counted, and no half-dead page is behind it,
+/// nor, where there is none, an empty leaf that might go.
 pub fn nothing_is_cleaned()
-    ensures { NothingIsCleaned }
+    ensures counts { NothingIsCleaned }
+    ensures spares { NothingIsSpared }
 {}

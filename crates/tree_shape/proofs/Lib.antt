@@ -46,3 +46,4 @@ pub mod HalfDeath
 pub mod HalfDeathTree
 pub mod Unlink
 pub mod UnlinkTree
+pub mod Staying

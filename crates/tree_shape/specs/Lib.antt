@@ -10,3 +10,4 @@ pub mod LinkPlaces
 pub mod Aims
 pub mod Mending
 pub mod Deletion
+pub mod Staying

@@ -15,8 +15,8 @@ pub use aim::{Aim, child_toward};
 pub use deletion_edits::{deleted_page, mark_half_dead, may_die, mend_right, set_left};
 pub use items::{entries_on, has_links, links_on};
 pub use laws::{
-    deleted_pages_lead_on, edits_keep_the_entries, edits_keep_the_tree, places_lead_on,
-    splits_can_be_finished,
+    deleted_pages_lead_on, edits_keep_the_entries, edits_keep_the_tree, empty_leaves_may_go,
+    places_lead_on, splits_can_be_finished,
 };
 pub use leaf::{find, matches_beyond, may_hold, put};
 pub use leaf_edits::{separator, split_leaf};

@@ -6,8 +6,9 @@ use Rattle.page_codec.specs.Spelling.{count_of}
 use Rattle.page_action.specs.Stored.{AreActable}
 use Rattle.tree_shape.specs.Nodes.{links_of}
 use Rattle.descent.proofs.Working.{act_cause_of}
-use Rattle.page_delete.specs.Parts.{DeletesOn, IsCandidate, IsTaken, AreInUse, LeafDies, IsSpared}
+use Rattle.page_delete.specs.Parts.{DeletesOn, IsCandidate, IsTaken, AreInUse, LeafDies, IsSpared, PinnedLeavesStay}
 use Rattle.page_delete.proofs.Moving.{dying_moves}
+use Rattle.page_delete.proofs.Pinned.{pinned_dying}
 use Rattle.page_delete.proofs.Trying.{tried_acted, tried_refused}
 use Rattle.page_delete.proofs.Dying.{AreDying, dies, may_die_so, used_dying, count_links}
 use Rattle.page_delete.proofs.judging.put_to_death.Given.{Over}
@@ -57,6 +58,10 @@ returns-in-Ok g c =
     subst (λ (s : State). LeafDies c.args.leaf.block old s) (sym c.in-Ok.ensures.done)
     (dying_moves old c.args.leaf c.args.parent c.mark_half_dead.new.page c.hand_on_link.new.page (links_of c.hand_on_link.new.page.items) (c.requires.leaf.found honest) (c.requires.parent.found honest) c.requires.leaf.may_die
     c.requires.place.internal c.in-Ok.ensures.may c.mark_half_dead.ensures.only c.hand_on_link.ensures.only))
+    (λ h. let honest = was_honest g at h in
+    subst (λ (s : State). PinnedLeavesStay c.args.session old s) (sym c.in-Ok.ensures.done)
+    (pinned_dying old c.args.session c.args.leaf c.args.parent c.mark_half_dead.new.page c.hand_on_link.new.page c.requires.leaf.free (c.requires.parent.found honest) c.requires.place.internal c.in-Ok.ensures.may
+    (ap (λ (p : Page). p.block) c.mark_half_dead.ensures.only) c.hand_on_link.ensures.block))
     (λ h order below.
     let honest = was_honest g at h in
     subst (λ (s : State). DeletesOn c.args.session old s) (sym c.in-Ok.ensures.done)

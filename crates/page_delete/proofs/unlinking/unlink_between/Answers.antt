@@ -2,8 +2,9 @@ use Rattle.std.proofs.Common.{◌≡◌, ℕ, Bool, true, false, length, refl, s
 use Rattle.page_action.specs.States.{State, IsLater, after_act}
 use Rattle.page_action.specs.Stored.{AreActable}
 use Rattle.descent.proofs.Working.{act_cause_of}
-use Rattle.page_delete.specs.Parts.{DeletesOn, IsTaken, IsTakenLeft, IsTakenRight, IsInUse, PageGoes, IsNotDead, unlinked}
+use Rattle.page_delete.specs.Parts.{DeletesOn, IsTaken, IsTakenLeft, IsTakenRight, IsInUse, PageGoes, IsNotDead, PinnedLeavesStay, unlinked}
 use Rattle.page_delete.proofs.Moving.{unlinking_moves}
+use Rattle.page_delete.proofs.Pinned.{pinned_unlinking}
 use Rattle.page_delete.proofs.Trying.{tried_acted, tried_refused}
 use Rattle.page_delete.proofs.Deleting.{does_unlink, may_unlink, used_unlinking, few_unlinked}
 use Rattle.page_delete.proofs.unlinking.unlink_between.Given.{Over}
@@ -41,6 +42,9 @@ returns-in-Ok g c =
     (λ h. let honest = was_honest g at h in
     subst (λ (s : State). PageGoes c.args.page.block old s) (sym c.in-Ok.ensures.done)
     (unlinking_moves old c.args.page c.args.right c.begun-number.result (c.requires.page.found honest) c.requires.dead (c.requires.right.taken.found honest) c.args.session c.args.left (left_taken g at honest) c.in-Ok.ensures.may))
+    (λ h. let honest = was_honest g at h in
+    subst (λ (s : State). PinnedLeavesStay c.args.session old s) (sym c.in-Ok.ensures.done)
+    (pinned_unlinking old c.args.page c.args.right c.begun-number.result (c.requires.page.found honest) c.requires.dead (c.requires.right.taken.found honest) c.args.session c.args.left (left_taken g at honest) c.in-Ok.ensures.may))
     (λ h order below.
     let honest = was_honest g at h in
     subst (λ (s : State). DeletesOn c.args.session old s) (sym (c.in-Ok.ensures.done ∙ ap (λ (n : ℕ). after_act (unlinked c.args.left c.args.page c.args.right n) old) c.begun-number.ensures))

@@ -1,6 +1,9 @@
-use Rattle.std.proofs.Common.{Bool, Ok, subst}
+use Rattle.std.proofs.Common.{Bool, Ok, sym, subst}
+use Rattle.page_delete.specs.Cleanups.{CleanupSteps}
 use Rattle.page_delete.specs.Parts.{AreInUse, LeafDies, IsSpared, IsTried}
-use Rattle.page_delete.proofs.Stepping.{leaf_dies, judge_in_use, try_refused}
+use Rattle.page_delete.specs.declared.steps.CleanupOp.{CleanupOp}
+use Rattle.page_delete.specs.declared.steps.CleanupStep.TheVariants.{Going}
+use Rattle.page_delete.proofs.Stepping.{leaf_dies, leaf_spared, judge_in_use, try_refused}
 use Rattle.page_delete.proofs.steps.CleanupOp.judge.Goals as goal
 
 pub returns-in-Ok-true : goal.returns-in-Ok-true
@@ -12,3 +15,10 @@ pub returns-in-Err : goal.returns-in-Err
 returns-in-Err g c =
     try_refused g.S.PageStore (AreInUse c.args.self.now.cursor c.args.parent) (LeafDies c.args.self.now.cursor) (IsSpared c.args.self.now.session c.args.self.now.cursor c.args.parent) c.args.self.now c.args.store.now c.try_leaf.new.store c.in-Err.fault
     c.in-Err.ensures c.requires.alive (judge_in_use g.S.PageStore c.args.self.now c.args.parent c.args.store.now c.try_leaf.new.store c.requires.at c.requires.alive)
+
+pub returns-in-Ok-false : goal.returns-in-Ok-false
+returns-in-Ok-false g c =
+    subst (λ (op : CleanupOp). CleanupSteps g.S.PageStore c.args.self.now op c.args.store.now c.try_leaf.new.store (Ok Going)) (sym c.pass.ensures)
+    (leaf_spared g.S.PageStore c.args.self.now c.args.parent c.args.store.now c.try_leaf.new.store c.requires.at c.requires.alive
+    (subst (λ (b : Bool). IsTried g.S.PageStore c.args.self.now.session (AreInUse c.args.self.now.cursor c.args.parent) (LeafDies c.args.self.now.cursor) (IsSpared c.args.self.now.session c.args.self.now.cursor c.args.parent) c.args.store.now c.try_leaf.new.store (Ok b))
+    c.in-Ok-false.field-0-test c.in-Ok-false.ensures))
