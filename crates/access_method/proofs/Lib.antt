@@ -1,3 +1,5 @@
 pub mod Seats
 pub mod Results
 pub mod Sweeps
+pub mod Cleanups
+pub mod Refusals

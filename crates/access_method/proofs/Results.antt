@@ -17,7 +17,7 @@ use Rattle.std.proofs.Common.{◌≡◌, ◌||◌, ℕ, zero, suc, ◌+◌, ◌-
 use Rattle.std.proofs.lemmas.List.{take_at, length-replicate}
 use Rattle.std.proofs.Math.Seq.{take-append-add}
 use Rattle.index_model.specs.Actions.{Add, ThereAtSomeMoment, Action, later_or, last_said, contents_after}
-use Rattle.index_model.specs.Calls.{Failed, Ask, AskInsert, AskScan, Call, Ending, Running, Finished as EndsFinished, Meets, AnswersRight, IsAdded, IsScanAnswer, IsScanAnswerSoFar, end_of}
+use Rattle.index_model.specs.Calls.{Failed, Ask, AskInsert, AskScan, Call, Ending, Running, Finished as EndsFinished, Meets, AnswersRight, IsScanAnswer, IsScanAnswerSoFar, end_of}
 use Rattle.index_model.specs.Order.{same_entry}
 use Rattle.index_model.specs.declared.entry.Entry.{Entry}
 use Rattle.index_model.specs.declared.fault.Fault.{Fault}

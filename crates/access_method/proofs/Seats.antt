@@ -1,5 +1,5 @@
 -- Seats and slots.
-use Rattle.std.proofs.Common.{◌≡◌, ◌≢◌, ℕ, zero, suc, ◌<◌, Option, Some, None, unwrap_or, Ok, List, [], ◌∷◌, ◌++◌, length, slice_get, slice_set, replicate, refl, sym, ap, subst, ◌∙◌, arith, inl, inr}
+use Rattle.std.proofs.Common.{◌≡◌, ◌≢◌, ℕ, ◌<◌, Option, Some, None, unwrap_or, Ok, List, [], ◌∷◌, ◌++◌, length, slice_get, slice_set, replicate, refl, sym, ap, subst, ◌∙◌, arith, inl, inr}
 use Rattle.std.proofs.lemmas.Bool.{cases_eq}
 use Rattle.index_model.specs.Actions.{Action}
 use Rattle.index_model.specs.Calls.{AskScan}
@@ -16,7 +16,7 @@ use Rattle.session_calls.specs.Ops.{DeadSets}
 use Rattle.session_calls.specs.Sessions.{begun_call}
 use Rattle.session_calls.specs.declared.request.Request.TheVariants.{Scan as ToScan}
 use Rattle.session_calls.specs.declared.op.Op.{Op}
-use Rattle.schedule.specs.Snapshots.{Snapshot, SlotMatches, Fits, IsUnused, here_with, snapshot_of, slot_of}
+use Rattle.schedule.specs.Snapshots.{Snapshot, slot_of}
 use Rattle.schedule.specs.Events.{OthersStay, where_begun_at}
 use Rattle.schedule.proofs.Unused.{in_replicate}
 use Rattle.schedule.proofs.Lists.{get_set_same, get_set_other, get_some}

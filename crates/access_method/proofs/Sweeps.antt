@@ -1,10 +1,11 @@
 -- What a bulk delete of an index does, read off the run.
-use Rattle.std.proofs.Common.{◌≡◌, ◌≢◌, ◌⊎◌, ℕ, zero, suc, ◌≤◌, Bool, true, false, Option, Some, None, unwrap_or, Result, Ok, Err, List, [], ◌∷◌, ◌++◌, length, drop, take, slice_get, refl, sym, ap, subst, arith, inl, inr, ◌∙◌}
+use Rattle.whole_calls.proofs.Removing.{remove_there, all_once, all_were, all_counted, left_by_all}
+use Rattle.std.proofs.Common.{◌≡◌, ℕ, suc, Bool, true, false, Option, Some, None, unwrap_or, Result, Ok, Err, List, [], ◌∷◌, ◌++◌, length, drop, slice_get, refl, sym, ap, subst, arith, inl, inr, ◌∙◌}
 use Rattle.std.specs.Prelude.{◌&&◌, not, if◌then◌else◌}
 use Rattle.std.proofs.lemmas.Bool.{cases_eq}
 use Rattle.std.proofs.lemmas.List.{take_all}
 use Rattle.index_model.specs.Actions.{Effect, Add, Remove, Shape, Action, said_of, later_or, last_said, contents_after, is_there_after}
-use Rattle.index_model.specs.Calls.{AskBulkDelete, Vacuumed, Call, IsAddedIn, actions_between, IsBulkDeleteAnswer, Meets}
+use Rattle.index_model.specs.Calls.{AskBulkDelete, Vacuumed, Call, IsAddedIn, actions_between, IsBulkDeleteAnswer, Meets, removed_by}
 use Rattle.index_model.specs.Order.{is_among}
 use Rattle.index_model.specs.Row.{Row}
 use Rattle.index_model.specs.declared.entry.Entry.{Entry}
@@ -13,7 +14,7 @@ use Rattle.index_model.specs.declared.stats.VacuumStats.{VacuumStats}
 use Rattle.index_model.proofs.Histories.{contents_after-append, there_before, there_now}
 use Rattle.page_action.specs.declared.page_store.PageStore.{Ghosts}
 use Rattle.vacuum.specs.declared.steps.BulkDeleteOp.{BulkDeleteOp}
-use Rattle.session_calls.specs.Sessions.{noted, ended}
+use Rattle.session_calls.specs.Sessions.{ended}
 use Rattle.session_calls.specs.declared.op.Op.{Op}
 use Rattle.session_calls.specs.declared.op.Op.TheVariants.{Bulk}
 use Rattle.session_calls.specs.declared.request.Request.TheVariants.{Bulk as ToBulk}
@@ -22,7 +23,7 @@ use Rattle.schedule.specs.Events.{OthersStay}
 use Rattle.schedule.specs.Snapshots.{StoreAndSlots, Snapshot, snapshot_of, slot_of, Fits}
 use Rattle.schedule.proofs.Lists.{get_append_new}
 use Rattle.whole_calls.specs.Going.{CallRuns}
-use Rattle.whole_calls.specs.Sweeping.{SweepTold, swept_came, TellsEntries}
+use Rattle.whole_calls.specs.Sweeping.{SweepTold, swept_came, TellsEntries, removed_of}
 use Rattle.whole_calls.specs.Telling.{acts_by, AreOwnEffects, first_call}
 use Rattle.access_method.specs.Indexes.{IsSweptOrLess}
 
@@ -94,12 +95,12 @@ module _ {S : Type 0} (g : Ghosts S) (dead : Row → Bool) (old new : StoreAndSl
         of (Some false) at h = cc
         of (Some true) at h = absurd (says_none dead (length calls) sweep_call (length history) effects e asks own at)
 
+    between : actions_between (length history) (length then_history) then_history ≡ acts_by (length calls) effects
+    between = ap (λ (l : List Action). drop (length history) l) (take_all (length then_history) then_history (omega arith) ∙ is) ∙ drop_front history (acts_by (length calls) effects)
+
     dead_is_gone : (stats : VacuumStats) → IsBulkDeleteAnswer start then_history (length calls) (length history) (length then_history) dead stats → (e : Entry) → dead e.row ≡ true → contents_after start then_history e ≡ false
     dead_is_gone stats right e gone = of (contents_after start then_history e) refl
       where
-        between : actions_between (length history) (length then_history) then_history ≡ acts_by (length calls) effects
-        between = ap (λ (l : List Action). drop (length history) l) (take_all (length then_history) then_history (omega arith) ∙ is) ∙ drop_front history (acts_by (length calls) effects)
-
         of : (b : Bool) → contents_after start then_history e ≡ b → b ≡ false
         of false at = refl
         of true at =
@@ -108,7 +109,16 @@ module _ {S : Type 0} (g : Ghosts S) (dead : Row → Bool) (old new : StoreAndSl
             let now : is_there_after start then_history (length then_history) e ≡ true = there_now start then_history e ∙ at in
             absurd (adds_none dead (length calls) sweep_call (length history) effects e asks own (subst (λ (l : List Action). IsAddedIn l e) between (right.gone e gone before now)))
 
-  pub swept_or_less : (result : Result VacuumStats Fault) → (r : CallRuns g 63 (SweepTold 63 0 result) (swept_came result) old new start history calls) → TellsEntries (g.state new.store) result → IsSweptOrLess g dead result old.store new.store
+  -- of an entry that was there or not, that is removed or not, and whose row is dead or not
+  removed_so : (was removed dies : Bool) → (was && not removed) ≡ (was && not dies) → (removed ≡ true → was ≡ true) → removed ≡ (was && dies)
+  removed_so true true true same there = refl
+  removed_so true true false same there = absurd cc
+  removed_so true false true same there = absurd cc
+  removed_so true false false same there = refl
+  removed_so false true dies same there = sym (there refl)
+  removed_so false false dies same there = refl
+
+  pub swept_or_less : (result : Result VacuumStats Fault) → (r : CallRuns g 63 (SweepTold 63 (ToBulk 0) result) (swept_came result) old new start history calls) → TellsEntries (g.state new.store) result → IsSweptOrLess g dead result old.store new.store
   swept_or_less (Ok stats) r left =
       let t = r.tells in
       let call : Call = ended sweep_call (Vacuumed stats) (length r.then_history) in
@@ -116,8 +126,18 @@ module _ {S : Type 0} (g : Ghosts S) (dead : Row → Bool) (old new : StoreAndSl
       let meets : Meets start r.then_history (length calls) call = r.ran.fits.meets (length calls) call found in
       let right : IsBulkDeleteAnswer start r.then_history (length calls) (length history) (length r.then_history) dead stats =
       subst (λ (l : List (Row → Bool)). IsBulkDeleteAnswer start r.then_history (length calls) (length history) (length r.then_history) (unwrap_or (slice_get l 0) (λ row. false)) stats) sets_are meets.right in
+      let apt = remove_there start (length calls) r.then_calls call dead found asks history r.then_history t.effects t.history_is r.ran.fits.owned in
+      let after : (e : Entry) → contents_after start r.then_history e ≡ (contents_after start history e && not (dead e.row)) = λ e. of e (dead e.row) refl t.effects t.own t.history_is right in
       record {
-        contents = λ e. r.ran.fits.matches.contents e ∙ of e (dead e.row) refl t.effects t.own t.history_is right ∙ ap (λ (b : Bool). b && not (dead e.row)) (sym (fits.matches.contents e));
+        contents = λ e. r.ran.fits.matches.contents e ∙ after e ∙ ap (λ (b : Bool). b && not (dead e.row)) (sym (fits.matches.contents e));
+        removed = record {
+          listed = removed_of t.effects;
+          once = all_once start (length calls) history t.effects apt;
+          such = λ e. removed_so (contents_after start history e) (is_among (removed_of t.effects) e) (dead e.row)
+              (sym (left_by_all start (length calls) history t.effects apt e) ∙ ap (λ (l : List Action). contents_after start l e) (sym t.history_is) ∙ after e) (all_were start (length calls) history t.effects apt e)
+              ∙ ap (λ (b : Bool). b && dead e.row) (sym (fits.matches.contents e));
+          many = right.removed ∙ ap (λ (l : List Action). removed_by (length calls) l) (between r.then_history t.effects t.own t.history_is) ∙ all_counted start (length calls) t.effects;
+        };
         left = left;
       }
     where

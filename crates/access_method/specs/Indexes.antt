@@ -1,9 +1,10 @@
 -- What is promised of an index.
+use Rattle.std.specs.List.{IsDistinct}
 use Rattle.std.specs.Prelude.{◌||◌, ◌&&◌, not, ◌≡◌, ◌<◌, ◌≤◌, ℕ, suc, Bool, true, false, Option, Some, None, Result, Ok, Err, List, ◌∷◌, [], ◌++◌, length, slice_get, slice_set}
 use Rattle.device.specs.declared.device.Device.{Ghosts as DeviceGhosts}
 use Rattle.index_model.specs.Actions.{Action}
 use Rattle.index_model.specs.Calls.{AskScan, Call, IsScanAnswer, IsScanAnswerSoFar}
-use Rattle.index_model.specs.Order.{same_entry}
+use Rattle.index_model.specs.Order.{same_entry, is_among}
 use Rattle.index_model.specs.Row.{Row}
 use Rattle.page_action.specs.Causes.{is_at_end}
 use Rattle.page_action.specs.Contents.{entry_on_live_leaf}
@@ -20,13 +21,14 @@ use Rattle.page_store.specs.declared.store.Store.{Store}
 use Rattle.recovery.specs.declared.opening.Refused.{Refused as NotOpened}
 use Rattle.session_calls.specs.Sessions.{begun_call}
 use Rattle.session_calls.specs.declared.answer.Answer.{Answer}
+use Rattle.session_calls.specs.declared.request.Request.TheVariants.{Bulk as ToBulk}
 use Rattle.schedule.specs.Crashes.{KeepsHistory, IsCrashSafe}
 use Rattle.schedule.specs.Runs.{Carries}
 use Rattle.schedule.specs.Snapshots.{StoreAndSlots, Snapshot, snapshot_of, IsRunningCall, Fits}
 use Rattle.vacuum.specs.Counts.{entries_below}
 use Rattle.whole_calls.specs.Going.{CallRuns, CallGoes}
 use Rattle.whole_calls.specs.Inserting.{InsertGoes}
-use Rattle.whole_calls.specs.Sweeping.{SweepTold, swept_came}
+use Rattle.whole_calls.specs.Sweeping.{SweepTold, swept_came, TellsCleaned}
 use Rattle.whole_calls.specs.Telling.{HasNone}
 use Rattle.whole_calls.specs.declared.inserted.Inserted.{Inserted}
 use Rattle.access_method.specs.Tokens.{seat_of, AreTaken}
@@ -67,7 +69,7 @@ slots_with dead index = record { store = index.store; slots = index.slots; sets 
 -- what the call came to. The index is fitted by what comes behind it; where the history was kept, it is so still, and a crash in
 -- between leaves a first part of it.
 pub record SweepRuns {S : Type 0} (g : Ghosts S) (dead : Row → Bool) (result : Result VacuumStats Fault) (old new : Index S) (start : Entry → Bool) (history : List Action) (calls : List Call) : Type 0 where
-  pub sweeps : CallRuns g 63 (SweepTold 63 0 result) (swept_came result) (slots_with dead old) (slots_with dead new) start history calls
+  pub sweeps : CallRuns g 63 (SweepTold 63 (ToBulk 0) result) (swept_came result) (slots_with dead old) (slots_with dead new) start history calls
   pub fits : IndexFits g new start sweeps.then_history sweeps.then_calls
   pub safe : IndexKeeps g old start history calls → IsCrashSafe g start (snapshot_of (slots_within old) history calls) (snapshot_of (slots_within new) sweeps.then_history sweeps.then_calls)
 
@@ -141,9 +143,17 @@ abbrev pub InsertsOrKeeps : {S : Type 0} → Ghosts S → Entry → Result Inser
 InsertsOrKeeps g entry (Ok inserted) old new = IsInserted g entry inserted old new
 InsertsOrKeeps g entry (Err fault) old new = KeepsContents g entry fault old new
 
--- the entries of dead rows are gone, and no others; and it is told how many are left
+-- so many entries are such: they stand in a list, each once
+pub record AreSoMany (is_such : Entry → Bool) (count : ℕ) : Type 0 where
+  pub listed : List Entry
+  pub once : IsDistinct same_entry listed
+  pub such : (e : Entry) → is_among listed e ≡ is_such e
+  pub many : count ≡ length listed
+
+-- the entries of dead rows are gone, and no others; and it is told how many they were, and how many entries are left
 pub record IsSwept {S : Type 0} (g : Ghosts S) (dead : Row → Bool) (stats : VacuumStats) (old new : S) : Type 0 where
   pub contents : (e : Entry) → has_entry g new e ≡ (has_entry g old e && not (dead e.row))
+  pub removed : AreSoMany (λ e. has_entry g old e && dead e.row) stats.tuples_removed
   pub left : stats.num_index_tuples ≡ entries_below (g.state new).pages (length (g.state new).pages)
 
 -- no entry has come, and none is gone but of a dead row
@@ -155,6 +165,11 @@ pub record LosesDeadRows {S : Type 0} (g : Ghosts S) (dead : Row → Bool) (old 
 abbrev pub IsSweptOrLess : {S : Type 0} → Ghosts S → (Row → Bool) → Result VacuumStats Fault → S → S → Type 0
 IsSweptOrLess g dead (Ok stats) old new = IsSwept g dead stats old new
 IsSweptOrLess g dead (Err fault) old new = LosesDeadRows g dead old new
+
+-- the contents are those before a cleanup; where it answers, it tells how many entries there are, and no half-dead page is left
+pub record IsCleanedUp {S : Type 0} (g : Ghosts S) (result : Result VacuumStats Fault) (old new : S) : Type 0 where
+  pub contents : (e : Entry) → has_entry g new e ≡ has_entry g old e
+  pub told : TellsCleaned (g.state new) result
 
 -- what a scan has given with this entry is right so far; or all that it gave is the right answer since it was begun
 abbrev pub GivesRight : (Entry → Bool) → List Action → Range → Call → Result (Option Entry) Fault → Type 0

@@ -1,3 +1,4 @@
 pub mod Tokens
 pub mod Counted
 pub mod Indexes
+pub mod Refusals

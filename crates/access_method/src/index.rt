@@ -14,7 +14,7 @@ use schedule::{checkpoint, force, is_running};
 use session_calls::{Answer, Op};
 use std::alloc::Global;
 use std::array;
-use whole_calls::{Inserted, bulk_delete, give, give_up, insert, open};
+use whole_calls::{Inserted, bulk_delete, clean_up, give, give_up, insert, open};
 
 // How many images of pages the log has room for before a step: an act takes four at most, and a force that it makes one more.
 const LEAST_ROOM: u32 = 5;
@@ -92,7 +92,7 @@ fn free_seat(seats: &[Option<Seat>]) -> Option<usize>
 }
 
 impl<S: PageStore> Index<S> {
-    ghost use Rattle.std.specs.Prelude.{◌≡◌, ◌≢◌, [], true, false, None, Some, Ok, Err, IfOk, IfErr, OnOk, OnErr, OnSome, ◌<◌};
+    ghost use Rattle.std.specs.Prelude.{◌≡◌, ◌≢◌, [], true, false, None, Some, Ok, Err, IfOk, IfErr, IsOk, OnOk, OnErr, OnSome, ◌<◌};
     ghost use Rattle.access_method.specs.declared.token.ScanToken.{ScanToken};
     ghost use Rattle.page_action.specs.Contents.{entry_on_live_leaf};
     ghost use Rattle.page_action.specs.Room.{HasWholeRoom};
@@ -100,14 +100,16 @@ impl<S: PageStore> Index<S> {
     ghost use Rattle.page_action.specs.Causes.{where_forced};
     ghost use Rattle.page_action.specs.States.{Continues};
     ghost use Rattle.session_calls.specs.declared.answer.Answer.TheVariants.{Begun};
-    ghost use Rattle.session_calls.specs.declared.request.Request.TheVariants.{Scan as ToScan};
+    ghost use Rattle.session_calls.specs.declared.request.Request.TheVariants.{Scan as ToScan, Cleanup as ToCleanup};
     ghost use Rattle.schedule.specs.Events.{Forces, Checkpoints};
     ghost use Rattle.schedule.specs.Snapshots.{IsUnused, slot_of};
     ghost use Rattle.whole_calls.specs.Telling.{IsSilent, HasBegun, TellsEnd};
+    ghost use Rattle.whole_calls.specs.Sweeping.{SweepTold, swept_came, LeavesOnlyNeeded};
     ghost use Rattle.whole_calls.specs.Giving.{TellsGiven, EndsUnlessGiven, give_came};
     ghost use Rattle.access_method.specs.Tokens.{seat_of};
-    ghost use Rattle.access_method.specs.Indexes.{IndexFits, IndexKeeps, IndexGoes, IndexInserts, IndexCarries, SweepRuns, KeepsTokens, IsNewToken, SeatBecomes, seat_with, RescanTold, TokenAfter, InsertsOrKeeps, IsSweptOrLess, AnswersScan, NotOpenedFor, NotRescannedFor, cannot_begin};
+    ghost use Rattle.access_method.specs.Indexes.{IndexFits, IndexKeeps, IndexGoes, IndexInserts, IndexCarries, SweepRuns, KeepsTokens, IsNewToken, SeatBecomes, seat_with, RescanTold, TokenAfter, InsertsOrKeeps, IsSweptOrLess, IsCleanedUp, AnswersScan, NotOpenedFor, NotRescannedFor, cannot_begin};
     ghost use Rattle.access_method.specs.Counted.{kept_came};
+    ghost use Rattle.access_method.specs.Refusals.{where_run, InsertHasCause, IsUnhindered, NoCleanupRuns, IsCalm, InsertsUnhindered, GiveHasCause, GivesUnhindered};
 
     /// An index over the store, with no call and no open scan. Where the store's pages are in order and it has made no
     /// act, the index is fitted by the contents of its pages, no actions and no calls; over an own device it keeps them
@@ -130,8 +132,8 @@ impl<S: PageStore> Index<S> {
 
     /// Inserts an entry: begins an insert and runs its steps to the end. Refused with `Exists` (5) where the entry is there;
     /// with `IndexFull` (8) where a page is full and no block is left, with `TooTall` (19) where the root is full on level 31;
-    /// with `Io` (2), `Stopped` (3), `LogFull` (9), and with `Blocked` (4) or `NoFrame` (10) where open scans hold what it
-    /// needs; with `PageDamaged` (17) on pages that are no tree: no entry is added then. Once the entry is added, a fault that
+    /// with `Io` (2), `Stopped` (3), and with `Blocked` (4) or `NoFrame` (10) where open scans hold what it needs; with
+    /// `PageDamaged` (17) on pages that are no tree: no entry is added then. Once the entry is added, a fault that
     /// keeps a split from being finished stands in `unfinished`. Open scans stay as they are.
     pub fn aminsert(&mut self, entry: Entry) -> Result<Inserted, Fault>
         ensures steps { Continues S.follows self.old.store self.new.store }
@@ -139,6 +141,12 @@ impl<S: PageStore> Index<S> {
         ensures inserts { IndexCarries S.PageStore self.old self.new
             (λ start history calls. InsertsOrKeeps S.PageStore entry result self.old.store
             self.new.store) }
+        // It never answers `LogFull`, `NoSession`, `SessionBusy` nor `VacuumRunning`.
+        ensures cause { IndexCarries S.PageStore self.old self.new
+            (λ start history calls. InsertHasCause S.PageStore entry result self.old self.new.store) }
+        ensures alone { IndexCarries S.PageStore self.old self.new
+            (λ start history calls. IsUnhindered S.PageStore 63 self.old self.new.store
+            → InsertsUnhindered S.PageStore entry result self.old.store self.new.store) }
         ensures tokens { KeepsTokens self.old self.new }
     {
         insert(
@@ -162,6 +170,13 @@ impl<S: PageStore> Index<S> {
         ensures deletes { IndexCarries S.PageStore self.old self.new
             (λ start history calls. IsSweptOrLess S.PageStore (T.is_in dead.now) result
             self.old.store self.new.store) }
+        // It never answers `LogFull`, `NoSession`, `SessionBusy` nor `VacuumRunning`.
+        ensures cause { IndexCarries S.PageStore self.old self.new (λ start history calls.
+            NoCleanupRuns calls
+            → IfErr result (HasCause (where_run S.PageStore 63 self.old self.new.store))) }
+        ensures finishes { IndexCarries S.PageStore self.old self.new (λ start history calls.
+            NoCleanupRuns calls
+            → IsUnhindered S.PageStore 63 self.old self.new.store → IsOk result) }
         ensures tokens { KeepsTokens self.old self.new }
     {
         bulk_delete(
@@ -172,6 +187,27 @@ impl<S: PageStore> Index<S> {
             0,
             LEAST_ROOM,
         )
+    }
+
+    /// Deletes empty leaves and counts the entries: begins a cleanup and runs its steps to the end. The contents stay, whatever
+    /// it answers, and so do open scans; a leaf on which one stands is passed. Where it answers, no half-dead page is left, and
+    /// `num_index_tuples` is the number of entries. Refused with `Io` (2), `Stopped` (3), `Blocked` (4), `LogFull` (9) and
+    /// `NoFrame` (10), each for the cause of one of its events, and with `PageDamaged` (17) on pages that are no tree.
+    pub fn amvacuumcleanup(&mut self) -> Result<VacuumStats, Fault>
+        ensures steps { Continues S.follows self.old.store self.new.store }
+        ensures runs { IndexGoes S.PageStore 63 (SweepTold 63 ToCleanup result)
+            (swept_came result) self.old self.new }
+        ensures cleans { IndexCarries S.PageStore self.old self.new
+            (λ start history calls. IsCleanedUp S.PageStore result self.old.store
+            self.new.store) }
+        // The empty leaves that are left then are the rightmost one, flagged ones, those right behind a flagged one, and last
+        // children of their parents.
+        ensures spares { IndexCarries S.PageStore self.old self.new
+            (λ start history calls. IsCalm S.PageStore self.old
+            → LeavesOnlyNeeded (S.state self.new.store) result) }
+        ensures tokens { KeepsTokens self.old self.new }
+    {
+        clean_up(&mut self.store, &mut self.slots, &NO_SETS, 63, LEAST_ROOM)
     }
 
     /// Makes all actions durable and answers their number. Refused with `Stopped` (3) and `Io` (2).
@@ -234,6 +270,13 @@ impl<S: PageStore> Index<S> {
             (give_came result) self.old self.new }
         ensures answers { IndexCarries S.PageStore self.old self.new
             (AnswersScan token.session result) }
+        // It never answers `LogFull`.
+        ensures cause { seat_of self.old.seats token ≡ seat_with token false
+            → IndexCarries S.PageStore self.old self.new
+            (GiveHasCause S.PageStore token.session result self.old self.new.store) }
+        ensures gives { seat_of self.old.seats token ≡ seat_with token false
+            → IndexCarries S.PageStore self.old self.new
+            (GivesUnhindered S.PageStore token.session result self.old self.new.store) }
         ensures closed { seat_of self.old.seats token ≡ None
             → (result ≡ Err Fault.NoSession) × (self.new ≡ self.old) }
         ensures refused { seat_of self.old.seats token ≡ seat_with token true
@@ -362,7 +405,7 @@ impl<S: PageStore> Index<S> {
 }
 
 impl<D: Device> Index<Store<D>> {
-    ghost use Rattle.std.specs.Prelude.{◌≡◌, ℕ, Bool, List, IsTrue, IfErr, MatchResult};
+    ghost use Rattle.std.specs.Prelude.{◌≡◌, ℕ, Bool, List, IsTrue, IfOk, IfErr, OnOk, MatchResult};
     ghost use Rattle.device.specs.Moments.{Goes, MayHaveLeft};
     ghost use Rattle.index_model.specs.Actions.{Action};
     ghost use Rattle.index_model.specs.Calls.{Call};
@@ -389,6 +432,9 @@ impl<D: Device> Index<Store<D>> {
             → HasIndex limits pages (D.trace device).now.seen → IsTree pages
             → MatchResult result (IndexBegins D.Device ⟦<Store<D> as PageStore>⟧ limits pages)
             (λ refused. IsNoMemoryOrIo refused.fault) }
+        // It has as many frames as were asked for, 16 or more.
+        ensures frames { IfOk result (λ index. (state_of D.Device index.store).frames ≡ frames) }
+        ensures range { OnOk result (AreFrames frames) }
         // A crash at each moment since leaves the same index, whatever was answered.
         ensures moments { IsTrue (D.is_honest (index_device D.Device result))
             → (limits : Limits) (pages : List Page)

@@ -1,7 +1,7 @@
 use super::*;
 use arrayvec::ArrayVec;
 use device::{Device, MemDevice};
-use index_model::{Entry, Fault, Key, Limits, Range, RowAddr};
+use index_model::{DeadRows, Entry, Fault, Key, Limits, Range, RowAddr};
 use page_action::{MapStore, PageStore};
 use page_codec::{Items, Page, PageState};
 use page_store::Store;
@@ -186,5 +186,138 @@ fn a_failed_device_stops_the_index(rt: HostRuntime) -> Result<(), Fail> {
     assert_eq!(rt; index.amrescan(token, ALL), Err(Fault::Stopped));
     assert_eq!(rt; index.ambeginscan(ALL), Err(Fault::Stopped));
     assert!(rt; index.amendscan(token).is_ok());
+    Ok(())
+}
+
+// Every row is dead.
+struct EachRow {}
+
+impl DeadRows for EachRow {
+    ghost use Rattle.std.specs.Prelude.{true};
+
+    ghost is_in = { λ rows row. true };
+
+    fn is_dead(&self, _row: RowAddr) -> bool {
+        true
+    }
+}
+
+// Inserts 9 entries into an index that has none of them.
+fn insert_9(index: &mut Index<Store<MemDevice>>) -> Result<(), Fault> {
+    for number in 1..10 {
+        let _inserted = index.aminsert(entry(number, u16::from(number)))?;
+    }
+    Ok(())
+}
+
+#[test]
+fn deleted_pages_are_used_again(rt: HostRuntime) -> Result<(), Fail> {
+    let mut index = index(rt.alloc())?;
+    insert_9(&mut index)?;
+    let removed = index.ambulkdelete(&EachRow {})?;
+    assert_eq!(rt; (removed.tuples_removed, removed.num_index_tuples), (9, 0));
+    let cleaned = index.amvacuumcleanup()?;
+    assert_eq!(rt; (cleaned.tuples_removed, cleaned.num_index_tuples), (0, 0));
+    // The metapage, the root and its last child are left.
+    assert_eq!(rt; cleaned.num_pages, removed.num_pages);
+    assert_eq!(rt; cleaned.pages_newly_deleted + 3, cleaned.num_pages);
+    assert_eq!(rt; cleaned.pages_deleted, cleaned.pages_newly_deleted);
+
+    insert_9(&mut index)?;
+    let token = index.ambeginscan(ALL)?;
+    for expected in [1, 2, 3, 4, 5, 6, 7, 8, 9, 0] {
+        assert_eq!(rt; given(&mut index, token), expected);
+    }
+    assert!(rt; index.amendscan(token).is_ok());
+    let again = index.amvacuumcleanup()?;
+    assert_eq!(rt; again.num_index_tuples, 9);
+    assert_eq!(rt;
+        (again.num_pages, again.pages_newly_deleted),
+        (cleaned.num_pages, 0)
+    );
+    Ok(())
+}
+
+const MANY: u16 = 2_000;
+
+/// The smallest log over many pages.
+const WIDE: Limits = Limits {
+    items: 4,
+    pages: 4_096,
+    log_bytes: 65_536,
+};
+
+// An empty index over many pages, with so many of them in memory at once.
+fn wide(alloc: Global, frames: u32) -> Result<Index<Store<MemDevice>>, Fault> {
+    let mut device = MemDevice::new(alloc, 4_096 + 65_536 + 4_096 * 4_096)?;
+    create(&mut device, &WIDE)?;
+    match Index::open(alloc, device, frames) {
+        Ok(index) => Ok(index),
+        Err(refused) => Err(refused.fault),
+    }
+}
+
+// The entry at this place in order.
+fn nth(place: u16) -> Entry {
+    let key = place.to_be_bytes();
+    Entry {
+        key: Key::new(&key).unwrap_or(Key::EMPTY),
+        row: RowAddr::new(0, place.saturating_add(1)).unwrap_or_default(),
+    }
+}
+
+// Whether a scan gives each of these entries, in order, and then none.
+fn gives_all(index: &mut Index<Store<MemDevice>>) -> Result<bool, Fault> {
+    let token = index.ambeginscan(ALL)?;
+    for place in 0..MANY {
+        if index.amgettuple(token)? != Some(nth(place)) {
+            return Ok(false);
+        }
+    }
+    Ok(index.amgettuple(token)?.is_none())
+}
+
+#[test]
+fn few_frames_answer_as_many_do(rt: HostRuntime) -> Result<(), Fail> {
+    let mut few = wide(rt.alloc(), 16)?;
+    let mut many = wide(rt.alloc(), 1_024)?;
+    let mut place = 0u16;
+    for _ in 0..MANY {
+        // Each place once, not in order.
+        place = (place % MANY + 7) % MANY;
+        let inserted = few.aminsert(nth(place))?;
+        assert!(rt; inserted.unfinished.is_none());
+        assert_eq!(rt; many.aminsert(nth(place)), Ok(inserted));
+    }
+    assert!(rt; gives_all(&mut few)? && gives_all(&mut many)?);
+    Ok(())
+}
+
+// The odd rows.
+struct OddRows {}
+
+impl DeadRows for OddRows {
+    ghost use Rattle.std.specs.Prelude.{◌==◌, ◌%◌};
+
+    ghost is_in = { λ rows row. row.offset % 2 == 1 };
+
+    fn is_dead(&self, row: RowAddr) -> bool {
+        row.offset() % 2 == 1
+    }
+}
+
+#[test]
+fn dead_rows_are_deleted(rt: HostRuntime) -> Result<(), Fail> {
+    let mut index = index(rt.alloc())?;
+    for key in 1..8u8 {
+        assert!(rt; index.aminsert(entry(key, u16::from(key))).is_ok());
+    }
+    let stats = index.ambulkdelete(&OddRows {})?;
+    assert_eq!(rt; stats.tuples_removed, 4);
+    assert_eq!(rt; stats.num_index_tuples, 3);
+    let token = index.ambeginscan(ALL)?;
+    for expected in [2, 4, 6, 0] {
+        assert_eq!(rt; given(&mut index, token), expected);
+    }
     Ok(())
 }

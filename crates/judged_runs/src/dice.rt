@@ -16,7 +16,7 @@ pub struct Space {
     pub rows: u32,
     /// How many forces there are for a checkpoint.
     pub forces: u32,
-    /// Whether there are bulk deletes.
+    /// Whether there are bulk deletes and cleanups.
     pub deletes: bool,
 }
 
@@ -100,7 +100,7 @@ impl Dice {
     /// An event.
     pub fn event(&mut self, space: Space) -> Event {
         let session = self.session(space);
-        match self.roll(52) {
+        match self.roll(54) {
             0..9 => Event::Insert(session, self.entry(space)),
             9..13 => Event::Scan(session, self.range(space)),
             13..37 => Event::Step(session),
@@ -111,6 +111,7 @@ impl Dice {
                 session,
                 self.pick(space.rows.saturating_add(2)),
             ),
+            50 | 51 if space.deletes => Event::Cleanup(session),
             _ => self.upkeep(space),
         }
     }

@@ -42,6 +42,11 @@ pub struct Judge {
     tally: Tally,
 }
 
+/// Whether a bulk delete or a cleanup is asked for.
+fn is_vacuum(ask: &PlainAsk) -> bool {
+    matches!(ask, PlainAsk::Deletes(_) | PlainAsk::Cleans)
+}
+
 impl Judge {
     /// Of a run that begins with these pages and the entries on them, and its sessions without a call.
     pub fn new(
@@ -140,9 +145,27 @@ impl Judge {
         }
     }
 
-    /// Whether some session runs a bulk delete.
-    fn one_deletes(&self) -> bool {
-        (0..self.space.sessions).any(|session| self.is_deleting(session))
+    fn is_cleaning(&self, session: u32) -> bool {
+        match self.running(session) {
+            Some(call) => matches!(
+                self.calls.get(call),
+                Some(PlainCall {
+                    ask: PlainAsk::Cleans,
+                    ..
+                })
+            ),
+            None => false,
+        }
+    }
+
+    /// Whether the session runs a bulk delete or a cleanup.
+    fn is_vacuuming(&self, session: u32) -> bool {
+        self.is_deleting(session) || self.is_cleaning(session)
+    }
+
+    /// Whether some session runs one.
+    fn one_vacuums(&self) -> bool {
+        (0..self.space.sessions).any(|session| self.is_vacuuming(session))
     }
 
     /// What an action of the session's call, which left these pages, has done: it adds the call's entry, if that is there
@@ -174,6 +197,7 @@ impl Judge {
         let effect = self.effect_of(session, &pages)?;
         let adds = matches!(&effect, PlainEffect::Adds(_));
         let removes = matches!(&effect, PlainEffect::Removes(_));
+        let cleans = self.is_cleaning(session);
         self.tally.reach(root_level(&pages));
         self.waiting
             .changes(&self.pages, &pages, self.history.len())?;
@@ -187,6 +211,8 @@ impl Judge {
             call.added = Some(self.history.len());
         } else if removes {
             self.tally.remove();
+        } else if cleans {
+            self.tally.clean();
         } else {
             self.tally.reshape(call.added.is_none());
         }
@@ -203,6 +229,7 @@ impl Judge {
             Event::Insert(_, _)
             | Event::Scan(_, _)
             | Event::Bulk(_, _)
+            | Event::Cleanup(_)
             | Event::Force
             | Event::Flush
             | Event::Checkpoint
@@ -218,6 +245,7 @@ impl Judge {
                 Some(rows) => self.begins(*session, PlainAsk::Deletes(rows), answer),
                 None => Ok(matches!(answer, Answer::Refused(Fault::NoSession))),
             },
+            Event::Cleanup(session) => self.begins(*session, PlainAsk::Cleans, answer),
             Event::Step(session) => Ok(self.steps(*session, answer)),
             Event::Next(session) => self.gives(*session, answer),
             Event::End(session) => Ok(match answer {
@@ -236,11 +264,11 @@ impl Judge {
             Answer::Refused(Fault::SessionBusy) => return Ok(self.is_running(session)),
             Answer::Refused(Fault::NoSession) => return Ok(session as usize >= self.running.len()),
             Answer::Refused(Fault::VacuumRunning) => {
-                return Ok(matches!(&ask, PlainAsk::Deletes(_)) && self.one_deletes());
+                return Ok(is_vacuum(&ask) && self.one_vacuums());
             }
             _ => return Ok(false),
         }
-        if self.is_running(session) || matches!(&ask, PlainAsk::Deletes(_)) && self.one_deletes() {
+        if self.is_running(session) || is_vacuum(&ask) && self.one_vacuums() {
             return Ok(false);
         }
         let Some(place) = self.running.get_mut(session as usize) else {
@@ -276,9 +304,13 @@ impl Judge {
                     )
             }
             Answer::Done => self.ends(session, PlainEnding::HasFinished),
-            Answer::Finished(stats) => self.ends(session, PlainEnding::HasVacuumed(*stats)),
+            Answer::Finished(stats) => {
+                let cleans = self.is_cleaning(session);
+                self.tally.finish(cleans);
+                self.ends(session, PlainEnding::HasVacuumed(*stats))
+            }
             Answer::Refused(Fault::NoSession) => !self.is_running(session),
-            Answer::Refused(Fault::LogFull) if self.is_deleting(session) => {
+            Answer::Refused(Fault::LogFull) if self.is_vacuuming(session) => {
                 self.ends(session, PlainEnding::HasFailed(Fault::LogFull))
             }
             Answer::Refused(fault) => {
@@ -321,7 +353,10 @@ impl Judge {
             Answer::Gave(Some(entry)) => call.given.push(*entry)?,
             Answer::Gave(None) => {}
             Answer::Refused(Fault::NoSession) => {
-                return Ok(matches!(&call.ask, PlainAsk::Inserts(_) | PlainAsk::Deletes(_)));
+                return Ok(matches!(
+                    &call.ask,
+                    PlainAsk::Inserts(_) | PlainAsk::Deletes(_) | PlainAsk::Cleans
+                ));
             }
             _ => return Ok(false),
         }
@@ -436,7 +471,10 @@ impl Judge {
                 PlainEnding::HasAdded(_, _) | PlainEnding::HasFinished => false,
                 _ => true,
             },
-            PlainAsk::Cleans => false,
+            PlainAsk::Cleans => !matches!(
+                &call.ending,
+                PlainEnding::HasAdded(_, _) | PlainEnding::HasFinished
+            ),
         }
     }
 

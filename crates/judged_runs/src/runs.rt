@@ -40,6 +40,7 @@ fn session_of(event: &Event) -> u32 {
         Event::Insert(session, _)
         | Event::Scan(session, _)
         | Event::Bulk(session, _)
+        | Event::Cleanup(session)
         | Event::Step(session)
         | Event::Next(session)
         | Event::End(session) => *session,

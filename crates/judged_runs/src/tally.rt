@@ -20,6 +20,10 @@ pub struct Tally {
     pub removes: u32,
     /// Bulk deletes that have finished.
     pub deletes: u32,
+    /// Actions of cleanups: a leaf made half-dead, or deleted.
+    pub deaths: u32,
+    /// Cleanups that have finished.
+    pub cleanups: u32,
     /// Scans that gave all.
     pub scans: u32,
     /// Pages written by a flush.
@@ -65,7 +69,6 @@ impl Tally {
                 ..
             } => count(&mut self.unfinished),
             Answer::Done => count(&mut self.scans),
-            Answer::Finished(_) => count(&mut self.deletes),
             Answer::Flushed(Some(_)) => count(&mut self.flushed),
             Answer::Ended => count(&mut self.given_up),
             _ => {}
@@ -102,6 +105,20 @@ impl Tally {
         count(&mut self.removes);
     }
 
+    /// Counts an action of a cleanup.
+    pub fn clean(&mut self) {
+        count(&mut self.deaths);
+    }
+
+    /// Counts a bulk delete or a cleanup that has finished.
+    pub fn finish(&mut self, cleans: bool) {
+        if cleans {
+            count(&mut self.cleanups);
+        } else {
+            count(&mut self.deletes);
+        }
+    }
+
     /// Marks the level of a root.
     pub fn reach(&mut self, level: u8) {
         self.level = self.level.max(level);
@@ -132,6 +149,8 @@ impl Tally {
         self.unfinished = self.unfinished.saturating_add(other.unfinished);
         self.removes = self.removes.saturating_add(other.removes);
         self.deletes = self.deletes.saturating_add(other.deletes);
+        self.deaths = self.deaths.saturating_add(other.deaths);
+        self.cleanups = self.cleanups.saturating_add(other.cleanups);
         self.scans = self.scans.saturating_add(other.scans);
         self.flushed = self.flushed.saturating_add(other.flushed);
         self.given_up = self.given_up.saturating_add(other.given_up);

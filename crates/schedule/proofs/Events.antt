@@ -15,30 +15,30 @@ use Rattle.page_action.specs.States.{State, IsLater}
 use Rattle.page_action.specs.declared.page_store.PageStore.{Ghosts}
 use Rattle.descent.specs.Shared.{OthersRely}
 use Rattle.session_calls.specs.Due.{IsDueIn, HasSteps}
-use Rattle.session_calls.specs.Ops.{DeadSets, asked_by, op_before, asks_vacuum, is_vacuum, is_vacuuming, IsOfSets, IsCaused}
+use Rattle.session_calls.specs.Ops.{DeadSets, asked_by, op_before, asks_vacuum, asks_sweep, is_vacuum, is_sweep, is_sweeping, IsOfSets, IsCaused}
 use Rattle.session_calls.specs.Sessions.{Matches, OpRuns, CallFits, SlotFits, IsIdle, acts_of, begun_call, after_request, SessionGoes, SessionBegins, OnlyOwnAreFlagged}
 use Rattle.session_calls.specs.Sweeps.{OpSweeps}
 use Rattle.session_calls.specs.declared.answer.Answer.{Answer}
 use Rattle.session_calls.specs.declared.answer.Answer.TheVariants.{Begun, Forced, Flushed, Checkpointed, Refused}
 use Rattle.session_calls.specs.declared.op.Op.{Op}
-use Rattle.session_calls.specs.declared.op.Op.TheVariants.{Insert, Scan, Bulk}
+use Rattle.session_calls.specs.declared.op.Op.TheVariants.{Insert, Scan, Bulk, Cleanup}
 use Rattle.session_calls.specs.declared.request.Request.{Request}
-use Rattle.session_calls.specs.declared.request.Request.TheVariants.{Insert as ToInsert, Scan as ToScan, Bulk as ToBulk}
+use Rattle.session_calls.specs.declared.request.Request.TheVariants.{Insert as ToInsert, Scan as ToScan, Bulk as ToBulk, Cleanup as ToCleanup}
 use Rattle.tree_acts.specs.Leaves.{LeavesStay}
 use Rattle.session_calls.proofs.Counting.{due_still}
 use Rattle.session_calls.proofs.Meeting.{grown}
 use Rattle.session_calls.proofs.Sweeping.{sweeps_undisturbed}
 use Rattle.session_calls.proofs.Telling.{told_same}
 use Rattle.session_calls.proofs.Undisturbed.{undisturbed, idle_undisturbed}
-use Rattle.schedule.specs.Snapshots.{Snapshot, here_at, slot_of, IsRunningCall, SlotRuns, IsFree, SlotMatches, slot_vacuums, OneVacuums, Fits, slot_has_call, has_call}
-use Rattle.schedule.specs.Events.{Move, Steps, Takes, GivesUp, Upkeep, Forces, Flushes, Checkpoints, UpkeepIsTold, AllAreDurable, Kind, BeginsCall, MovesCall, KeepsStore, IsOfSession, Stays, kept_answer, MovesOn, MayBegin, is_of_sets, session_to_begin, where_begun_at, where_moving, Happens, where_happening, OthersStay, session_at, EventAlways, CountsSteps, KeepsFlags, WaitsForPins, CountsOnEntries, LeavesBe, IsDurable, EventDoes}
+use Rattle.schedule.specs.Snapshots.{Snapshot, here_at, slot_of, IsRunningCall, SlotRuns, IsFree, SlotMatches, slot_vacuums, slot_sweeps, one_vacuums, OneVacuums, Fits, slot_has_call, has_call}
+use Rattle.schedule.specs.Events.{Move, Steps, Takes, GivesUp, Upkeep, Forces, Flushes, Checkpoints, UpkeepIsTold, AllAreDurable, Kind, BeginsCall, MovesCall, KeepsStore, IsOfSession, Stays, kept_answer, MovesOn, MayBegin, is_of_sets, session_to_begin, where_begun_at, where_moving, Happens, where_happening, OthersStay, session_at, EventAlways, CountsSteps, KeepsFlags, WaitsForPins, CountsOnEntries, SparesOn, LeavesBe, IsDurable, EventDoes}
 use Rattle.schedule.specs.Runs.{EventRuns}
 use Rattle.schedule.proofs.Frames.{began_within, slot_is, goes_fits}
 use Rattle.schedule.proofs.Keeping.{no_growth}
-use Rattle.schedule.proofs.Leaves.{leaf_same, leaf_stays}
+use Rattle.schedule.proofs.Leaves.{leaf_same}
 use Rattle.schedule.proofs.Lists.{get_set_same, get_set_other, length_set, get_within, get_append_some, get_append_new, get_append_cases, same_some}
 use Rattle.schedule.proofs.Owners.{told_durable, acts_few}
-use Rattle.schedule.proofs.Vacuums.{before_vacuum, none_runs, vacuums_still, vacuums_begin}
+use Rattle.schedule.proofs.Vacuums.{before_vacuum, before_sweep, calm_request, none_runs, vacuums_still, sweep_begins, cleanup_begins}
 
 true_false : true ≡ false → ⊥
 true_false h = cc
@@ -127,7 +127,8 @@ module _ {S : Type 0} (g : Ghosts S) (start : Entry → Bool) (old : Snapshot S)
     (always : EventAlways g (MovesCall session move) answer (here_at old) (record { store = store; slots = slice_set old.slots session slot; sets = old.sets }))
     (counts : (start' : Entry → Bool) (l : List Action) (n : ℕ) (c : Call) → SlotFits (g.state old.store) old.sets start' l n c (Some op) → CountsSteps (MovesCall session move) answer (g.state old.store) (g.state store) (Some op) slot)
     (flagged : (start' : Entry → Bool) (l : List Action) (n : ℕ) (c : Call) → SlotFits (g.state old.store) old.sets start' l n c (Some op) → KeepsFlags (MovesCall session move) answer (g.state old.store) (g.state store) (Some op) slot)
-    (waits : WaitsForPins (MovesCall session move) answer (g.state old.store) (Some op) slot) (entries : CountsOnEntries (MovesCall session move) old.sets answer (g.state old.store) (g.state store) (Some op) slot) where
+    (waits : WaitsForPins (MovesCall session move) answer (g.state old.store) (Some op) slot) (entries : CountsOnEntries (MovesCall session move) old.sets answer (g.state old.store) (g.state store) (Some op) slot)
+    (spares : SparesOn (MovesCall session move) answer (g.state old.store) (g.state store) (Some op) slot) where
   runs : SlotRuns g start old session op
   runs = fits.running session (Some op) found
 
@@ -168,7 +169,7 @@ module _ {S : Type 0} (g : Ghosts S) (start : Entry → Bool) (old : Snapshot S)
       history_is = refl;
       calls_is = refl;
       others = others;
-      flags = one.flags;
+      shape = one.shape;
     });
     grows = record { acts = acts_of runs.number one.effect; is = refl; few = acts_few runs.number one.effect };
     caused = subst (λ (o : Option (Option Op)). IsCaused (where_moving g old.sets old.store store move o) answer) (sym found) (subst (λ (x : Circumstances). IsCaused x answer) (sym where_is) one.caused);
@@ -176,7 +177,8 @@ module _ {S : Type 0} (g : Ghosts S) (start : Entry → Bool) (old : Snapshot S)
     flagged = at_slots old.slots session (Some op) slot (λ x y. KeepsFlags (MovesCall session move) answer (g.state old.store) (g.state store) x y) found (flagged start old.history runs.number runs.call fit);
     waits = at_slots old.slots session (Some op) slot (λ x y. WaitsForPins (MovesCall session move) answer (g.state old.store) x y) found waits;
     entries = at_slots old.slots session (Some op) slot (λ x y. CountsOnEntries (MovesCall session move) old.sets answer (g.state old.store) (g.state store) x y) found entries;
-    leaves = λ other block page apart there pinned. leaf_stays at (g.state old.store) (g.state store) old.sets start old.history runs.number runs.call op slot answer one runs.runs.ask runs.runs.added runs.is.running block page there;
+    spares = at_slots old.slots session (Some op) slot (λ x y. SparesOn (MovesCall session move) answer (g.state old.store) (g.state store) x y) found spares;
+    leaves = λ other block page apart there pinned. one.pinned other block page (λ e. apart (sym (e ∙ runs.is.session_is))) there pinned;
     quiet = leaves_be g (MovesCall session move) old new one.limits one.frames (λ same. one.pages (no_effect one.effect same)) (others_stay_set old.slots session slot);
     durable = told_durable answer (g.backing store).durable (length old.history) one.effect runs.call one.after one.told;
     sets = refl;
@@ -228,6 +230,13 @@ module _ {S : Type 0} (g : Ghosts S) (start : Entry → Bool) (old : Snapshot S)
   entries_stay (MovesCall session GivesUp) before idle = tt
   entries_stay (KeepsStore upkeep) before idle = tt
 
+  spares_stay : (kind : Kind) (before : Option Op) → ((session : ℕ) → kind ≡ MovesCall session Steps → before ≡ None) → SparesOn kind (Refused fault) (g.state old.store) (g.state store) before before
+  spares_stay (BeginsCall session request) before idle = tt
+  spares_stay (MovesCall session Steps) before idle = subst (λ (o : Option Op). SparesOn (MovesCall session Steps) (Refused fault) (g.state old.store) (g.state store) o o) (sym (idle session refl)) tt
+  spares_stay (MovesCall session Takes) before idle = tt
+  spares_stay (MovesCall session GivesUp) before idle = tt
+  spares_stay (KeepsStore upkeep) before idle = tt
+
   stay_with : (kind : Kind) → Happens g start kind (Refused fault) old then_now → EventAlways g kind (Refused fault) (here_at old) (here_at then_now) → IsCaused (where_happening g kind (here_at old) (here_at then_now)) (Refused fault)
       → ((session : ℕ) → kind ≡ MovesCall session Steps → slot_of old.slots (session_at kind) ≡ None)
       → EventDoes g start kind (Refused fault) old then_now
@@ -240,6 +249,7 @@ module _ {S : Type 0} (g : Ghosts S) (start : Entry → Bool) (old : Snapshot S)
     flagged = flags_stay kind (slot_of old.slots (session_at kind));
     waits = waits_stay kind (slot_of old.slots (session_at kind)) idle;
     entries = entries_stay kind (slot_of old.slots (session_at kind)) idle;
+    spares = spares_stay kind (slot_of old.slots (session_at kind)) idle;
     leaves = λ other block page apart there pinned. leaf_same (g.state old.store) (g.state store) (ap (λ (st : State). st.pages) same) block page there;
     quiet = stays_be g kind old then_now same refl;
     durable = tt;
@@ -299,6 +309,7 @@ module _ {S : Type 0} (g : Ghosts S) (start : Entry → Bool) (old : Snapshot S)
           flagged = tt;
           waits = tt;
           entries = tt;
+          spares = tt;
           leaves = λ other block page apart there pinned. leaf_same (g.state old.store) (g.state store) (ap (λ (st : State). st.pages) same) block page there;
           quiet = stays_be g (KeepsStore upkeep) old then same refl;
           durable = kept_durable upkeep count (g.backing store).durable answer told (let n : count ≡ (g.state old.store).acts = number in let d : (g.backing store).durable ≡ (g.state old.store).acts = durable in omega arith);
@@ -328,6 +339,7 @@ flushes_on_store {S} g start old store fits same follows later block first alway
         flagged = tt;
         waits = tt;
         entries = tt;
+        spares = tt;
         leaves = λ other block page apart there pinned. leaf_same (g.state old.store) (g.state store) (ap (λ (st : State). st.pages) same) block page there;
         quiet = stays_be g (KeepsStore Flushes) old then same refl;
         durable = tt;
@@ -358,7 +370,7 @@ request_acts false session st = refl
 -- a call is begun
 module _ {S : Type 0} (g : Ghosts S) (start : Entry → Bool) (old : Snapshot S) (store : S) (session : ℕ) (request : Request) (op : Op)
     (fits : Fits g start old) (free : slice_get old.slots session ≡ Some None) (begins : SessionBegins (g.state old.store) (g.state store) old.sets start old.history (length old.calls) session request (Some op))
-    (named : IsOfSets old.sets request) (alone : asks_vacuum request ≡ true → is_vacuuming (g.state old.store) ≡ false) (fresh : op ≡ op_before session request) where
+    (named : IsOfSets old.sets request) (alone : asks_vacuum request ≡ true → one_vacuums old.slots ≡ false) (fresh : op ≡ op_before session request) where
   abbrev call : Call
   call = begun_call session (asked_by old.sets request) (length old.history)
 
@@ -375,38 +387,49 @@ module _ {S : Type 0} (g : Ghosts S) (start : Entry → Bool) (old : Snapshot S)
   within_slots : session < length old.slots
   within_slots = get_within old.slots session None free
 
-  -- it is a bulk delete exactly where one was asked for
+  -- it is a bulk delete or a cleanup exactly where one was asked for
   vacuum_is : is_vacuum op ≡ asks_vacuum request
   vacuum_is = ap is_vacuum fresh ∙ before_vacuum session request
 
-  -- where a bulk delete runs, none begins, and leaves stay
+  sweep_is : is_sweep op ≡ asks_sweep request
+  sweep_is = ap is_sweep fresh ∙ before_sweep session request
+
+  -- where a bulk delete runs, neither that nor a cleanup begins, and leaves stay
   stay_for : (u : ℕ) → slot_vacuums (slot_of old.slots u) ≡ true → LeavesStay None (g.state old.store) (g.state store)
   stay_for u theirs_runs = by (asks_vacuum request) refl
     where
       by : (b : Bool) → asks_vacuum request ≡ b → LeavesStay None (g.state old.store) (g.state store)
-      by true is = absurd (none_runs (g.state old.store) old.slots fits.vacuums (alone is) u theirs_runs)
-      by false is = begins.leaves (begins.cycle is)
+      by true is = absurd (none_runs old.slots (alone is) u theirs_runs)
+      by false is = begins.leaves (begins.cycle (calm_request request is))
 
   sweep_theirs : (u : ℕ) (other : Op) (number began : ℕ) → slot_of old.slots u ≡ Some other → began ≤ length old.history
       → OpSweeps (g.state old.store) old.sets start old.history number began other → OpSweeps (g.state store) old.sets start old.history number began other
   sweep_theirs u (Insert x) number began is within h = tt
   sweep_theirs u (Scan x) number began is within h = tt
+  sweep_theirs u (Cleanup x) number began is within h = tt
   sweep_theirs u (Bulk set x) number began is within h =
       subst (λ (l : List Action). OpSweeps (g.state store) old.sets start l number began (Bulk set x)) (append-nil old.history)
       (sweeps_undisturbed (g.state old.store) (g.state store) old.sets start old.history number (suc number) began None (Bulk set x) (stay_for u (ap slot_vacuums is)) (λ e. absurd (let n : suc number ≡ number = e in omega arith)) within h)
 
   -- what a bulk delete has to remove that begins: a cycle number is given for it
-  given_cycle : (o : Op) → is_vacuum o ≡ true → OpSweeps (g.state store) old.sets start old.history (length old.calls) (length old.history) o → is_vacuuming (g.state store) ≡ true
+  given_cycle : (o : Op) → is_sweep o ≡ true → OpSweeps (g.state store) old.sets start old.history (length old.calls) (length old.history) o → is_sweeping (g.state store) ≡ true
   given_cycle (Insert x) is h = absurd (true_false (sym is))
   given_cycle (Scan x) is h = absurd (true_false (sym is))
+  given_cycle (Cleanup x) is h = absurd (true_false (sym is))
   given_cycle (Bulk set x) is h = h.1.runs
 
   begun_vacuums : OneVacuums (g.state store) (slice_set old.slots session (Some op))
-  begun_vacuums = by (asks_vacuum request) refl
+  begun_vacuums = by (asks_vacuum request) refl (asks_sweep request) refl
     where
-      by : (b : Bool) → asks_vacuum request ≡ b → OneVacuums (g.state store) (slice_set old.slots session (Some op))
-      by true is = vacuums_begin (g.state old.store) (g.state store) old.slots session (Some op) within_slots (vacuum_is ∙ is) (alone is) (given_cycle op (vacuum_is ∙ is) (begins.sweeps named)) fits.vacuums
-      by false is = vacuums_still (g.state old.store) (g.state store) old.slots session (Some op) within_slots (vacuum_is ∙ is ∙ sym (ap slot_vacuums (slot_is old.slots session None free))) (begins.cycle is) fits.vacuums
+      was_none : slot_of old.slots session ≡ None
+      was_none = slot_is old.slots session None free
+
+      by : (b : Bool) → asks_vacuum request ≡ b → (c : Bool) → asks_sweep request ≡ c → OneVacuums (g.state store) (slice_set old.slots session (Some op))
+      by true is true sweeps = sweep_begins (g.state old.store) old.slots session (Some op) within_slots (vacuum_is ∙ is) (alone is) fits.vacuums (g.state store) (sweep_is ∙ sweeps)
+          (given_cycle op (sweep_is ∙ sweeps) (begins.sweeps named))
+      by true is false calm = cleanup_begins (g.state old.store) old.slots session (Some op) within_slots (vacuum_is ∙ is) (alone is) fits.vacuums (g.state store) (sweep_is ∙ calm) (begins.cycle calm)
+      by false is c sweeps = vacuums_still (g.state old.store) (g.state store) old.slots session (Some op) within_slots (vacuum_is ∙ is ∙ sym (ap slot_vacuums was_none))
+          (sweep_is ∙ calm_request request is ∙ sym (ap slot_sweeps was_none)) (begins.cycle (calm_request request is)) fits.vacuums
 
   begun_slot : (u : ℕ) (o : Option Op) → u ≢ session → slice_get old.slots u ≡ Some o → SlotMatches g start old u o → SlotMatches g start begun u o
   begun_slot u None ne in_slot h = record {
@@ -461,7 +484,7 @@ module _ {S : Type 0} (g : Ghosts S) (start : Entry → Bool) (old : Snapshot S)
             record { call = was.call; found = get_append_some old.calls (call ∷ []) a.by was.call was.found; since = was.since; until = was.until; may = was.may });
       }
 
-  pub begins_on : g.state store ≡ after_request (asks_vacuum request) session (g.state old.store) → g.follows old.store store → IsLater (g.backing old.store) (g.backing store) → HasSteps (g.state old.store) (g.state store) request (Some op)
+  pub begins_on : g.state store ≡ after_request (asks_sweep request) session (g.state old.store) → g.follows old.store store → IsLater (g.backing old.store) (g.backing store) → HasSteps (g.state old.store) (g.state store) request (Some op)
       → EventAlways g (BeginsCall session request) Begun (here_at old) (record { store = store; slots = slice_set old.slots session (Some op); sets = old.sets })
       → EventRuns g (here_at old) (record { store = store; slots = slice_set old.slots session (Some op); sets = old.sets }) (BeginsCall session request) Begun start old.history old.calls
   begins_on state follows later counts always = record {
@@ -477,9 +500,10 @@ module _ {S : Type 0} (g : Ghosts S) (start : Entry → Bool) (old : Snapshot S)
       flagged = tt;
       waits = tt;
       entries = tt;
-      leaves = λ other block page apart there pinned. leaf_same (g.state old.store) (g.state store) (ap (λ (st : State). st.pages) state ∙ request_pages (asks_vacuum request) session (g.state old.store)) block page there;
-      quiet = leaves_be g (BeginsCall session request) old begun (ap (λ (st : State). st.limits) state ∙ request_limits (asks_vacuum request) session (g.state old.store)) (ap (λ (st : State). st.frames) state ∙ request_frames (asks_vacuum request) session (g.state old.store))
-          (λ same. ap (λ (st : State). st.pages) state ∙ request_pages (asks_vacuum request) session (g.state old.store)) (others_stay_set old.slots session (Some op));
+      spares = tt;
+      leaves = λ other block page apart there pinned. leaf_same (g.state old.store) (g.state store) (ap (λ (st : State). st.pages) state ∙ request_pages (asks_sweep request) session (g.state old.store)) block page there;
+      quiet = leaves_be g (BeginsCall session request) old begun (ap (λ (st : State). st.limits) state ∙ request_limits (asks_sweep request) session (g.state old.store)) (ap (λ (st : State). st.frames) state ∙ request_frames (asks_sweep request) session (g.state old.store))
+          (λ same. ap (λ (st : State). st.pages) state ∙ request_pages (asks_sweep request) session (g.state old.store)) (others_stay_set old.slots session (Some op));
       durable = tt;
       sets = refl;
       follows = follows;
@@ -500,6 +524,7 @@ found false true (Some (Some op)) session known h = absurd cc
 pub named_of : (sets : DeadSets) (request : Request) → is_of_sets sets request ≡ true → IsOfSets sets request
 named_of sets (ToInsert e) h = tt
 named_of sets (ToScan range) h = tt
+named_of sets ToCleanup h = tt
 named_of sets (ToBulk set) h = ltb-true set (length sets) h
 
 -- a refused beginning is one of these, whatever the session has

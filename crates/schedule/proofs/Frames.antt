@@ -10,17 +10,17 @@ use Rattle.page_action.specs.declared.page_store.PageStore.{Ghosts}
 use Rattle.descent.specs.Shared.{OthersRely}
 use Rattle.tree_acts.specs.Leaves.{LeavesStay}
 use Rattle.session_calls.specs.Ops.{asked_of, is_vacuum}
-use Rattle.session_calls.specs.Sessions.{Matches, IsIdle, SlotIs, IsAsked, acts_of, cycle_behind}
+use Rattle.session_calls.specs.Sessions.{Matches, IsIdle, SlotIs, IsAsked, acts_of, cycle_behind, asks_cleanup}
 use Rattle.session_calls.specs.Sweeps.{OpSweeps, SlotSweeps}
 use Rattle.session_calls.specs.declared.op.Op.{Op}
-use Rattle.session_calls.specs.declared.op.Op.TheVariants.{Insert, Scan, Bulk}
+use Rattle.session_calls.specs.declared.op.Op.TheVariants.{Insert, Scan, Bulk, Cleanup}
 use Rattle.session_calls.proofs.Sweeping.{sweeps_undisturbed}
 use Rattle.session_calls.proofs.Telling.{IsSameCall}
 use Rattle.session_calls.proofs.Undisturbed.{undisturbed, idle_undisturbed}
 use Rattle.schedule.specs.Snapshots.{Snapshot, slot_of, IsRunningCall, SlotRuns, SlotMatches, slot_vacuums, Fits}
 use Rattle.schedule.proofs.Lists.{get_set_same, get_set_other, length_set, get_within, get_append, get_append_right, same_some}
 use Rattle.schedule.proofs.Owners.{add_stays, own_action}
-use Rattle.schedule.proofs.Vacuums.{vacuums_go, cycle_kept}
+use Rattle.schedule.proofs.Vacuums.{vacuums_go, cycle_kept, calm_sweep, calm_cleanup}
 
 -- what was there before actions that came later
 may_later : (start : Entry → Bool) (history acts : List Action) (before : ℕ) (effect : Effect) (ask : Ask) (added : Option ℕ) → before ≤ length history
@@ -80,7 +80,7 @@ module _ {S : Type 0} (g : Ghosts S) (start : Entry → Bool) (old : Snapshot S)
     (asked : IsAsked (contents_after start old.history) runs.call.ask runs.call.added effect)
     (others : OthersRely session (g.state old.store) (g.state store)) (world : Matches (g.state store) start (old.history ++ acts_of runs.number effect)) (meets : Meets start (old.history ++ acts_of runs.number effect) runs.number after)
     (holds : SlotIs (g.state store) old.sets start (old.history ++ acts_of runs.number effect) after slot)
-    (cycle : (g.state store).cycle ≡ cycle_behind runs.call.ask slot (g.state old.store).cycle) (leaves : (g.state store).cycle ≡ (g.state old.store).cycle → LeavesStay effect (g.state old.store) (g.state store))
+    (cycle : (g.state store).cycle ≡ cycle_behind runs.call.ask slot (g.state old.store).cycle) (leaves : asks_cleanup runs.call.ask ≡ false → (g.state store).cycle ≡ (g.state old.store).cycle → LeavesStay effect (g.state old.store) (g.state store))
     (sweeps : SlotSweeps (g.state store) old.sets start (old.history ++ acts_of runs.number effect) runs.number after.began slot) where
   abbrev acts : List Action
   acts = acts_of runs.number effect
@@ -130,19 +130,20 @@ module _ {S : Type 0} (g : Ghosts S) (start : Entry → Bool) (old : Snapshot S)
   cycle_by : (g.state store).cycle ≡ cycle_behind (asked_of old.sets op) slot (g.state old.store).cycle
   cycle_by = subst (λ (x : Ask). (g.state store).cycle ≡ cycle_behind x slot (g.state old.store).cycle) runs.runs.ask cycle
 
-  -- where another session runs a bulk delete, this one doesn't, and leaves stay
+  -- where another session runs a bulk delete, this one runs neither that nor a cleanup, and leaves stay
   stay_for : (u : ℕ) → u ≢ session → slot_vacuums (slot_of old.slots u) ≡ true → LeavesStay effect (g.state old.store) (g.state store)
   stay_for u ne theirs_runs = by (is_vacuum op) refl
     where
       by : (b : Bool) → is_vacuum op ≡ b → LeavesStay effect (g.state old.store) (g.state store)
       by true is = absurd (ne (fits.vacuums.alone u session theirs_runs (ap slot_vacuums (slot_is old.slots session (Some op) at) ∙ is)))
-      by false is = leaves (cycle_by ∙ cycle_kept old.sets op slot (g.state old.store).cycle is)
+      by false is = leaves (ap asks_cleanup runs.runs.ask ∙ calm_cleanup old.sets op is) (cycle_by ∙ cycle_kept old.sets op slot (g.state old.store).cycle (calm_sweep op is))
 
   -- what another session's bulk delete has to remove is to come still
   sweep_theirs : (u : ℕ) (other : Op) (number began : ℕ) → u ≢ session → slot_of old.slots u ≡ Some other → number ≢ runs.number → began ≤ length old.history
       → OpSweeps (g.state old.store) old.sets start old.history number began other → OpSweeps (g.state store) old.sets start (old.history ++ acts) number began other
   sweep_theirs u (Insert x) number began ne is apart within h = tt
   sweep_theirs u (Scan x) number began ne is apart within h = tt
+  sweep_theirs u (Cleanup x) number began ne is apart within h = tt
   sweep_theirs u (Bulk set x) number began ne is apart within h =
       sweeps_undisturbed (g.state old.store) (g.state store) old.sets start old.history number runs.number began effect (Bulk set x) (stay_for u ne (ap slot_vacuums is)) (λ e. apart (sym e)) within h
 

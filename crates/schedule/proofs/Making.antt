@@ -11,8 +11,8 @@ use Rattle.page_action.specs.Causes.{nothing_wrong, where_forced}
 use Rattle.page_action.specs.States.{State}
 use Rattle.page_action.specs.declared.page_store.PageStore.{Ghosts}
 use Rattle.session_calls.specs.Due.{IsDueIn, CountsDown, HasSteps}
-use Rattle.session_calls.specs.Ops.{DeadSets, op_before, asks_vacuum, is_vacuum, is_vacuuming, session_of, asked_of, where_slot_stepped, where_asked_next, where_requesting, where_beginning, AnswersStopped}
-use Rattle.session_calls.specs.Sessions.{Matches, IsIdle, SlotFits, KeepsPages, SessionGoes, SessionBegins, IsBegun, BeginsBy, after_call, let_go, is_busy, slot_add, LeavesLess, LeavesNoMore, GivesLess, AnswersStep, AnswersNext, AnswersEnd, RefusalChangesNothing, OnlyWritersAct, OnlyOwnAreFlagged, LeavesOwnFlagged, KeepsBeforePins, CountsEntries}
+use Rattle.session_calls.specs.Ops.{DeadSets, op_before, asks_vacuum, asks_sweep, is_sweep, session_of, asked_of, where_slot_stepped, where_asked_next, where_requesting, where_beginning, AnswersStopped}
+use Rattle.session_calls.specs.Sessions.{Matches, IsIdle, SlotFits, KeepsPages, SessionGoes, SessionBegins, IsBegun, BeginsBy, after_call, let_go, is_busy, slot_add, LeavesLess, LeavesNoMore, GivesLess, AnswersStep, AnswersNext, AnswersEnd, RefusalChangesNothing, OnlyWritersAct, OnlyOwnAreFlagged, LeavesOwnFlagged, KeepsBeforePins, CountsEntries, SparesLeaves}
 use Rattle.session_calls.specs.declared.answer.Answer.{Answer}
 use Rattle.session_calls.specs.declared.answer.Answer.TheVariants.{Begun, Going, Added, Ready, Done, Finished, Gave, Ended, Forced, Flushed, Checkpointed, Refused}
 use Rattle.session_calls.specs.declared.op.Op.{Op}
@@ -23,7 +23,7 @@ use Rattle.schedule.specs.Runs.{EventRuns, Makes}
 use Rattle.schedule.proofs.Events.{at_slots, others_stay_set, moves_on, stays_on, refused_stay, keeps_on_store, flushes_on_store, begins_on, named_of, request_pages, request_limits, request_frames, request_acts, not_begun, not_found_why, not_found_first, set_same}
 use Rattle.schedule.proofs.Keeping.{Laws}
 use Rattle.schedule.proofs.Lists.{length_set, get_within, same_some}
-use Rattle.schedule.proofs.Vacuums.{set_is}
+use Rattle.schedule.proofs.Vacuums.{set_is, not_excluded}
 
 -- what does no act
 no_act : (old new : State) → new.acts ≡ old.acts → new.pages ≡ old.pages → new.limits ≡ old.limits → new.frames ≡ old.frames → DoesOneAct old new
@@ -74,8 +74,9 @@ module _ {S : Type 0} (g : Ghosts S) (laws : Laws g) (old new : S) (follows : g.
       → OnlyOwnAreFlagged (g.state old) before → LeavesOwnFlagged (g.state new) before slot answer)
       → ((g.backing new).honest ≡ true → KeepsBeforePins (g.state old) before slot answer)
       → ((g.backing new).honest ≡ true → CountsEntries sets (g.state old) (g.state new) before slot answer)
+      → ((g.backing new).honest ≡ true → SparesLeaves (g.state old) (g.state new) before slot answer)
       → Makes g (MovesCall session Steps) answer (here_with old slots sets) (here_with new (slice_set slots session slot) sets)
-  step_makes kind refused stopped less kept calm no_more goes due flagged pins entries = record {
+  step_makes kind refused stopped less kept calm no_more goes due flagged pins entries spares = record {
     sessions = length_set slots session slot;
     always = always;
     does = λ honest start history calls fits.
@@ -90,7 +91,8 @@ module _ {S : Type 0} (g : Ghosts S) (laws : Laws g) (old new : S) (follows : g.
         (λ s l n c runs. subst (λ (x : Option Op). OnlyOwnAreFlagged (g.state old) x → LeavesOwnFlagged (g.state new) x slot answer) is
         (flagged honest s l n c (subst (λ (x : Option Op). SlotFits (g.state old) sets s l n c x) (sym is) runs)))
         (subst (λ (x : Option Op). KeepsBeforePins (g.state old) x slot answer) is (pins honest))
-        (subst (λ (x : Option Op). CountsEntries sets (g.state old) (g.state new) x slot answer) is (entries honest));
+        (subst (λ (x : Option Op). CountsEntries sets (g.state old) (g.state new) x slot answer) is (entries honest))
+        (subst (λ (x : Option Op). SparesLeaves (g.state old) (g.state new) x slot answer) is (spares honest));
   }
     where
       always : EventAlways g (MovesCall session Steps) answer (here_with old slots sets) (here_with new (slice_set slots session slot) sets)
@@ -117,7 +119,7 @@ module _ {S : Type 0} (g : Ghosts S) (laws : Laws g) (old new : S) (follows : g.
     does = λ honest start history calls fits.
         moves_on g start (snapshot_of (here_with old slots sets) history calls) new session op slot GivesUp nothing_wrong answer fits found_op follows (laws.follows_later old new follows)
         (λ number call runs. goes start history number call (subst (λ (x : Option Op). SlotFits (g.state old) sets start history number call x) (sym is) runs)) refl always
-        (λ s l n c runs. tt) (λ s l n c runs. tt) tt tt;
+        (λ s l n c runs. tt) (λ s l n c runs. tt) tt tt tt;
   }
     where
       ended : answer ≡ Ended
@@ -129,11 +131,11 @@ module _ {S : Type 0} (g : Ghosts S) (laws : Laws g) (old new : S) (follows : g.
         refused = λ fault h. absurd (let a : answer ≡ Ended = ended in cc);
         stopped = tt;
         less = tt;
-        kept = no_act (g.state old) (g.state new) (ap (λ (st : State). st.acts) given_up ∙ over_acts (is_vacuum op) (session_of op) (g.state old)) (ap (λ (st : State). st.pages) given_up ∙ over_pages (is_vacuum op) (session_of op) (g.state old))
-            (ap (λ (st : State). st.limits) given_up ∙ over_limits (is_vacuum op) (session_of op) (g.state old)) (ap (λ (st : State). st.frames) given_up ∙ over_frames (is_vacuum op) (session_of op) (g.state old));
-        calm = ap (λ (st : State). st.acts) given_up ∙ over_acts (is_vacuum op) (session_of op) (g.state old);
+        kept = no_act (g.state old) (g.state new) (ap (λ (st : State). st.acts) given_up ∙ over_acts (is_sweep op) (session_of op) (g.state old)) (ap (λ (st : State). st.pages) given_up ∙ over_pages (is_sweep op) (session_of op) (g.state old))
+            (ap (λ (st : State). st.limits) given_up ∙ over_limits (is_sweep op) (session_of op) (g.state old)) (ap (λ (st : State). st.frames) given_up ∙ over_frames (is_sweep op) (session_of op) (g.state old));
+        calm = ap (λ (st : State). st.acts) given_up ∙ over_acts (is_sweep op) (session_of op) (g.state old);
         others = others_stay_set slots session slot;
-        left = record { over = at_slots slots session before slot (λ x y. y ≡ None) found_at over; backing = backing; begun = ap (λ (st : State). st.begun) given_up ∙ over_begun (is_vacuum op) (session_of op) (g.state old) };
+        left = record { over = at_slots slots session before slot (λ x y. y ≡ None) found_at over; backing = backing; begun = ap (λ (st : State). st.begun) given_up ∙ over_begun (is_sweep op) (session_of op) (g.state old) };
         causes = tt;
         order = tt;
         fresh = tt;
@@ -169,7 +171,7 @@ module _ {S : Type 0} (g : Ghosts S) (laws : Laws g) (store : S) (slots : List (
         (λ number call runs. subst (λ (a : Ask). SessionGoes (where_asked_next a) (g.state store) (g.state store) sets start history number call slot answer) runs.runs.ask
         (goes (g.state store) start history number call (subst (λ (x : Option Op). SlotFits (g.state store) sets start history number call x) (sym is) runs))) refl always
         (λ s l n c runs steps h. due (g.state store) steps (subst (λ (x : Option Op). IsDueIn (g.state store) x steps) (sym is) h))
-        (λ s l n c runs. tt) tt tt;
+        (λ s l n c runs. tt) tt tt tt;
   }
     where
       always : EventAlways g (MovesCall session Takes) answer (here_with store slots sets) (here_with store (slice_set slots session slot) sets)
@@ -289,6 +291,9 @@ asked_why vacuums b c fault named h = subst (λ (x : Bool). HasCause (record c {
 -- a beginning in a session that was found
 module _ {S : Type 0} (g : Ghosts S) (laws : Laws g) (old new : S) (follows : g.follows old new) (slots : List (Option Op)) (sets : DeadSets) (session : ℕ) (request : Request) (before slot : Option Op) (answer : Answer)
     (alive : (g.backing old).stopped ≡ false) (named : is_of_sets sets request ≡ true) (free : slice_get slots session ≡ Some None) (before_is : before ≡ None) where
+  abbrev excluded : Bool
+  excluded = asks_vacuum request && one_vacuums slots
+
   true_false : true ≡ false → ⊥
   true_false h = cc
 
@@ -301,24 +306,23 @@ module _ {S : Type 0} (g : Ghosts S) (laws : Laws g) (old new : S) (follows : g.
       ∙ ap (λ (o : Option (Option Op)). session_to_begin false true o session) free in
       cc
 
-  -- the cause of a refusal, where a bulk delete runs or none
-  cause_of : (vacuums : Bool) (fault : Fault) → is_vacuuming (g.state old) ≡ vacuums → HasCause (where_requesting (asks_vacuum request) (g.state old) (g.backing old) (is_busy before)) fault
-      → HasCause (where_begun_at g old vacuums sets request (slice_get slots session)) fault
-  cause_of vacuums fault same cause =
-      subst (λ (o : Option (Option Op)). HasCause (where_begun_at g old vacuums sets request o) fault) (sym free)
-      (asked_why (asks_vacuum request && vacuums) (is_of_sets sets request) (where_beginning (g.state old) (g.backing old) false) fault named
-      (subst (λ (v : Bool). HasCause (record (where_beginning (g.state old) (g.backing old) false) { no_such_session = false; vacuum_runs = asks_vacuum request && v }) fault) same
-      (subst (λ (o : Option Op). HasCause (where_requesting (asks_vacuum request) (g.state old) (g.backing old) (is_busy o)) fault) before_is cause)))
+  -- the cause of a refusal
+  cause_of : (fault : Fault) → HasCause (where_requesting excluded (g.state old) (g.backing old) (is_busy before)) fault
+      → HasCause (where_begun_at g old (one_vacuums slots) sets request (slice_get slots session)) fault
+  cause_of fault cause =
+      subst (λ (o : Option (Option Op)). HasCause (where_begun_at g old (one_vacuums slots) sets request o) fault) (sym free)
+      (asked_why excluded (is_of_sets sets request) (where_beginning (g.state old) (g.backing old) false) fault named
+      (subst (λ (o : Option Op). HasCause (where_requesting excluded (g.state old) (g.backing old) (is_busy o)) fault) before_is cause))
 
-  always_of : (a : Answer) → BeginsBy (g.state old) (g.backing old) (g.state new) session request before slot a → EventAlways g (BeginsCall session request) a (here_with old slots sets) (here_with new (slice_set slots session slot) sets)
+  always_of : (a : Answer) → BeginsBy (g.state old) (g.backing old) (g.state new) session request excluded before slot a → EventAlways g (BeginsCall session request) a (here_with old slots sets) (here_with new (slice_set slots session slot) sets)
   always_of Begun h = record {
     answers = tt;
     refused = λ fault e. absurd cc;
     stopped = λ is. absurd (true_false (sym is ∙ alive));
     less = tt;
-    kept = no_act (g.state old) (g.state new) (ap (λ (st : State). st.acts) h.state ∙ request_acts (asks_vacuum request) session (g.state old)) (ap (λ (st : State). st.pages) h.state ∙ request_pages (asks_vacuum request) session (g.state old))
-        (ap (λ (st : State). st.limits) h.state ∙ request_limits (asks_vacuum request) session (g.state old)) (ap (λ (st : State). st.frames) h.state ∙ request_frames (asks_vacuum request) session (g.state old));
-    calm = ap (λ (st : State). st.acts) h.state ∙ request_acts (asks_vacuum request) session (g.state old);
+    kept = no_act (g.state old) (g.state new) (ap (λ (st : State). st.acts) h.state ∙ request_acts (asks_sweep request) session (g.state old)) (ap (λ (st : State). st.pages) h.state ∙ request_pages (asks_sweep request) session (g.state old))
+        (ap (λ (st : State). st.limits) h.state ∙ request_limits (asks_sweep request) session (g.state old)) (ap (λ (st : State). st.frames) h.state ∙ request_frames (asks_sweep request) session (g.state old));
+    calm = ap (λ (st : State). st.acts) h.state ∙ request_acts (asks_sweep request) session (g.state old);
     others = others_stay_set slots session slot;
     left = tt;
     causes = tt;
@@ -334,7 +338,7 @@ module _ {S : Type 0} (g : Ghosts S) (laws : Laws g) (old new : S) (follows : g.
     calm = ap (λ (st : State). st.acts) h.state;
     others = others_stay_set slots session slot;
     left = tt;
-    causes = cause_of (is_vacuuming (g.state old)) fault refl h.cause;
+    causes = cause_of fault h.cause;
     order = λ f e. absurd (found_one f e);
     fresh = λ e. absurd cc;
   }
@@ -351,17 +355,17 @@ module _ {S : Type 0} (g : Ghosts S) (laws : Laws g) (old new : S) (follows : g.
 
   module _ (begins : (start : Entry → Bool) (history : List Action) (number : ℕ) → answer ≡ Begun → Matches (g.state old) start history → IsIdle (g.state old) session → SessionBegins (g.state old) (g.state new) sets start history number session request slot)
       (counts : answer ≡ Begun → HasSteps (g.state old) (g.state new) request slot) (start : Entry → Bool) (history : List Action) (calls : List Call) (fits : Fits g start (snapshot_of (here_with old slots sets) history calls)) where
-    does_of : (a : Answer) → answer ≡ a → BeginsBy (g.state old) (g.backing old) (g.state new) session request before slot a → EventRuns g (here_with old slots sets) (here_with new (slice_set slots session slot) sets) (BeginsCall session request) a start history calls
+    does_of : (a : Answer) → answer ≡ a → BeginsBy (g.state old) (g.backing old) (g.state new) session request excluded before slot a → EventRuns g (here_with old slots sets) (here_with new (slice_set slots session slot) sets) (BeginsCall session request) a start history calls
     does_of Begun is h =
         let idle : IsIdle (g.state old) session = (fits.running session None free).idle in
         begun_with slot h (always_of Begun h) (begins start history (length calls) is fits.matches idle) (counts is)
       where
-        begun_with : (o : Option Op) → IsBegun (g.state old) (g.state new) session request before o → EventAlways g (BeginsCall session request) Begun (here_with old slots sets) (here_with new (slice_set slots session o) sets)
+        begun_with : (o : Option Op) → IsBegun (g.state old) (g.state new) session request excluded before o → EventAlways g (BeginsCall session request) Begun (here_with old slots sets) (here_with new (slice_set slots session o) sets)
             → SessionBegins (g.state old) (g.state new) sets start history (length calls) session request o → HasSteps (g.state old) (g.state new) request o
             → EventRuns g (here_with old slots sets) (here_with new (slice_set slots session o) sets) (BeginsCall session request) Begun start history calls
         begun_with None b always began steps = absurd (began.holds.0 refl)
         begun_with (Some op) b always began steps =
-            begins_on g start (snapshot_of (here_with old slots sets) history calls) new session request op fits free began (named_of sets request named) b.alone (let e : Some op ≡ Some (op_before session request) = b.runs in cc)
+            begins_on g start (snapshot_of (here_with old slots sets) history calls) new session request op fits free began (named_of sets request named) (not_excluded (asks_vacuum request) (one_vacuums slots) b.alone) (let e : Some op ≡ Some (op_before session request) = b.runs in cc)
             b.state follows (laws.follows_later old new follows) steps always
     does_of (Refused fault) is h =
         let slots_is : slice_set slots session slot ≡ slots = ap (λ (x : Option Op). slice_set slots session x) (h.slot_is ∙ before_is) ∙ set_same slots session None free in
@@ -371,7 +375,7 @@ module _ {S : Type 0} (g : Ghosts S) (laws : Laws g) (old new : S) (follows : g.
         (stays_on g start snap new fault fits h.state follows later (BeginsCall session request)
         (not_begun g (slice_get slots session) session request (Refused fault) snap _ (refused_stay g start snap new fault fits h.state follows later))
         (subst (λ (s : List (Option Op)). EventAlways g (BeginsCall session request) (Refused fault) (here_with old slots sets) (here_with new s sets)) slots_is (always_of (Refused fault) h))
-        (cause_of (one_vacuums slots) fault fits.vacuums.cycle h.cause)
+        (cause_of fault h.cause)
         (λ s e. absurd cc))
     does_of Going is h = absurd h
     does_of (Added x u) is h = absurd h
@@ -384,7 +388,7 @@ module _ {S : Type 0} (g : Ghosts S) (laws : Laws g) (old new : S) (follows : g.
     does_of (Flushed b) is h = absurd h
     does_of (Checkpointed n) is h = absurd h
 
-  pub begin_makes : BeginsBy (g.state old) (g.backing old) (g.state new) session request before slot answer
+  pub begin_makes : BeginsBy (g.state old) (g.backing old) (g.state new) session request (asks_vacuum request && one_vacuums slots) before slot answer
       → ((start : Entry → Bool) (history : List Action) (number : ℕ) → answer ≡ Begun → Matches (g.state old) start history → IsIdle (g.state old) session → SessionBegins (g.state old) (g.state new) sets start history number session request slot)
       → (answer ≡ Begun → HasSteps (g.state old) (g.state new) request slot)
       → Makes g (BeginsCall session request) answer (here_with old slots sets) (here_with new (slice_set slots session slot) sets)
@@ -419,7 +423,7 @@ not_found_makes g laws store slots sets session request fault none = record {
       calm = refl;
       others = λ s of other apart. refl;
       left = tt;
-      causes = not_found_why g store (is_vacuuming (g.state store)) sets request session (g.backing store).stopped (is_of_sets sets request) (slice_get slots session) fault refl refl none;
+      causes = not_found_why g store (one_vacuums slots) sets request session (g.backing store).stopped (is_of_sets sets request) (slice_get slots session) fault refl refl none;
       order = λ f e. ap Refused (let both : Err fault ≡ Err f = none ∙ e in cc);
       fresh = λ e. absurd cc;
     }

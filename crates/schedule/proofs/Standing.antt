@@ -4,7 +4,6 @@ use Rattle.std.proofs.Common.{◌≡◌, ◌≢◌, ℕ, suc, ◌≤◌, ◌||�
 use Rattle.std.proofs.lemmas.Bool.{cases_eq, eq-eqb}
 use Rattle.index_model.specs.Calls.{Call}
 use Rattle.index_model.specs.declared.entry.Entry.{Entry}
-use Rattle.index_model.specs.declared.stats.VacuumStats.{VacuumStats}
 use Rattle.latch_table.specs.Holdings.{Holding, has_pin, holding_of}
 use Rattle.page_codec.specs.declared.page.Page.{Page}
 use Rattle.page_action.proofs.StoredPages.{stored_page}
@@ -15,23 +14,23 @@ use Rattle.tree_acts.proofs.Removing.{leaf_is}
 use Rattle.descent.specs.Shared.{IsInOrder}
 use Rattle.scan.specs.Scans.{leaf_pinned}
 use Rattle.session_calls.specs.Ops.{DeadSets, op_before, asked_of}
-use Rattle.session_calls.specs.Sessions.{AnswersStep, AnswersNext, AnswersEnd, IsStillBefore, KeepsBeforePins, OnlyWritersAct, acts_of}
+use Rattle.session_calls.specs.Sessions.{AnswersNext, IsStillBefore, KeepsBeforePins, OnlyWritersAct, acts_of}
 use Rattle.session_calls.specs.declared.answer.Answer.{Answer}
 use Rattle.session_calls.specs.declared.answer.Answer.TheVariants.{Begun, Going, Added, Ready, Done, Finished, Gave, Ended, Forced, Flushed, Checkpointed, Refused}
 use Rattle.session_calls.specs.declared.op.Op.{Op}
-use Rattle.session_calls.specs.declared.op.Op.TheVariants.{Insert, Scan, Bulk}
+use Rattle.session_calls.specs.declared.op.Op.TheVariants.{Insert, Scan, Bulk, Cleanup}
 use Rattle.session_calls.specs.declared.request.Request.{Request}
-use Rattle.session_calls.specs.declared.request.Request.TheVariants.{Insert as ToInsert, Scan as ToScan, Bulk as ToBulk}
+use Rattle.session_calls.specs.declared.request.Request.TheVariants.{Insert as ToInsert, Scan as ToScan, Bulk as ToBulk, Cleanup as ToCleanup}
 use Rattle.session_calls.proofs.Meeting.{grown}
 use Rattle.session_calls.proofs.Telling.{IsSameCall, told_same}
-use Rattle.schedule.specs.Snapshots.{Snapshot, slot_of, SlotRuns, slot_vacuums, slot_has_call, Fits}
+use Rattle.schedule.specs.Snapshots.{Snapshot, slot_of, SlotRuns, slot_vacuums, slot_sweeps, slot_has_call, Fits}
 use Rattle.vacuum.specs.declared.steps.BulkDeleteOp.{BulkDeleteOp}
-use Rattle.schedule.specs.Events.{Move, Steps, Takes, GivesUp, Upkeep, Forces, Flushes, Checkpoints, Kind, BeginsCall, MovesCall, KeepsStore, kind_of, CallGoesOn, Stays, MovesOn, AnswersBeginning, AnswersUpkeep, EventDoes}
-use Rattle.schedule.specs.Stands.{StandsOn, HasLeaf, HasNotCome, NoneHasCome, BulkDeletesWait, BegunBulkDeletesWait}
+use Rattle.schedule.specs.Events.{Move, Steps, Takes, GivesUp, Upkeep, Kind, BeginsCall, MovesCall, KeepsStore, kind_of, CallGoesOn, Stays, MovesOn, AnswersBeginning, EventDoes}
+use Rattle.schedule.specs.Stands.{StandsOn, HasLeaf, DoesNotFinish, HasNotCome, NoneHasCome, BulkDeletesWait, BegunBulkDeletesWait}
 use Rattle.schedule.proofs.Frames.{slot_is}
 use Rattle.schedule.proofs.Leaves.{leaf_same}
 use Rattle.schedule.proofs.Lists.{get_set_same, get_set_other, get_within, same_some}
-use Rattle.schedule.proofs.Vacuums.{asked_vacuum}
+use Rattle.schedule.proofs.Vacuums.{sweep_vacuums, asked_sweep}
 
 true_false : true ≡ false → ⊥
 true_false h = cc
@@ -44,7 +43,7 @@ leaf_above st block page order at =
     subst (λ (b : ℕ). 1 ≤ b) s.block_is (omega (arith, above))
 
 -- a session that runs something has a slot
-slot_found : (slots : List (Option Op)) (session : ℕ) (op : Op) → slot_of slots session ≡ Some op → slice_get slots session ≡ Some (Some op)
+pub slot_found : (slots : List (Option Op)) (session : ℕ) (op : Op) → slot_of slots session ≡ Some op → slice_get slots session ≡ Some (Some op)
 slot_found slots session op is = by (slice_get slots session) is
   where
     by : (o : Option (Option Op)) → unwrap_or o None ≡ Some op → o ≡ Some (Some op)
@@ -52,23 +51,26 @@ slot_found slots session op is = by (slice_get slots session) is
     by (Some slot) h = ap (λ (x : Option Op). Some x) h
 
 -- only a bulk delete comes anywhere
-not_vacuum_come : (block : ℕ) (slot : Option Op) → slot_vacuums slot ≡ false → HasNotCome block slot
-not_vacuum_come block None h = tt
-not_vacuum_come block (Some (Insert op)) h = tt
-not_vacuum_come block (Some (Scan op)) h = tt
-not_vacuum_come block (Some (Bulk set op)) h = absurd (true_false h)
+not_sweep_come : (block : ℕ) (slot : Option Op) → slot_sweeps slot ≡ false → HasNotCome block slot
+not_sweep_come block None h = tt
+not_sweep_come block (Some (Insert op)) h = tt
+not_sweep_come block (Some (Scan op)) h = tt
+not_sweep_come block (Some (Cleanup op)) h = tt
+not_sweep_come block (Some (Bulk set op)) h = absurd (true_false h)
 
 -- a bulk delete that begins has come to no leaf
 fresh_come : (block session : ℕ) (request : Request) → 1 ≤ block → HasNotCome block (Some (op_before session request))
 fresh_come block session (ToInsert e) above = tt
 fresh_come block session (ToScan range) above = tt
 fresh_come block session (ToBulk set) above = above
+fresh_come block session ToCleanup above = tt
 
 -- one that is still before a leaf hasn't come to it
 still_come : (block : ℕ) (after : Option Op) (answer : Answer) → IsStillBefore block after answer → HasNotCome block after
 still_come block None answer h = tt
 still_come block (Some (Insert op)) answer h = tt
 still_come block (Some (Scan op)) answer h = tt
+still_come block (Some (Cleanup op)) answer h = tt
 still_come block (Some (Bulk set op)) answer h = by answer h
   where
     by : (a : Answer) → IsStillBefore block (Some (Bulk set op)) a → op.cursor ≤ block
@@ -116,23 +118,23 @@ module _ {S : Type 0} (g : Ghosts S) (start : Entry → Bool) where
       sym behind.runs.ask ∙ ap (λ (c : Call). c.ask) after_is ∙ kept.ask ∙ ap (λ (c : Call). c.ask) call_is ∙ before.runs.ask
 
   -- ... so it is a bulk delete only where it was one
-  moved_vacuum : (session : ℕ) (move : Move) (answer : Answer) (old new : Snapshot S) → Fits g start old → EventDoes g start (MovesCall session move) answer old new
-      → slot_vacuums (slot_of old.slots session) ≡ false → slot_vacuums (slot_of new.slots session) ≡ false
-  moved_vacuum session move answer old new fits does idle = by (slice_get old.slots session) refl
+  moved_sweep : (session : ℕ) (move : Move) (answer : Answer) (old new : Snapshot S) → Fits g start old → EventDoes g start (MovesCall session move) answer old new
+      → slot_sweeps (slot_of old.slots session) ≡ false → slot_sweeps (slot_of new.slots session) ≡ false
+  moved_sweep session move answer old new fits does idle = by (slice_get old.slots session) refl
     where
-      same_slots : (slot_has_call (slice_get old.slots session)) ≡ false → slot_vacuums (slot_of new.slots session) ≡ false
+      same_slots : (slot_has_call (slice_get old.slots session)) ≡ false → slot_sweeps (slot_of new.slots session) ≡ false
       same_slots none =
           let stays : Stays g answer old new = subst (λ (b : Bool). MovesOn g start b session answer old new) none does.happens in
-          ap (λ (l : List (Option Op)). slot_vacuums (slot_of l session)) stays.still.slots_is ∙ idle
+          ap (λ (l : List (Option Op)). slot_sweeps (slot_of l session)) stays.still.slots_is ∙ idle
 
-      to : (op : Op) → slice_get old.slots session ≡ Some (Some op) → (o : Option (Option Op)) → slice_get new.slots session ≡ o → slot_vacuums (unwrap_or o None) ≡ false
+      to : (op : Op) → slice_get old.slots session ≡ Some (Some op) → (o : Option (Option Op)) → slice_get new.slots session ≡ o → slot_sweeps (unwrap_or o None) ≡ false
       to op was None is = refl
       to op was (Some None) is = refl
       to op was (Some (Some next)) is =
-          asked_vacuum old.sets next op (subst (λ (sets : DeadSets). asked_of sets next ≡ asked_of old.sets op) does.sets (moved_asks session move answer old new fits does op next was is))
-          ∙ sym (ap slot_vacuums (slot_is old.slots session (Some op) was)) ∙ idle
+          asked_sweep old.sets next op (subst (λ (sets : DeadSets). asked_of sets next ≡ asked_of old.sets op) does.sets (moved_asks session move answer old new fits does op next was is))
+          ∙ sym (ap slot_sweeps (slot_is old.slots session (Some op) was)) ∙ idle
 
-      by : (o : Option (Option Op)) → slice_get old.slots session ≡ o → slot_vacuums (slot_of new.slots session) ≡ false
+      by : (o : Option (Option Op)) → slice_get old.slots session ≡ o → slot_sweeps (slot_of new.slots session) ≡ false
       by None was = same_slots (ap slot_has_call was)
       by (Some None) was = same_slots (ap slot_has_call was)
       by (Some (Some op)) was = to op was (slice_get new.slots session) refl
@@ -146,14 +148,11 @@ module _ {S : Type 0} (g : Ghosts S) (start : Entry → Bool) where
     all_as_before same session = as_before session (ap (λ (l : List (Option Op)). slice_get l session) same)
 
     -- a beginning
-    begins_keep : (session : ℕ) (request : Request) (answer : Answer) → EventDoes g start (BeginsCall session request) answer old new → ((stats : VacuumStats) → answer ≢ Finished stats) × NoneHasCome block new
-    begins_keep session request answer does = (
-      λ stats is. subst (λ (a : Answer). AnswersBeginning a) is does.always.answers,
-      λ w. elim (cases_eq w session) [
-        | inl e ↦ subst (λ (s : ℕ). HasNotCome block (slot_of new.slots s)) (sym e) (by answer refl does.always.answers)
-        | inr n ↦ as_before w (does.always.others session refl w n)
-      ],
-    )
+    begins_keep : (session : ℕ) (request : Request) (answer : Answer) → EventDoes g start (BeginsCall session request) answer old new → NoneHasCome block new
+    begins_keep session request answer does w = elim (cases_eq w session) [
+      | inl e ↦ subst (λ (s : ℕ). HasNotCome block (slot_of new.slots s)) (sym e) (by answer refl does.always.answers)
+      | inr n ↦ as_before w (does.always.others session refl w n)
+    ]
       where
         by : (a : Answer) → answer ≡ a → AnswersBeginning a → HasNotCome block (slot_of new.slots session)
         by Begun is h = subst (λ (o : Option Op). HasNotCome block o) (sym (does.always.fresh is)) (fresh_come block session request (leaf_above (g.state old.store) block leaf.page fits.matches.order leaf.was))
@@ -170,21 +169,13 @@ module _ {S : Type 0} (g : Ghosts S) (start : Entry → Bool) where
         by (Checkpointed n) is h = absurd h
 
     -- what is done for the store
-    upkeep_keeps : (upkeep : Upkeep) (answer : Answer) → EventDoes g start (KeepsStore upkeep) answer old new → ((stats : VacuumStats) → answer ≢ Finished stats) × NoneHasCome block new
-    upkeep_keeps upkeep answer does = (
-      λ stats is. not_finished upkeep stats (subst (λ (a : Answer). AnswersUpkeep upkeep a) is does.always.answers),
-      λ w. as_before w (does.always.others (suc w) tt w (λ e. absurd (let n : w ≡ suc w = e in omega arith))),
-    )
-      where
-        not_finished : (u : Upkeep) (stats : VacuumStats) → AnswersUpkeep u (Finished stats) → ⊥
-        not_finished Forces stats h = h
-        not_finished Flushes stats h = h
-        not_finished Checkpoints stats h = h
+    upkeep_keeps : (upkeep : Upkeep) (answer : Answer) → EventDoes g start (KeepsStore upkeep) answer old new → NoneHasCome block new
+    upkeep_keeps upkeep answer does w = as_before w (does.always.others (suc w) tt w (λ e. absurd (let n : w ≡ suc w = e in omega arith)))
 
     -- a move of a call that is no bulk delete
-    calm_moves : (session : ℕ) (move : Move) (answer : Answer) → EventDoes g start (MovesCall session move) answer old new → slot_vacuums (slot_of old.slots session) ≡ false → NoneHasCome block new
+    calm_moves : (session : ℕ) (move : Move) (answer : Answer) → EventDoes g start (MovesCall session move) answer old new → slot_sweeps (slot_of old.slots session) ≡ false → NoneHasCome block new
     calm_moves session move answer does idle w = elim (cases_eq w session) [
-      | inl e ↦ subst (λ (s : ℕ). HasNotCome block (slot_of new.slots s)) (sym e) (not_vacuum_come block (slot_of new.slots session) (moved_vacuum session move answer old new fits does idle))
+      | inl e ↦ subst (λ (s : ℕ). HasNotCome block (slot_of new.slots s)) (sym e) (not_sweep_come block (slot_of new.slots session) (moved_sweep session move answer old new fits does idle))
       | inr n ↦ as_before w (does.always.others session refl w n)
     ]
 
@@ -207,32 +198,27 @@ module _ {S : Type 0} (g : Ghosts S) (start : Entry → Bool) where
         waits stander block leaf.page apart leaf.was (stands_pinned stander block old fits stands) before
 
     -- a step
-    steps_keep : (session : ℕ) (answer : Answer) → EventDoes g start (MovesCall session Steps) answer old new → ((stats : VacuumStats) → answer ≢ Finished stats) × NoneHasCome block new
+    steps_keep : (session : ℕ) (answer : Answer) → EventDoes g start (MovesCall session Steps) answer old new → DoesNotFinish (MovesCall session Steps) answer old × NoneHasCome block new
     steps_keep session answer does = by (slot_of old.slots session) refl
       where
-        answers_of : (slot : Option Op) → slot_of old.slots session ≡ slot → (stats : VacuumStats) → answer ≡ Finished stats → AnswersStep slot (slot_of new.slots session) (Finished stats)
-        answers_of slot is stats finished = subst (λ (a : Answer). AnswersStep slot (slot_of new.slots session) a) finished (subst (λ (o : Option Op). AnswersStep o (slot_of new.slots session) answer) is does.always.answers)
+        calm : slot_sweeps (slot_of old.slots session) ≡ false → DoesNotFinish (MovesCall session Steps) answer old × NoneHasCome block new
+        calm idle = (λ sweeps stats finished. true_false (sym sweeps ∙ idle), calm_moves session Steps answer does idle)
 
-        by : (slot : Option Op) → slot_of old.slots session ≡ slot → ((stats : VacuumStats) → answer ≢ Finished stats) × NoneHasCome block new
-        by None is = (λ stats finished. answers_of None is stats finished, calm_moves session Steps answer does (ap slot_vacuums is))
-        by (Some (Insert op)) is = (λ stats finished. answers_of (Some (Insert op)) is stats finished, calm_moves session Steps answer does (ap slot_vacuums is))
-        by (Some (Scan op)) is = (λ stats finished. answers_of (Some (Scan op)) is stats finished, calm_moves session Steps answer does (ap slot_vacuums is))
+        by : (slot : Option Op) → slot_of old.slots session ≡ slot → DoesNotFinish (MovesCall session Steps) answer old × NoneHasCome block new
+        by None is = calm (ap slot_sweeps is)
+        by (Some (Insert op)) is = calm (ap slot_sweeps is)
+        by (Some (Scan op)) is = calm (ap slot_sweeps is)
+        by (Some (Cleanup op)) is = calm (ap slot_sweeps is)
         by (Some (Bulk set op)) is =
             let before : IsStillBefore block (slot_of new.slots session) answer = step_before session set op answer does is in (
-              λ stats finished. subst (λ (a : Answer). IsStillBefore block (slot_of new.slots session) a) finished before,
+              λ sweeps stats finished. subst (λ (a : Answer). IsStillBefore block (slot_of new.slots session) a) finished before,
               moved_come session Steps answer does (still_come block (slot_of new.slots session) answer before),
             )
 
     -- asking for the next entry
-    takes_keep : (session : ℕ) (answer : Answer) → EventDoes g start (MovesCall session Takes) answer old new → ((stats : VacuumStats) → answer ≢ Finished stats) × NoneHasCome block new
-    takes_keep session answer does = (λ stats finished. not_finished (slot_of old.slots session) stats (subst (λ (a : Answer). AnswersNext (slot_of old.slots session) a) finished does.always.answers), by (slot_of old.slots session) refl)
+    takes_keep : (session : ℕ) (answer : Answer) → EventDoes g start (MovesCall session Takes) answer old new → NoneHasCome block new
+    takes_keep session answer does = by (slot_of old.slots session) refl
       where
-        not_finished : (slot : Option Op) (stats : VacuumStats) → AnswersNext slot (Finished stats) → ⊥
-        not_finished None stats h = h
-        not_finished (Some (Insert op)) stats h = h
-        not_finished (Some (Scan op)) stats h = h
-        not_finished (Some (Bulk set op)) stats h = h
-
         refused : (set : ℕ) (op : BulkDeleteOp) (a : Answer) → answer ≡ a → AnswersNext (Some (Bulk set op)) a → new.slots ≡ old.slots
         refused set op (Refused fault) is h = (does.always.refused fault is).slots_is
         refused set op Begun is h = absurd h
@@ -248,29 +234,23 @@ module _ {S : Type 0} (g : Ghosts S) (start : Entry → Bool) where
         refused set op (Checkpointed n) is h = absurd h
 
         by : (slot : Option Op) → slot_of old.slots session ≡ slot → NoneHasCome block new
-        by None is = calm_moves session Takes answer does (ap slot_vacuums is)
-        by (Some (Insert op)) is = calm_moves session Takes answer does (ap slot_vacuums is)
-        by (Some (Scan op)) is = calm_moves session Takes answer does (ap slot_vacuums is)
+        by None is = calm_moves session Takes answer does (ap slot_sweeps is)
+        by (Some (Insert op)) is = calm_moves session Takes answer does (ap slot_sweeps is)
+        by (Some (Scan op)) is = calm_moves session Takes answer does (ap slot_sweeps is)
+        by (Some (Cleanup op)) is = calm_moves session Takes answer does (ap slot_sweeps is)
         by (Some (Bulk set op)) is = all_as_before (refused set op answer refl (subst (λ (o : Option Op). AnswersNext o answer) is does.always.answers))
 
     -- giving a call up
-    gives_up_keep : (session : ℕ) (answer : Answer) → EventDoes g start (MovesCall session GivesUp) answer old new → ((stats : VacuumStats) → answer ≢ Finished stats) × NoneHasCome block new
-    gives_up_keep session answer does = (
-      λ stats finished. not_finished (slot_of old.slots session) stats (subst (λ (a : Answer). AnswersEnd (slot_of old.slots session) a) finished does.always.answers),
-      moved_come session GivesUp answer does (subst (λ (o : Option Op). HasNotCome block o) (sym does.always.left.over) tt),
-    )
-      where
-        not_finished : (slot : Option Op) (stats : VacuumStats) → AnswersEnd slot (Finished stats) → ⊥
-        not_finished None stats h = cc
-        not_finished (Some op) stats h = cc
+    gives_up_keep : (session : ℕ) (answer : Answer) → EventDoes g start (MovesCall session GivesUp) answer old new → NoneHasCome block new
+    gives_up_keep session answer does = moved_come session GivesUp answer does (subst (λ (o : Option Op). HasNotCome block o) (sym does.always.left.over) tt)
 
     -- any event
-    event_keeps : (kind : Kind) (answer : Answer) → EventDoes g start kind answer old new → ((stats : VacuumStats) → answer ≢ Finished stats) × NoneHasCome block new
-    event_keeps (BeginsCall session request) answer does = begins_keep session request answer does
+    event_keeps : (kind : Kind) (answer : Answer) → EventDoes g start kind answer old new → DoesNotFinish kind answer old × NoneHasCome block new
+    event_keeps (BeginsCall session request) answer does = (tt, begins_keep session request answer does)
     event_keeps (MovesCall session Steps) answer does = steps_keep session answer does
-    event_keeps (MovesCall session Takes) answer does = takes_keep session answer does
-    event_keeps (MovesCall session GivesUp) answer does = gives_up_keep session answer does
-    event_keeps (KeepsStore upkeep) answer does = upkeep_keeps upkeep answer does
+    event_keeps (MovesCall session Takes) answer does = (tt, takes_keep session answer does)
+    event_keeps (MovesCall session GivesUp) answer does = (tt, gives_up_keep session answer does)
+    event_keeps (KeepsStore upkeep) answer does = (tt, upkeep_keeps upkeep answer does)
 
     -- where no act is done, pages are as they were
     leaf_quiet : (kind : Kind) (answer : Answer) → EventDoes g start kind answer old new → (g.state new.store).acts ≡ (g.state old.store).acts → HasLeaf g block new
@@ -299,7 +279,8 @@ bulk_deletes_wait g start told (event ∷ events) [] first last fits run session
 
 pub begun_bulk_deletes_wait : {S : Type 0} (g : Ghosts S) → BegunBulkDeletesWait g
 begun_bulk_deletes_wait {S} g start told vacuumer set events answers first last fits run session block stands leaf =
-    bulk_deletes_wait g start (told ++ Begun ∷ []) events answers next last does.fits run.1.2 session block stands.1 still none
+    let rest = bulk_deletes_wait g start (told ++ Begun ∷ []) events answers next last does.fits run.1.2 session block stands.1 still none in
+    ((tt, rest.0), rest.1, rest.2)
   where
     next : Snapshot S
     next = run.1.0
@@ -315,11 +296,11 @@ begun_bulk_deletes_wait {S} g start told vacuumer set events answers first last 
 
     -- only the one that has begun runs
     none : NoneHasCome block next
-    none w = by (slot_vacuums (slot_of next.slots w)) refl
+    none w = by (slot_sweeps (slot_of next.slots w)) refl
       where
-        by : (b : Bool) → slot_vacuums (slot_of next.slots w) ≡ b → HasNotCome block (slot_of next.slots w)
-        by false is = not_vacuum_come block (slot_of next.slots w) is
+        by : (b : Bool) → slot_sweeps (slot_of next.slots w) ≡ b → HasNotCome block (slot_of next.slots w)
+        by false is = not_sweep_come block (slot_of next.slots w) is
         by true is =
             let here : slot_of next.slots vacuumer ≡ Some (op_before vacuumer (ToBulk set)) = does.always.fresh refl in
-            let same : w ≡ vacuumer = does.fits.vacuums.alone w vacuumer is (ap slot_vacuums here) in
+            let same : w ≡ vacuumer = does.fits.vacuums.alone w vacuumer (sweep_vacuums (slot_of next.slots w) is) (ap slot_vacuums here) in
             subst (λ (s : ℕ). HasNotCome block (slot_of next.slots s)) (sym same) (subst (λ (o : Option Op). HasNotCome block o) (sym here) above)

@@ -1,15 +1,15 @@
 -- Moments that fit before any call, and with other sets.
-use Rattle.std.proofs.Common.{◌≡◌, ℕ, zero, suc, ◌<◌, Bool, true, false, Option, Some, None, unwrap_or, List, [], ◌∷◌, length, slice_get, replicate, refl, sym, ap, subst, ◌∙◌, arith}
-use Rattle.std.specs.Prelude.{◌||◌}
+use Rattle.std.proofs.Common.{◌≡◌, ℕ, zero, suc, ◌<◌, Bool, false, Option, Some, None, unwrap_or, List, [], length, slice_get, replicate, refl, sym, ap, ◌∙◌, arith}
+use Rattle.tree_acts.specs.Deletions.{StartsAreBelow}
 use Rattle.index_model.specs.declared.entry.Entry.{Entry}
 use Rattle.page_action.specs.Contents.{entry_on_live_leaf}
 use Rattle.page_action.specs.States.{State}
 use Rattle.page_action.specs.declared.page_store.PageStore.{Ghosts}
 use Rattle.vacuum.specs.declared.steps.BulkDeleteOp.{BulkDeleteOp}
-use Rattle.session_calls.specs.Ops.{DeadSets, is_vacuuming}
+use Rattle.session_calls.specs.Ops.{DeadSets, is_sweeping}
 use Rattle.session_calls.specs.declared.op.Op.{Op}
-use Rattle.session_calls.specs.declared.op.Op.TheVariants.{Insert, Scan, Bulk}
-use Rattle.schedule.specs.Snapshots.{Snapshot, SlotRuns, SlotMatches, OneVacuums, Fits, IsUnused, here_with, snapshot_of, slot_of, slot_vacuums, one_vacuums}
+use Rattle.session_calls.specs.declared.op.Op.TheVariants.{Insert, Scan, Bulk, Cleanup}
+use Rattle.schedule.specs.Snapshots.{Snapshot, SlotRuns, SlotMatches, Fits, IsUnused, here_with, snapshot_of, slot_of, slot_vacuums, one_sweeps}
 
 -- what stands in a list of one thing
 pub in_replicate : {X : Type 0} (n : ℕ) (x y : X) (i : ℕ) → slice_get (replicate n x) i ≡ Some y → y ≡ x
@@ -25,19 +25,23 @@ empty_at n i slots is = of (slice_get slots i) refl
     of None at = refl
     of (Some o) at = in_replicate n None o i (ap (λ (l : List (Option Op)). slice_get l i) (sym is) ∙ at)
 
-none_vacuums : (n : ℕ) → one_vacuums (replicate n None) ≡ false
-none_vacuums zero = refl
-none_vacuums (suc n) = none_vacuums n
+none_sweeps : (n : ℕ) → one_sweeps (replicate n None) ≡ false
+none_sweeps zero = refl
+none_sweeps (suc n) = none_sweeps n
+
+-- no call runs in an unused store
+no_starts : (st : State) → IsUnused st → StartsAreBelow st
+no_starts st unused start is = absurd (let none : Some start ≡ None = sym (ap (λ (o : Option (Option ℕ)). unwrap_or o None) is.is) ∙ (unused.idle is.session).number in cc)
 
 -- an unused store with empty slots is fitted by the contents of its pages
 pub unused_fits : {S : Type 0} (g : Ghosts S) (store : S) (slots : List (Option Op)) (sets : DeadSets) (n : ℕ) → slots ≡ replicate n None → IsUnused (g.state store)
     → Fits g (entry_on_live_leaf (g.state store).pages) (snapshot_of (here_with store slots sets) [] [])
 unused_fits {S} g store slots sets n is unused = record {
-  matches = record { contents = λ e. refl; count = unused.acts; order = unused.order };
+  matches = record { contents = λ e. refl; count = unused.acts; order = unused.order; starts = no_starts (g.state store) unused };
   running = λ session slot h. of session slot (in_replicate n None slot session (ap (λ (l : List (Option Op)). slice_get l session) (sym is) ∙ h));
   vacuums = record {
     alone = λ session other h k. absurd (let none : slot_vacuums (slot_of slots session) ≡ false = ap slot_vacuums (empty_at n session slots is) in cc);
-    cycle = ap (λ (c : ℕ). is_cycle c) unused.cycle ∙ sym (ap one_vacuums is ∙ none_vacuums n);
+    cycle = ap (λ (c : ℕ). is_cycle c) unused.cycle ∙ sym (ap one_sweeps is ∙ none_sweeps n);
   };
   beyond = λ session h. unused.idle session;
   known = λ number call h. absurd cc;
@@ -46,7 +50,7 @@ unused_fits {S} g store slots sets n is unused = record {
 }
   where
     is_cycle : ℕ → Bool
-    is_cycle c = is_vacuuming (record (g.state store) { cycle = c })
+    is_cycle c = is_sweeping (record (g.state store) { cycle = c })
 
     of : (session : ℕ) (slot : Option Op) → slot ≡ None → SlotMatches g (entry_on_live_leaf (g.state store).pages) (snapshot_of (here_with store slots sets) [] []) session slot
     of session None e = record { none = λ number call h. (let f = h.found in absurd cc); idle = unused.idle session }
@@ -61,6 +65,7 @@ module _ {S : Type 0} (g : Ghosts S) (start : Entry → Bool) (now : Snapshot S)
   same_slot session None without h = record { none = h.none; idle = h.idle }
   same_slot session (Some (Insert op)) without h = record { number = h.number; call = h.call; is = h.is; only = h.only; runs = record { ask = h.runs.ask; session = h.runs.session; added = h.runs.added; started = h.runs.started; fits = h.runs.fits; knows = h.runs.knows }; sweeps = tt }
   same_slot session (Some (Scan op)) without h = record { number = h.number; call = h.call; is = h.is; only = h.only; runs = record { ask = h.runs.ask; session = h.runs.session; added = h.runs.added; started = h.runs.started; fits = h.runs.fits; knows = h.runs.knows }; sweeps = tt }
+  same_slot session (Some (Cleanup op)) without h = record { number = h.number; call = h.call; is = h.is; only = h.only; runs = record { ask = h.runs.ask; session = h.runs.session; added = h.runs.added; started = h.runs.started; fits = h.runs.fits; knows = h.runs.knows }; sweeps = tt }
   same_slot session (Some (Bulk set op)) without h = absurd (without set op refl)
 
   pub fits_with : ((session set : ℕ) (op : BulkDeleteOp) → slice_get now.slots session ≡ Some (Some (Bulk set op)) → ⊥) → Fits g start now → Fits g start then

@@ -12,18 +12,18 @@ use Rattle.page_action.specs.declared.page_store.PageStore.{Ghosts}
 use Rattle.latch_table.specs.Holdings.{has_pin, holding_of}
 use Rattle.page_codec.specs.declared.page.Page.{Page}
 use Rattle.tree_acts.specs.Leaves.{IsLeafAt, WasLeaf}
-use Rattle.descent.specs.Shared.{OthersRely, MovesFlags}
+use Rattle.descent.specs.Shared.{OthersRely}
 use Rattle.session_calls.specs.Due.{IsDueIn, CountsDown, HasSteps}
-use Rattle.session_calls.specs.Ops.{DeadSets, asked_by, op_before, asks_vacuum, is_vacuuming, asked_of, where_stepped, where_asked_next, where_beginning, IsCaused, AnswersStopped}
-use Rattle.session_calls.specs.Sessions.{Told, IsAsked, acts_of, begun_call, is_busy, slot_add, LeavesLess, LeavesNoMore, GivesLess, AnswersStep, AnswersNext, AnswersEnd, RefusalChangesNothing, OnlyWritersAct, OnlyOwnAreFlagged, LeavesOwnFlagged, KeepsBeforePins, CountsEntries}
+use Rattle.session_calls.specs.Ops.{DeadSets, asked_by, op_before, asks_vacuum, asked_of, where_stepped, where_asked_next, where_beginning, IsCaused, AnswersStopped}
+use Rattle.session_calls.specs.Sessions.{Told, IsAsked, MovesShape, acts_of, begun_call, is_busy, slot_add, LeavesLess, LeavesNoMore, GivesLess, AnswersStep, AnswersNext, AnswersEnd, RefusalChangesNothing, OnlyWritersAct, OnlyOwnAreFlagged, LeavesOwnFlagged, KeepsBeforePins, CountsEntries, SparesLeaves}
 use Rattle.session_calls.specs.declared.answer.Answer.{Answer}
 use Rattle.session_calls.specs.declared.answer.Answer.TheVariants.{Begun, Forced, Flushed, Checkpointed, Refused}
 use Rattle.session_calls.specs.declared.op.Op.{Op}
 use Rattle.session_calls.specs.declared.request.Request.{Request}
-use Rattle.session_calls.specs.declared.request.Request.TheVariants.{Insert as ToInsert, Scan as ToScan, Bulk as ToBulk}
+use Rattle.session_calls.specs.declared.request.Request.TheVariants.{Insert as ToInsert, Scan as ToScan, Bulk as ToBulk, Cleanup as ToCleanup}
 use Rattle.schedule.specs.Snapshots.{StoreAndSlots, Snapshot, here_at, slot_of, IsRunningCall, has_call, one_vacuums, Fits}
 use Rattle.schedule.specs.declared.event.Event.{Event}
-use Rattle.schedule.specs.declared.event.Event.TheVariants.{Insert, Scan, Bulk, Step, Next, End, Force, Flush, Checkpoint}
+use Rattle.schedule.specs.declared.event.Event.TheVariants.{Insert, Scan, Bulk, Cleanup, Step, Next, End, Force, Flush, Checkpoint}
 
 -- what may be done with a running call: a step, asking for the next entry, giving it up
 pub data Move : Type 0 where
@@ -47,6 +47,7 @@ abbrev pub kind_of : Event → Kind
 kind_of (Insert session e) = BeginsCall session (ToInsert e)
 kind_of (Scan session range) = BeginsCall session (ToScan range)
 kind_of (Bulk session set) = BeginsCall session (ToBulk set)
+kind_of (Cleanup session) = BeginsCall session ToCleanup
 kind_of (Step session) = MovesCall session Steps
 kind_of (Next session) = MovesCall session Takes
 kind_of (End session) = MovesCall session GivesUp
@@ -70,7 +71,7 @@ AreOf session [] = Unit {0}
 AreOf session (event ∷ events) = IsOf session event × AreOf session events
 
 -- an event of a session's running call: it appends an action of this effect, or none, which the call was asked for; what is
--- told of it; no other call is changed, and other sessions may rely; and which flags it moves
+-- told of it; no other call is changed, and other sessions may rely; and what it does to the shape of the pages
 pub record CallGoesOn {S : Type 0} (g : Ghosts S) (start : Entry → Bool) (session : ℕ) (answer : Answer) (old new : Snapshot S) : Type 0 where
   pub number : ℕ
   pub call : Call
@@ -82,7 +83,7 @@ pub record CallGoesOn {S : Type 0} (g : Ghosts S) (start : Entry → Bool) (sess
   pub history_is : new.history ≡ old.history ++ acts_of number effect
   pub calls_is : new.calls ≡ slice_set old.calls number after
   pub others : OthersRely session (g.state old.store) (g.state new.store)
-  pub flags : MovesFlags effect (g.state old.store) (g.state new.store)
+  pub shape : MovesShape call.ask effect (g.state old.store) (g.state new.store)
 
 -- a call is begun: it gets the next number
 pub record CallBegins {S : Type 0} (g : Ghosts S) (session : ℕ) (request : Request) (answer : Answer) (old new : Snapshot S) : Type 0 where
@@ -160,6 +161,7 @@ abbrev pub is_of_sets : DeadSets → Request → Bool
 is_of_sets sets (ToInsert e) = true
 is_of_sets sets (ToScan range) = true
 is_of_sets sets (ToBulk set) = nat_lt set (length sets)
+is_of_sets sets ToCleanup = true
 
 -- the session that may begin a call, where the log hasn't failed, there is such a session and the set that is named, and it
 -- has no call: refused for the first of these that isn't so
@@ -176,7 +178,7 @@ where_moved idle running None = idle
 where_moved idle running (Some None) = idle
 where_moved idle running (Some (Some op)) = running op
 
--- the circumstances of a beginning with these sets, while a bulk delete runs or none
+-- the circumstances of a beginning with these sets, while a bulk delete or a cleanup runs or none
 abbrev pub where_begun_at : {S : Type 0} → Ghosts S → S → Bool → DeadSets → Request → Option (Option Op) → Circumstances
 where_begun_at g store vacuums sets request None = where_no_call (g.backing store).stopped
 where_begun_at g store vacuums sets request (Some slot) = record (where_beginning (g.state store) (g.backing store) (is_busy slot)) {
@@ -284,15 +286,15 @@ pub record DoesOneAct (old new : State) : Type 0 where
   pub limits : new.limits ≡ old.limits
   pub frames : new.frames ≡ old.frames
 
--- only a step of an insert or of a bulk delete does an act
+-- only a step of an insert, of a bulk delete or of a cleanup does an act
 abbrev pub OnlyStepsAct : Kind → Option Op → State → State → Type 0
 OnlyStepsAct (MovesCall session Steps) slot old new = OnlyWritersAct slot old new
 OnlyStepsAct kind slot old new = new.acts ≡ old.acts
 
--- a beginning that is refused has its cause; whatever the slots are, a bulk delete runs where the store has a cycle number
+-- a beginning that is refused has its cause
 abbrev pub BeginningIsCaused : {S : Type 0} → Ghosts S → Kind → Answer → StoreAndSlots S → Type 0
 BeginningIsCaused g (BeginsCall session request) answer old =
-    IsCaused (where_begun_at g old.store (is_vacuuming (g.state old.store)) old.sets request (slice_get old.slots session)) answer
+    IsCaused (where_begun_at g old.store (one_vacuums old.slots) old.sets request (slice_get old.slots session)) answer
 BeginningIsCaused g kind answer old = Unit {0}
 
 -- a beginning for which no session is found is refused for that, whatever else is so
@@ -310,7 +312,7 @@ StartsFresh kind answer after = Unit {0}
 
 -- What holds of an event whatever the pages are: what it may answer; that a refusal changes nothing; that a stopped log
 -- refuses it first; what is left to do for its call, over a device that keeps its model; that it does one act at most, and
--- only a step of an insert or of a bulk delete does one; that no other session's slot is changed; what it leaves; that a
+-- only a step of an insert, of a bulk delete or of a cleanup does one; that no other session's slot is changed; what it leaves; that a
 -- beginning that is refused has its cause, the first that there is; and what a beginning begins.
 pub record EventAlways {S : Type 0} (g : Ghosts S) (kind : Kind) (answer : Answer) (old new : StoreAndSlots S) : Type 0 where
   pub answers : AnswersEvent kind answer old.slots new.slots
@@ -361,10 +363,16 @@ KeepsPinnedLeaves kind old new =
     (session block : ℕ) (page : Page) → (IsOfSession session kind → ⊥) → IsLeafAt old.pages block page
     → has_pin (holding_of old.table session).pins block ≡ true → WasLeaf new.pages block
 
--- a step of a bulk delete, beside which nobody has acted, counts on; at its end it tells how many entries there are
+-- a step of a bulk delete or of a cleanup, beside which nobody has acted, counts on; at its end it tells how many entries there
+-- are; and a cleanup leaves no half-dead page
 abbrev pub CountsOnEntries : Kind → DeadSets → Answer → State → State → Option Op → Option Op → Type 0
 CountsOnEntries (MovesCall session Steps) sets answer old new before after = CountsEntries sets old new before after answer
 CountsOnEntries kind sets answer old new before after = Unit {0}
+
+-- a cleanup, beside which nobody else holds a page, leaves no empty leaf behind it that might leave the tree
+abbrev pub SparesOn : Kind → Answer → State → State → Option Op → Option Op → Type 0
+SparesOn (MovesCall session Steps) answer old new before after = SparesLeaves old new before after answer
+SparesOn kind answer old new before after = Unit {0}
 
 -- What an event leaves as it was: the limits and the number of frames; and where it appends no action, the pages. So an event
 -- of others that appends no action costs a call that is due no step.
@@ -388,8 +396,8 @@ pub record GrowsByOne (old new : List Action) : Type 0 where
   pub few : length acts ≤ 1
 
 -- One event of this kind, of what is fitted: what happens, why it is refused, how many steps its call takes, which pages it
--- leaves flagged, which pins a bulk delete waits for and what it counts, that pinned leaves stay, what it leaves as it was, the
--- sets among it, and what fits then. The store follows the one before, so no count goes back, and each crash in between is told
+-- leaves flagged, which pins a bulk delete waits for and what it or a cleanup counts, which empty leaves a cleanup spares, that
+-- pinned leaves stay, what it leaves as it was, the sets among it, and what fits then. The store follows the one before, so no count goes back, and each crash in between is told
 -- of.
 pub record EventDoes {S : Type 0} (g : Ghosts S) (start : Entry → Bool) (kind : Kind) (answer : Answer) (old new : Snapshot S) : Type 0 where
   pub always : EventAlways g kind answer (here_at old) (here_at new)
@@ -400,6 +408,7 @@ pub record EventDoes {S : Type 0} (g : Ghosts S) (start : Entry → Bool) (kind 
   pub flagged : KeepsFlags kind answer (g.state old.store) (g.state new.store) (slot_of old.slots (session_at kind)) (slot_of new.slots (session_at kind))
   pub waits : WaitsForPins kind answer (g.state old.store) (slot_of old.slots (session_at kind)) (slot_of new.slots (session_at kind))
   pub entries : CountsOnEntries kind old.sets answer (g.state old.store) (g.state new.store) (slot_of old.slots (session_at kind)) (slot_of new.slots (session_at kind))
+  pub spares : SparesOn kind answer (g.state old.store) (g.state new.store) (slot_of old.slots (session_at kind)) (slot_of new.slots (session_at kind))
   pub leaves : KeepsPinnedLeaves kind (g.state old.store) (g.state new.store)
   pub quiet : LeavesBe g kind old new
   pub durable : IsDurable (g.backing new.store).durable answer

@@ -1,12 +1,13 @@
 -- One moment of a store with its sessions, and when a history and a list of calls fit it.
-use Rattle.std.specs.Prelude.{◌≡◌, ℕ, ◌<◌, ◌≤◌, ◌||◌, Bool, true, false, Option, Some, None, List, [], ◌∷◌, length, slice_get, unwrap_or}
+use Rattle.std.specs.Prelude.{◌≡◌, ℕ, ◌<◌, ◌≤◌, Bool, true, false, Option, Some, None, List, length, slice_get, unwrap_or}
+use Rattle.std.specs.List.{list_any}
 use Rattle.index_model.specs.Actions.{Action}
 use Rattle.index_model.specs.Calls.{Running, Call, Meets, ActionsAreOwned}
 use Rattle.index_model.specs.declared.entry.Entry.{Entry}
 use Rattle.page_action.specs.States.{State}
 use Rattle.page_action.specs.declared.page_store.PageStore.{Ghosts}
 use Rattle.descent.specs.Shared.{IsInOrder}
-use Rattle.session_calls.specs.Ops.{DeadSets, is_vacuum, is_vacuuming}
+use Rattle.session_calls.specs.Ops.{DeadSets, is_vacuum, is_sweep, is_sweeping}
 use Rattle.session_calls.specs.Sessions.{Matches, OpRuns, IsIdle, is_busy}
 use Rattle.session_calls.specs.Sweeps.{OpSweeps}
 use Rattle.session_calls.specs.declared.op.Op.{Op}
@@ -67,20 +68,28 @@ abbrev pub SlotMatches : {S : Type 0} → Ghosts S → (Entry → Bool) → Snap
 SlotMatches g start now session None = IsFree g now session
 SlotMatches g start now session (Some op) = SlotRuns g start now session op
 
--- what a session runs is a bulk delete
+-- what a session runs is a bulk delete or a cleanup
 abbrev pub slot_vacuums : Option Op → Bool
 slot_vacuums None = false
 slot_vacuums (Some op) = is_vacuum op
 
--- some session runs a bulk delete
-abbrev pub one_vacuums : List (Option Op) → Bool
-one_vacuums [] = false
-one_vacuums (slot ∷ slots) = slot_vacuums slot || one_vacuums slots
+-- ... is a bulk delete
+abbrev pub slot_sweeps : Option Op → Bool
+slot_sweeps None = false
+slot_sweeps (Some op) = is_sweep op
 
--- one session at most runs a bulk delete, and the store has a cycle number exactly while one does
+-- some session runs a bulk delete or a cleanup
+abbrev pub one_vacuums : List (Option Op) → Bool
+one_vacuums slots = list_any slot_vacuums slots
+
+-- some session runs a bulk delete
+abbrev pub one_sweeps : List (Option Op) → Bool
+one_sweeps slots = list_any slot_sweeps slots
+
+-- one session at most runs a bulk delete or a cleanup, and the store has a cycle number exactly while one runs a bulk delete
 pub record OneVacuums (st : State) (slots : List (Option Op)) : Type 0 where
   pub alone : (session other : ℕ) → slot_vacuums (slot_of slots session) ≡ true → slot_vacuums (slot_of slots other) ≡ true → session ≡ other
-  pub cycle : is_vacuuming st ≡ one_vacuums slots
+  pub cycle : is_sweeping st ≡ one_sweeps slots
 
 -- the history and the calls fit the moment
 pub record Fits {S : Type 0} (g : Ghosts S) (start : Entry → Bool) (now : Snapshot S) : Type 0 where
@@ -89,7 +98,7 @@ pub record Fits {S : Type 0} (g : Ghosts S) (start : Entry → Bool) (now : Snap
   pub matches : Matches (g.state now.store) start now.history
   -- the calls without an end are the running ones
   pub running : (session : ℕ) (slot : Option Op) → slice_get now.slots session ≡ Some slot → SlotMatches g start now session slot
-  -- which session runs a bulk delete, if one does
+  -- which session runs a bulk delete or a cleanup, if one does
   pub vacuums : OneVacuums (g.state now.store) now.slots
   -- a session that isn't there holds nothing, and has no start number
   pub beyond : (session : ℕ) → length now.slots ≤ session → IsIdle (g.state now.store) session

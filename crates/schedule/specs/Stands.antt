@@ -1,5 +1,5 @@
 -- A bulk delete doesn't finish while another session's scan stands on a leaf that it hasn't read.
-use Rattle.std.specs.Prelude.{◌≡◌, ◌≢◌, ℕ, ◌≤◌, Bool, Option, Some, None, List, [], ◌∷◌, ◌++◌}
+use Rattle.std.specs.Prelude.{◌≡◌, ◌≢◌, ℕ, ◌≤◌, Bool, true, Option, Some, None, List, [], ◌∷◌, ◌++◌}
 use Rattle.index_model.specs.declared.entry.Entry.{Entry}
 use Rattle.index_model.specs.declared.stats.VacuumStats.{VacuumStats}
 use Rattle.page_action.specs.declared.page_store.PageStore.{Ghosts}
@@ -8,8 +8,9 @@ use Rattle.scan.specs.declared.steps.ScanOp.{ScanOp}
 use Rattle.session_calls.specs.declared.answer.Answer.{Answer}
 use Rattle.session_calls.specs.declared.answer.Answer.TheVariants.{Begun, Finished}
 use Rattle.session_calls.specs.declared.op.Op.{Op}
-use Rattle.session_calls.specs.declared.op.Op.TheVariants.{Insert, Scan, Bulk}
-use Rattle.schedule.specs.Snapshots.{Snapshot, slot_of, Fits}
+use Rattle.session_calls.specs.declared.op.Op.TheVariants.{Insert, Scan, Bulk, Cleanup}
+use Rattle.schedule.specs.Snapshots.{Snapshot, slot_of, slot_sweeps, Fits}
+use Rattle.schedule.specs.Events.{Steps, Kind, MovesCall, kind_of}
 use Rattle.schedule.specs.Runs.{IsRun}
 use Rattle.schedule.specs.declared.event.Event.{Event}
 use Rattle.schedule.specs.declared.event.Event.TheVariants.{Bulk as BulkEvent}
@@ -33,16 +34,26 @@ BeforeEach g start Holds told (event ∷ events) (answer ∷ answers) first last
 BeforeEach g start Holds told [] (answer ∷ answers) first last run = ⊥
 BeforeEach g start Holds told (event ∷ events) [] first last run = ⊥
 
--- none of these answers tells of a bulk delete that has finished
-abbrev pub NoneFinishes : List Answer → Type 0
-NoneFinishes [] = Unit {0}
-NoneFinishes (answer ∷ answers) = ((stats : VacuumStats) → answer ≢ Finished stats) × NoneFinishes answers
+-- an event of this kind isn't a step with which a session's bulk delete finishes
+abbrev pub DoesNotFinish : {S : Type 0} → Kind → Answer → Snapshot S → Type 0
+DoesNotFinish (MovesCall session Steps) answer now = slot_sweeps (slot_of now.slots session) ≡ true → (stats : VacuumStats) → answer ≢ Finished stats
+DoesNotFinish kind answer now = Unit {0}
+
+-- no bulk delete finishes in a run
+abbrev pub NoneFinishes : {S : Type 0} (g : Ghosts S) (start : Entry → Bool) (told : List Answer) (events : List Event) (answers : List Answer) (first last : Snapshot S)
+    → IsRun g start told events answers first last → Type 0
+NoneFinishes g start told [] [] first last run = Unit {0}
+NoneFinishes g start told (event ∷ events) (answer ∷ answers) first last run =
+    DoesNotFinish (kind_of event) answer first × NoneFinishes g start (told ++ answer ∷ []) events answers run.1.0 last run.1.2
+NoneFinishes g start told [] (answer ∷ answers) first last run = ⊥
+NoneFinishes g start told (event ∷ events) [] first last run = ⊥
 
 -- a session's bulk delete, if it runs one, hasn't read the page of this block in block order
 abbrev pub HasNotCome : ℕ → Option Op → Type 0
 HasNotCome block None = Unit {0}
 HasNotCome block (Some (Insert op)) = Unit {0}
 HasNotCome block (Some (Scan op)) = Unit {0}
+HasNotCome block (Some (Cleanup op)) = Unit {0}
 HasNotCome block (Some (Bulk set op)) = op.cursor ≤ block
 
 -- ... nor has any session's
@@ -55,7 +66,7 @@ abbrev pub BulkDeletesWait : {S : Type 0} → Ghosts S → Type 0
 BulkDeletesWait {S} g =
     (start : Entry → Bool) (told : List Answer) (events : List Event) (answers : List Answer) (first last : Snapshot S) → Fits g start first
     → (run : IsRun g start told events answers first last) → (session block : ℕ) → BeforeEach g start (StandsOn session block) told events answers first last run
-    → HasLeaf g block first → NoneHasCome block first → NoneFinishes answers × NoneHasCome block last × HasLeaf g block last
+    → HasLeaf g block first → NoneHasCome block first → NoneFinishes g start told events answers first last run × NoneHasCome block last × HasLeaf g block last
 
 -- A bulk delete that begins while another session's scan stands on a leaf doesn't finish while it stands there: in a run that
 -- begins with this beginning, and before each event of which the scan stands on the leaf, no bulk delete finishes, none has
@@ -65,4 +76,5 @@ BegunBulkDeletesWait {S} g =
     (start : Entry → Bool) (told : List Answer) (vacuumer set : ℕ) (events : List Event) (answers : List Answer) (first last : Snapshot S) → Fits g start first
     → (run : IsRun g start told (BulkEvent vacuumer set ∷ events) (Begun ∷ answers) first last) → (session block : ℕ)
     → BeforeEach g start (StandsOn session block) told (BulkEvent vacuumer set ∷ events) (Begun ∷ answers) first last run
-    → HasLeaf g block first → NoneFinishes answers × NoneHasCome block last × HasLeaf g block last
+    → HasLeaf g block first
+    → NoneFinishes g start told (BulkEvent vacuumer set ∷ events) (Begun ∷ answers) first last run × NoneHasCome block last × HasLeaf g block last

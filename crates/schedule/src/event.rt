@@ -11,6 +11,8 @@ pub enum Event {
     Scan(u32, Range),
     /// Begins a bulk delete of the entries whose rows are in the set at this place among the sets.
     Bulk(u32, u32),
+    /// Begins a cleanup.
+    Cleanup(u32),
     /// Makes one step of the session's call.
     Step(u32),
     /// Takes the next entry that the session's scan has ready.

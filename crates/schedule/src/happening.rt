@@ -1,12 +1,12 @@
 //! One event of a store with its sessions.
 
-ghost use Rattle.std.specs.Prelude.{◌≡◌, ◌<◌, ◌≤◌, ◌+◌, ◌∷◌, [], true, List, Option, ℕ, IfErr, IsOk, OnOk, OnErr, length, map, slice_get, take, vec_len, vec_capacity};
+ghost use Rattle.std.specs.Prelude.{◌≡◌, ◌<◌, ◌≤◌, ◌+◌, ◌∷◌, ◌&&◌, [], true, List, Option, ℕ, IfErr, IsOk, OnOk, OnErr, length, map, slice_get, take, vec_len, vec_capacity};
 ghost use Rattle.page_action.specs.Room.{HasWholeRoom};
 ghost use Rattle.page_action.specs.States.{Continues};
-ghost use Rattle.session_calls.specs.Ops.{DeadSets};
+ghost use Rattle.session_calls.specs.Ops.{DeadSets, asks_vacuum};
 ghost use Rattle.session_calls.specs.Sessions.{no_call};
 ghost use Rattle.session_calls.specs.declared.op.Op.{Op};
-ghost use Rattle.schedule.specs.Snapshots.{here_with, has_call};
+ghost use Rattle.schedule.specs.Snapshots.{here_with, has_call, slot_vacuums, one_vacuums};
 ghost use Rattle.schedule.specs.Events.{BeginsCall, MovesCall, Steps, Takes, GivesUp, KeepsStore, Forces, Flushes, Checkpoints, kind_of, is_of_sets, session_to_begin, AnswersUpkeep, StoreIsKept, EventAlways};
 ghost use Rattle.schedule.specs.Runs.{Carries, Runs, Makes, answers_behind};
 
@@ -17,8 +17,8 @@ use session_calls::{Answer, Op, Request};
 
 /// Does one event on a store, whose session i runs what the slot i has, and answers what the event gave, a refusal among
 /// the answers. Where several refusals apply, the first of `Stopped` (3), `NoSession` (12), `SessionBusy` (13) and
-/// `VacuumRunning` (11) is answered; a bulk delete of a set that isn't there is refused with `NoSession`. There are 64 slots
-/// at most. The sets of dead rows are those that calls name by their places, the same at each event.
+/// `VacuumRunning` (11) is answered; a bulk delete of a set that isn't there is refused with `NoSession`; a bulk delete or a
+/// cleanup is refused with `VacuumRunning` while a session runs either. There are 64 slots at most. The sets of dead rows are those that calls name by their places, the same at each event.
 pub fn one<S: PageStore, T: DeadRows>(
     store: &mut S,
     slots: &mut [Option<Op>],
@@ -92,6 +92,7 @@ fn pick<S: PageStore, T: DeadRows>(
         Event::Insert(session, entry) => begin(store, slots, sets, session, Request::Insert(entry)),
         Event::Scan(session, range) => begin(store, slots, sets, session, Request::Scan(range)),
         Event::Bulk(session, set) => begin(store, slots, sets, session, Request::Bulk(set)),
+        Event::Cleanup(session) => begin(store, slots, sets, session, Request::Cleanup),
         Event::Step(session) => step(store, slots, sets, session),
         Event::Next(session) => next(store, slots, session),
         Event::End(session) => end(store, slots, session),
@@ -120,7 +121,16 @@ fn begin<S: PageStore, T: DeadRows>(
         slots,
         session,
     ) {
-        Ok(known) => session_calls::begin(store, known, request, &mut slots[session as usize]),
+        Ok(known) => {
+            let excluded = is_excluded(slots, &request);
+            session_calls::begin(
+                store,
+                known,
+                request,
+                excluded,
+                &mut slots[session as usize],
+            )
+        }
         Err(fault) => Answer::Refused(fault),
     }
 }
@@ -230,6 +240,32 @@ fn make_checkpoint<S: PageStore>(store: &mut S, slots: &[Option<Op>]) -> Answer
     match store.checkpoint() {
         Ok(count) => Answer::Checkpointed(count),
         Err(fault) => Answer::Refused(fault),
+    }
+}
+
+// Whether the request asks for a bulk delete or a cleanup, and a session runs one.
+fn is_excluded(slots: &[Option<Op>], request: &Request) -> bool
+    ensures { result ≡ (asks_vacuum request.now && one_vacuums slots.now) }
+{
+    match request {
+        Request::Bulk(_) | Request::Cleanup => one_vacuums(slots),
+        _ => false,
+    }
+}
+
+// Whether a session runs a bulk delete or a cleanup: one at most does.
+fn one_vacuums(slots: &[Option<Op>]) -> bool
+    ensures { result ≡ one_vacuums slots.now }
+{
+    slots.iter().any(|slot| slot_vacuums(slot))
+}
+
+fn slot_vacuums(slot: &Option<Op>) -> bool
+    ensures { result ≡ slot_vacuums slot.now }
+{
+    match slot {
+        Some(op) => op.is_vacuum(),
+        None => false,
     }
 }
 

@@ -401,3 +401,30 @@ fn two_insert_while_a_third_deletes(rt: HostRuntime) -> Result<(), Fail> {
     }
     Ok(())
 }
+
+#[test]
+fn one_vacuum_runs_at_a_time(rt: HostRuntime) -> Result<(), Fail> {
+    let mut store = empty_store(rt.alloc())?;
+    let mut slots: [Option<Op>; 3] = array::from_fn(|_| None);
+    for first in [Event::Bulk(0, 1), Event::Cleanup(0)] {
+        let begun = one(&mut store, &mut slots, &SETS, first);
+        assert!(rt; matches!(begun, Answer::Begun));
+        for second in [Event::Bulk(1, 1), Event::Cleanup(1)] {
+            let refused = one(&mut store, &mut slots, &SETS, second);
+            assert!(rt; matches!(refused, Answer::Refused(Fault::VacuumRunning)));
+        }
+        let busy = one(&mut store, &mut slots, &SETS, Event::Cleanup(0));
+        assert!(rt; matches!(busy, Answer::Refused(Fault::SessionBusy)));
+        let none = one(&mut store, &mut slots, &SETS, Event::Cleanup(3));
+        assert!(rt; matches!(none, Answer::Refused(Fault::NoSession)));
+        let ended = one(&mut store, &mut slots, &SETS, Event::End(0));
+        assert!(rt; matches!(ended, Answer::Ended));
+    }
+    let _begun = one(&mut store, &mut slots, &SETS, Event::Cleanup(2));
+    let Answer::Finished(stats) = finish(&mut store, &mut slots, 2) else {
+        assert!(rt; false);
+        return Ok(());
+    };
+    assert_eq!(rt; (stats.num_pages, stats.num_index_tuples), (2, 0));
+    Ok(())
+}

@@ -18,12 +18,13 @@ use Rattle.scan.proofs.Lasting.{bounded as scan_bounded}
 use Rattle.descent.specs.Ways.{root_level, NoneIsFlagged}
 use Rattle.session_calls.specs.Due.{IsServable, IsDueIn, steps_for, HasSteps}
 use Rattle.session_calls.proofs.Counting.{due_still}
-use Rattle.session_calls.specs.Ops.{DeadSets, asked_by, op_before, IsOfSets, asks_vacuum, set_at}
+use Rattle.session_calls.specs.Ops.{DeadSets, asked_by, op_before, IsOfSets, asks_sweep, set_at}
 use Rattle.session_calls.specs.Sweeps.{IsSweepSoFar, SlotSweeps}
-use Rattle.session_calls.proofs.Bounds.{bulk_few}
+use Rattle.session_calls.proofs.Bounds.{bulk_few, cleanup_few}
+use Rattle.session_calls.proofs.Starting.{starts_kept, starts_begun}
 use Rattle.session_calls.specs.Sessions.{Matches, IsIdle, OpRuns, begun_call, work_left, work_in, after_request, SessionBegins}
 use Rattle.session_calls.specs.declared.request.Request.{Request}
-use Rattle.session_calls.specs.declared.request.Request.TheVariants.{Insert as ToInsert, Scan as ToScan, Bulk as ToBulk}
+use Rattle.session_calls.specs.declared.request.Request.TheVariants.{Insert as ToInsert, Scan as ToScan, Bulk as ToBulk, Cleanup as ToCleanup}
 use Rattle.session_calls.specs.declared.op.Op.{Op}
 use Rattle.session_calls.proofs.Lists.{get_set_same, get_set_other}
 use Rattle.std.proofs.lemmas.Bool.{and_parts, lt-ltb}
@@ -39,8 +40,13 @@ begun_order st session order = record {
   calls = length-set {A = Option ℕ} st.running session (Some st.begun) ∙ order.calls;
 }
 
-begun_matches : (st : State) (session : ℕ) (start : Entry → Bool) (history : List Action) → Matches st start history → Matches (after_begin session st) start history
-begun_matches st session start history m = record { contents = m.contents; count = m.count; order = begun_order st session m.order }
+begun_matches : (st : State) (session : ℕ) (start : Entry → Bool) (history : List Action) → session < 64 → Matches st start history → Matches (after_begin session st) start history
+begun_matches st session start history low m = record {
+  contents = m.contents;
+  count = m.count;
+  order = begun_order st session m.order;
+  starts = (let many : length st.running ≡ 64 = m.order.calls in starts_begun st session (omega arith) m.starts);
+}
 
 begun_numbers : (st : State) (session start : ℕ) → NumbersStay start st (after_begin session st)
 begun_numbers st session start = record {
@@ -71,10 +77,16 @@ cycled_numbers st session start = record {
   trails = λ level block moves trail. record { tree = trail.tree; in_tree = trail.in_tree; passed = trail.passed; count = trail.count; distinct = trail.distinct; steps = trail.steps; trail = trail.trail };
 }
 
-requested_matches : (v : Bool) (st : State) (session : ℕ) (start : Entry → Bool) (history : List Action) → Matches st start history → Matches (after_request v session st) start history
-requested_matches false st session start history m = begun_matches st session start history m
-requested_matches true st session start history m =
-    record { contents = m.contents; count = m.count; order = cycled_order (after_begin session st) (begun_order st session m.order) }
+requested_matches : (v : Bool) (st : State) (session : ℕ) (start : Entry → Bool) (history : List Action) → session < 64 → Matches st start history → Matches (after_request v session st) start history
+requested_matches false st session start history low m = begun_matches st session start history low m
+requested_matches true st session start history low m =
+    let begun = begun_matches st session start history low m in
+    record {
+      contents = m.contents;
+      count = m.count;
+      order = cycled_order (after_begin session st) begun.order;
+      starts = starts_kept (after_begin session st) (after_start_cycle (after_begin session st)) refl refl begun.starts;
+    }
 
 requested_others : (v : Bool) (st : State) (session : ℕ) → OthersRely session st (after_request v session st)
 requested_others false st session other differ = begun_others st session other differ
@@ -124,7 +136,7 @@ nothing_given start history range began = record { ascending = tt; matched = λ 
 
 module _ (old : State) (sets : DeadSets) (start : Entry → Bool) (history : List Action) (number session : ℕ) (low : session < 64) (m : Matches old start history) (idle : IsIdle old session) where
   abbrev then_state : Request → State
-  then_state request = after_request (asks_vacuum request) session old
+  then_state request = after_request (asks_sweep request) session old
 
   starts : slice_get (after_begin session old).running session ≡ Some (Some old.begun)
   starts = (let many : length old.running ≡ 64 = m.order.calls in get_set_same old.running session (Some old.begun) (omega arith))
@@ -140,6 +152,7 @@ module _ (old : State) (sets : DeadSets) (start : Entry → Bool) (history : Lis
     right = record { only = nothing_given start history range (length history); all = λ e within match through. absurd within };
   }
   begun_meets (ToBulk set) = record { began = omega arith; until = omega arith; right = tt }
+  begun_meets ToCleanup = record { began = omega arith; until = omega arith; right = tt }
 
   begun_runs : (request : Request) → OpRuns (then_state request) sets start history (begun_call session (asked_by sets request) (length history)) (op_before session request)
   begun_runs (ToInsert e) = record { ask = refl; session = refl; added = refl; started = record { number = old.begun; is = started_is }; fits = record { session = low; start = old.begun; running = starts; stands = idle.holds; to_come = refl }; knows = tt }
@@ -159,6 +172,7 @@ module _ (old : State) (sets : DeadSets) (start : Entry → Bool) (history : Lis
     };
   }
   begun_runs (ToBulk set) = record { ask = refl; session = refl; added = refl; started = record { number = old.begun; is = started_is }; fits = record { session = low; start = old.begun; running = starts; held = idle.holds; back = tt }; knows = tt }
+  begun_runs ToCleanup = record { ask = refl; session = refl; added = refl; started = record { number = old.begun; is = started_is }; fits = record { session = low; start = old.begun; running = starts; held = idle.holds; at = tt }; knows = tt }
 
   begun_sweep : (set : ℕ) → IsSweepSoFar (after_start_cycle (after_begin session old)) (set_at sets set) start history number (length history) (record { session = session; cursor = 1; back = None; left = 0; removed = 0 })
   begun_sweep set = record {
@@ -170,21 +184,22 @@ module _ (old : State) (sets : DeadSets) (start : Entry → Bool) (history : Lis
   begun_sweeps : (request : Request) → IsOfSets sets request → SlotSweeps (then_state request) sets start history number (length history) (Some (op_before session request))
   begun_sweeps (ToInsert e) there = tt
   begun_sweeps (ToScan range) there = tt
+  begun_sweeps ToCleanup there = tt
   begun_sweeps (ToBulk set) there = (there, begun_sweep set)
 
   running_from : (request : Request) → (begun_call session (asked_by sets request) (length history)).ending ≡ Running
   running_from request = refl
 
-  pub begins : (new : State) (request : Request) (slot : Option Op) → new ≡ after_request (asks_vacuum request) session old → slot ≡ Some (op_before session request) → SessionBegins old new sets start history number session request slot
+  pub begins : (new : State) (request : Request) (slot : Option Op) → new ≡ after_request (asks_sweep request) session old → slot ≡ Some (op_before session request) → SessionBegins old new sets start history number session request slot
   begins new request slot is slot_is =
       subst (λ (st : State). SessionBegins old st sets start history number session request slot) (sym is)
       (subst (λ (x : Option Op). SessionBegins old (then_state request) sets start history number session request x) (sym slot_is) (record {
-        world = requested_matches (asks_vacuum request) old session start history m;
-        others = requested_others (asks_vacuum request) old session;
+        world = requested_matches (asks_sweep request) old session start history low m;
+        others = requested_others (asks_sweep request) old session;
         meets = begun_meets request;
         holds = (refl, begun_runs request);
-        cycle = requested_cycle (asks_vacuum request) old session;
-        leaves = leaves_same old (then_state request) (requested_pages (asks_vacuum request) old session);
+        cycle = requested_cycle (asks_sweep request) old session;
+        leaves = leaves_same old (then_state request) (requested_pages (asks_sweep request) old session);
         sweeps = begun_sweeps request;
       }))
 
@@ -192,6 +207,7 @@ few_from : (most : ℕ) (pages : List Page) (session : ℕ) (request : Request) 
 few_from most pages session (ToInsert e) low few = insert_bounded most pages low
 few_from most pages session (ToScan range) low few = scan_bounded most pages session range low few
 few_from most pages session (ToBulk set) low few = (let k = bulk_few most (length pages) 1 None low few in omega arith)
+few_from most pages session ToCleanup low few = cleanup_few most (length pages) 1 low few
 
 -- a request that its leaf can serve is due after so many steps
 due_from : (old : State) (session : ℕ) (request : Request) → NoneIsFlagged old.pages → IsServable old request
@@ -199,17 +215,18 @@ due_from : (old : State) (session : ℕ) (request : Request) → NoneIsFlagged o
 due_from old session (ToInsert e) whole servable = record { steps_are = refl; whole = whole; way = tt; absent = servable.0; room = servable.1 }
 due_from old session (ToScan range) whole servable = record { steps_are = refl; whole = whole; way = tt; none = refl }
 due_from old session (ToBulk set) whole servable = absurd servable
+due_from old session ToCleanup whole servable = absurd servable
 
 few_begun : (v : Bool) (old : State) (session : ℕ) (request : Request) → old.limits.pages ≤ 65536 → length old.pages ≤ 65536
     → work_in (after_request v session old) (Some (op_before session request)) < 281474976710656
 few_begun false old session request low few = few_from old.limits.pages old.pages session request low few
 few_begun true old session request low few = few_from old.limits.pages old.pages session request low few
 
-pub has_steps : (old new : State) (session : ℕ) (request : Request) (slot : Option Op) → new ≡ after_request (asks_vacuum request) session old → slot ≡ Some (op_before session request)
+pub has_steps : (old new : State) (session : ℕ) (request : Request) (slot : Option Op) → new ≡ after_request (asks_sweep request) session old → slot ≡ Some (op_before session request)
     → old.limits.pages ≤ 65536 → length old.pages ≤ 65536 → HasSteps old new request slot
 has_steps old new session request slot is slot_is low few =
-    subst (λ (st : State). HasSteps old st request slot) (sym is) (subst (λ (x : Option Op). HasSteps old (after_request (asks_vacuum request) session old) request x) (sym slot_is)
+    subst (λ (st : State). HasSteps old st request slot) (sym is) (subst (λ (x : Option Op). HasSteps old (after_request (asks_sweep request) session old) request x) (sym slot_is)
     (record {
-      due = λ whole servable. due_still old (after_request (asks_vacuum request) session old) (Some (op_before session request)) (root_level old.pages + steps_for request) (requested_limits (asks_vacuum request) old session) (requested_pages (asks_vacuum request) old session) (due_from old session request whole servable);
-      bounded = few_begun (asks_vacuum request) old session request low few;
+      due = λ whole servable. due_still old (after_request (asks_sweep request) session old) (Some (op_before session request)) (root_level old.pages + steps_for request) (requested_limits (asks_sweep request) old session) (requested_pages (asks_sweep request) old session) (due_from old session request whole servable);
+      bounded = few_begun (asks_sweep request) old session request low few;
     }))

@@ -31,7 +31,7 @@ use Rattle.session_calls.specs.Sessions.{OnlyOwnAreFlagged, LeavesOwnFlagged}
 use Rattle.session_calls.specs.declared.answer.Answer.{Answer}
 use Rattle.session_calls.specs.declared.answer.Answer.TheVariants.{Begun, Going, Added, Ready, Done, Finished, Gave, Ended, Forced, Flushed, Checkpointed, Refused}
 use Rattle.session_calls.specs.declared.op.Op.{Op}
-use Rattle.session_calls.specs.declared.op.Op.TheVariants.{Insert, Scan, Bulk}
+use Rattle.session_calls.specs.declared.op.Op.TheVariants.{Insert, Scan, Bulk, Cleanup}
 
 abbrev paged : State → List Page → State
 paged st pages = record st { pages = pages }
@@ -63,6 +63,7 @@ scan_way_still old new frontier Last same h = absurd h
 pub due_still : (old new : State) (slot : Option Op) (steps : ℕ) → new.limits ≡ old.limits → new.pages ≡ old.pages → IsDueIn old slot steps → IsDueIn new slot steps
 due_still old new None steps limits same due = absurd due
 due_still old new (Some (Bulk set op)) steps limits same due = absurd due
+due_still old new (Some (Cleanup op)) steps limits same due = absurd due
 due_still old new (Some (Insert op)) steps limits same due = record {
   steps_are = due.steps_are ∙ sym (ap (λ (ps : List Page). insert_steps ps op.at) same);
   whole = subst NoneIsFlagged (sym same) due.whole;

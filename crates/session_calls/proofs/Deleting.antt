@@ -18,21 +18,22 @@ use Rattle.index_model.proofs.Histories.{there_now}
 use Rattle.page_action.specs.Contents.{entry_on_live_leaf}
 use Rattle.page_action.specs.States.{State, Backing}
 use Rattle.descent.specs.Steps.{Changes}
-use Rattle.descent.proofs.Acting.{nothing_else}
 use Rattle.vacuum.specs.BulkDeletes.{BulkDeleteGoesOn, BulkDeleteEnds, BulkDeleteStays, removes, dead_at, where_deleting, IsDueOf}
 use Rattle.page_codec.specs.declared.page.Page.{Page}
 use Rattle.vacuum.specs.Counts.{stats_of, IsCounted, entries_below}
 use Rattle.vacuum.specs.Ops.{next_block}
 use Rattle.vacuum.specs.Sweeping.{DueIsToCome}
 use Rattle.vacuum.specs.declared.steps.BulkDeleteOp.{BulkDeleteOp}
-use Rattle.session_calls.specs.Ops.{DeadSets, set_at, where_stepped, is_vacuuming, ends_call}
-use Rattle.session_calls.specs.Sessions.{CallFits, IsAsked, add_after, acts_of, ended, OpGoes, let_go, slot_after, SlotIsCounted, TellsAllEntries, CountsEntries}
+use Rattle.page_delete.specs.Counts.{AllIsCleaned}
+use Rattle.session_calls.specs.Ops.{DeadSets, set_at, where_stepped, is_sweeping, ends_call}
+use Rattle.session_calls.specs.Sessions.{CallFits, IsAsked, add_after, acts_of, ended, OpGoes, let_go, slot_after, SlotIsCounted, TellsAllEntries, TellsAllCleaned, CountsEntries, SparesLeaves, LeavesNeeded}
+use Rattle.page_delete.specs.Spares.{OnlyNeededStay}
 use Rattle.session_calls.specs.Sweeps.{IsDue, IsSweepSoFar}
 use Rattle.session_calls.specs.declared.answer.Answer.{Answer}
 use Rattle.session_calls.specs.declared.answer.Answer.TheVariants.{Begun, Going, Added, Ready, Done, Finished, Gave, Ended, Forced, Flushed, Checkpointed, Refused}
 use Rattle.session_calls.specs.declared.op.Op.{Op}
-use Rattle.session_calls.specs.declared.op.Op.TheVariants.{Insert, Scan, Bulk}
-use Rattle.session_calls.proofs.Effects.{go_pages}
+use Rattle.session_calls.specs.declared.op.Op.TheVariants.{Insert, Scan, Bulk, Cleanup}
+use Rattle.session_calls.proofs.Effects.{works_on, works_nothing, go_pages}
 use Rattle.session_calls.proofs.Going.{step_goes_on, step_is_refused}
 use Rattle.session_calls.proofs.Meeting.{began_before}
 use Rattle.session_calls.proofs.Sweeping.{due_before, longer_by, removed_append}
@@ -87,11 +88,57 @@ counted_still sets st set op fault h = by (ends_call fault)
     by true = tt
     by false = h
 
+-- at the end of a call the leaves are as they were
+needed_still : (v : Bool) (session : ℕ) (mid : State) → OnlyNeededStay mid → OnlyNeededStay (let_go v session mid)
+needed_still false session mid h block e = h block (record { above = e.above; inside = e.inside; alive = e.alive; leaf = e.leaf; empty = e.empty })
+needed_still true session mid h block e = h block (record { above = e.above; inside = e.inside; alive = e.alive; leaf = e.leaf; empty = e.empty })
+
+pub spares_over : (v : Bool) (session : ℕ) (old mid : State) (before after : Option Op) (answer : Answer) → SparesLeaves old mid before after answer → SparesLeaves old (let_go v session mid) before None answer
+spares_over v session old mid None after answer h = tt
+spares_over v session old mid (Some (Insert op)) after answer h = tt
+spares_over v session old mid (Some (Scan op)) after answer h = tt
+spares_over v session old mid (Some (Bulk set op)) after answer h = tt
+spares_over v session old mid (Some (Cleanup op)) after answer h = λ order below fits alone sparing. (tt, needs answer (h order below fits alone sparing).1)
+  where
+    needs : (a : Answer) → LeavesNeeded mid a → LeavesNeeded (let_go v session mid) a
+    needs Begun t = tt
+    needs Going t = tt
+    needs (Added x u) t = tt
+    needs (Ready r) t = tt
+    needs Done t = tt
+    needs (Finished stats) t = needed_still v session mid t
+    needs (Gave x) t = tt
+    needs Ended t = tt
+    needs (Forced n) t = tt
+    needs (Flushed b) t = tt
+    needs (Checkpointed n) t = tt
+    needs (Refused f) t = tt
+
+-- what is clean is of the pages alone
+all_cleaned : (v : Bool) (session : ℕ) (mid : State) (count : ℕ) → AllIsCleaned mid count → AllIsCleaned (let_go v session mid) count
+all_cleaned false session mid count h = record { counted = h.counted; none_dead = h.none_dead }
+all_cleaned true session mid count h = record { counted = h.counted; none_dead = h.none_dead }
+
 -- at the end of a call the pages are as they were
 pub tells_over : (sets : DeadSets) (v : Bool) (session : ℕ) (old mid : State) (before after : Option Op) (answer : Answer) → CountsEntries sets old mid before after answer → CountsEntries sets old (let_go v session mid) before None answer
 tells_over sets v session old mid None after answer h = tt
 tells_over sets v session old mid (Some (Insert op)) after answer h = tt
 tells_over sets v session old mid (Some (Scan op)) after answer h = tt
+tells_over sets v session old mid (Some (Cleanup op)) after answer h = λ fits cleaned. (tt, tells answer (h fits cleaned).1)
+  where
+    tells : (a : Answer) → TellsAllCleaned mid a → TellsAllCleaned (let_go v session mid) a
+    tells Begun t = tt
+    tells Going t = tt
+    tells (Added x u) t = tt
+    tells (Ready r) t = tt
+    tells Done t = tt
+    tells (Finished stats) t = all_cleaned v session mid stats.num_index_tuples t
+    tells (Gave x) t = tt
+    tells Ended t = tt
+    tells (Forced n) t = tt
+    tells (Flushed b) t = tt
+    tells (Checkpointed n) t = tt
+    tells (Refused f) t = tt
 tells_over sets v session old mid (Some (Bulk set op)) after answer h = λ counted. (tt, tells (h counted).1)
   where
     tells : TellsAllEntries mid answer → TellsAllEntries (let_go v session mid) answer
@@ -142,7 +189,7 @@ module _ {sets : DeadSets} (old new : State) (first second : Backing) (start : E
 
     sweep : IsSweepSoFar new dead start (history ++ acts_of number (removes gone)) number call.began after
     sweep = record {
-      runs = ap (λ (c : ℕ). is_vacuuming (record old { cycle = c })) step.does.leaves.cycle ∙ fits.sweeps.1.runs;
+      runs = ap (λ (c : ℕ). is_sweeping (record old { cycle = c })) step.does.leaves.cycle ∙ fits.sweeps.1.runs;
       to_come = λ due are. comes due (λ e is. (are e is).row)
           (fits.sweeps.1.to_come due (λ e is. due_before dead start history number call.began (removes gone) within e (are e is)));
       removed = (
@@ -156,7 +203,7 @@ module _ {sets : DeadSets} (old new : State) (first second : Backing) (start : E
     }
 
     pub bulk_goes_on : OpGoes at_op old new sets start history number call (Bulk set after) Going
-    bulk_goes_on = step_goes_on at_op old new start history number call (Bulk set before) (Bulk set after) fits session refl (removes gone) step.does
+    bulk_goes_on = step_goes_on at_op old new start history number call (Bulk set before) (Bulk set after) fits session refl (removes gone) (works_on before.session (AskBulkDelete dead) (removes gone) old new refl step.does)
         (asked gone step.does.changes step.dead_rows) (none_added gone) step.fits tt (fits.sweeps.0, sweep)
 
   -- at the end none is there that was due
@@ -190,7 +237,7 @@ module _ {sets : DeadSets} (old new : State) (first second : Backing) (start : E
     bulk_finishes = record {
       effect = None;
       then_call = ended call (Vacuumed stats) (length history);
-      does = nothing_else call.session old new step.state fits.world.order;
+      works = works_nothing call.session call.ask old new step.state fits.world.order;
       asked = tt;
       told = record { none = refl; after_is = refl };
       caused = tt;

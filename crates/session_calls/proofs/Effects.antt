@@ -1,5 +1,5 @@
 -- What a step does to the pages, over histories; and the end of a call, which lets go what its session held.
-use Rattle.std.proofs.Common.{◌≡◌, ℕ, suc, ◌<◌, Bool, true, false, Option, Some, None, List, [], ◌∷◌, ◌++◌, length, refl, sym, ap, subst, ◌∙◌, arith, length-append, length-set}
+use Rattle.std.proofs.Common.{◌≡◌, ◌⊎◌, inl, inr, ℕ, suc, ◌<◌, Bool, true, false, Option, Some, None, List, [], ◌∷◌, ◌++◌, length, refl, sym, ap, subst, ◌∙◌, arith, length-append, length-set}
 use Rattle.std.specs.Prelude.{unwrap_or}
 use Rattle.std.proofs.lemmas.List.{append-nil}
 use Rattle.index_model.specs.Actions.{Effect, Add, Remove, Shape, Action, said_of}
@@ -9,37 +9,114 @@ use Rattle.latch_table.specs.Holdings.{Holding, nothing_held, latches_exclude}
 use Rattle.latch_table.specs.declared.mode.Mode.TheVariants.{Shared}
 use Rattle.latch_table.proofs.Tables.{length-with_holding, holding_of-with_holding, holding_of-with_holding_other}
 use Rattle.page_action.specs.States.{State, after_end, after_stop_cycle}
-use Rattle.tree_acts.specs.Leaves.{LeavesStay}
-use Rattle.descent.specs.Shared.{IsRaised, NumbersStay, IsInOrder, MayRely, OthersRely, MovesFlags, level_in, Does}
+use Rattle.page_codec.specs.declared.page.Page.{Page}
+use Rattle.page_codec.specs.declared.page.PageState.{PageState}
+use Rattle.tree_acts.specs.Deletions.{OneStateMoves, OneLeafDies, OneLeafGoes}
+use Rattle.tree_acts.specs.Leaves.{IsLeafAt, WasLeaf, LeavesStay}
+use Rattle.descent.specs.Shared.{IsRaised, NumbersStay, IsInOrder, MayRely, OthersRely, MovesFlags, level_in, Does, DeletesLeaves, CleansUp}
+use Rattle.descent.proofs.Acting.{nothing_else}
 use Rattle.descent.proofs.Tables.{apart_nothing}
 use Rattle.index_model.specs.Calls.{Ask, AskInsert, AskScan, AskBulkDelete, AskCleanup}
-use Rattle.session_calls.specs.Ops.{DeadSets, asked_of, is_vacuum}
-use Rattle.session_calls.specs.Sessions.{Matches, IsIdle, HasStarted, acts_of, let_go, cycle_behind}
+use Rattle.page_delete.specs.Parts.{PinnedLeavesStay}
+use Rattle.session_calls.specs.Ops.{DeadSets, asked_of, is_sweep}
+use Rattle.session_calls.specs.Sessions.{Matches, IsIdle, HasStarted, acts_of, let_go, cycle_behind, asks_cleanup, MovesShape, Works}
 use Rattle.session_calls.specs.declared.op.Op.{Op}
-use Rattle.session_calls.specs.declared.op.Op.TheVariants.{Insert, Scan, Bulk}
+use Rattle.session_calls.specs.declared.op.Op.TheVariants.{Insert, Scan, Bulk, Cleanup}
 use Rattle.session_calls.proofs.Lists.{get_set_same, get_set_other}
+use Rattle.session_calls.proofs.Starting.{starts_kept, starts_ended}
+
+-- with no effect no flag moves, and no leaf is deleted
+shape_none : (ask : Ask) (old new : State) → MovesShape ask None old new
+shape_none AskCleanup old new = tt
+shape_none (AskInsert e) old new = tt
+shape_none (AskScan range) old new = tt
+shape_none (AskBulkDelete dead) old new = tt
+
+true_false : true ≡ false → ⊥
+true_false h = cc
+
+shape_of : (ask : Ask) (effect : Option Effect) (old new : State) → asks_cleanup ask ≡ false → MovesFlags effect old new → MovesShape ask effect old new
+shape_of AskCleanup effect old new other h = absurd (true_false other)
+shape_of (AskInsert e) effect old new other h = h
+shape_of (AskScan range) effect old new other h = h
+shape_of (AskBulkDelete dead) effect old new other h = h
+
+leaf_on : (effect : Option Effect) (old new : State) → LeavesStay effect old new → (block : ℕ) (page : Page) → IsLeafAt old.pages block page → WasLeaf new.pages block
+leaf_on effect old new stay block page at = (let go = stay.each block page at in record { page = go.new; was = go.there })
+
+-- a step of an operation that is no cleanup
+pub works_on : (session : ℕ) (ask : Ask) (effect : Option Effect) (old new : State) → asks_cleanup ask ≡ false → Does session effect old new → Works session ask effect old new
+works_on session ask effect old new other does = record {
+  changes = does.changes;
+  shape = shape_of ask effect old new other does.flags;
+  leaves = λ same. does.leaves;
+  pinned = λ o block page differ at pin. leaf_on effect old new does.leaves block page at;
+  cycle = does.leaves.cycle;
+  limits = does.limits;
+  frames = does.frames;
+  begun = does.begun;
+  running = does.running;
+  order = does.order;
+  others = does.others;
+}
+
+-- ... of a cleanup
+pub works_cleaning : (session : ℕ) (effect : Option Effect) (old new : State) → CleansUp session effect old new → PinnedLeavesStay session old new → Works session AskCleanup effect old new
+works_cleaning session effect old new does pinned = record {
+  changes = does.changes;
+  shape = does.deletes;
+  leaves = λ other. absurd (true_false other);
+  pinned = pinned;
+  cycle = does.cycle;
+  limits = does.limits;
+  frames = does.frames;
+  begun = does.begun;
+  running = does.running;
+  order = does.order;
+  others = does.others;
+}
+
+-- ... that changes nothing
+pub works_nothing : (session : ℕ) (ask : Ask) (old new : State) → new ≡ old → IsInOrder old → Works session ask None old new
+works_nothing session ask old new same order =
+    let does = nothing_else session old new same order in
+    record {
+      changes = does.changes;
+      shape = shape_none ask old new;
+      leaves = λ other. does.leaves;
+      pinned = λ o block page differ at pin. leaf_on None old new does.leaves block page at;
+      cycle = does.leaves.cycle;
+      limits = does.limits;
+      frames = does.frames;
+      begun = does.begun;
+      running = does.running;
+      order = does.order;
+      others = does.others;
+    }
 
 -- the pages match the history with the event's action
-pub matches_after : (session : ℕ) (effect : Option Effect) (old new : State) (start : Entry → Bool) (history : List Action) (number : ℕ)
-    → Matches old start history → Does session effect old new → Matches new start (history ++ acts_of number effect)
-matches_after session None old new start history number m does = subst (λ (l : List Action). Matches new start l) (sym (append-nil history)) (record {
+pub matches_after : (session : ℕ) (ask : Ask) (effect : Option Effect) (old new : State) (start : Entry → Bool) (history : List Action) (number : ℕ)
+    → Matches old start history → Works session ask effect old new → Matches new start (history ++ acts_of number effect)
+matches_after session ask None old new start history number m does = subst (λ (l : List Action). Matches new start l) (sym (append-nil history)) (record {
   contents = λ e. rw does.changes (m.contents e);
   count = ap (λ (st : State). st.acts) does.changes ∙ m.count;
   order = does.order;
+  starts = starts_kept old new does.running does.begun m.starts;
 })
-matches_after session (Some effect) old new start history number m does = record {
+matches_after session ask (Some effect) old new start history number m does = record {
   contents = λ e. does.changes.contents e ∙ ap (unwrap_or (said_of effect e)) (m.contents e)
       ∙ sym (contents_after-append start history (record { by = number; effect = effect } ∷ []) e);
   count = does.changes.acts ∙ ap suc m.count ∙ sym (length_more effect);
   order = does.order;
+  starts = starts_kept old new does.running does.begun m.starts;
 }
   where
     length_more : (x : Effect) → length (history ++ acts_of number (Some x)) ≡ suc (length history)
     length_more x = omega (arith, length-append history (acts_of number (Some x)))
 
 -- a call goes on having its start number
-pub started_after : (session of : ℕ) (effect : Option Effect) (old new : State) → Does session effect old new → HasStarted old of → HasStarted new of
-started_after session of effect old new does h = record { number = h.number; is = rw does.running h.is }
+pub started_after : (session of : ℕ) (ask : Ask) (effect : Option Effect) (old new : State) → Works session ask effect old new → HasStarted old of → HasStarted new of
+started_after session of ask effect old new does h = record { number = h.number; is = rw does.running h.is }
 
 pub rely_trans : (session : ℕ) (a b c : State) → MayRely session a b → MayRely session b c → MayRely session a c
 rely_trans session a b c one two = record {
@@ -56,8 +133,8 @@ rely_trans session a b c one two = record {
 }
 
 -- a step with no effect leaves the pages
-pub pages_stay : (session : ℕ) (old new : State) → Does session None old new → new.pages ≡ old.pages
-pages_stay session old new does = ap (λ (st : State). st.pages) does.changes
+pub pages_stay : (session : ℕ) (ask : Ask) (old new : State) → Works session ask None old new → new.pages ≡ old.pages
+pages_stay session ask old new does = ap (λ (st : State). st.pages) does.changes
 
 -- the numbers that calls keep depend on the pages alone
 ended_numbers : (st : State) (session start : ℕ) → NumbersStay start st (after_end session st)
@@ -90,7 +167,12 @@ ended_order st session low order =
     }
 
 pub ended_matches : (st : State) (session : ℕ) (start : Entry → Bool) (history : List Action) → session < 64 → Matches st start history → Matches (after_end session st) start history
-ended_matches st session start history low m = record { contents = m.contents; count = m.count; order = ended_order st session low m.order }
+ended_matches st session start history low m = record {
+  contents = m.contents;
+  count = m.count;
+  order = ended_order st session low m.order;
+  starts = (let many : length st.running ≡ 64 = m.order.calls in starts_ended st session (omega arith) m.starts);
+}
 
 pub ended_others : (old st : State) (session : ℕ) → OthersRely session old st → OthersRely session old (after_end session st)
 ended_others old st session rely other differ = rely_trans other old st (after_end session st) (rely other differ) (record {
@@ -141,11 +223,44 @@ pub go_matches : (v : Bool) (st : State) (session : ℕ) (start : Entry → Bool
 go_matches false st session start history low m = ended_matches st session start history low m
 go_matches true st session start history low m =
     let k = ended_matches st session start history low m in
-    record { contents = k.contents; count = k.count; order = stopped_order (after_end session st) k.order }
+    record {
+      contents = k.contents;
+      count = k.count;
+      order = stopped_order (after_end session st) k.order;
+      starts = starts_kept (after_end session st) (after_stop_cycle (after_end session st)) refl refl k.starts;
+    }
 
-pub go_flags : (v : Bool) (old new : State) (session : ℕ) (effect : Option Effect) → MovesFlags effect old new → MovesFlags effect old (let_go v session new)
+go_flags : (v : Bool) (old new : State) (session : ℕ) (effect : Option Effect) → MovesFlags effect old new → MovesFlags effect old (let_go v session new)
 go_flags false old new session effect h = ended_flags old new session effect h
 go_flags true old new session effect h = stopped_flags old (after_end session new) effect (ended_flags old new session effect h)
+
+-- states of pages are of the pages alone, and so is what leads on
+go_state : (v : Bool) (was is : PageState) (old new : State) (session : ℕ) → OneStateMoves was is old new → OneStateMoves was is old (let_go v session new)
+go_state false was is old new session h = record { block = h.block; used = h.used; inside = h.inside; before = h.before; after = h.after; others = h.others }
+go_state true was is old new session h = record { block = h.block; used = h.used; inside = h.inside; before = h.before; after = h.after; others = h.others }
+
+go_leaf : (v : Bool) (old new : State) (session : ℕ) → OneLeafDies old new ⊎ OneLeafGoes old new → OneLeafDies old (let_go v session new) ⊎ OneLeafGoes old (let_go v session new)
+go_leaf v old new session (inl dies) = inl (go_state v _ _ old new session dies)
+go_leaf v old new session (inr goes) = inr (go_state v _ _ old new session goes)
+
+go_deletes : (v : Bool) (old new : State) (session : ℕ) (effect : Option Effect) → DeletesLeaves effect old new → DeletesLeaves effect old (let_go v session new)
+go_deletes v old new session None h = tt
+go_deletes v old new session (Some (Add e)) h = h
+go_deletes v old new session (Some (Remove es)) h = h
+go_deletes false old new session (Some Shape) h =
+    record { leaf = go_leaf false old new session h.leaf; flags = record { flags = h.flags.flags; weight = h.flags.weight }; links = h.links }
+go_deletes true old new session (Some Shape) h =
+    record { leaf = go_leaf true old new session h.leaf; flags = record { flags = h.flags.flags; weight = h.flags.weight }; links = h.links }
+
+pub go_shape : (v : Bool) (ask : Ask) (old new : State) (session : ℕ) (effect : Option Effect) → MovesShape ask effect old new → MovesShape ask effect old (let_go v session new)
+go_shape v AskCleanup old new session effect h = go_deletes v old new session effect h
+go_shape v (AskInsert e) old new session effect h = go_flags v old new session effect h
+go_shape v (AskScan range) old new session effect h = go_flags v old new session effect h
+go_shape v (AskBulkDelete dead) old new session effect h = go_flags v old new session effect h
+
+pub go_pinned : (v : Bool) (old new : State) (session : ℕ) → PinnedLeavesStay session old new → PinnedLeavesStay session old (let_go v session new)
+go_pinned false old new session h = h
+go_pinned true old new session h = h
 
 pub go_others : (v : Bool) (old st : State) (session : ℕ) → OthersRely session old st → OthersRely session old (let_go v session st)
 go_others false old st session rely other differ = ended_others old st session rely other differ
@@ -178,10 +293,11 @@ go_leaves false old mid session effect h same = record { cycle = same; each = h.
 go_leaves true old mid session effect h same = record { cycle = same; each = h.each; others = h.others }
 
 -- the end of a bulk delete alone moves the cycle number
-pub go_cycle : (sets : DeadSets) (op : Op) (mid : State) (session cycle : ℕ) → mid.cycle ≡ cycle → (let_go (is_vacuum op) session mid).cycle ≡ cycle_behind (asked_of sets op) None cycle
+pub go_cycle : (sets : DeadSets) (op : Op) (mid : State) (session cycle : ℕ) → mid.cycle ≡ cycle → (let_go (is_sweep op) session mid).cycle ≡ cycle_behind (asked_of sets op) None cycle
 go_cycle sets (Insert op) mid session cycle same = same
 go_cycle sets (Scan op) mid session cycle same = same
 go_cycle sets (Bulk set op) mid session cycle same = refl
+go_cycle sets (Cleanup op) mid session cycle same = same
 
 pub cycle_stays : (ask : Ask) (op : Op) (cycle : ℕ) → cycle ≡ cycle_behind ask (Some op) cycle
 cycle_stays (AskInsert e) op cycle = refl

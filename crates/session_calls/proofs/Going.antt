@@ -8,33 +8,32 @@ use Rattle.index_model.specs.declared.entry.Entry.{Entry}
 use Rattle.index_model.specs.declared.fault.Fault.{Fault}
 use Rattle.page_action.specs.Contents.{entry_on_live_leaf}
 use Rattle.page_action.specs.States.{State}
-use Rattle.descent.specs.Shared.{Does}
 use Rattle.descent.proofs.Acting.{nothing_else}
-use Rattle.session_calls.specs.Ops.{DeadSets, session_of, is_vacuum, asked_of, add_of, OpFits, OpKnows, IsCaused, IsFaultCaused, is_last, ends_call}
-use Rattle.session_calls.specs.Sessions.{Matches, OpRuns, CallFits, acts_of, act_count, IsAsked, add_after, noted, ended, Told, let_go, after_call, cycle_behind, SessionGoes, OpGoes, HoldsOn}
+use Rattle.session_calls.specs.Ops.{DeadSets, session_of, is_sweep, asked_of, add_of, OpFits, OpKnows, IsCaused, IsFaultCaused, is_last, ends_call}
+use Rattle.session_calls.specs.Sessions.{Matches, OpRuns, CallFits, acts_of, act_count, IsAsked, add_after, noted, ended, Told, let_go, after_call, cycle_behind, Works, SessionGoes, OpGoes, HoldsOn}
 use Rattle.session_calls.specs.Sweeps.{OpSweeps}
 use Rattle.session_calls.specs.declared.answer.Answer.{Answer}
 use Rattle.session_calls.specs.declared.answer.Answer.TheVariants.{Going, Added, Ready, Ended, Refused}
 use Rattle.session_calls.specs.declared.op.Op.{Op}
-use Rattle.session_calls.specs.declared.op.Op.TheVariants.{Insert, Scan, Bulk}
+use Rattle.session_calls.specs.declared.op.Op.TheVariants.{Insert, Scan, Bulk, Cleanup}
 use Rattle.page_action.specs.Causes.{nothing_wrong}
 use Rattle.session_calls.proofs.Telling.{told_same}
-use Rattle.session_calls.proofs.Effects.{matches_after, started_after, pages_stay, go_flags, go_matches, go_others, go_idle, go_limits, go_frames, go_pages, go_leaves, go_cycle, cycle_stays}
+use Rattle.session_calls.proofs.Effects.{works_nothing, matches_after, started_after, pages_stay, go_shape, go_pinned, go_matches, go_others, go_idle, go_limits, go_frames, go_pages, go_leaves, go_cycle, cycle_stays}
 use Rattle.session_calls.proofs.Meeting.{grown, began_before, meets_noted, meets_failed, meets_given_up, meets_ended_added, there_at_present}
 
 -- a step of an operation is an event of its session; where its answer is the last, what the session held is let go
 module _ {sets : DeadSets} (at : Circumstances) (old mid new : State) (start : Entry → Bool) (history : List Action) (number : ℕ) (call : Call) (before op : Op) (answer : Answer)
     (ask : call.ask ≡ asked_of sets before) (matches : Matches old start history) (low : call.session < 64) (goes : OpGoes at old mid sets start history number call op answer) where
   mid_matches : Matches mid start (history ++ acts_of number goes.effect)
-  mid_matches = matches_after call.session goes.effect old mid start history number matches goes.does
+  mid_matches = matches_after call.session call.ask goes.effect old mid start history number matches goes.works
 
   mid_pages : goes.effect ≡ None → mid.pages ≡ old.pages
-  mid_pages none = pages_stay call.session old mid (subst (λ (x : Option Effect). Does call.session x old mid) none goes.does)
+  mid_pages none = pages_stay call.session call.ask old mid (subst (λ (x : Option Effect). Works call.session call.ask x old mid) none goes.works)
 
-  abbrev vacuums : Bool
-  vacuums = is_vacuum before
+  abbrev ends_cycle : Bool
+  ends_cycle = is_sweep before
 
-  by_last : (b : Bool) → is_last answer ≡ b → new ≡ (if b then let_go vacuums call.session mid else mid) → HoldsOn b mid sets start (history ++ acts_of number goes.effect) goes.then_call op → goes.then_call.session ≡ call.session
+  by_last : (b : Bool) → is_last answer ≡ b → new ≡ (if b then let_go ends_cycle call.session mid else mid) → HoldsOn b mid sets start (history ++ acts_of number goes.effect) goes.then_call op → goes.then_call.session ≡ call.session
       → SessionGoes at old new sets start history number call (if b then None else Some op) answer
   by_last true last is holds same = subst (λ (st : State). SessionGoes at old st sets start history number call None answer) (sym is) (record {
     effect = goes.effect;
@@ -42,16 +41,17 @@ module _ {sets : DeadSets} (at : Circumstances) (old mid new : State) (start : E
     asked = goes.asked;
     told = goes.told;
     caused = goes.caused;
-    world = go_matches vacuums mid call.session start (history ++ acts_of number goes.effect) low mid_matches;
-    flags = go_flags vacuums old mid call.session goes.effect goes.does.flags;
-    limits = go_limits vacuums call.session mid ∙ goes.does.limits;
-    frames = go_frames vacuums call.session mid ∙ goes.does.frames;
-    pages = λ none. go_pages vacuums call.session mid ∙ mid_pages none;
-    others = go_others vacuums old mid call.session goes.does.others;
-    cycle = go_cycle sets before mid call.session old.cycle goes.does.leaves.cycle ∙ sym (ap (λ (a : Ask). cycle_behind a None old.cycle) ask);
-    leaves = λ stays. go_leaves vacuums old mid call.session goes.effect goes.does.leaves stays;
+    world = go_matches ends_cycle mid call.session start (history ++ acts_of number goes.effect) low mid_matches;
+    shape = go_shape ends_cycle call.ask old mid call.session goes.effect goes.works.shape;
+    limits = go_limits ends_cycle call.session mid ∙ goes.works.limits;
+    frames = go_frames ends_cycle call.session mid ∙ goes.works.frames;
+    pages = λ none. go_pages ends_cycle call.session mid ∙ mid_pages none;
+    others = go_others ends_cycle old mid call.session goes.works.others;
+    cycle = go_cycle sets before mid call.session old.cycle goes.works.cycle ∙ sym (ap (λ (a : Ask). cycle_behind a None old.cycle) ask);
+    leaves = λ other stays. go_leaves ends_cycle old mid call.session goes.effect (goes.works.leaves other) stays;
+    pinned = go_pinned ends_cycle old mid call.session goes.works.pinned;
     meets = goes.meets;
-    holds = (holds, rw same (go_idle vacuums call.session mid low mid_matches.order));
+    holds = (holds, rw same (go_idle ends_cycle call.session mid low mid_matches.order));
     sweeps = tt;
   })
   by_last false last is holds same = subst (λ (st : State). SessionGoes at old st sets start history number call (Some op) answer) (sym is) (record {
@@ -61,13 +61,14 @@ module _ {sets : DeadSets} (at : Circumstances) (old mid new : State) (start : E
     told = goes.told;
     caused = goes.caused;
     world = mid_matches;
-    flags = goes.does.flags;
-    limits = goes.does.limits;
-    frames = goes.does.frames;
+    shape = goes.works.shape;
+    limits = goes.works.limits;
+    frames = goes.works.frames;
     pages = mid_pages;
-    others = goes.does.others;
-    cycle = goes.does.leaves.cycle ∙ cycle_stays call.ask op old.cycle;
-    leaves = λ stays. goes.does.leaves;
+    others = goes.works.others;
+    cycle = goes.works.cycle ∙ cycle_stays call.ask op old.cycle;
+    leaves = λ other stays. goes.works.leaves other;
+    pinned = goes.works.pinned;
     meets = goes.meets;
     holds = holds;
     sweeps = goes.sweeps last;
@@ -76,7 +77,7 @@ module _ {sets : DeadSets} (at : Circumstances) (old mid new : State) (start : E
   same_session : call.ending ≡ Running → goes.then_call.session ≡ call.session
   same_session running = (told_same (history ++ acts_of number goes.effect) (length history) goes.effect call goes.then_call running (grown history number goes.effect) answer goes.told).session
 
-  pub event_of_last : is_last answer ≡ true → new ≡ let_go vacuums call.session mid → call.ending ≡ Running → SessionGoes at old new sets start history number call None answer
+  pub event_of_last : is_last answer ≡ true → new ≡ let_go ends_cycle call.session mid → call.ending ≡ Running → SessionGoes at old new sets start history number call None answer
   event_of_last last is running = by_last true last is
       (subst (λ (b : Bool). HoldsOn b mid sets start (history ++ acts_of number goes.effect) goes.then_call op) last goes.holds) (same_session running)
 
@@ -89,30 +90,32 @@ pub low_of : (st : State) (op : Op) → OpFits st op → session_of op < 64
 low_of st (Insert op) fits = fits.session
 low_of st (Scan op) fits = fits.session
 low_of st (Bulk set op) fits = fits.session
+low_of st (Cleanup op) fits = fits.session
 
 -- a running call that is given up
 pub event_of_end : {sets : DeadSets} (old new : State) (start : Entry → Bool) (history : List Action) (number : ℕ) (call : Call) (op : Op) → CallFits old sets start history number call op → new ≡ after_call op old
     → SessionGoes nothing_wrong old new sets start history number call None Ended
 event_of_end {sets} old new start history number call op fits is =
     let low : call.session < 64 = subst (λ (t : ℕ). t < 64) fits.runs.session (low_of old op fits.runs.fits) in
-    let mine : new ≡ let_go (is_vacuum op) call.session old = is ∙ ap (λ (t : ℕ). let_go (is_vacuum op) t old) fits.runs.session in
-    let none = nothing_else call.session old old refl fits.world.order in
+    let mine : new ≡ let_go (is_sweep op) call.session old = is ∙ ap (λ (t : ℕ). let_go (is_sweep op) t old) fits.runs.session in
+    let none = works_nothing call.session call.ask old old refl fits.world.order in
     subst (λ (st : State). SessionGoes nothing_wrong old st sets start history number call None Ended) (sym mine) (record {
       effect = None;
       after = ended call GivenUp (length history);
       asked = tt;
       told = record { none = refl; after_is = refl };
       caused = tt;
-      flags = tt;
-      world = subst (λ (l : List Action). Matches (let_go (is_vacuum op) call.session old) start l) (sym (append-nil history)) (go_matches (is_vacuum op) old call.session start history low fits.world);
-      limits = go_limits (is_vacuum op) call.session old;
-      frames = go_frames (is_vacuum op) call.session old;
-      pages = λ quiet. go_pages (is_vacuum op) call.session old;
-      others = go_others (is_vacuum op) old old call.session none.others;
+      shape = go_shape (is_sweep op) call.ask old old call.session None none.shape;
+      world = subst (λ (l : List Action). Matches (let_go (is_sweep op) call.session old) start l) (sym (append-nil history)) (go_matches (is_sweep op) old call.session start history low fits.world);
+      limits = go_limits (is_sweep op) call.session old;
+      frames = go_frames (is_sweep op) call.session old;
+      pages = λ quiet. go_pages (is_sweep op) call.session old;
+      others = go_others (is_sweep op) old old call.session none.others;
       cycle = go_cycle sets op old call.session old.cycle refl ∙ sym (ap (λ (a : Ask). cycle_behind a None old.cycle) fits.runs.ask);
-      leaves = λ stays. go_leaves (is_vacuum op) old old call.session None none.leaves stays;
+      leaves = λ other stays. go_leaves (is_sweep op) old old call.session None (none.leaves other) stays;
+      pinned = go_pinned (is_sweep op) old old call.session none.pinned;
       meets = subst (λ (l : List Action). Meets start l number (ended call GivenUp (length history))) (sym (append-nil history)) (meets_given_up start history number call fits.meets fits.running);
-      holds = (λ h. cc, go_idle (is_vacuum op) call.session old low fits.world.order);
+      holds = (λ h. cc, go_idle (is_sweep op) call.session old low fits.world.order);
       sweeps = tt;
     })
 
@@ -127,14 +130,15 @@ event_of_nothing {sets} at old new start history number call after op answer m s
   asked = tt;
   told = told;
   caused = caused;
-  flags = tt;
-  world = matches_after call.session None old new start history number m (nothing_else call.session old new same m.order);
+  shape = (works_nothing call.session call.ask old new same m.order).shape;
+  world = matches_after call.session call.ask None old new start history number m (works_nothing call.session call.ask old new same m.order);
   limits = ap (λ (st : State). st.limits) same;
   frames = ap (λ (st : State). st.frames) same;
   pages = λ none. ap (λ (st : State). st.pages) same;
   others = (nothing_else call.session old new same m.order).others;
   cycle = ap (λ (st : State). st.cycle) same ∙ cycle_stays call.ask op old.cycle;
-  leaves = λ stays. (nothing_else call.session old new same m.order).leaves;
+  leaves = λ other stays. (nothing_else call.session old new same m.order).leaves;
+  pinned = (works_nothing call.session call.ask old new same m.order).pinned;
   meets = subst (λ (l : List Action). Meets start l number after) (sym (append-nil history)) meets;
   holds = (running, subst (λ (l : List Action). OpRuns new sets start l after op) (sym (append-nil history)) runs);
   sweeps = subst (λ (l : List Action). OpSweeps new sets start l number after.began op) (sym (append-nil history)) sweeps;
@@ -146,17 +150,20 @@ true_false h = cc
 -- the steps of an operation that runs a call
 module _ {sets : DeadSets} (at : Circumstances) (old new : State) (start : Entry → Bool) (history : List Action) (number : ℕ) (call : Call) (before after : Op)
     (fits : CallFits old sets start history number call before) (session : session_of after ≡ session_of before) (ask : asked_of sets after ≡ asked_of sets before) where
+  my_works : (effect : Option Effect) → Works (session_of before) (asked_of sets before) effect old new → Works call.session call.ask effect old new
+  my_works effect works = subst (λ (a : Ask). Works call.session a effect old new) (sym fits.runs.ask) (subst (λ (t : ℕ). Works t (asked_of sets before) effect old new) fits.runs.session works)
+
   -- one that goes on
-  pub step_goes_on : (effect : Option Effect) → Does (session_of before) effect old new → IsAsked (contents_after start history) call.ask call.added effect
+  pub step_goes_on : (effect : Option Effect) → Works (session_of before) (asked_of sets before) effect old new → IsAsked (contents_after start history) call.ask call.added effect
       → add_of after ≡ add_after (add_of before) (suc (length history)) effect → OpFits new after → OpKnows start (history ++ acts_of number effect) call.began call.given after
       → OpSweeps new sets start (history ++ acts_of number effect) number call.began after
       → OpGoes at old new sets start history number call after Going
-  step_goes_on effect does asked add then_fits knows sweeps =
-      let mine : Does call.session effect old new = subst (λ (t : ℕ). Does t effect old new) fits.runs.session does in
+  step_goes_on effect works asked add then_fits knows sweeps =
+      let mine = my_works effect works in
       record {
         effect = effect;
         then_call = noted call (length history) effect;
-        does = mine;
+        works = mine;
         asked = asked;
         told = refl;
         caused = tt;
@@ -167,7 +174,7 @@ module _ {sets : DeadSets} (at : Circumstances) (old new : State) (start : Entry
             ask = fits.runs.ask ∙ sym ask;
             session = session ∙ fits.runs.session;
             added = ap (λ (o : Option ℕ). add_after o (suc (length history)) effect) fits.runs.added ∙ sym add;
-            started = started_after call.session call.session effect old new mine fits.runs.started;
+            started = started_after call.session call.session call.ask effect old new mine fits.runs.started;
             fits = then_fits;
             knows = knows;
           },
@@ -176,14 +183,14 @@ module _ {sets : DeadSets} (at : Circumstances) (old new : State) (start : Entry
       }
 
   -- one that finds entries
-  pub step_is_ready : (count : ℕ) → Does (session_of before) None old new → add_of after ≡ add_of before → OpFits new after → OpKnows start history call.began call.given after
+  pub step_is_ready : (count : ℕ) → Works (session_of before) (asked_of sets before) None old new → add_of after ≡ add_of before → OpFits new after → OpKnows start history call.began call.given after
       → OpSweeps new sets start history number call.began after → OpGoes at old new sets start history number call after (Ready count)
-  step_is_ready count does add then_fits knows sweeps =
-      let mine : Does call.session None old new = subst (λ (t : ℕ). Does t None old new) fits.runs.session does in
+  step_is_ready count works add then_fits knows sweeps =
+      let mine = my_works None works in
       record {
         effect = None;
         then_call = call;
-        does = mine;
+        works = mine;
         asked = tt;
         told = record { none = refl; after_is = refl };
         caused = tt;
@@ -194,7 +201,7 @@ module _ {sets : DeadSets} (at : Circumstances) (old new : State) (start : Entry
             ask = fits.runs.ask ∙ sym ask;
             session = session ∙ fits.runs.session;
             added = fits.runs.added ∙ sym add;
-            started = started_after call.session call.session None old new mine fits.runs.started;
+            started = started_after call.session call.session call.ask None old new mine fits.runs.started;
             fits = then_fits;
             knows = knows;
           }),
@@ -203,17 +210,17 @@ module _ {sets : DeadSets} (at : Circumstances) (old new : State) (start : Entry
       }
 
   -- an insert that is over with its Add, which it may make now
-  pub step_adds : (e : Entry) (action : ℕ) (unfinished : Option Fault) (effect : Option Effect) → asked_of sets before ≡ AskInsert e → Does (session_of before) effect old new
+  pub step_adds : (e : Entry) (action : ℕ) (unfinished : Option Fault) (effect : Option Effect) → asked_of sets before ≡ AskInsert e → Works (session_of before) (asked_of sets before) effect old new
       → IsAsked (contents_after start history) call.ask call.added effect → add_after (add_of before) (suc (length history)) effect ≡ Some action → IsFaultCaused at unfinished
       → OpGoes at old new sets start history number call after (Added action unfinished)
-  step_adds e action unfinished effect inserts does asked add caused =
+  step_adds e action unfinished effect inserts works asked add caused =
       let more : List Action = history ++ acts_of number effect in
       let then_call : Call = noted call (length history) effect in
       let noted_is : then_call.added ≡ Some action = ap (λ (o : Option ℕ). add_after o (suc (length history)) effect) fits.runs.added ∙ add in
       record {
         effect = effect;
         then_call = ended then_call (EndsAdded action unfinished) (act_count effect + length history);
-        does = subst (λ (t : ℕ). Does t effect old new) fits.runs.session does;
+        works = my_works effect works;
         asked = asked;
         told = record { noted_is = noted_is; after_is = refl };
         caused = caused;
@@ -236,14 +243,14 @@ module _ {sets : DeadSets} (at : Circumstances) (old new : State) (start : Entry
             (there e (sym fits.runs.ask ∙ asked) (subst (λ (f : Fault). HasCause at f) is cause)),
       )
 
-      does : Does call.session None old new
-      does = nothing_else call.session old new same fits.world.order
+      works : Works call.session call.ask None old new
+      works = works_nothing call.session call.ask old new same fits.world.order
 
       by_end : (b : Bool) → ends_call fault ≡ b → OpGoes at old new sets start history number call after (Refused fault)
       by_end true ends = record {
         effect = None;
         then_call = ended call (Failed fault) (length history);
-        does = does;
+        works = works;
         asked = tt;
         told = (refl, rw ends refl);
         caused = cause;
@@ -255,7 +262,7 @@ module _ {sets : DeadSets} (at : Circumstances) (old new : State) (start : Entry
       by_end false ends = record {
         effect = None;
         then_call = call;
-        does = does;
+        works = works;
         asked = tt;
         told = (refl, rw ends refl);
         caused = cause;

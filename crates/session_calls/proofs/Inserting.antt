@@ -16,6 +16,7 @@ use Rattle.session_calls.specs.Ops.{DeadSets, ends_call, where_stepped, IsFaultC
 use Rattle.session_calls.specs.Sessions.{CallFits, IsAsked, add_after, OpGoes}
 use Rattle.session_calls.specs.declared.answer.Answer.TheVariants.{Going, Added, Refused}
 use Rattle.session_calls.specs.declared.op.Op.TheVariants.{Insert}
+use Rattle.session_calls.proofs.Effects.{works_on}
 use Rattle.session_calls.proofs.Going.{step_goes_on, step_adds, step_is_refused}
 
 -- a page that is blocked ends no call
@@ -73,7 +74,7 @@ module _ {sets : DeadSets} (old new : State) (first second : Backing) (start : E
 
   pub insert_goes_on : InsertGoesOn old new before after → OpGoes at_op old new sets start history number call (Insert after) Going
   insert_goes_on step =
-      step_goes_on at_op old new start history number call (Insert before) (Insert after) fits session (ap AskInsert entry) step.effect step.does
+      step_goes_on at_op old new start history number call (Insert before) (Insert after) fits session (ap AskInsert entry) step.effect (works_on before.session (AskInsert before.entry) step.effect old new refl step.does)
       (asked step.effect after.added step.does.changes step.noted) (noted_is step.effect after.added step.noted) step.fits tt tt
 
   left_caused : (effect : Option Effect) (unfinished : Option Fault) → IsLeft old first new second before effect unfinished → IsFaultCaused at_op unfinished
@@ -83,7 +84,7 @@ module _ {sets : DeadSets} (old new : State) (first second : Backing) (start : E
   pub insert_ends : (action : ℕ) (unfinished : Option Fault) → InsertEnds old first new second before action unfinished
       → OpGoes at_op old new sets start history number call (Insert after) (Added action unfinished)
   insert_ends action unfinished step =
-      step_adds at_op old new start history number call (Insert before) (Insert after) fits session (ap AskInsert entry) before.entry action unfinished step.effect refl step.does
+      step_adds at_op old new start history number call (Insert before) (Insert after) fits session (ap AskInsert entry) before.entry action unfinished step.effect refl (works_on before.session (AskInsert before.entry) step.effect old new refl step.does)
       (asked step.effect (Some action) step.does.changes step.noted) (sym (noted_is step.effect (Some action) step.noted)) (left_caused step.effect unfinished step.left)
 
   pub insert_is_refused : (fault : Fault) → InsertStays old new before after → IsRefusedRightly before.added (Err fault)

@@ -1,4 +1,5 @@
 pub mod Lists
+pub mod Starting
 pub mod Telling
 pub mod Meeting
 pub mod Effects
@@ -7,6 +8,7 @@ pub mod Inserting
 pub mod Scanning
 pub mod Sweeping
 pub mod Deleting
+pub mod Cleaning
 pub mod Undisturbed
 pub mod Bounds
 pub mod Beginning

@@ -24,7 +24,7 @@ use Rattle.session_calls.specs.Ops.{DeadSets, IsScanSoFar}
 use Rattle.session_calls.specs.Sessions.{Matches, OpRuns, CallFits, ended, given_one, SessionGoes, OpGoes}
 use Rattle.session_calls.specs.declared.answer.Answer.TheVariants.{Going, Ready, Done, Gave}
 use Rattle.session_calls.specs.declared.op.Op.TheVariants.{Scan}
-use Rattle.descent.proofs.Acting.{nothing_else}
+use Rattle.session_calls.proofs.Effects.{works_on, works_nothing}
 use Rattle.session_calls.proofs.Going.{event_of_nothing, step_goes_on, step_is_ready}
 use Rattle.session_calls.proofs.Meeting.{began_before, there_at_present}
 
@@ -233,13 +233,13 @@ goes_to start history began given op way under far = record {
 module _ {sets : DeadSets} (at : Circumstances) (old new : State) (start : Entry → Bool) (history : List Action) (number : ℕ) (call : Call) (before after : ScanOp)
     (fits : CallFits old sets start history number call (Scan before)) (session : after.session ≡ before.session) (range : after.range ≡ before.range) where
   pub reading_goes : (count : ℕ) → IsReading old new before after count → OpGoes at old new sets start history number call (Scan after) (Ready count)
-  reading_goes count step = step_is_ready at old new start history number call (Scan before) (Scan after) fits session (ap AskScan range) count step.does refl step.fits
+  reading_goes count step = step_is_ready at old new start history number call (Scan before) (Scan after) fits session (ap AskScan range) count (works_on before.session (AskScan before.range) None old new refl step.does) refl step.fits
       (so_far_read old start history call.began call.given before after fits.world (began_before start history number call fits.meets fits.running) range step.none step.way step.from step.read fits.runs.knows) tt
 
   pub ready_goes : (count : ℕ) → IsWaiting old new before after count ⊎ IsReading old new before after count → OpGoes at old new sets start history number call (Scan after) (Ready count)
   ready_goes count (inr step) = reading_goes count step
   ready_goes count (inl step) = step_is_ready at old new start history number call (Scan before) (Scan after) fits session (ap AskScan range) count
-      (nothing_else before.session old new step.state fits.world.order) refl
+      (works_nothing before.session (AskScan before.range) old new step.state fits.world.order) refl
       (subst (λ (st : State). ScanFits st after) (sym step.state) (subst (λ (op : ScanOp). ScanFits old op) (sym step.op) fits.runs.fits))
       (subst (λ (op : ScanOp). IsScanSoFar start history call.began call.given op) (sym step.op) fits.runs.knows) tt
 
@@ -259,7 +259,7 @@ module _ {sets : DeadSets} (at : Circumstances) (old new : State) (start : Entry
       record {
         effect = None;
         then_call = ended call EndsFinished (length history);
-        does = nothing_else call.session old new step.state fits.world.order;
+        works = works_nothing call.session call.ask old new step.state fits.world.order;
         asked = tt;
         told = record { none = refl; after_is = refl };
         caused = tt;
@@ -274,6 +274,6 @@ module _ {sets : DeadSets} (at : Circumstances) (old new : State) (start : Entry
 
   -- a step that goes on to another page
   pub moving_goes : IsMoving old new before after → OpGoes at old new sets start history number call (Scan after) Going
-  moving_goes step = step_goes_on at old new start history number call (Scan before) (Scan after) fits session (ap AskScan range) None step.does tt refl step.fits
+  moving_goes step = step_goes_on at old new start history number call (Scan before) (Scan after) fits session (ap AskScan range) None (works_on before.session (AskScan before.range) None old new refl step.does) tt refl step.fits
       (subst (λ (l : List Action). IsScanSoFar start l call.began call.given after) (sym (append-nil history))
       (subst (λ (op : ScanOp). IsScanSoFar start history call.began call.given op) (sym step.op) (goes_to start history call.began call.given before step.way step.from fits.runs.knows))) tt

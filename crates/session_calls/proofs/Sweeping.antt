@@ -12,11 +12,11 @@ use Rattle.page_action.specs.States.{State}
 use Rattle.tree_acts.specs.Leaves.{LeavesStay, IsAddedBy}
 use Rattle.vacuum.proofs.Lasting.{due_undisturbed}
 use Rattle.vacuum.specs.declared.steps.BulkDeleteOp.{BulkDeleteOp}
-use Rattle.session_calls.specs.Ops.{set_at, is_vacuuming}
+use Rattle.session_calls.specs.Ops.{set_at, is_sweeping}
 use Rattle.session_calls.specs.Sessions.{acts_of}
 use Rattle.session_calls.specs.Sweeps.{IsDue, IsSweepSoFar}
 use Rattle.session_calls.specs.Undisturbed.{SweepsAreUndisturbed}
-use Rattle.session_calls.specs.declared.op.Op.TheVariants.{Insert, Scan, Bulk}
+use Rattle.session_calls.specs.declared.op.Op.TheVariants.{Insert, Scan, Bulk, Cleanup}
 
 added_before : (l m : List Action) (e : Entry) → IsAddedIn l e → IsAddedIn (l ++ m) e
 added_before [] m e h = absurd h
@@ -72,7 +72,7 @@ module _ (old new : State) (dead : Row → Bool) (start : Entry → Bool) (histo
     (differ : other ≢ number) (within : began ≤ length history) (h : IsSweepSoFar old dead start history number began op) where
   sweep_still : IsSweepSoFar new dead start (history ++ acts_of other effect) number began op
   sweep_still = record {
-    runs = ap (λ (c : ℕ). is_vacuuming (record old { cycle = c })) stay.cycle ∙ h.runs;
+    runs = ap (λ (c : ℕ). is_sweeping (record old { cycle = c })) stay.cycle ∙ h.runs;
     to_come = λ due are. due_undisturbed due effect old new op.cursor op.back stay
         (λ e added. not_true (due e) (λ is. due_not_added dead start history other began effect within e (are e is) added))
         (h.to_come due (λ e is. due_before dead start history other began effect within e (are e is)));
@@ -87,5 +87,6 @@ module _ (old new : State) (dead : Row → Bool) (start : Entry → Bool) (histo
 pub sweeps_undisturbed : SweepsAreUndisturbed
 sweeps_undisturbed old new sets start history number other began effect (Insert op) stay differ within h = tt
 sweeps_undisturbed old new sets start history number other began effect (Scan op) stay differ within h = tt
+sweeps_undisturbed old new sets start history number other began effect (Cleanup op) stay differ within h = tt
 sweeps_undisturbed old new sets start history number other began effect (Bulk set op) stay differ within h =
     (h.0, sweep_still old new (set_at sets set) start history number other began effect op stay differ within h.1)

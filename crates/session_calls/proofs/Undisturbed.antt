@@ -11,11 +11,12 @@ use Rattle.scan.specs.Scans.{IsBehind, waiting}
 use Rattle.scan.specs.declared.steps.ScanOp.{ScanOp}
 use Rattle.scan.proofs.Lasting.{undisturbed as scan_undisturbed}
 use Rattle.vacuum.proofs.Lasting.{undisturbed as bulk_undisturbed}
+use Rattle.page_delete.proofs.Lasting.{undisturbed as cleanup_undisturbed}
 use Rattle.session_calls.specs.Ops.{session_of, OpFits, OpKnows, IsScanSoFar}
 use Rattle.session_calls.specs.Sessions.{start_number, IsIdle}
 use Rattle.session_calls.specs.Undisturbed.{CallsAreUndisturbed}
 use Rattle.session_calls.specs.declared.op.Op.{Op}
-use Rattle.session_calls.specs.declared.op.Op.TheVariants.{Insert, Scan, Bulk}
+use Rattle.session_calls.specs.declared.op.Op.TheVariants.{Insert, Scan, Bulk, Cleanup}
 
 so_far_later : (start : Entry → Bool) (history acts : List Action) (began : ℕ) (given : List Entry) (op : ScanOp)
     → IsScanSoFar start history began given op → IsScanSoFar start (history ++ acts) began given op
@@ -35,11 +36,13 @@ fits_still : (old new : State) (session : ℕ) (op : Op) → session_of op ≡ s
 fits_still old new session (Insert op) is rely h = insert_undisturbed old new op (subst (λ (t : ℕ). MayRely t old new) (sym is) rely) h
 fits_still old new session (Scan op) is rely h = scan_undisturbed old new op (subst (λ (t : ℕ). MayRely t old new) (sym is) rely) h
 fits_still old new session (Bulk set op) is rely h = bulk_undisturbed old new op (subst (λ (t : ℕ). MayRely t old new) (sym is) rely) h
+fits_still old new session (Cleanup op) is rely h = cleanup_undisturbed old new op (subst (λ (t : ℕ). MayRely t old new) (sym is) rely) h
 
 knows_still : (start : Entry → Bool) (history acts : List Action) (began : ℕ) (given : List Entry) (op : Op) → OpKnows start history began given op → OpKnows start (history ++ acts) began given op
 knows_still start history acts began given (Insert op) h = tt
 knows_still start history acts began given (Scan op) h = so_far_later start history acts began given op h
 knows_still start history acts began given (Bulk set op) h = tt
+knows_still start history acts began given (Cleanup op) h = tt
 
 pub number_stays : (old new : State) (session : ℕ) → MayRely session old new → start_number new session ≡ start_number old session
 number_stays old new session rely = ap (λ (o : Option (Option ℕ)). unwrap_or o None) rely.number

@@ -13,9 +13,9 @@ use Rattle.scan.specs.declared.steps.ScanOp.{ScanOp}
 use Rattle.session_calls.specs.declared.answer.Answer.{Answer}
 use Rattle.session_calls.specs.declared.answer.Answer.TheVariants.{Going, Added, Ready, Refused}
 use Rattle.session_calls.specs.declared.op.Op.{Op}
-use Rattle.session_calls.specs.declared.op.Op.TheVariants.{Insert, Scan, Bulk}
+use Rattle.session_calls.specs.declared.op.Op.TheVariants.{Insert, Scan, Bulk, Cleanup}
 use Rattle.session_calls.specs.declared.request.Request.{Request}
-use Rattle.session_calls.specs.declared.request.Request.TheVariants.{Insert as ToInsert, Scan as ToScan, Bulk as ToBulk}
+use Rattle.session_calls.specs.declared.request.Request.TheVariants.{Insert as ToInsert, Scan as ToScan, Bulk as ToBulk, Cleanup as ToCleanup}
 use Rattle.session_calls.specs.Sessions.{work_in}
 
 -- no page is flagged, the entry isn't there, its leaf has room, the insert is on its way: after so many steps it is added
@@ -33,12 +33,13 @@ pub record ScanIsDue (st : State) (op : ScanOp) (steps : ℕ) : Type 0 where
   pub way : IsOnFrontierWay st op.frontier op.at
   pub none : waiting op ≡ []
 
--- the call answers after so many steps more, while the pages stay as they are; of a bulk delete nothing is said
+-- the call answers after so many steps more, while the pages stay as they are; of a bulk delete and of a cleanup nothing is said
 abbrev pub IsDueIn : State → Option Op → ℕ → Type 0
 IsDueIn st None steps = ⊥
 IsDueIn st (Some (Insert op)) steps = InsertIsDue st op steps
 IsDueIn st (Some (Scan op)) steps = ScanIsDue st op steps
 IsDueIn st (Some (Bulk set op)) steps = ⊥
+IsDueIn st (Some (Cleanup op)) steps = ⊥
 
 -- a step has left the pages and the limits as they were, and the call is due after so many more
 pub record StaysDue (old new : State) (slot : Option Op) (steps : ℕ) : Type 0 where
@@ -75,12 +76,14 @@ abbrev pub steps_for : Request → ℕ
 steps_for (ToInsert e) = 3
 steps_for (ToScan range) = 2
 steps_for (ToBulk set) = 0
+steps_for ToCleanup = 0
 
 -- a request that its leaf can serve at once: of an insert, the entry isn't there, and its leaf has room
 abbrev pub IsServable : State → Request → Type 0
 IsServable st (ToInsert e) = (entry_on_live_leaf st.pages e ≡ false) × HasRoomFor st e
 IsServable st (ToScan range) = Unit {0}
 IsServable st (ToBulk set) = ⊥
+IsServable st ToCleanup = ⊥
 
 -- A call has begun: where no page is flagged and its leaf can serve it, it is due after so many steps more than the root's
 -- level. What is left to do for it has a bound, whatever the pages are.

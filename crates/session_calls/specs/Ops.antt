@@ -1,6 +1,6 @@
 -- The words of a running call that each operation fills in: what it was asked, what it knows between its steps, what it may
 -- answer, and what is left to do for it.
-use Rattle.std.specs.Prelude.{◌≡◌, ℕ, ◌<◌, nat_lt, ◌||◌, ◌&&◌, Bool, true, false, Option, Some, None, unwrap_or, List, [], ◌++◌, length, slice_get}
+use Rattle.std.specs.Prelude.{◌≡◌, ℕ, ◌<◌, nat_lt, ◌||◌, Bool, true, false, Option, Some, None, unwrap_or, List, [], ◌++◌, length, slice_get}
 use Rattle.index_model.specs.Actions.{Action, ThereAtSomeMoment}
 use Rattle.index_model.specs.Calls.{Ask, AskInsert, AskScan, AskBulkDelete, AskCleanup, GivesAll}
 use Rattle.index_model.specs.Faults.{Circumstances, HasCause}
@@ -22,12 +22,15 @@ use Rattle.scan.specs.declared.steps.ScanOp.{ScanOp}
 use Rattle.vacuum.specs.BulkDeletes.{BulkDeleteFits, where_deleting}
 use Rattle.vacuum.specs.Ops.{fresh_bulk_delete}
 use Rattle.vacuum.specs.Work.{bulk_delete_left}
+use Rattle.page_delete.specs.Cleanups.{CleanupFits, where_cleaning}
+use Rattle.page_delete.specs.Ops.{fresh_cleanup}
+use Rattle.page_delete.specs.Work.{cleanup_left}
 use Rattle.session_calls.specs.declared.answer.Answer.{Answer}
 use Rattle.session_calls.specs.declared.answer.Answer.TheVariants.{Begun, Going, Added, Ready, Done, Finished, Gave, Ended, Forced, Flushed, Checkpointed, Refused}
 use Rattle.session_calls.specs.declared.op.Op.{Op}
-use Rattle.session_calls.specs.declared.op.Op.TheVariants.{Insert, Scan, Bulk}
+use Rattle.session_calls.specs.declared.op.Op.TheVariants.{Insert, Scan, Bulk, Cleanup}
 use Rattle.session_calls.specs.declared.request.Request.{Request}
-use Rattle.session_calls.specs.declared.request.Request.TheVariants.{Insert as ToInsert, Scan as ToScan, Bulk as ToBulk}
+use Rattle.session_calls.specs.declared.request.Request.TheVariants.{Insert as ToInsert, Scan as ToScan, Bulk as ToBulk, Cleanup as ToCleanup}
 
 -- the sets of dead rows that calls may name, by their places
 abbrev pub DeadSets : Type 0
@@ -42,60 +45,84 @@ abbrev pub asked_by : DeadSets → Request → Ask
 asked_by sets (ToInsert e) = AskInsert e
 asked_by sets (ToScan range) = AskScan range
 asked_by sets (ToBulk set) = AskBulkDelete (set_at sets set)
+asked_by sets ToCleanup = AskCleanup
 
 -- the set that a request names is there
 abbrev pub IsOfSets : DeadSets → Request → Type 0
 IsOfSets sets (ToInsert e) = Unit {0}
 IsOfSets sets (ToScan range) = Unit {0}
 IsOfSets sets (ToBulk set) = set < length sets
+IsOfSets sets ToCleanup = Unit {0}
 
--- a request of a bulk delete: one runs at a time
+-- a request of a bulk delete or a cleanup: one runs at a time
 abbrev pub asks_vacuum : Request → Bool
 asks_vacuum (ToInsert e) = false
 asks_vacuum (ToScan range) = false
 asks_vacuum (ToBulk set) = true
+asks_vacuum ToCleanup = true
+
+-- a request of a bulk delete, which has a cycle number
+abbrev pub asks_sweep : Request → Bool
+asks_sweep (ToInsert e) = false
+asks_sweep (ToScan range) = false
+asks_sweep (ToBulk set) = true
+asks_sweep ToCleanup = false
 
 -- the operation of a session's request, before its first step
 abbrev pub op_before : ℕ → Request → Op
 op_before session (ToInsert e) = Insert (record { session = session; entry = e; at = Start; added = None })
 op_before session (ToScan range) = Scan (fresh_scan session range)
 op_before session (ToBulk set) = Bulk set (fresh_bulk_delete session)
+op_before session ToCleanup = Cleanup (fresh_cleanup session)
 
 -- the session whose call it is
 abbrev pub session_of : Op → ℕ
 session_of (Insert op) = op.session
 session_of (Scan op) = op.session
 session_of (Bulk set op) = op.session
+session_of (Cleanup op) = op.session
 
--- it is a bulk delete: one runs at a time
+-- it is a bulk delete or a cleanup: one runs at a time
 abbrev pub is_vacuum : Op → Bool
 is_vacuum (Insert op) = false
 is_vacuum (Scan op) = false
 is_vacuum (Bulk set op) = true
+is_vacuum (Cleanup op) = true
+
+-- it is a bulk delete, which has a cycle number
+abbrev pub is_sweep : Op → Bool
+is_sweep (Insert op) = false
+is_sweep (Scan op) = false
+is_sweep (Bulk set op) = true
+is_sweep (Cleanup op) = false
 
 -- what it was asked, with these sets
 abbrev pub asked_of : DeadSets → Op → Ask
 asked_of sets (Insert op) = AskInsert op.entry
 asked_of sets (Scan op) = AskScan op.range
 asked_of sets (Bulk set op) = AskBulkDelete (set_at sets set)
+asked_of sets (Cleanup op) = AskCleanup
 
 -- the number of its Add, if it has one
 abbrev pub add_of : Op → Option ℕ
 add_of (Insert op) = op.added
 add_of (Scan op) = None
 add_of (Bulk set op) = None
+add_of (Cleanup op) = None
 
 -- the entries that it has ready to be given
 abbrev pub ready_of : Op → List Entry
 ready_of (Insert op) = []
 ready_of (Scan op) = waiting op
 ready_of (Bulk set op) = []
+ready_of (Cleanup op) = []
 
 -- what it knows of the pages between its steps
 abbrev pub OpFits : State → Op → Type 0
 OpFits st (Insert op) = InsertFits st op
 OpFits st (Scan op) = ScanFits st op
 OpFits st (Bulk set op) = BulkDeleteFits st op
+OpFits st (Cleanup op) = CleanupFits st op
 
 -- what a scan has given and holds ready, against the moments of its interval so far
 pub record IsScanSoFar (start : Entry → Bool) (history : List Action) (began : ℕ) (given : List Entry) (op : ScanOp) : Type 0 where
@@ -111,12 +138,14 @@ abbrev pub OpKnows : (Entry → Bool) → List Action → ℕ → List Entry →
 OpKnows start history began given (Insert op) = Unit {0}
 OpKnows start history began given (Scan op) = IsScanSoFar start history began given op
 OpKnows start history began given (Bulk set op) = Unit {0}
+OpKnows start history began given (Cleanup op) = Unit {0}
 
 -- the circumstances of a step, by where the operation stands
 abbrev pub where_stepped : Op → State → Backing → Backing → Circumstances
 where_stepped (Insert op) st old new = where_inserting st old new op.session op.entry op.at
 where_stepped (Scan op) st old new = where_scanning st old new op.session
 where_stepped (Bulk set op) st old new = where_deleting st old new op
+where_stepped (Cleanup op) st old new = where_cleaning st old new op
 
 -- ... of what a session runs, if anything
 abbrev pub where_slot_stepped : Option Op → State → Backing → Backing → Circumstances
@@ -135,12 +164,12 @@ abbrev pub where_beginning : State → Backing → Bool → Circumstances
 where_beginning st old busy = record nothing_wrong { is_stopped = old.stopped || is_at_end st.begun; session_has_a_call = busy }
 
 -- a bulk delete runs: the store has its cycle number
-abbrev pub is_vacuuming : State → Bool
-is_vacuuming st = nat_lt 0 st.cycle
+abbrev pub is_sweeping : State → Bool
+is_sweeping st = nat_lt 0 st.cycle
 
--- ... of a call, which may be a bulk delete
+-- ... of a call, which may be excluded by a bulk delete or a cleanup that runs
 abbrev pub where_requesting : Bool → State → Backing → Bool → Circumstances
-where_requesting vacuums st old busy = record (where_beginning st old busy) { vacuum_runs = vacuums && is_vacuuming st }
+where_requesting excluded st old busy = record (where_beginning st old busy) { vacuum_runs = excluded }
 
 -- a fault that is left behind has its cause
 abbrev pub IsFaultCaused : Circumstances → Option Fault → Type 0
@@ -175,7 +204,7 @@ is_last (Checkpointed count) = false
 is_last (Refused fault) = ends_call fault
 
 -- What a step may answer: of an insert, that it goes on or that its entry is added; of a scan, that it goes on, how many
--- entries are ready, or that it has given all; of a bulk delete, that it goes on or has finished; and a refusal.
+-- entries are ready, or that it has given all; of a bulk delete and of a cleanup, that it goes on or has finished; and a refusal.
 abbrev pub OpAnswers : Op → Op → Answer → Type 0
 OpAnswers (Insert op) after Going = Unit {0}
 OpAnswers (Insert op) after (Added action unfinished) = Unit {0}
@@ -184,6 +213,8 @@ OpAnswers (Scan op) after (Ready count) = count ≡ length (ready_of after)
 OpAnswers (Scan op) after Done = Unit {0}
 OpAnswers (Bulk set op) after Going = Unit {0}
 OpAnswers (Bulk set op) after (Finished stats) = Unit {0}
+OpAnswers (Cleanup op) after Going = Unit {0}
+OpAnswers (Cleanup op) after (Finished stats) = Unit {0}
 OpAnswers before after (Refused fault) = Unit {0}
 OpAnswers before after answer = ⊥
 
@@ -197,9 +228,11 @@ abbrev pub op_work : ℕ → List Page → Op → ℕ
 op_work most pages (Insert op) = insert_left most pages op.at
 op_work most pages (Scan op) = scan_left most pages op
 op_work most pages (Bulk set op) = bulk_delete_left most (length pages) op.cursor op.back
+op_work most pages (Cleanup op) = cleanup_left most (length pages) op.cursor op.at
 
 -- the pages whose splits it is to finish
 abbrev pub op_targets : Op → List Target
 op_targets (Insert op) = targets_at op.at
 op_targets (Scan op) = []
 op_targets (Bulk set op) = []
+op_targets (Cleanup op) = []

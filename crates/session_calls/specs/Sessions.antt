@@ -1,7 +1,7 @@
 -- One session's call over the history of all actions: what stands between its events, and what an event does.
 use Rattle.std.specs.Prelude.{◌≡◌, ◌≢◌, ◌⊎◌, ℕ, suc, ◌+◌, ◌<◌, ◌≤◌, Bool, true, false, if◌then◌else◌, Option, Some, None, List, [], ◌∷◌, ◌++◌, length, slice_get, unwrap_or}
 use Rattle.index_model.specs.Actions.{Effect, Add, Remove, Shape, Action, contents_after}
-use Rattle.index_model.specs.Calls.{Ask, AskInsert, AskBulkDelete, AskCleanup, Ending, Running, Added as EndsAdded, Finished as EndsFinished, Vacuumed, GivenUp, Failed, Call, Meets}
+use Rattle.index_model.specs.Calls.{Ask, AskInsert, AskScan, AskBulkDelete, AskCleanup, Ending, Running, Added as EndsAdded, Finished as EndsFinished, Vacuumed, GivenUp, Failed, Call, Meets}
 use Rattle.index_model.specs.Faults.{Circumstances, HasCause}
 use Rattle.index_model.specs.Order.{is_among}
 use Rattle.index_model.specs.declared.entry.Entry.{Entry}
@@ -13,23 +13,30 @@ use Rattle.page_action.specs.States.{State, Backing, Continues, after_begin, aft
 use Rattle.page_action.specs.declared.page_store.PageStore.{Ghosts}
 use Rattle.page_codec.specs.declared.page.Page.{Page}
 use Rattle.split_finish.specs.Targets.{OnlyTargetsAreFlagged}
-use Rattle.descent.specs.Steps.{IsApt}
-use Rattle.descent.specs.Shared.{IsInOrder, Does, OthersRely, MovesFlags, IsOneStep}
+use Rattle.tree_acts.specs.Deletions.{StartsAreBelow}
+use Rattle.descent.specs.Steps.{IsApt, Changes}
+use Rattle.descent.specs.Shared.{IsInOrder, OthersRely, MovesFlags, DeletesLeaves, IsOneStep}
+use Rattle.page_delete.specs.Cleanups.{CleanupFits}
+use Rattle.page_delete.specs.Counts.{IsCleaned, AllIsCleaned}
+use Rattle.page_delete.specs.Parts.{PinnedLeavesStay}
+use Rattle.page_delete.specs.Spares.{IsAlone, IsSparing, OnlyNeededStay}
 use Rattle.vacuum.specs.Counts.{IsCounted, entries_below}
-use Rattle.session_calls.specs.Ops.{DeadSets, set_at, asked_by, op_before, session_of, asked_of, add_of, ready_of, OpFits, OpKnows, where_requesting, asks_vacuum, is_vacuum, is_vacuuming, IsOfSets, IsCaused, ends_call, is_last, OpAnswers, AnswersStopped, op_work, op_targets}
+use Rattle.session_calls.specs.Ops.{DeadSets, set_at, asked_by, op_before, session_of, asked_of, add_of, ready_of, OpFits, OpKnows, where_requesting, asks_sweep, is_sweep, IsOfSets, IsCaused, ends_call, is_last, OpAnswers, AnswersStopped, op_work, op_targets}
 use Rattle.tree_acts.specs.Leaves.{LeavesStay, IsLeafAt}
 use Rattle.session_calls.specs.Sweeps.{OpSweeps, SlotSweeps}
 use Rattle.session_calls.specs.declared.answer.Answer.{Answer}
 use Rattle.session_calls.specs.declared.answer.Answer.TheVariants.{Begun, Going, Added, Ready, Done, Finished, Gave, Ended, Forced, Flushed, Checkpointed, Refused}
 use Rattle.session_calls.specs.declared.op.Op.{Op}
-use Rattle.session_calls.specs.declared.op.Op.TheVariants.{Insert, Scan, Bulk}
+use Rattle.session_calls.specs.declared.op.Op.TheVariants.{Insert, Scan, Bulk, Cleanup}
 use Rattle.session_calls.specs.declared.request.Request.{Request}
 
--- the contents of the pages are those after the history, the acts are as many as its actions, and all is in order
+-- the contents of the pages are those after the history, the acts are as many as its actions, all is in order, and each
+-- running call began before so many calls had begun
 pub record Matches (st : State) (start : Entry → Bool) (history : List Action) : Type 0 where
   pub contents : (e : Entry) → entry_on_live_leaf st.pages e ≡ contents_after start history e
   pub count : st.acts ≡ length history
   pub order : IsInOrder st
+  pub starts : StartsAreBelow st
 
 -- the start number of a session's call, if it has one
 abbrev pub start_number : State → ℕ → Option ℕ
@@ -159,12 +166,14 @@ abbrev pub IsDrained : Option Op → Type 0
 IsDrained None = Unit {0}
 IsDrained (Some op) = ready_of op ≡ []
 
--- where a step that goes on owes to leave less to do: each of a bulk delete does, any other where no act is done
+-- where a step that goes on owes to leave less to do: each of a bulk delete and of a cleanup does, any other where no act is
+-- done
 abbrev pub OwesLess : Option Op → State → State → Type 0
 OwesLess None old new = new.acts ≡ old.acts
 OwesLess (Some (Insert op)) old new = new.acts ≡ old.acts
 OwesLess (Some (Scan op)) old new = new.acts ≡ old.acts
 OwesLess (Some (Bulk set op)) old new = Unit {0}
+OwesLess (Some (Cleanup op)) old new = Unit {0}
 
 -- a step that ends no call leaves less to do: each `Going` that owes it, and each `Ready` where all that was ready had been
 -- given
@@ -196,6 +205,8 @@ AnswersStep (Some (Scan op)) after (Ready count) = count ≡ ready_count after
 AnswersStep (Some (Scan op)) after Done = Unit {0}
 AnswersStep (Some (Bulk set op)) after Going = Unit {0}
 AnswersStep (Some (Bulk set op)) after (Finished stats) = Unit {0}
+AnswersStep (Some (Cleanup op)) after Going = Unit {0}
+AnswersStep (Some (Cleanup op)) after (Finished stats) = Unit {0}
 AnswersStep before after (Refused fault) = Unit {0}
 AnswersStep before after answer = ⊥
 
@@ -226,7 +237,7 @@ let_go false session st = after_end session st
 let_go true session st = after_stop_cycle (after_end session st)
 
 abbrev pub after_call : Op → State → State
-after_call op st = let_go (is_vacuum op) (session_of op) st
+after_call op st = let_go (is_sweep op) (session_of op) st
 
 -- a refusal ends the call, or leaves it as it was; nothing else is changed
 pub record StepIsRefused (old new : State) (op : Op) (after : Option Op) (fault : Fault) : Type 0 where
@@ -248,10 +259,11 @@ pub record KeepsPages (old new : State) : Type 0 where
   pub frames : new.frames ≡ old.frames
   pub begun : new.begun ≡ old.begun
 
--- only an insert and a bulk delete do acts
+-- only an insert, a bulk delete and a cleanup do acts
 abbrev pub OnlyWritersAct : Option Op → State → State → Type 0
 OnlyWritersAct (Some (Insert op)) old new = Unit {0}
 OnlyWritersAct (Some (Bulk set op)) old new = Unit {0}
+OnlyWritersAct (Some (Cleanup op)) old new = Unit {0}
 OnlyWritersAct slot old new = new.acts ≡ old.acts
 
 -- only those pages are flagged whose splits the session's insert is to finish
@@ -272,10 +284,42 @@ abbrev pub cycle_behind : Ask → Option Op → ℕ → ℕ
 cycle_behind (AskBulkDelete dead) None cycle = 0
 cycle_behind ask slot cycle = cycle
 
+-- what was asked is a cleanup, whose acts delete leaves
+abbrev pub asks_cleanup : Ask → Bool
+asks_cleanup AskCleanup = true
+asks_cleanup (AskInsert e) = false
+asks_cleanup (AskScan range) = false
+asks_cleanup (AskBulkDelete dead) = false
+
+-- What an effect of a call does to the shape of the pages, by what was asked: by one of a cleanup one leaf goes on its way out
+-- of the tree; any other moves flags as the effect says.
+abbrev pub MovesShape : Ask → Option Effect → State → State → Type 0
+MovesShape AskCleanup effect old new = DeletesLeaves effect old new
+MovesShape (AskInsert e) effect old new = MovesFlags effect old new
+MovesShape (AskScan range) effect old new = MovesFlags effect old new
+MovesShape (AskBulkDelete dead) effect old new = MovesFlags effect old new
+
+-- A step of a session's call, by what was asked, with one effect at most: the pages are a tree again; what it does to their
+-- shape; leaves stay, or are split as a bulk delete beside it needs, but for a cleanup's, and those that others have pinned
+-- stay in any case; calls, limits and the cycle number are as they were, and every other session may rely on what it held.
+pub record Works (session : ℕ) (ask : Ask) (effect : Option Effect) (old new : State) : Type 0 where
+  pub changes : Changes effect old new
+  pub shape : MovesShape ask effect old new
+  pub leaves : asks_cleanup ask ≡ false → LeavesStay effect old new
+  pub pinned : PinnedLeavesStay session old new
+  pub cycle : new.cycle ≡ old.cycle
+  pub limits : new.limits ≡ old.limits
+  pub frames : new.frames ≡ old.frames
+  pub begun : new.begun ≡ old.begun
+  pub running : new.running ≡ old.running
+  pub order : IsInOrder new
+  pub others : OthersRely session old new
+
 -- One event of a running call: it appends at most one action, which the call was asked for; what is told of it; its cause;
--- the pages match the longer history; which flags move; the limits stay, and where no action is logged, the pages; others may
--- rely; the cycle number stays until a bulk delete ends, and with it leaves stay, or are split as a bulk delete needs; the
--- call goes on meeting its definition; what the slot holds then; and what a bulk delete is to remove still.
+-- the pages match the longer history; what it does to their shape; the limits stay, and where no action is logged, the pages;
+-- others may rely; the cycle number stays until a bulk delete ends, and with it leaves stay, or are split as a bulk delete
+-- needs, but for a cleanup's; those that others have pinned stay; the call goes on meeting its definition; what the slot holds
+-- then; and what a bulk delete is to remove still.
 pub record SessionGoes (at : Circumstances) (old new : State) (sets : DeadSets) (start : Entry → Bool) (history : List Action) (number : ℕ) (call : Call) (slot : Option Op) (answer : Answer) : Type 0 where
   pub effect : Option Effect
   pub after : Call
@@ -283,13 +327,14 @@ pub record SessionGoes (at : Circumstances) (old new : State) (sets : DeadSets) 
   pub told : Told answer (length history) effect call after
   pub caused : IsCaused at answer
   pub world : Matches new start (history ++ acts_of number effect)
-  pub flags : MovesFlags effect old new
+  pub shape : MovesShape call.ask effect old new
   pub limits : new.limits ≡ old.limits
   pub frames : new.frames ≡ old.frames
   pub pages : effect ≡ None → new.pages ≡ old.pages
   pub others : OthersRely call.session old new
   pub cycle : new.cycle ≡ cycle_behind call.ask slot old.cycle
-  pub leaves : new.cycle ≡ old.cycle → LeavesStay effect old new
+  pub leaves : asks_cleanup call.ask ≡ false → new.cycle ≡ old.cycle → LeavesStay effect old new
+  pub pinned : PinnedLeavesStay call.session old new
   pub meets : Meets start (history ++ acts_of number effect) number after
   pub holds : SlotIs new sets start (history ++ acts_of number effect) after slot
   pub sweeps : SlotSweeps new sets start (history ++ acts_of number effect) number after.began slot
@@ -307,23 +352,54 @@ KeepsBeforePins st (Some (Bulk set op)) after answer =
     → op.cursor ≤ block → IsStillBefore block after answer
 KeepsBeforePins st before after answer = Unit {0}
 
--- what it has counted are the entries that it has left, if it is a bulk delete that runs on
+-- what it has counted are the entries that it has left, if it is a bulk delete that runs on; a cleanup leaves no half-dead page
+-- behind it either
 abbrev pub SlotIsCounted : DeadSets → State → Option Op → Type 0
 SlotIsCounted sets st None = Unit {0}
 SlotIsCounted sets st (Some (Insert op)) = Unit {0}
 SlotIsCounted sets st (Some (Scan op)) = Unit {0}
 SlotIsCounted sets st (Some (Bulk set op)) = IsCounted (set_at sets set) st op
+SlotIsCounted sets st (Some (Cleanup op)) = IsCleaned st op
 
 -- one that has finished tells how many entries there are
 abbrev pub TellsAllEntries : State → Answer → Type 0
 TellsAllEntries st (Finished stats) = stats.num_index_tuples ≡ entries_below st.pages (length st.pages)
 TellsAllEntries st answer = Unit {0}
 
--- where nobody else acts, what a bulk delete has counted are the entries that it has left; at the end all of them
+-- a cleanup that has finished tells so too, and no half-dead page is left
+abbrev pub TellsAllCleaned : State → Answer → Type 0
+TellsAllCleaned st (Finished stats) = AllIsCleaned st stats.num_index_tuples
+TellsAllCleaned st answer = Unit {0}
+
+-- where nobody else acts, what a bulk delete or a cleanup has counted are the entries that it has left; at the end all of them;
+-- and a cleanup leaves no half-dead page
 abbrev pub CountsEntries : DeadSets → State → State → Option Op → Option Op → Answer → Type 0
 CountsEntries sets old new (Some (Bulk set op)) after answer =
     IsCounted (set_at sets set) old op → SlotIsCounted sets new after × TellsAllEntries new answer
+CountsEntries sets old new (Some (Cleanup op)) after answer =
+    CleanupFits old op → IsCleaned old op → SlotIsCounted sets new after × TellsAllCleaned new answer
 CountsEntries sets old new before after answer = Unit {0}
+
+-- a cleanup that runs on leaves no empty leaf behind it that might leave the tree
+abbrev pub SlotIsSparing : State → Option Op → Type 0
+SlotIsSparing st None = Unit {0}
+SlotIsSparing st (Some (Insert op)) = Unit {0}
+SlotIsSparing st (Some (Scan op)) = Unit {0}
+SlotIsSparing st (Some (Bulk set op)) = Unit {0}
+SlotIsSparing st (Some (Cleanup op)) = IsSparing st op
+
+-- one that has finished has left none
+abbrev pub LeavesNeeded : State → Answer → Type 0
+LeavesNeeded st (Finished stats) = OnlyNeededStay st
+LeavesNeeded st answer = Unit {0}
+
+-- where nobody else holds a page, and no page was half-dead when it began, a cleanup leaves no empty leaf that might leave the
+-- tree
+abbrev pub SparesLeaves : State → State → Option Op → Option Op → Answer → Type 0
+SparesLeaves old new (Some (Cleanup op)) after answer =
+    IsInOrder old → StartsAreBelow old → CleanupFits old op → IsAlone old op.session → IsSparing old op
+    → SlotIsSparing new after × LeavesNeeded new answer
+SparesLeaves old new before after answer = Unit {0}
 
 -- a call that begins with so many actions before it
 abbrev pub begun_call : ℕ → Ask → ℕ → Call
@@ -338,25 +414,25 @@ abbrev pub after_request : Bool → ℕ → State → State
 after_request false session st = after_begin session st
 after_request true session st = after_start_cycle (after_begin session st)
 
--- a call has begun: it gets a start number, a bulk delete, where none runs, a cycle number, and the session's slot runs it
+-- a call has begun that isn't excluded: it gets a start number, a bulk delete a cycle number, and the session's slot runs it
 -- from its first step on
-pub record IsBegun (old new : State) (session : ℕ) (request : Request) (before after : Option Op) : Type 0 where
-  pub state : new ≡ after_request (asks_vacuum request) session old
+pub record IsBegun (old new : State) (session : ℕ) (request : Request) (excluded : Bool) (before after : Option Op) : Type 0 where
+  pub state : new ≡ after_request (asks_sweep request) session old
   pub was_free : before ≡ None
-  pub alone : asks_vacuum request ≡ true → is_vacuuming old ≡ false
+  pub alone : excluded ≡ false
   pub runs : after ≡ Some (op_before session request)
 
 -- a call isn't begun: nothing is changed, and there is a cause
-pub record IsNotBegun (old : State) (old_backing : Backing) (new : State) (request : Request) (before after : Option Op) (fault : Fault) : Type 0 where
+pub record IsNotBegun (old : State) (old_backing : Backing) (new : State) (excluded : Bool) (before after : Option Op) (fault : Fault) : Type 0 where
   pub state : new ≡ old
   pub slot_is : after ≡ before
-  pub cause : HasCause (where_requesting (asks_vacuum request) old old_backing (is_busy before)) fault
+  pub cause : HasCause (where_requesting excluded old old_backing (is_busy before)) fault
 
 -- what a beginning does, by what it answers
-abbrev pub BeginsBy : State → Backing → State → ℕ → Request → Option Op → Option Op → Answer → Type 0
-BeginsBy old old_backing new session request before after Begun = IsBegun old new session request before after
-BeginsBy old old_backing new session request before after (Refused fault) = IsNotBegun old old_backing new request before after fault
-BeginsBy old old_backing new session request before after answer = ⊥
+abbrev pub BeginsBy : State → Backing → State → ℕ → Request → Bool → Option Op → Option Op → Answer → Type 0
+BeginsBy old old_backing new session request excluded before after Begun = IsBegun old new session request excluded before after
+BeginsBy old old_backing new session request excluded before after (Refused fault) = IsNotBegun old old_backing new excluded before after fault
+BeginsBy old old_backing new session request excluded before after answer = ⊥
 
 -- a call that has begun over a history of so many actions: the pages match it still, others may rely, the call meets its
 -- definition, and the slot runs it; but for a bulk delete's the cycle number stays; and all that is due to it is to come
@@ -365,7 +441,7 @@ pub record SessionBegins (old new : State) (sets : DeadSets) (start : Entry → 
   pub others : OthersRely session old new
   pub meets : Meets start history number (begun_call session (asked_by sets request) (length history))
   pub holds : SlotIs new sets start history (begun_call session (asked_by sets request) (length history)) slot
-  pub cycle : asks_vacuum request ≡ false → new.cycle ≡ old.cycle
+  pub cycle : asks_sweep request ≡ false → new.cycle ≡ old.cycle
   pub leaves : new.cycle ≡ old.cycle → LeavesStay None old new
   pub sweeps : IsOfSets sets request → SlotSweeps new sets start history number (length history) slot
 
@@ -378,7 +454,7 @@ slot_after answer op = if is_last answer then None else Some op
 pub record OpSteps {S : Type 0} (g : Ghosts S) (before after : Op) (old new : S) (answer : Answer) : Type 0 where
   pub steps : Continues g.follows old new
   pub session : session_of after ≡ session_of before
-  pub vacuum : is_vacuum after ≡ is_vacuum before
+  pub sweep : is_sweep after ≡ is_sweep before
   pub kind : OpAnswers before after answer
   pub refused : (fault : Fault) → answer ≡ Refused fault → (g.state new ≡ g.state old) × (after ≡ before)
   pub stopped : (g.backing old).stopped ≡ true → AnswersStopped (add_of before) answer
@@ -396,7 +472,7 @@ HoldsOn false st sets start history call op = (call.ending ≡ Running) × OpRun
 pub record OpGoes (at : Circumstances) (old new : State) (sets : DeadSets) (start : Entry → Bool) (history : List Action) (number : ℕ) (call : Call) (op : Op) (answer : Answer) : Type 0 where
   pub effect : Option Effect
   pub then_call : Call
-  pub does : Does call.session effect old new
+  pub works : Works call.session call.ask effect old new
   pub asked : IsAsked (contents_after start history) call.ask call.added effect
   pub told : Told answer (length history) effect call then_call
   pub caused : IsCaused at answer

@@ -7,9 +7,9 @@ use Rattle.index_model.specs.declared.entry.Entry.{Entry}
 use Rattle.page_action.specs.States.{State}
 use Rattle.vacuum.specs.Sweeping.{DueIsToCome}
 use Rattle.vacuum.specs.declared.steps.BulkDeleteOp.{BulkDeleteOp}
-use Rattle.session_calls.specs.Ops.{DeadSets, set_at, is_vacuuming}
+use Rattle.session_calls.specs.Ops.{DeadSets, set_at, is_sweeping}
 use Rattle.session_calls.specs.declared.op.Op.{Op}
-use Rattle.session_calls.specs.declared.op.Op.TheVariants.{Insert, Scan, Bulk}
+use Rattle.session_calls.specs.declared.op.Op.TheVariants.{Insert, Scan, Bulk, Cleanup}
 
 -- an entry is due to be removed: its row is in the set, it was there when the call began, and no action since then adds it
 pub record IsDue (dead : Row → Bool) (start : Entry → Bool) (history : List Action) (began : ℕ) (e : Entry) : Type 0 where
@@ -20,7 +20,7 @@ pub record IsDue (dead : Row → Bool) (start : Entry → Bool) (history : List 
 -- A bulk delete that runs as the call of this number: the store has its cycle number; whatever is due is to come still; and
 -- what it has counted as removed are the entries of its Removes.
 pub record IsSweepSoFar (st : State) (dead : Row → Bool) (start : Entry → Bool) (history : List Action) (number began : ℕ) (op : BulkDeleteOp) : Type 0 where
-  pub runs : is_vacuuming st ≡ true
+  pub runs : is_sweeping st ≡ true
   pub to_come : (due : Entry → Bool) → ((e : Entry) → due e ≡ true → IsDue dead start history began e) → DueIsToCome due st op.cursor op.back
   pub removed : op.removed ≡ removed_by number (drop began history)
 
@@ -28,6 +28,7 @@ pub record IsSweepSoFar (st : State) (dead : Row → Bool) (start : Entry → Bo
 abbrev pub OpSweeps : State → DeadSets → (Entry → Bool) → List Action → ℕ → ℕ → Op → Type 0
 OpSweeps st sets start history number began (Insert op) = Unit {0}
 OpSweeps st sets start history number began (Scan op) = Unit {0}
+OpSweeps st sets start history number began (Cleanup op) = Unit {0}
 OpSweeps st sets start history number began (Bulk set op) = (set < length sets) × IsSweepSoFar st (set_at sets set) start history number began op
 
 -- ... of what a session runs, if anything

@@ -6,9 +6,9 @@ ghost use Rattle.index_model.specs.Faults.{HasCause};
 ghost use Rattle.index_model.specs.declared.entry.Entry.{Entry};
 ghost use Rattle.page_action.specs.States.{Continues};
 ghost use Rattle.session_calls.specs.Due.{HasSteps};
-ghost use Rattle.session_calls.specs.Ops.{DeadSets, op_before, asks_vacuum, is_vacuuming, where_requesting};
+ghost use Rattle.session_calls.specs.Ops.{DeadSets, op_before, asks_sweep, where_requesting};
 ghost use Rattle.session_calls.specs.Sessions.{Matches, IsIdle, BeginsBy, SessionBegins, after_request};
-ghost use Rattle.session_calls.specs.declared.request.Request.TheVariants.{Insert as ToInsert, Scan as ToScan, Bulk as ToBulk};
+ghost use Rattle.session_calls.specs.declared.request.Request.TheVariants.{Insert as ToInsert, Scan as ToScan, Bulk as ToBulk, Cleanup as ToCleanup};
 
 use crate::answer::Answer;
 use crate::op::Op;
@@ -16,11 +16,13 @@ use crate::request::Request;
 use index_model::{Entry, Fault, Range, Session};
 use insert_split::InsertOp;
 use page_action::PageStore;
+use page_delete::CleanupOp;
 use scan::ScanOp;
 use vacuum::BulkDeleteOp;
 
-/// Begins a call of a session. Refused with `Stopped` (3); with `SessionBusy` (13) where the session has a call; with
-/// `VacuumRunning` (11) for a bulk delete where one runs: nothing is changed then.
+/// Begins a call of a session. `excluded` tells that it is a bulk delete or a cleanup, and a session runs one. Refused with
+/// `Stopped` (3); with `SessionBusy` (13) where the session has a call; with `VacuumRunning` (11) where it is excluded:
+/// nothing is changed then.
 ///
 /// On its own, into a leaf with room, an insert takes three steps more than the root's level; the first entries of a scan
 /// are ready after two more.
@@ -28,12 +30,13 @@ pub fn begin<S: PageStore>(
     store: &mut S,
     session: Session,
     request: Request,
+    excluded: bool,
     slot: &mut Option<Op>,
 ) -> Answer
     ensures steps { Continues S.follows store.old store.new }
     ensures backing { S.backing store.new ≡ S.backing store.old }
     ensures by { BeginsBy (S.state store.old) (S.backing store.old)
-        (S.state store.new) session request slot.old slot.new result }
+        (S.state store.new) session request excluded slot.old slot.new result }
     ensures stopped { (S.backing store.old).stopped ≡ true → result ≡ Answer.Refused Fault.Stopped }
     ensures begins { result ≡ Answer.Begun → (sets : DeadSets) (start : Entry → Bool)
         (history : List Action) (number : ℕ)
@@ -43,16 +46,22 @@ pub fn begin<S: PageStore>(
     ensures counts { result ≡ Answer.Begun → HasSteps (S.state store.old)
         (S.state store.new) request slot.new }
 {
-    if let Err(fault) = start(store, session, slot.is_some(), asks_vacuum(&request)) {
+    if let Err(fault) = start(
+        store,
+        session,
+        slot.is_some(),
+        excluded,
+        asks_sweep(&request),
+    ) {
         return Answer::Refused(fault);
     }
     fill(slot, session, request);
     Answer::Begun
 }
 
-// Whether it is a request of a bulk delete.
-fn asks_vacuum(request: &Request) -> bool
-    ensures { result ≡ asks_vacuum request.now }
+// Whether it is a request of a bulk delete, which needs a cycle number.
+fn asks_sweep(request: &Request) -> bool
+    ensures { result ≡ asks_sweep request.now }
 {
     matches!(request, Request::Bulk(_))
 }
@@ -65,6 +74,7 @@ fn fill(slot: &mut Option<Op>, session: Session, request: Request)
         Request::Insert(entry) => fill_insert(slot, session, entry),
         Request::Scan(range) => fill_scan(slot, session, range),
         Request::Bulk(set) => fill_bulk(slot, session, set),
+        Request::Cleanup => fill_cleanup(slot, session),
     }
 }
 
@@ -91,26 +101,33 @@ fn fill_bulk(slot: &mut Option<Op>, session: Session, set: u32)
     });
 }
 
+fn fill_cleanup(slot: &mut Option<Op>, session: Session)
+    ensures { slot.new ≡ Some (op_before session ToCleanup) }
+{
+    *slot = Some(Op::Cleanup(CleanupOp::new(session)));
+}
+
 // The start number of a call that begins, and the cycle number of a bulk delete.
 fn start<S: PageStore>(
     store: &mut S,
     session: Session,
     busy: bool,
-    vacuums: bool,
+    excluded: bool,
+    sweeps: bool,
 ) -> Result<(), Fault>
     ensures steps { Continues S.follows store.old store.new }
     ensures backing { S.backing store.new ≡ S.backing store.old }
     ensures free { OnOk result (busy ≡ false) }
-    ensures alone { OnOk result (vacuums ≡ true → is_vacuuming (S.state store.old) ≡ false) }
+    ensures alone { OnOk result (excluded ≡ false) }
     ensures done { OnOk result (S.state store.new
-        ≡ after_request vacuums session (S.state store.old)) }
+        ≡ after_request sweeps session (S.state store.old)) }
     ensures low { session < 64 }
     ensures limits { (S.state store.old).limits.pages ≤ 65536 }
     ensures few { length (S.state store.old).pages ≤ 65536 }
     ensures stopped { (S.backing store.old).stopped ≡ true → result ≡ Err Fault.Stopped }
     ensures refused { OnErr result (S.state store.new ≡ S.state store.old) }
     ensures cause { IfErr result
-        (HasCause (where_requesting vacuums (S.state store.old) (S.backing store.old) busy)) }
+        (HasCause (where_requesting excluded (S.state store.old) (S.backing store.old) busy)) }
 {
     let _number = session.number();
     let _limits = store.limits();
@@ -120,11 +137,11 @@ fn start<S: PageStore>(
     if busy {
         return Err(Fault::SessionBusy);
     }
-    if vacuums && store.cycle() > 0 {
+    if excluded {
         return Err(Fault::VacuumRunning);
     }
     store.begin(session)?;
-    if vacuums {
+    if sweeps {
         store.start_cycle();
     }
     Ok(())

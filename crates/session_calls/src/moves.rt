@@ -8,7 +8,7 @@ ghost use Rattle.page_action.specs.Causes.{nothing_wrong};
 ghost use Rattle.page_action.specs.States.{State, Continues};
 ghost use Rattle.session_calls.specs.Due.{IsDueIn, CountsDown};
 ghost use Rattle.session_calls.specs.Ops.{DeadSets, where_slot_stepped, where_asked_next, is_last, AnswersStopped};
-ghost use Rattle.session_calls.specs.Sessions.{SlotFits, SessionGoes, KeepsPages, OnlyWritersAct, OnlyOwnAreFlagged, LeavesOwnFlagged, KeepsBeforePins, CountsEntries, LeavesLess, LeavesNoMore, GivesLess, AnswersStep, AnswersNext, AnswersEnd, RefusalChangesNothing, no_call, slot_add, after_call};
+ghost use Rattle.session_calls.specs.Sessions.{SlotFits, SessionGoes, KeepsPages, OnlyWritersAct, OnlyOwnAreFlagged, LeavesOwnFlagged, KeepsBeforePins, CountsEntries, SparesLeaves, LeavesLess, LeavesNoMore, GivesLess, AnswersStep, AnswersNext, AnswersEnd, RefusalChangesNothing, no_call, slot_add, after_call};
 ghost use Rattle.session_calls.specs.declared.op.Op.{Op};
 
 use crate::answer::Answer;
@@ -53,6 +53,8 @@ pub fn step<S: PageStore, T: DeadRows>(store: &mut S, slot: &mut Option<Op>, set
     ensures entries { (S.backing store.new).honest ≡ true
         → CountsEntries (map T.is_in sets.now) (S.state store.old) (S.state store.new) slot.old
         slot.new result }
+    ensures spares { (S.backing store.new).honest ≡ true
+        → SparesLeaves (S.state store.old) (S.state store.new) slot.old slot.new result }
     ensures due { (S.backing store.new).honest ≡ true
         → (start : Entry → Bool) (history : List Action) (number : ℕ) (call : Call)
         → SlotFits (S.state store.old) (map T.is_in sets.now) start history number call slot.old
@@ -85,7 +87,7 @@ fn let_go<S: PageStore>(store: &mut S, op: &Op)
     ensures state { S.state store.new ≡ after_call op.now (S.state store.old) }
 {
     store.end(op.session());
-    if op.is_vacuum() {
+    if op.is_sweep() {
         store.stop_cycle();
     }
 }

@@ -4,6 +4,7 @@ ghost use Rattle.std.specs.Prelude.{◌≡◌, true, false, Bool, List, ℕ, Som
 ghost use Rattle.index_model.specs.Actions.{Action};
 ghost use Rattle.index_model.specs.Calls.{Call};
 ghost use Rattle.index_model.specs.declared.entry.Entry.{Entry};
+ghost use Rattle.tree_acts.specs.Deletions.{StartsAreBelow};
 ghost use Rattle.descent.specs.Shared.{IsInOrder};
 ghost use Rattle.session_calls.specs.Sessions.{no_call};
 
@@ -12,6 +13,7 @@ use crate::request::Request;
 use index_model::{DeadRows, Fault, Session};
 use insert_split::{InsertOp, InsertStep};
 use page_action::PageStore;
+use page_delete::{CleanupOp, CleanupStep};
 use scan::{ScanOp, ScanStep};
 use vacuum::{BulkDeleteOp, BulkDeleteStep};
 
@@ -22,12 +24,13 @@ pub enum Op {
     Scan(ScanOp),
     /// A bulk delete, with the place of its set among the sets.
     Bulk { set: u32, op: BulkDeleteOp },
+    Cleanup(CleanupOp),
 }
 
 impl Op {
     ghost use Rattle.session_calls.specs.Due.{IsDueIn, CountsDown};
-    ghost use Rattle.session_calls.specs.Ops.{op_before, session_of, is_vacuum, add_of, OpFits, where_stepped};
-    ghost use Rattle.session_calls.specs.Sessions.{CallFits, OpSteps, OpGoes, OnlyOwnAreFlagged, LeavesOwnFlagged, KeepsBeforePins, CountsEntries, slot_after};
+    ghost use Rattle.session_calls.specs.Ops.{op_before, session_of, is_vacuum, is_sweep, add_of, OpFits, where_stepped};
+    ghost use Rattle.session_calls.specs.Sessions.{CallFits, OpSteps, OpGoes, OnlyOwnAreFlagged, LeavesOwnFlagged, KeepsBeforePins, CountsEntries, SparesLeaves, slot_after};
 
     /// The call that a session asks for, before its first step.
     pub fn new(session: Session, request: Request) -> Op
@@ -40,6 +43,7 @@ impl Op {
                 set,
                 op: BulkDeleteOp::new(session),
             },
+            Request::Cleanup => Op::Cleanup(CleanupOp::new(session)),
         }
     }
 
@@ -51,12 +55,20 @@ impl Op {
             Op::Insert(op) => op.session,
             Op::Scan(op) => op.session,
             Op::Bulk { op, .. } => op.session,
+            Op::Cleanup(op) => op.session,
         }
     }
 
-    // Whether it is a bulk delete.
-    pub(crate) fn is_vacuum(&self) -> bool
+    /// Whether it is a bulk delete or a cleanup: one runs at a time.
+    pub fn is_vacuum(&self) -> bool
         ensures { result ≡ is_vacuum self.now }
+    {
+        matches!(self, Op::Bulk { .. } | Op::Cleanup(_))
+    }
+
+    // Whether it is a bulk delete, for which the store has a cycle number.
+    pub(crate) fn is_sweep(&self) -> bool
+        ensures { result ≡ is_sweep self.now }
     {
         matches!(self, Op::Bulk { .. })
     }
@@ -67,7 +79,7 @@ impl Op {
     {
         match self {
             Op::Insert(op) => op.added,
-            Op::Scan(_) | Op::Bulk { .. } => None,
+            Op::Scan(_) | Op::Bulk { .. } | Op::Cleanup(_) => None,
         }
     }
 
@@ -82,7 +94,7 @@ impl Op {
             (S.state store.old) (S.state store.new) (map T.is_in sets.now) start history number
             call self.new result }
         ensures flagged { (S.backing store.new).honest ≡ true → IsInOrder (S.state store.old)
-            → OpFits (S.state store.old) self.old
+            → StartsAreBelow (S.state store.old) → OpFits (S.state store.old) self.old
             → OnlyOwnAreFlagged (S.state store.old) (Some self.old)
             → LeavesOwnFlagged (S.state store.new) (Some self.old) (slot_after result self.new)
             result }
@@ -92,6 +104,9 @@ impl Op {
         ensures entries { (S.backing store.new).honest ≡ true
             → CountsEntries (map T.is_in sets.now) (S.state store.old) (S.state store.new)
             (Some self.old) (slot_after result self.new) result }
+        ensures spares { (S.backing store.new).honest ≡ true
+            → SparesLeaves (S.state store.old) (S.state store.new) (Some self.old)
+            (slot_after result self.new) result }
         ensures due { (S.backing store.new).honest ≡ true → IsInOrder (S.state store.old)
             → OpFits (S.state store.old) self.old
             → (left : ℕ) → IsDueIn (S.state store.old) (Some self.old) (suc left)
@@ -120,6 +135,11 @@ impl Op {
                     Ok(BulkDeleteStep::Finished(stats)) => Answer::Finished(stats),
                     Err(fault) => Answer::Refused(fault),
                 },
+            },
+            Op::Cleanup(op) => match op.step(store) {
+                Ok(CleanupStep::Going) => Answer::Going,
+                Ok(CleanupStep::Finished(stats)) => Answer::Finished(stats),
+                Err(fault) => Answer::Refused(fault),
             },
         }
     }

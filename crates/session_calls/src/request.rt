@@ -11,4 +11,6 @@ pub enum Request {
     Scan(Range),
     /// To remove the entries whose rows are in the set at this place among the sets.
     Bulk(u32),
+    /// To delete empty leaves.
+    Cleanup,
 }

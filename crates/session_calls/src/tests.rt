@@ -95,9 +95,15 @@ fn an_insert_and_a_scan(rt: HostRuntime) {
             Answer::Refused(Fault::NoSession)
         )
     );
-    let begun = begin(&mut store, session, Request::Insert(entry(1, 7)), &mut slot);
+    let begun = begin(
+        &mut store,
+        session,
+        Request::Insert(entry(1, 7)),
+        false,
+        &mut slot,
+    );
     assert!(rt; matches!(begun, Answer::Begun));
-    let busy = begin(&mut store, session, Request::Scan(ALL), &mut slot);
+    let busy = begin(&mut store, session, Request::Scan(ALL), false, &mut slot);
     assert!(rt; matches!(busy, Answer::Refused(Fault::SessionBusy)));
     assert!(rt; matches!(next(&mut slot), Answer::Refused(Fault::NoSession)));
     assert!(rt; matches!(step(&mut store, &mut slot, &NO_SETS), Answer::Going));
@@ -114,7 +120,7 @@ fn an_insert_and_a_scan(rt: HostRuntime) {
     );
     assert!(rt; slot.is_none());
 
-    let begun = begin(&mut store, session, Request::Scan(ALL), &mut slot);
+    let begun = begin(&mut store, session, Request::Scan(ALL), false, &mut slot);
     assert!(rt; matches!(begun, Answer::Begun));
     assert!(rt; matches!(step(&mut store, &mut slot, &NO_SETS), Answer::Going));
     assert!(rt; matches!(step(&mut store, &mut slot, &NO_SETS), Answer::Ready(1)));
@@ -135,7 +141,7 @@ fn a_call_is_given_up(rt: HostRuntime) {
         return;
     };
     let mut slot = None;
-    let _begun = begin(&mut store, session, Request::Scan(ALL), &mut slot);
+    let _begun = begin(&mut store, session, Request::Scan(ALL), false, &mut slot);
     assert_eq!(rt; slot.as_ref().map(Op::session), Some(session));
     assert!(rt; matches!(end(&mut store, &mut slot), Answer::Ended));
     assert!(rt;
@@ -178,7 +184,13 @@ fn a_leaf_and_the_root_are_split(rt: HostRuntime) {
         return;
     };
     let mut slot = None;
-    let begun = begin(&mut store, session, Request::Insert(entry(5, 7)), &mut slot);
+    let begun = begin(
+        &mut store,
+        session,
+        Request::Insert(entry(5, 7)),
+        false,
+        &mut slot,
+    );
     assert!(rt; matches!(begun, Answer::Begun));
     let (added, acts) = run(&mut store, &mut slot);
     assert!(rt;
@@ -194,7 +206,7 @@ fn a_leaf_and_the_root_are_split(rt: HostRuntime) {
     assert_eq!(rt; store.acts(), 2);
     assert!(rt; slot.is_none());
 
-    let begun = begin(&mut store, session, Request::Scan(ALL), &mut slot);
+    let begun = begin(&mut store, session, Request::Scan(ALL), false, &mut slot);
     assert!(rt; matches!(begun, Answer::Begun));
     for number in 1..=5 {
         assert!(rt; give(&mut store, &mut slot) == Some(entry(number, 7)));
@@ -217,11 +229,17 @@ fn a_bulk_delete_runs_alone(rt: HostRuntime) {
     };
     let sets = [Block { number: 7 }, Block { number: 8 }];
     let (mut slot, mut second) = (None, None);
-    let begun = begin(&mut store, session, Request::Bulk(1), &mut slot);
+    let begun = begin(&mut store, session, Request::Bulk(1), false, &mut slot);
     assert!(rt; matches!(begun, Answer::Begun));
-    let running = begin(&mut store, other, Request::Bulk(0), &mut second);
+    let running = begin(&mut store, other, Request::Bulk(0), true, &mut second);
     assert!(rt; matches!(running, Answer::Refused(Fault::VacuumRunning)));
-    let begun = begin(&mut store, other, Request::Insert(entry(1, 8)), &mut second);
+    let begun = begin(
+        &mut store,
+        other,
+        Request::Insert(entry(1, 8)),
+        false,
+        &mut second,
+    );
     assert!(rt; matches!(begun, Answer::Begun));
     assert!(rt; matches!(end(&mut store, &mut second), Answer::Ended));
     assert_eq!(rt; store.cycle(), 1);
@@ -236,11 +254,11 @@ fn a_bulk_delete_runs_alone(rt: HostRuntime) {
     assert!(rt; slot.is_none());
     assert_eq!(rt; (store.cycle(), store.acts()), (0, 1));
 
-    let begun = begin(&mut store, other, Request::Bulk(0), &mut second);
+    let begun = begin(&mut store, other, Request::Bulk(0), false, &mut second);
     assert!(rt; matches!(begun, Answer::Begun));
     assert!(rt; matches!(end(&mut store, &mut second), Answer::Ended));
     assert_eq!(rt; store.cycle(), 0);
-    let begun = begin(&mut store, other, Request::Bulk(2), &mut second);
+    let begun = begin(&mut store, other, Request::Bulk(2), false, &mut second);
     assert!(rt; matches!(begun, Answer::Begun));
     assert!(rt;
         matches!(
@@ -248,4 +266,31 @@ fn a_bulk_delete_runs_alone(rt: HostRuntime) {
             Answer::Refused(Fault::NoSession)
         )
     );
+}
+
+#[test]
+fn a_cleanup_counts_the_entries(rt: HostRuntime) {
+    let entries = [entry(1, 7), entry(2, 8), entry(3, 9)];
+    let (Ok(mut store), Ok(session)) = (tree(rt.alloc(), &entries), Session::new(5)) else {
+        assert!(rt; false);
+        return;
+    };
+    let mut slot = None;
+    let running = begin(&mut store, session, Request::Cleanup, true, &mut slot);
+    assert!(rt; matches!(running, Answer::Refused(Fault::VacuumRunning)));
+    let begun = begin(&mut store, session, Request::Cleanup, false, &mut slot);
+    assert!(rt; matches!(begun, Answer::Begun));
+    assert_eq!(rt; store.cycle(), 0);
+    assert!(rt; slot.as_ref().map(Op::is_vacuum) == Some(true));
+
+    assert!(rt; matches!(step(&mut store, &mut slot, &NO_SETS), Answer::Going));
+    assert!(rt; matches!(next(&mut slot), Answer::Refused(Fault::NoSession)));
+    let Answer::Finished(stats) = step(&mut store, &mut slot, &NO_SETS) else {
+        assert!(rt; false);
+        return;
+    };
+    assert_eq!(rt; (stats.num_pages, stats.num_index_tuples), (2, 3));
+    assert_eq!(rt; (stats.tuples_removed, stats.pages_newly_deleted), (0, 0));
+    assert!(rt; slot.is_none());
+    assert_eq!(rt; store.acts(), 0);
 }

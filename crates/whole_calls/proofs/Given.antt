@@ -14,7 +14,7 @@ use Rattle.session_calls.specs.Sessions.{IsDrained, OwesLess, LeavesLess, GivesL
 use Rattle.session_calls.specs.declared.answer.Answer.{Answer}
 use Rattle.session_calls.specs.declared.answer.Answer.TheVariants.{Begun, Going, Added, Ready, Done, Finished, Gave, Ended, Forced, Flushed, Checkpointed, Refused}
 use Rattle.session_calls.specs.declared.op.Op.{Op}
-use Rattle.session_calls.specs.declared.op.Op.TheVariants.{Insert as Inserts, Scan as Scans, Bulk as Bulks}
+use Rattle.session_calls.specs.declared.op.Op.TheVariants.{Insert as Inserts, Scan as Scans, Bulk as Bulks, Cleanup as Cleanups}
 use Rattle.schedule.specs.Snapshots.{Snapshot, IsRunningCall, Fits}
 use Rattle.schedule.proofs.Lists.{get_set_same, get_set_other, get_within}
 use Rattle.whole_calls.specs.Going.{CameBy}
@@ -29,6 +29,7 @@ no_gave None after entry h = h
 no_gave (Some (Inserts op)) after entry h = h
 no_gave (Some (Scans op)) after entry h = h
 no_gave (Some (Bulks set op)) after entry h = h
+no_gave (Some (Cleanups op)) after entry h = h
 
 -- only a scan gives none, so the step behind it does no act
 pub calm_scan : (old new : State) (before mid : Option Op) → AnswersNext before (Gave None) → mid ≡ before → OnlyWritersAct mid old new → new.acts ≡ old.acts
@@ -39,6 +40,7 @@ calm_scan old new before mid gave same calm = of before gave (subst (λ (o : Opt
     of (Some (Inserts op)) gave h = absurd gave
     of (Some (Scans op)) gave h = h
     of (Some (Bulks set op)) gave h = absurd gave
+    of (Some (Cleanups op)) gave h = absurd gave
 
 -- where no act is done, every step owes to leave less
 pub owes : (slot : Option Op) (old new : State) → new.acts ≡ old.acts → OwesLess slot old new
@@ -46,6 +48,7 @@ owes None old new calm = calm
 owes (Some (Inserts op)) old new calm = calm
 owes (Some (Scans op)) old new calm = calm
 owes (Some (Bulks set op)) old new calm = tt
+owes (Some (Cleanups op)) old new calm = tt
 
 pub step_down : (old new : State) (before mid after : Option Op) (result : Result Answer Fault) → GivesLess before mid (Gave None) → new.acts ≡ old.acts → StepLeavesLess old new mid after result → IfOk result (AnswersStep mid after) → GoesDownBy old new before after result
 step_down old new before mid after (Err fault) gives calm less kind = tt
@@ -117,6 +120,18 @@ next_down old new (Some (Bulks set op)) after Ended h less same = absurd h
 next_down old new (Some (Bulks set op)) after (Forced n) h less same = absurd h
 next_down old new (Some (Bulks set op)) after (Flushed b) h less same = absurd h
 next_down old new (Some (Bulks set op)) after (Checkpointed n) h less same = absurd h
+next_down old new (Some (Cleanups op)) after (Refused f) h less same = tt
+next_down old new (Some (Cleanups op)) after Begun h less same = absurd h
+next_down old new (Some (Cleanups op)) after Going h less same = absurd h
+next_down old new (Some (Cleanups op)) after (Added a u) h less same = absurd h
+next_down old new (Some (Cleanups op)) after (Ready r) h less same = absurd h
+next_down old new (Some (Cleanups op)) after Done h less same = absurd h
+next_down old new (Some (Cleanups op)) after (Finished s) h less same = absurd h
+next_down old new (Some (Cleanups op)) after (Gave e) h less same = absurd h
+next_down old new (Some (Cleanups op)) after Ended h less same = absurd h
+next_down old new (Some (Cleanups op)) after (Forced n) h less same = absurd h
+next_down old new (Some (Cleanups op)) after (Flushed b) h less same = absurd h
+next_down old new (Some (Cleanups op)) after (Checkpointed n) h less same = absurd h
 
 -- a `next` that isn't without an entry is one of the answers
 pub next_kind : (before : Option Op) (answer : Answer) → AnswersNext before answer → (answer ≡ Gave None → ⊥) → AnswersAdvance (Ok answer)
@@ -172,6 +187,19 @@ next_kind (Some (Bulks set op)) Ended h none = absurd h
 next_kind (Some (Bulks set op)) (Forced n) h none = absurd h
 next_kind (Some (Bulks set op)) (Flushed b) h none = absurd h
 next_kind (Some (Bulks set op)) (Checkpointed n) h none = absurd h
+next_kind (Some (Cleanups op)) (Refused f) h none = tt
+next_kind (Some (Cleanups op)) Begun h none = absurd h
+next_kind (Some (Cleanups op)) Going h none = tt
+next_kind (Some (Cleanups op)) (Added a u) h none = absurd h
+next_kind (Some (Cleanups op)) (Ready r) h none = tt
+next_kind (Some (Cleanups op)) Done h none = tt
+next_kind (Some (Cleanups op)) (Finished s) h none = absurd h
+next_kind (Some (Cleanups op)) (Gave None) h none = absurd h
+next_kind (Some (Cleanups op)) (Gave (Some e)) h none = tt
+next_kind (Some (Cleanups op)) Ended h none = absurd h
+next_kind (Some (Cleanups op)) (Forced n) h none = absurd h
+next_kind (Some (Cleanups op)) (Flushed b) h none = absurd h
+next_kind (Some (Cleanups op)) (Checkpointed n) h none = absurd h
 
 -- only a scan gives none, so the step behind it is a scan's
 pub scan_steps : (before mid after : Option Op) (answer : Answer) → AnswersNext before (Gave None) → mid ≡ before → AnswersStep mid after answer → AnswersAdvance (Ok answer)
@@ -181,6 +209,7 @@ scan_steps before mid after answer gave same h = of before gave answer (subst (�
     of None gave a h = absurd gave
     of (Some (Inserts op)) gave a h = absurd gave
     of (Some (Bulks set op)) gave a h = absurd gave
+    of (Some (Cleanups op)) gave a h = absurd gave
     of (Some (Scans op)) gave Going h = tt
     of (Some (Scans op)) gave (Ready r) h = tt
     of (Some (Scans op)) gave Done h = tt

@@ -1,5 +1,5 @@
 -- What an insert tells that is run to its end.
-use Rattle.std.proofs.Common.{◌≡◌, ◌≢◌, ℕ, zero, suc, ◌+◌, ◌⊎◌, Bool, true, false, if◌then◌else◌, Option, Some, None, Result, Ok, Err, List, [], ◌∷◌, ◌++◌, length, slice_get, slice_set, refl, sym, ap, subst, arith, inl, inr, ◌∙◌, length-append, append_assoc}
+use Rattle.std.proofs.Common.{◌≡◌, ◌≢◌, ℕ, suc, ◌+◌, ◌⊎◌, Bool, true, false, if◌then◌else◌, Option, Some, None, Result, Ok, Err, List, [], ◌∷◌, ◌++◌, length, slice_get, slice_set, refl, sym, ap, subst, arith, inl, inr, ◌∙◌, length-append, append_assoc}
 use Rattle.std.proofs.lemmas.List.{append-nil}
 use Rattle.std.specs.Prelude.{unwrap_or}
 use Rattle.index_model.specs.Actions.{Effect, Add, Remove, Shape, Action}
@@ -8,20 +8,19 @@ use Rattle.index_model.specs.declared.entry.Entry.{Entry}
 use Rattle.index_model.specs.declared.fault.Fault.{Fault}
 use Rattle.index_model.specs.declared.fault.Fault.TheVariants.{NoSession, Exists}
 use Rattle.page_action.specs.declared.page_store.PageStore.{Ghosts}
-use Rattle.session_calls.specs.Ops.{add_of, ends_call}
-use Rattle.session_calls.specs.Sessions.{act_count, acts_of, noted, begun_call, ended, slot_add}
+use Rattle.session_calls.specs.Ops.{ends_call}
+use Rattle.session_calls.specs.Sessions.{act_count, acts_of, noted, ended, slot_add}
 use Rattle.session_calls.specs.declared.answer.Answer.{Answer}
 use Rattle.session_calls.specs.declared.answer.Answer.TheVariants.{Begun, Going, Added, Ready, Done, Finished, Gave, Ended, Forced, Flushed, Checkpointed, Refused}
 use Rattle.session_calls.specs.declared.op.Op.{Op}
 use Rattle.session_calls.specs.declared.request.Request.TheVariants.{Insert as ToInsert}
-use Rattle.schedule.specs.Snapshots.{StoreAndSlots, Snapshot, slot_of, IsRunningCall, SlotRuns, SlotMatches, Fits}
+use Rattle.schedule.specs.Snapshots.{StoreAndSlots, Snapshot, slot_of, IsRunningCall, Fits}
 use Rattle.schedule.proofs.Lists.{get_append_new, get_append_cases}
 use Rattle.whole_calls.specs.Going.{CallGoes}
 use Rattle.whole_calls.specs.Inserting.{InsertGoes}
-use Rattle.whole_calls.specs.Telling.{acts_by, noted_behind, AreOwnEffects, IsTold, IsHeldUp, HasNone, TellsEnd, with_call, first_call, NextTold, NothingTold, left_behind, outcome_of, step_came, shapes, inserted_call, IsEndOf, IsAddedNow, IsNotAdded, InsertTold}
-use Rattle.whole_calls.specs.declared.inserted.Inserted.{Inserted}
+use Rattle.whole_calls.specs.Telling.{acts_by, noted_behind, AreOwnEffects, IsTold, IsHeldUp, HasNone, TellsEnd, with_call, first_call, NextTold, NothingTold, left_behind, outcome_of, step_came, shapes, inserted_call, IsAddedNow, IsNotAdded, InsertTold}
 use Rattle.whole_calls.proofs.Composing.{goes_told}
-use Rattle.whole_calls.proofs.Gone.{same_ask, same_ending, same_session, many_behind, WholeTold, whole_told}
+use Rattle.whole_calls.proofs.Gone.{same_ask, same_ending, same_session, whole_told}
 use Rattle.whole_calls.proofs.Tellings.{runs_in_slot, one_runs, is_empty, set_new}
 
 -- an insert whose entry is added appends nothing but changes of the shape

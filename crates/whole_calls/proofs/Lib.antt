@@ -7,3 +7,6 @@ pub mod Given
 pub mod Beginning
 pub mod Counting
 pub mod Swept
+pub mod Refusing
+pub mod Removing
+pub mod Filling

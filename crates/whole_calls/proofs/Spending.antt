@@ -1,5 +1,5 @@
 -- Each step of a call that goes on leaves fewer, and there are fewer than 2^64 - 1.
-use Rattle.std.proofs.Common.{◌≡◌, ℕ, zero, suc, ◌+◌, ◌*◌, ◌-◌, ◌<◌, ◌≤◌, Bool, true, false, Option, Some, None, Result, Ok, Err, List, [], ◌∷◌, ◌++◌, length, slice_get, refl, sym, ap, subst, arith, inl, inr, ◌∙◌, length-append}
+use Rattle.std.proofs.Common.{◌≡◌, ℕ, zero, suc, ◌+◌, ◌*◌, ◌<◌, ◌≤◌, Bool, true, false, Option, Some, None, Ok, List, [], ◌∷◌, ◌++◌, length, slice_get, refl, sym, ap, subst, arith, ◌∙◌}
 use Rattle.std.specs.Prelude.{unwrap_or}
 use Rattle.std.proofs.lemmas.List.{append-nil}
 use Rattle.index_model.specs.Actions.{Effect, Add, Remove, Shape, Action, contents_after}
@@ -13,13 +13,13 @@ use Rattle.tree_shape.specs.Nodes.{Node, nodes_of}
 use Rattle.tree_acts.specs.Weights.{weight_of, weight_up_to, weight}
 use Rattle.descent.specs.Shared.{MovesFlags}
 use Rattle.session_calls.specs.Ops.{DeadSets, asked_of, add_of}
-use Rattle.session_calls.specs.Sessions.{IsAsked, acts_of, add_after, work_in, OwesLess}
+use Rattle.session_calls.specs.Sessions.{IsAsked, MovesShape, acts_of, add_after, work_in, OwesLess}
 use Rattle.session_calls.specs.declared.answer.Answer.{Answer}
-use Rattle.session_calls.specs.declared.answer.Answer.TheVariants.{Going, Refused}
+use Rattle.session_calls.specs.declared.answer.Answer.TheVariants.{Going}
 use Rattle.session_calls.specs.declared.op.Op.{Op}
-use Rattle.session_calls.specs.declared.op.Op.TheVariants.{Insert, Scan, Bulk}
+use Rattle.session_calls.specs.declared.op.Op.TheVariants.{Insert, Scan, Bulk, Cleanup}
 use Rattle.schedule.specs.Snapshots.{StoreAndSlots, Snapshot, snapshot_of, slot_of, IsRunningCall, Fits, has_call}
-use Rattle.schedule.specs.Events.{MovesCall, Steps, CallGoesOn, Stays, MovesOn, EventDoes}
+use Rattle.schedule.specs.Events.{MovesCall, Steps, CallGoesOn, MovesOn, EventDoes}
 use Rattle.schedule.specs.Runs.{Carries, Runs}
 use Rattle.schedule.specs.declared.event.Event.TheVariants.{Step}
 use Rattle.schedule.proofs.Bounds.{work_bounded}
@@ -50,6 +50,7 @@ acts_low st None = omega arith
 acts_low st (Some (Insert op)) = (let b = brought_low op.added in omega (arith, b))
 acts_low st (Some (Scan op)) = omega arith
 acts_low st (Some (Bulk set op)) = omega arith
+acts_low st (Some (Cleanup op)) = omega arith
 
 -- there are fewer steps than are counted
 pub steps_few : {S : Type 0} (g : Ghosts S) (laws : Laws g) (start : Entry → Bool) (now : Snapshot S) (session : ℕ) → Fits g start now → (g.state now.store).limits.pages ≤ 65536
@@ -72,6 +73,7 @@ left_is : (st : State) (sets : DeadSets) (op : Op) → acts_left st (Some op) �
 left_is st sets (Insert op) = refl
 left_is st sets (Scan op) = refl
 left_is st sets (Bulk set op) = refl
+left_is st sets (Cleanup op) = refl
 
 -- what the session runs may append what its running call may
 slot_left : {S : Type 0} (g : Ghosts S) (start : Entry → Bool) (now : Snapshot S) (session number : ℕ) (call : Call) (st : State) → Fits g start now → IsRunningCall now.calls session number call
@@ -88,6 +90,7 @@ abbrev IsCountedAnew : Op → Type 0
 IsCountedAnew (Insert op) = Unit {0}
 IsCountedAnew (Scan op) = Unit {0}
 IsCountedAnew (Bulk set op) = ⊥
+IsCountedAnew (Cleanup op) = ⊥
 
 -- an event that appends an action leaves fewer to be appended
 acts_fewer : (was_there : Entry → Bool) (sets : DeadSets) (op : Op) (added : Option ℕ) (count : ℕ) (effect : Effect) (old new : State) → IsCountedAnew op → IsAsked was_there (asked_of sets op) added (Some effect) → MovesFlags (Some effect) old new
@@ -100,6 +103,7 @@ acts_fewer was_there sets (Scan op) added count (Add e) old new anew asked flags
 acts_fewer was_there sets (Scan op) added count (Remove es) old new anew asked flags = absurd asked.0
 acts_fewer was_there sets (Scan op) added count Shape old new anew asked flags = absurd asked.0
 acts_fewer was_there sets (Bulk set op) added count effect old new anew asked flags = absurd anew
+acts_fewer was_there sets (Cleanup op) added count effect old new anew asked flags = absurd anew
 
 -- pages that weigh the same leave as much
 same_left : (old new : State) (ask : Ask) (added : Option ℕ) → weight new ≡ weight old → left_by new ask added ≡ left_by old ask added
@@ -162,8 +166,12 @@ module _ {S : Type 0} (g : Ghosts S) (start : Entry → Bool) (session : ℕ) (x
     where
       by : (op : Op) → slot_of x.slots session ≡ Some op → c.call.ask ≡ asked_of x.sets op → acts_left old (slot_of x.slots session) ≡ left_by old c.call.ask c.call.added
           → acts_left now (slot_of y.slots session) ≡ left_by now c.call.ask (add_after c.call.added (suc (length x.history)) c.effect) → fewer_left
-      by (Insert op) slot ask before behind = goes_by c (Insert op) c.effect tt ask c.history_is c.asked c.flags before behind
-      by (Scan op) slot ask before behind = goes_by c (Scan op) c.effect tt ask c.history_is c.asked c.flags before behind
+      by (Insert op) slot ask before behind = goes_by c (Insert op) c.effect tt ask c.history_is c.asked (subst (λ (a : Ask). MovesShape a c.effect old now) ask c.shape) before behind
+      by (Scan op) slot ask before behind = goes_by c (Scan op) c.effect tt ask c.history_is c.asked (subst (λ (a : Ask). MovesShape a c.effect old now) ask c.shape) before behind
+      by (Cleanup op) slot ask before behind =
+          let none : acts_left now (slot_of y.slots session) ≡ 0 = behind ∙ ap (λ (a : Ask). left_by now a (add_after c.call.added (suc (length x.history)) c.effect)) ask in
+          let less = less_by (subst (λ (o : Option Op). OwesLess o old now) (sym slot) tt) in
+          omega (arith, none, less)
       by (Bulk set op) slot ask before behind =
           let none : acts_left now (slot_of y.slots session) ≡ 0 = behind ∙ ap (λ (a : Ask). left_by now a (add_after c.call.added (suc (length x.history)) c.effect)) ask in
           let less = less_by (subst (λ (o : Option Op). OwesLess o old now) (sym slot) tt) in

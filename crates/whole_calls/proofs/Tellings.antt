@@ -1,5 +1,5 @@
 -- What each event of a session tells of its running call.
-use Rattle.std.proofs.Common.{◌≡◌, ◌≢◌, ℕ, zero, suc, ◌+◌, ◌<◌, ◌⊎◌, Bool, true, false, Option, Some, None, Result, Ok, Err, List, [], ◌∷◌, ◌++◌, length, slice_get, slice_set, refl, sym, ap, subst, arith, inl, inr, ◌∙◌}
+use Rattle.std.proofs.Common.{◌≡◌, ◌≢◌, ℕ, ◌<◌, ◌⊎◌, Bool, true, false, Option, Some, None, Result, Ok, Err, List, [], ◌∷◌, ◌++◌, length, slice_get, slice_set, refl, sym, ap, subst, arith, inl, inr, ◌∙◌}
 use Rattle.std.specs.Prelude.{unwrap_or}
 use Rattle.std.proofs.lemmas.List.{append-nil}
 use Rattle.index_model.specs.Actions.{Effect, Action, contents_after}
@@ -16,11 +16,11 @@ use Rattle.session_calls.specs.Sessions.{Told, IsAsked, acts_of, ended, AnswersS
 use Rattle.session_calls.specs.declared.answer.Answer.{Answer}
 use Rattle.session_calls.specs.declared.answer.Answer.TheVariants.{Begun, Going, Added, Ready, Done, Finished, Gave, Ended, Forced, Flushed, Checkpointed, Refused}
 use Rattle.session_calls.specs.declared.op.Op.{Op}
-use Rattle.session_calls.specs.declared.op.Op.TheVariants.{Insert as Inserts, Scan as Scans, Bulk as Bulks}
+use Rattle.session_calls.specs.declared.op.Op.TheVariants.{Insert as Inserts, Scan as Scans, Bulk as Bulks, Cleanup as Cleanups}
 use Rattle.session_calls.specs.declared.request.Request.{Request}
 use Rattle.schedule.specs.Snapshots.{Snapshot, slot_of, IsRunningCall, SlotRuns, SlotMatches, Fits, has_call, one_vacuums}
 use Rattle.schedule.specs.Events.{Move, Steps, Takes, Upkeep, KeepsStore, BeginsCall, MovesCall, GivesUp, CallGoesOn, CallBegins, Stays, MovesOn, MayBegin, where_begun_at, EventDoes, AnswersMove}
-use Rattle.schedule.proofs.Lists.{get_some, get_within, get_append_new, get_append_some, get_append_cases, same_some}
+use Rattle.schedule.proofs.Lists.{get_some, get_within, get_append_new, get_append_some, same_some}
 use Rattle.whole_calls.specs.Telling.{IsSilent, MayAnswer, IsOwnEffect, IsTold, TellsStep, HasNone, HasBegun, begun_of, BeginTold, TellsEnd, with_call, first_call, NextTold, HasCome}
 use Rattle.whole_calls.proofs.Gone.{silent_then}
 
@@ -100,6 +100,18 @@ step_may sets (Bulks set op) after (Forced n) h = absurd h
 step_may sets (Bulks set op) after (Flushed b) h = absurd h
 step_may sets (Bulks set op) after (Checkpointed n) h = absurd h
 step_may sets (Bulks set op) after (Refused f) h = tt
+step_may sets (Cleanups op) after Begun h = absurd h
+step_may sets (Cleanups op) after Going h = tt
+step_may sets (Cleanups op) after (Added a u) h = absurd h
+step_may sets (Cleanups op) after (Ready r) h = absurd h
+step_may sets (Cleanups op) after Done h = absurd h
+step_may sets (Cleanups op) after (Finished s) h = tt
+step_may sets (Cleanups op) after (Gave e) h = absurd h
+step_may sets (Cleanups op) after Ended h = absurd h
+step_may sets (Cleanups op) after (Forced n) h = absurd h
+step_may sets (Cleanups op) after (Flushed b) h = absurd h
+step_may sets (Cleanups op) after (Checkpointed n) h = absurd h
+step_may sets (Cleanups op) after (Refused f) h = tt
 
 next_may : (sets : DeadSets) (op : Op) (answer : Answer) → AnswersNext (Some op) answer → MayAnswer (asked_of sets op) answer
 next_may sets (Inserts op) (Refused f) h = tt
@@ -138,6 +150,18 @@ next_may sets (Bulks set op) (Forced n) h = absurd h
 next_may sets (Bulks set op) (Flushed b) h = absurd h
 next_may sets (Bulks set op) (Checkpointed n) h = absurd h
 next_may sets (Bulks set op) (Refused f) h = tt
+next_may sets (Cleanups op) Begun h = absurd h
+next_may sets (Cleanups op) Going h = absurd h
+next_may sets (Cleanups op) (Added a u) h = absurd h
+next_may sets (Cleanups op) (Ready r) h = absurd h
+next_may sets (Cleanups op) Done h = absurd h
+next_may sets (Cleanups op) (Finished s) h = absurd h
+next_may sets (Cleanups op) (Gave e) h = absurd h
+next_may sets (Cleanups op) Ended h = absurd h
+next_may sets (Cleanups op) (Forced n) h = absurd h
+next_may sets (Cleanups op) (Flushed b) h = absurd h
+next_may sets (Cleanups op) (Checkpointed n) h = absurd h
+next_may sets (Cleanups op) (Refused f) h = tt
 
 -- a step, or asking for the next entry
 abbrev pub GoesOnBy : Move → Type 0
@@ -271,10 +295,13 @@ module _ {S : Type 0} (session : ℕ) (request : Request) (x y z : Snapshot S) (
   begun_came (Ok answer) tells = begun_next (Ok answer) tells
   begun_came (Err fault) tells = inr (begun_next (Err fault) tells)
 
+  pub begun_runs : IsRunningCall y.calls session (length x.calls) first
+  begun_runs = record { found = ap (λ (l : List Call). slice_get l (length x.calls)) began.calls_is ∙ next_runs.found; session_is = refl; running = refl }
+
   -- a session that has begun a call had none
   pub begun_free : (g : Ghosts S) (start : Entry → Bool) → Fits g start y → HasNone session x
   begun_free g start fits number call is =
-      let now : IsRunningCall y.calls session (length x.calls) first = record { found = ap (λ (l : List Call). slice_get l (length x.calls)) began.calls_is ∙ next_runs.found; session_is = refl; running = refl } in
+      let now = begun_runs in
       let old : IsRunningCall y.calls session number call = record { found = ap (λ (l : List Call). slice_get l number) began.calls_is ∙ get_append_some x.calls (first ∷ []) number call is.found; session_is = is.session_is; running = is.running } in
       let e : number ≡ length x.calls = (one_runs g start y fits session (length x.calls) number first call now old).0 in
       let within : number < length x.calls = get_within x.calls number call is.found in

@@ -4,3 +4,4 @@ pub mod Giving
 pub mod Sweeping
 pub mod Spending
 pub mod Inserting
+pub mod Refusing

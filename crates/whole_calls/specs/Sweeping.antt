@@ -1,23 +1,28 @@
--- A bulk delete that is run to its end, as a run of events.
-use Rattle.std.specs.Prelude.{◌≡◌, ℕ, Option, Some, None, Result, Ok, Err, List, [], ◌∷◌, ◌++◌, length}
-use Rattle.index_model.specs.Actions.{Effect}
+-- A bulk delete or a cleanup that is run to its end, as a run of events.
+use Rattle.std.specs.Prelude.{◌≡◌, ◌≢◌, ℕ, Option, Some, None, Result, Ok, Err, List, [], ◌∷◌, ◌++◌, length}
+use Rattle.index_model.specs.Actions.{Effect, Add, Remove, Shape}
 use Rattle.index_model.specs.Calls.{Vacuumed}
+use Rattle.index_model.specs.declared.entry.Entry.{Entry}
 use Rattle.index_model.specs.declared.fault.Fault.{Fault}
 use Rattle.index_model.specs.declared.fault.Fault.TheVariants.{NoSession}
 use Rattle.index_model.specs.declared.stats.VacuumStats.{VacuumStats}
+use Rattle.page_codec.specs.declared.page.PageState.TheVariants.{HalfDead}
 use Rattle.page_action.specs.States.{State}
+use Rattle.tree_acts.specs.Deletions.{state_in}
 use Rattle.vacuum.specs.Counts.{IsCounted, entries_below}
+use Rattle.page_delete.specs.Counts.{IsCleaned, AllIsCleaned}
+use Rattle.page_delete.specs.Spares.{IsAlone, IsSparing, OnlyNeededStay}
 use Rattle.session_calls.specs.Ops.{DeadSets, set_at}
 use Rattle.session_calls.specs.Sessions.{ended}
 use Rattle.session_calls.specs.declared.answer.Answer.{Answer}
 use Rattle.session_calls.specs.declared.answer.Answer.TheVariants.{Going, Finished, Refused}
 use Rattle.session_calls.specs.declared.op.Op.{Op}
-use Rattle.session_calls.specs.declared.op.Op.TheVariants.{Insert, Scan, Bulk}
-use Rattle.session_calls.specs.declared.request.Request.TheVariants.{Bulk as ToBulk}
+use Rattle.session_calls.specs.declared.op.Op.TheVariants.{Insert, Scan, Bulk, Cleanup}
+use Rattle.session_calls.specs.declared.request.Request.{Request}
 use Rattle.schedule.specs.Snapshots.{Snapshot}
 use Rattle.whole_calls.specs.Telling.{acts_by, AreOwnEffects, first_call}
 
--- what a bulk delete answers that came to this
+-- what a bulk delete or a cleanup answers that came to this
 abbrev pub swept_of : Result Answer Fault → Result VacuumStats Fault
 swept_of (Ok (Finished stats)) = Ok stats
 swept_of (Ok (Refused fault)) = Err fault
@@ -29,44 +34,92 @@ abbrev pub swept_came : Result VacuumStats Fault → Option Answer
 swept_came (Ok stats) = Some (Finished stats)
 swept_came (Err fault) = Some (Refused fault)
 
--- the bulk delete's actions, one behind the other, are those that it was asked for; its call has finished with these statistics
-pub record IsSweptNow {S : Type 0} (session set : ℕ) (stats : VacuumStats) (old new : Snapshot S) : Type 0 where
-  pub effects : List Effect
-  pub own : AreOwnEffects (first_call session (ToBulk set) old) (length old.history) effects
-  pub history_is : new.history ≡ old.history ++ acts_by (length old.calls) effects
-  pub calls_is : new.calls ≡ old.calls ++ ended (first_call session (ToBulk set) old) (Vacuumed stats) (length new.history) ∷ []
+-- the entries that these effects remove
+abbrev pub removed_of : List Effect → List Entry
+removed_of [] = []
+removed_of (Add e ∷ effects) = removed_of effects
+removed_of (Remove es ∷ effects) = es ++ removed_of effects
+removed_of (Shape ∷ effects) = removed_of effects
 
--- the bulk delete has done the actions that it was asked for, so far
-pub record IsSweptSoFar {S : Type 0} (session set : ℕ) (old new : Snapshot S) : Type 0 where
+-- the actions of the bulk delete or cleanup that is asked for, one behind the other, are its own; its call has finished with these
+-- statistics
+pub record IsSweptNow {S : Type 0} (session : ℕ) (request : Request) (stats : VacuumStats) (old new : Snapshot S) : Type 0 where
   pub effects : List Effect
-  pub own : AreOwnEffects (first_call session (ToBulk set) old) (length old.history) effects
+  pub own : AreOwnEffects (first_call session request old) (length old.history) effects
+  pub history_is : new.history ≡ old.history ++ acts_by (length old.calls) effects
+  pub calls_is : new.calls ≡ old.calls ++ ended (first_call session request old) (Vacuumed stats) (length new.history) ∷ []
+
+-- it has done the actions that it was asked for, so far
+pub record IsSweptSoFar {S : Type 0} (session : ℕ) (request : Request) (old new : Snapshot S) : Type 0 where
+  pub effects : List Effect
+  pub own : AreOwnEffects (first_call session request old) (length old.history) effects
   pub history_is : new.history ≡ old.history ++ acts_by (length old.calls) effects
 
--- the bulk delete has finished, or it was refused and is over
-abbrev pub SweepTold : {S : Type 0} → ℕ → ℕ → Result VacuumStats Fault → Snapshot S → Snapshot S → Type 0
-SweepTold session set (Ok stats) old new = IsSweptNow session set stats old new
-SweepTold session set (Err fault) old new = IsSweptSoFar session set old new
+-- it has finished, or it was refused and is over
+abbrev pub SweepTold : {S : Type 0} → ℕ → Request → Result VacuumStats Fault → Snapshot S → Snapshot S → Type 0
+SweepTold session request (Ok stats) old new = IsSweptNow session request stats old new
+SweepTold session request (Err fault) old new = IsSweptSoFar session request old new
+
+-- what is followed through the steps of a vacuum beside which nobody acts
+pub data Followed : Type 0 where
+  -- the entries that a bulk delete counts
+  of_sweep : Followed
+  -- those that a cleanup counts, and the half-dead pages
+  of_cleanup : Followed
+  -- where nobody else holds a page, the empty leaves that a cleanup leaves
+  of_leaves : Followed
+
+-- such a vacuum runs, and what it has counted are the entries that it has left; a cleanup leaves no half-dead page behind it, nor
+-- an empty leaf that might leave the tree
+abbrev pub IsCountedAs : Followed → DeadSets → State → Option Op → Type 0
+IsCountedAs what sets st None = ⊥
+IsCountedAs what sets st (Some (Insert op)) = ⊥
+IsCountedAs what sets st (Some (Scan op)) = ⊥
+IsCountedAs of_sweep sets st (Some (Bulk set op)) = IsCounted (set_at sets set) st op
+IsCountedAs of_cleanup sets st (Some (Bulk set op)) = ⊥
+IsCountedAs of_leaves sets st (Some (Bulk set op)) = ⊥
+IsCountedAs of_sweep sets st (Some (Cleanup op)) = ⊥
+IsCountedAs of_cleanup sets st (Some (Cleanup op)) = IsCleaned st op
+IsCountedAs of_leaves sets st (Some (Cleanup op)) = IsAlone st op.session × IsSparing st op
 
 -- a bulk delete runs, and what it has counted are the entries that it has left
 abbrev pub IsCountedIn : DeadSets → State → Option Op → Type 0
-IsCountedIn sets st None = ⊥
-IsCountedIn sets st (Some (Insert op)) = ⊥
-IsCountedIn sets st (Some (Scan op)) = ⊥
-IsCountedIn sets st (Some (Bulk set op)) = IsCounted (set_at sets set) st op
+IsCountedIn sets st slot = IsCountedAs of_sweep sets st slot
 
 -- the statistics tell how many entries there are
 abbrev pub TellsEntries : State → Result VacuumStats Fault → Type 0
 TellsEntries st (Ok stats) = stats.num_index_tuples ≡ entries_below st.pages (length st.pages)
 TellsEntries st (Err fault) = Unit {0}
 
--- where nobody else acts: a bulk delete that goes on counts on, and at its end it tells how many entries there are
-abbrev pub CountsThrough : DeadSets → State → State → Option Op → Option Op → Result Answer Fault → Type 0
-CountsThrough sets old new before after (Ok Going) = IsCountedIn sets old before → IsCountedIn sets new after
-CountsThrough sets old new before after (Ok (Finished stats)) = IsCountedIn sets old before → TellsEntries new (Ok stats)
-CountsThrough sets old new before after (Ok answer) = Unit {0}
-CountsThrough sets old new before after (Err fault) = Unit {0}
+-- ... and no half-dead page is left
+abbrev pub TellsCleaned : State → Result VacuumStats Fault → Type 0
+TellsCleaned st (Ok stats) = AllIsCleaned st stats.num_index_tuples
+TellsCleaned st (Err fault) = Unit {0}
 
--- a bulk delete that has begun has counted what it has left
-abbrev pub BeginsToCount : DeadSets → State → Option Op → Result (Unit {0}) Fault → Type 0
-BeginsToCount sets new after (Ok begun) = IsCountedIn sets new after
-BeginsToCount sets new after (Err fault) = Unit {0}
+-- no empty leaf is left that might leave the tree
+abbrev pub LeavesOnlyNeeded : State → Result VacuumStats Fault → Type 0
+LeavesOnlyNeeded st (Ok stats) = OnlyNeededStay st
+LeavesOnlyNeeded st (Err fault) = Unit {0}
+
+-- what it tells at its end
+abbrev pub TellsAs : Followed → State → Result VacuumStats Fault → Type 0
+TellsAs of_sweep st result = TellsEntries st result
+TellsAs of_cleanup st result = TellsCleaned st result
+TellsAs of_leaves st result = LeavesOnlyNeeded st result
+
+-- where nobody else acts: a bulk delete or a cleanup that goes on counts on, and at its end it tells how many entries there are
+abbrev pub CountsThrough : Followed → DeadSets → State → State → Option Op → Option Op → Result Answer Fault → Type 0
+CountsThrough what sets old new before after (Ok Going) = IsCountedAs what sets old before → IsCountedAs what sets new after
+CountsThrough what sets old new before after (Ok (Finished stats)) = IsCountedAs what sets old before → TellsAs what new (Ok stats)
+CountsThrough what sets old new before after (Ok answer) = Unit {0}
+CountsThrough what sets old new before after (Err fault) = Unit {0}
+
+-- a bulk delete or a cleanup that has begun has counted what it has left
+abbrev pub BeginsToCount : Followed → DeadSets → State → Option Op → Result (Unit {0}) Fault → Type 0
+BeginsToCount what sets new after (Ok begun) = IsCountedAs what sets new after
+BeginsToCount what sets new after (Err fault) = Unit {0}
+
+-- nobody else holds a page, and no page is half-dead
+pub record IsUndisturbed (st : State) (session : ℕ) : Type 0 where
+  pub alone : IsAlone st session
+  pub none_dead : (block : ℕ) → state_in st block ≢ HalfDead

@@ -1,7 +1,7 @@
 -- What is told of one session's call, by the history and the calls before and after.
 use Rattle.std.specs.Prelude.{◌⊎◌, ◌≤◌, ◌+◌, ◌≡◌, ◌≢◌, ℕ, suc, Option, Some, None, Result, Ok, Err, List, [], ◌∷◌, ◌++◌, length, replicate, slice_set}
 use Rattle.index_model.specs.Actions.{Effect, Add, Shape, Action}
-use Rattle.index_model.specs.Calls.{Ask, AskInsert, AskScan, AskBulkDelete, Ending, Added as EndsAdded, GivenUp, Failed, Call}
+use Rattle.index_model.specs.Calls.{Ask, AskInsert, AskScan, AskBulkDelete, AskCleanup, Ending, Added as EndsAdded, GivenUp, Failed, Call}
 use Rattle.index_model.specs.declared.fault.Fault.{Fault}
 use Rattle.index_model.specs.declared.fault.Fault.TheVariants.{NoSession, Exists}
 use Rattle.index_model.specs.declared.entry.Entry.{Entry}
@@ -13,7 +13,6 @@ use Rattle.session_calls.specs.Sessions.{Told, MayDo, acts_of, noted, begun_call
 use Rattle.session_calls.specs.declared.answer.Answer.{Answer}
 use Rattle.session_calls.specs.declared.answer.Answer.TheVariants.{Begun, Going, Added, Ready, Done, Finished, Gave, Refused}
 use Rattle.session_calls.specs.declared.request.Request.{Request}
-use Rattle.session_calls.specs.declared.request.Request.TheVariants.{Insert as ToInsert}
 use Rattle.schedule.specs.Snapshots.{Snapshot, IsRunningCall}
 use Rattle.whole_calls.specs.declared.inserted.Inserted.{Inserted}
 
@@ -31,6 +30,7 @@ MayAnswer (AskScan range) (Ready count) = Unit {0}
 MayAnswer (AskScan range) (Gave entry) = Unit {0}
 MayAnswer (AskScan range) Done = Unit {0}
 MayAnswer (AskBulkDelete dead) (Finished stats) = Unit {0}
+MayAnswer AskCleanup (Finished stats) = Unit {0}
 MayAnswer ask answer = ⊥
 
 -- the actions of these effects, by the call of this number

@@ -3,13 +3,14 @@
 ghost use Rattle.std.specs.Prelude.{◌≡◌, ◌≤◌, true, length, map, slice_get, OnErr, IfErr, None};
 ghost use Rattle.index_model.specs.Faults.{HasCause};
 ghost use Rattle.page_action.specs.States.{Continues};
-ghost use Rattle.session_calls.specs.Ops.{is_vacuuming};
 ghost use Rattle.session_calls.specs.declared.request.Request.TheVariants.{Scan as ToScan};
-ghost use Rattle.schedule.specs.Snapshots.{here_with, slot_of};
+ghost use Rattle.schedule.specs.Snapshots.{here_with, slot_of, one_vacuums};
 ghost use Rattle.schedule.specs.Events.{OthersStay, IsUnchanged, where_begun_at};
+ghost use Rattle.schedule.specs.Runs.{Carries};
 ghost use Rattle.whole_calls.specs.Telling.{BeginTold, step_came, begin_came};
 ghost use Rattle.whole_calls.specs.Giving.{GoesDownBy, AnswersAdvance, AnswersSeek, EndsUnlessGiven, GiveLeavesLess, TellsScan, TellsGiven, given_of, give_came};
 ghost use Rattle.whole_calls.specs.Going.{CallGoes};
+ghost use Rattle.whole_calls.specs.Refusing.{ScanIsCaused, GiveIsCaused};
 
 use crate::running::{begun, give_up, step};
 use index_model::{DeadRows, Entry, Fault, Range};
@@ -36,6 +37,10 @@ fn advance<S: PageStore, T: DeadRows>(
         → GoesDownBy (S.state store.old) (S.state store.new) (slot_of slots.old session)
         (slot_of slots.new session) result }
     ensures kind { AnswersAdvance result }
+    ensures cause { let old = here_with store.old slots.old (map T.is_in sets.now) in
+        Carries S.PageStore old (here_with store.new slots.new (map T.is_in sets.now))
+        (λ start history calls.
+        ScanIsCaused S.PageStore session least_room old store.new result calls) }
 {
     let answer = one(store, slots, sets, Event::Next(session));
     let Answer::Gave(None) = answer else {
@@ -60,6 +65,10 @@ fn seek<S: PageStore, T: DeadRows>(
         (here_with store.old slots.old (map T.is_in sets.now))
         (here_with store.new slots.new (map T.is_in sets.now)) }
     ensures kind { AnswersSeek result }
+    ensures cause { let old = here_with store.old slots.old (map T.is_in sets.now) in
+        Carries S.PageStore old (here_with store.new slots.new (map T.is_in sets.now))
+        (λ start history calls.
+        ScanIsCaused S.PageStore session least_room old store.new result calls) }
     ensures less { (S.backing store.new).honest ≡ true
         → GoesDownBy (S.state store.old) (S.state store.new) (slot_of slots.old session)
         (slot_of slots.new session) result }
@@ -113,6 +122,11 @@ pub fn give<S: PageStore, T: DeadRows>(
     ensures goes { CallGoes S.PageStore session (TellsGiven session result) (give_came result)
         (here_with store.old slots.old (map T.is_in sets.now))
         (here_with store.new slots.new (map T.is_in sets.now)) }
+    // With `least_room` 5 or more it never answers `LogFull`.
+    ensures cause { let old = here_with store.old slots.old (map T.is_in sets.now) in
+        Carries S.PageStore old (here_with store.new slots.new (map T.is_in sets.now))
+        (λ start history calls.
+        GiveIsCaused S.PageStore session least_room old store.new result calls) }
 {
     let came = seek(store, slots, sets, session, least_room);
     match given(came) {
@@ -149,7 +163,7 @@ pub fn open<S: PageStore, T: DeadRows>(
         (here_with store.old slots.old (map T.is_in sets.now))
         (here_with store.new slots.new (map T.is_in sets.now))) }
     ensures cause { IfErr result
-        (HasCause (where_begun_at S.PageStore store.old (is_vacuuming (S.state store.old))
+        (HasCause (where_begun_at S.PageStore store.old (one_vacuums slots.old)
         (map T.is_in sets.now) (ToScan range) (slice_get slots.old session))) }
 {
     begun(one(store, slots, sets, Event::Scan(session, range)))

@@ -2,21 +2,22 @@
 //! made; one that is refused counts as the refusal of the step. With 0 none is made. Each step is given the sets of dead rows
 //! that calls name by their places.
 
-ghost use Rattle.std.specs.Prelude.{◌≡◌, ◌≢◌, ◌≤◌, true, length, map, ℕ, Ok, IfOk, OnOk, OnErr, IfErr, None};
+ghost use Rattle.std.specs.Prelude.{◌≡◌, ◌≢◌, ◌≤◌, Bool, true, length, map, slice_get, ℕ, Ok, IfOk, OnOk, OnErr, IfErr, None};
 ghost use Rattle.index_model.specs.Faults.{HasCause};
 ghost use Rattle.page_action.specs.Causes.{where_forced};
 ghost use Rattle.page_action.specs.States.{Continues};
 ghost use Rattle.session_calls.specs.Ops.{DeadSets};
 ghost use Rattle.session_calls.specs.Sessions.{AnswersStep, OnlyWritersAct, slot_add};
 ghost use Rattle.session_calls.specs.declared.request.Request.TheVariants.{Insert as ToInsert};
-ghost use Rattle.schedule.specs.Snapshots.{here_with, slot_of};
-ghost use Rattle.schedule.specs.Events.{OthersStay, IsUnchanged};
+ghost use Rattle.schedule.specs.Snapshots.{here_with, slot_of, snapshot_of, one_vacuums};
+ghost use Rattle.schedule.specs.Events.{OthersStay, IsUnchanged, where_begun_at};
 ghost use Rattle.schedule.specs.Runs.{Carries};
 ghost use Rattle.whole_calls.specs.Going.{CallGoes};
 ghost use Rattle.whole_calls.specs.Giving.{StepLeavesLess};
 ghost use Rattle.whole_calls.specs.Inserting.{InsertGoes};
+ghost use Rattle.whole_calls.specs.Refusing.{CallIsCaused, FillsOnly, InsertCallIsCaused, is_full_sweep};
 ghost use Rattle.whole_calls.specs.Spending.{TakesFewer};
-ghost use Rattle.whole_calls.specs.Sweeping.{CountsThrough};
+ghost use Rattle.whole_calls.specs.Sweeping.{Followed, CountsThrough};
 ghost use Rattle.whole_calls.specs.Telling.{RoomIsMade, IsSilent, TellsStep, TellsEnd, HasCome, left_behind, outcome_of, BeginTold, begun_of, step_came, begin_came, room_came};
 
 use crate::inserted::Inserted;
@@ -38,9 +39,12 @@ fn make_room<S: PageStore>(
         (here_with store.new slots.now sets) }
     ensures room { OnOk result
         (RoomIsMade least_room (S.state store.old).limits (S.backing store.new)) }
+    // An act of four images, the most that one has, is not refused with `LogFull` then.
+    ensures promise { OnOk result (5 ≤ least_room → 5 ≤ (S.backing store.new).promised) }
     ensures cause { IfErr result
         (HasCause (where_forced (S.backing store.old) (S.backing store.new))) }
 {
+    let _limits = store.limits();
     if store.room() >= least_room {
         return Ok(());
     }
@@ -72,8 +76,12 @@ pub(crate) fn step<S: PageStore, T: DeadRows>(
         (slot_of slots.new session) result) }
     ensures entries { Carries S.PageStore (here_with store.old slots.old (map T.is_in sets.now))
         (here_with store.new slots.new (map T.is_in sets.now)) (λ start history calls.
-        CountsThrough (map T.is_in sets.now) (S.state store.old) (S.state store.new)
-        (slot_of slots.old session) (slot_of slots.new session) result) }
+        (what : Followed) → CountsThrough what (map T.is_in sets.now) (S.state store.old)
+        (S.state store.new) (slot_of slots.old session) (slot_of slots.new session) result) }
+    ensures cause { Carries S.PageStore (here_with store.old slots.old (map T.is_in sets.now))
+        (here_with store.new slots.new (map T.is_in sets.now)) (λ start history calls.
+        CallIsCaused S.PageStore session least_room (is_full_sweep (slot_of slots.old session))
+        (here_with store.old slots.old (map T.is_in sets.now)) store.new result calls) }
     ensures limits { (S.state store.new).limits ≡ (S.state store.old).limits }
     ensures calm { OnlyWritersAct (slot_of slots.old session) (S.state store.old)
         (S.state store.new) }
@@ -108,8 +116,15 @@ pub fn finish<S: PageStore, T: DeadRows>(
         (here_with store.new slots.new (map T.is_in sets.now)) }
     ensures entries { Carries S.PageStore (here_with store.old slots.old (map T.is_in sets.now))
         (here_with store.new slots.new (map T.is_in sets.now)) (λ start history calls.
-        CountsThrough (map T.is_in sets.now) (S.state store.old) (S.state store.new)
-        (slot_of slots.old session) (slot_of slots.new session) result) }
+        (what : Followed) → CountsThrough what (map T.is_in sets.now) (S.state store.old)
+        (S.state store.new) (slot_of slots.old session) (slot_of slots.new session) result) }
+    // With room for an act made before each step it is never refused with `LogFull`; where the session has a call, neither
+    // with `NoSession`, `SessionBusy` nor `VacuumRunning`; and for its cause alone with anything else.
+    ensures cause { let old = here_with store.old slots.old (map T.is_in sets.now) in
+        Carries S.PageStore old (here_with store.new slots.new (map T.is_in sets.now))
+        (λ start history calls. (full : Bool)
+        → FillsOnly S.PageStore start session full (snapshot_of old history calls)
+        → CallIsCaused S.PageStore session least_room full old store.new result calls) }
     ensures over { result ≢ Ok Answer.Going }
 {
     let _limits = store.limits();
@@ -156,6 +171,9 @@ fn begin<S: PageStore, T: DeadRows>(
     ensures refused { OnErr result (IsUnchanged S.PageStore
         (here_with store.old slots.old (map T.is_in sets.now))
         (here_with store.new slots.new (map T.is_in sets.now))) }
+    ensures cause { IfErr result
+        (HasCause (where_begun_at S.PageStore store.old (one_vacuums slots.old)
+        (map T.is_in sets.now) (ToInsert entry) (slice_get slots.old session))) }
 {
     begun(one(store, slots, sets, Event::Insert(session, entry)))
 }
@@ -239,6 +257,9 @@ pub fn give_up<S: PageStore, T: DeadRows>(
     ensures backing { S.backing store.new ≡ S.backing store.old }
     ensures pages { (S.state store.new).pages ≡ (S.state store.old).pages }
     ensures begun { (S.state store.new).begun ≡ (S.state store.old).begun }
+    ensures acts { (S.state store.new).acts ≡ (S.state store.old).acts }
+    ensures limits { (S.state store.new).limits ≡ (S.state store.old).limits }
+    ensures frames { (S.state store.new).frames ≡ (S.state store.old).frames }
     ensures goes { CallGoes S.PageStore session (TellsEnd session) None
         (here_with store.old slots.old (map T.is_in sets.now))
         (here_with store.new slots.new (map T.is_in sets.now)) }
@@ -265,6 +286,11 @@ pub fn insert<S: PageStore, T: DeadRows>(
     ensures goes { InsertGoes S.PageStore session entry result
         (here_with store.old slots.old (map T.is_in sets.now))
         (here_with store.new slots.new (map T.is_in sets.now)) }
+    // With `least_room` 5 or more it never answers `LogFull`.
+    ensures cause { let old = here_with store.old slots.old (map T.is_in sets.now) in
+        Carries S.PageStore old (here_with store.new slots.new (map T.is_in sets.now))
+        (λ start history calls.
+        InsertCallIsCaused S.PageStore session least_room entry old store.new result) }
 {
     match begin(store, slots, sets, session, entry) {
         Ok(()) => {}

@@ -15,7 +15,7 @@ returns-in-Ok-clause-makes g c =
     let read = slot_read slots session c.index-slots-session.result (get_within slots session None is.2) c.index-slots-session.is in
     begin_makes g.S.PageStore laws c.args.store.now c.begin.new.store (c.begin.ensures.steps _ (laws.follows_same _)) slots sets session c.args.request _ c.begin.new.slot c.begin.result
     (sym c.is_stopped.ensures ∙ is.0) (sym c.is_of_sets.ensures ∙ is.1) is.2 (same_some _ _ _ read is.2)
-    (rw is.3 at c.begin.ensures.by)
+    (rw (is.3, c.is_excluded-excluded.ensures) at c.begin.ensures.by)
     (λ start history number begun matches idle. rw is.3 at (c.begin.ensures.begins begun sets start history number matches (rw is.3 idle)))
     c.begin.ensures.counts
 

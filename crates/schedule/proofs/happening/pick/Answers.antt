@@ -10,6 +10,9 @@ returns-in-Scan-clause-makes g c = rw c.in-Scan.is c.begin-in-Scan.ensures.makes
 pub returns-in-Bulk-clause-makes : goal.returns-in-Bulk-clause-makes
 returns-in-Bulk-clause-makes g c = rw c.in-Bulk.is c.begin-in-Bulk.ensures.makes
 
+pub returns-in-Cleanup-clause-makes : goal.returns-in-Cleanup-clause-makes
+returns-in-Cleanup-clause-makes g c = rw c.in-Cleanup.is c.begin-in-Cleanup.ensures.makes
+
 pub returns-in-Next-clause-makes : goal.returns-in-Next-clause-makes
 returns-in-Next-clause-makes g c = rw c.in-Next.is (c.next.ensures.makes (map g.T.DeadRows.is_in c.args.sets.now))
 

@@ -1,5 +1,6 @@
-use Rattle.std.specs.Prelude.{map}
-use Rattle.std.proofs.Common.{◌≡◌, Result, Ok, Err, Option, None, Some, sym, subst, ap, ◌∙◌}
+use Rattle.std.specs.Prelude.{map, IfErr}
+use Rattle.index_model.specs.Faults.{HasCause}
+use Rattle.std.proofs.Common.{◌≡◌, false, Result, Ok, Err, Option, None, Some, sym, subst, ap, ◌∙◌}
 use Rattle.index_model.specs.declared.entry.Entry.{Entry}
 use Rattle.index_model.specs.declared.fault.Fault.{Fault}
 use Rattle.schedule.specs.Snapshots.{here_with}
@@ -7,6 +8,8 @@ use Rattle.whole_calls.specs.Telling.{TellsEnd, step_came}
 use Rattle.whole_calls.specs.Giving.{TellsScan, TellsGiven, given_of, give_came}
 use Rattle.whole_calls.proofs.Composing.{goes_first, goes_told}
 use Rattle.whole_calls.proofs.Given.{given_down, some_given, end_given, give_comes}
+use Rattle.whole_calls.proofs.Refusing.{given_caused, gone_behind}
+use Rattle.whole_calls.specs.Refusing.{where_gone}
 use Rattle.whole_calls.proofs.giving.give.Goals as goal
 
 pub returns-in-Ok-Some-clause-goes : goal.returns-in-Ok-Some-clause-goes
@@ -53,3 +56,17 @@ pub returns-in-Ok-Some-clause-less : goal.returns-in-Ok-Some-clause-less
 returns-in-Ok-Some-clause-less g c honest =
     let is : given_of c.seek-came.result ≡ Ok (Some c.in-Ok-Some.entry) = sym c.given.ensures ∙ c.in-Ok-Some.is ∙ ap (λ (o : Option Entry). Ok o) c.in-Ok-Some.field-0-is in
     given_down (g.S.PageStore.state c.args.store.now) (g.S.PageStore.state c.seek-came.new.store) _ _ c.seek-came.result c.in-Ok-Some.entry c.seek-came.ensures.kind is (c.seek-came.ensures.less honest)
+
+pub returns-in-Err-clause-cause : goal.returns-in-Err-clause-cause
+returns-in-Err-clause-cause g c honest start history calls fits number call range is ask =
+    let laws = g.met.S.PageStore.laws in
+    let session = c.args.session in
+    let came = c.seek-came.result in
+    let old = here_with c.args.store.now c.args.slots.now (map g.T.DeadRows.is_in c.args.sets.now) in
+    let last = laws.follows_later c.seek-came.new.store c.give_up-in-Err.new.store (c.give_up-in-Err.ensures.steps _ (laws.follows_same _)) in
+    let fault = c.in-Err.fault in
+    let is_err : given_of came ≡ Err fault = sym c.given.ensures ∙ c.in-Err.is in
+    let at = where_gone g.S.PageStore session c.args.least_room false old c.seek-came.new.store in
+    let why = given_caused at came c.seek-came.ensures.kind (c.seek-came.ensures.cause (last.honest honest) start history calls fits number call range is ask) in
+    gone_behind g.S.PageStore session c.args.least_room old c.seek-came.new.store c.give_up-in-Err.new.store c.give_up-in-Err.ensures.backing c.give_up-in-Err.ensures.acts c.give_up-in-Err.ensures.frames false fault
+    (subst (λ (r : Result (Option Entry) Fault). IfErr r (HasCause at)) is_err why)

@@ -1,16 +1,20 @@
 use Rattle.std.specs.Prelude.{map}
-use Rattle.std.proofs.Common.{◌≡◌, ◌+◌, ◌<◌, ◌≤◌, arith, Result, Ok, Err, None, refl, sym, subst, ap, inl, inr, ◌∙◌, rules}
+use Rattle.std.proofs.Common.{◌≡◌, ◌<◌, ◌≤◌, arith, false, Result, Ok, Err, None, List, refl, subst, ap, inl, inr, ◌∙◌, rules, sym}
 use Rattle.index_model.specs.declared.fault.Fault.{Fault}
 use Rattle.index_model.specs.declared.limits.Limits.{Limits}
 use Rattle.session_calls.specs.Sessions.{work_in}
 use Rattle.session_calls.specs.declared.answer.Answer.{Answer}
-use Rattle.schedule.specs.Snapshots.{here_with, slot_of, snapshot_of}
+use Rattle.index_model.specs.Calls.{Call}
+use Rattle.schedule.specs.Runs.{Carries}
+use Rattle.schedule.specs.Snapshots.{here_with, slot_of, snapshot_of, IsRunningCall}
 use Rattle.schedule.proofs.Bounds.{work_bounded}
 use Rattle.whole_calls.specs.Going.{CallGoes}
 use Rattle.whole_calls.specs.Giving.{AnswersAdvance, GoesDownBy, TellsScan, ScanStays}
 use Rattle.whole_calls.specs.Telling.{step_came}
 use Rattle.whole_calls.proofs.Composing.{goes_then, goes_nowhere, goes_told}
 use Rattle.whole_calls.proofs.Given.{sought, down_after, scan_then, stays_then, going_stays, ready_stays}
+use Rattle.whole_calls.proofs.Refusing.{came_wider, others_before}
+use Rattle.whole_calls.specs.Refusing.{CameIsCaused, ScanIsCaused, where_gone}
 use Rattle.whole_calls.proofs.giving.seek.Goals as goal
 use Rattle.whole_calls.proofs.giving.seek.Given.{Over}
 use Rattle.whole_calls.proofs.giving.seek.Goals.{After-advance}
@@ -42,6 +46,25 @@ answered : (g : Over) (c : After-advance g) (r : Result Answer Fault) → c.adva
     → CallGoes g.S.PageStore c.args.session (TellsScan c.args.session r) (step_came r) (here_with c.args.store.now c.args.slots.now (map g.T.DeadRows.is_in c.args.sets.now)) (here_with c.advance.new.store c.advance.new.slots (map g.T.DeadRows.is_in c.args.sets.now))
 answered g c r is = subst (λ (s : Result Answer Fault). CallGoes g.S.PageStore c.args.session (TellsScan c.args.session s) (step_came s) (here_with c.args.store.now c.args.slots.now (map g.T.DeadRows.is_in c.args.sets.now)) (here_with c.advance.new.store c.advance.new.slots (map g.T.DeadRows.is_in c.args.sets.now))) is (last g c)
 
+-- ... and why it is refused
+caused : (g : Over) (c : After-advance g) (result : Result Answer Fault) → c.advance.result ≡ result
+    → Carries g.S.PageStore (here_with c.args.store.now c.args.slots.now (map g.T.DeadRows.is_in c.args.sets.now)) (here_with c.advance.new.store c.advance.new.slots (map g.T.DeadRows.is_in c.args.sets.now)) (λ start history calls.
+    ScanIsCaused g.S.PageStore c.args.session c.args.least_room (here_with c.args.store.now c.args.slots.now (map g.T.DeadRows.is_in c.args.sets.now)) c.advance.new.store result calls)
+caused g c result came_to honest start history calls fits number call range is ask =
+    let laws = g.met.S.PageStore.laws in
+    let session = c.args.session in
+    let sets = map g.T.DeadRows.is_in c.args.sets.now in
+    let old = here_with c.args.store.now c.args.slots.now sets in
+    let mid = here_with c.loop-left.store c.loop-left.slots sets in
+    let first = laws.follows_later c.args.store.now c.loop-left.store (c.loop-left.invariant.steps _ (laws.follows_same _)) in
+    let later = laws.follows_later c.loop-left.store c.advance.new.store (c.advance.ensures.steps _ (laws.follows_same _)) in
+    let r = c.loop-left.invariant.goes (later.honest honest) start history calls fits in
+    let silent = r.tells number call range is ask in
+    let runs = subst (λ (cs : List Call). IsRunningCall cs session number call) (sym silent.calls_is) is in
+    let came = subst (λ (a : Result Answer Fault). CameIsCaused (where_gone g.S.PageStore session c.args.least_room false mid c.advance.new.store) a) came_to
+    (c.advance.ensures.cause honest start r.then_history r.then_calls r.ran.fits number call range runs ask) in
+    came_wider g.S.PageStore session c.args.least_room old mid c.advance.new.store first later.failures (others_before c.args.slots.now c.loop-left.slots session c.loop-left.invariant.others) false false (λ f. f) result came
+
 pub returns-in_default : goal.returns-in_default
 returns-in_default g c =
     let laws = g.met.S.PageStore.laws in
@@ -53,6 +76,7 @@ returns-in_default g c =
       others = λ o ne. c.advance.ensures.others o ne ∙ c.loop-left.invariant.others o ne;
       goes = answered g ((goal.at.returns-in_default g c).After-advance) (Ok c.in-Ok.answer) c.in-Ok.is;
       kind = sought c.in-Ok.answer (subst AnswersAdvance c.in-Ok.is c.advance.ensures.kind) (λ is. search rules) (λ count is. search rules);
+      cause = caused g ((goal.at.returns-in_default g c).After-advance) (Ok c.in-Ok.answer) c.in-Ok.is;
       less = λ honest. (
           let most = c.loop-left.invariant.budget (later.honest honest) in
           down_after (g.S.PageStore.state c.args.store.now) (g.S.PageStore.state c.loop-left.store) (g.S.PageStore.state c.advance.new.store) _ _ _ (Ok c.in-Ok.answer) (omega (arith, most, fewer))
@@ -66,6 +90,7 @@ returns-in-Err g c = record {
   others = λ o ne. c.advance.ensures.others o ne ∙ c.loop-left.invariant.others o ne;
   goes = answered g ((goal.at.returns-in-Err g c).After-advance) (Err c.in-Err.fault) c.in-Err.is;
   kind = tt;
+  cause = caused g ((goal.at.returns-in-Err g c).After-advance) (Err c.in-Err.fault) c.in-Err.is;
   less = λ honest. tt;
 }
 
@@ -105,6 +130,14 @@ loop-left-preserved g c =
 
 pub returns-clause-goes : goal.returns-clause-goes
 returns-clause-goes g c honest start history calls fits =
+    let low = subst (λ (l : Limits). l.pages ≤ 65536) c.limits-limits.ensures.value c.limits-limits.ensures.allowed.pages_to in
+    let few = work_bounded g.S.PageStore start (snapshot_of (here_with c.args.store.now c.args.slots.now (map g.T.DeadRows.is_in c.args.sets.now)) history calls) fits low c.args.session in
+    let most = c.loop-left.invariant.budget honest in
+    let out = c.loop-left-test.false in
+    absurd (omega (arith, few, most, out))
+
+pub returns-clause-cause : goal.returns-clause-cause
+returns-clause-cause g c honest start history calls fits number call range is ask =
     let low = subst (λ (l : Limits). l.pages ≤ 65536) c.limits-limits.ensures.value c.limits-limits.ensures.allowed.pages_to in
     let few = work_bounded g.S.PageStore start (snapshot_of (here_with c.args.store.now c.args.slots.now (map g.T.DeadRows.is_in c.args.sets.now)) history calls) fits low c.args.session in
     let most = c.loop-left.invariant.budget honest in

@@ -1,18 +1,20 @@
 use Rattle.std.specs.Prelude.{map}
-use Rattle.std.proofs.Common.{◌≡◌, ◌+◌, ◌<◌, ◌≤◌, Result, Ok, Err, None, refl, sym, ap, subst, arith, ◌∙◌, rules}
+use Rattle.std.proofs.Common.{◌≡◌, ◌≤◌, Bool, false, Result, Ok, Err, None, length, refl, sym, subst, arith, ◌∙◌, rules}
+use Rattle.index_model.specs.Calls.{Ask}
 use Rattle.index_model.specs.declared.fault.Fault.{Fault}
 use Rattle.index_model.specs.declared.limits.Limits.{Limits}
 use Rattle.session_calls.specs.declared.answer.Answer.{Answer}
 use Rattle.session_calls.specs.declared.answer.Answer.TheVariants.{Going}
 use Rattle.schedule.specs.Snapshots.{here_with, slot_of, snapshot_of}
 use Rattle.whole_calls.specs.Going.{CallGoes}
-use Rattle.whole_calls.specs.Spending.{steps_left}
-use Rattle.whole_calls.specs.Telling.{TellsStep, step_came}
+use Rattle.whole_calls.specs.Refusing.{CallIsCaused, AskIsCaused, FillsOnly, is_full_sweep}
+use Rattle.whole_calls.specs.Telling.{TellsStep, step_came, noted_behind}
 use Rattle.whole_calls.proofs.Composing.{goes_then, goes_nowhere, goes_told}
-use Rattle.whole_calls.proofs.Gone.{HasGoneFar, far_nowhere, far_then, far_last}
+use Rattle.whole_calls.proofs.Gone.{HasGoneFar, far_nowhere, far_then, far_last, gone_runs, same_ask}
+use Rattle.whole_calls.proofs.Refusing.{ask_wider, others_before}
 use Rattle.whole_calls.proofs.Spending.{steps_few}
 use Rattle.whole_calls.proofs.Counting.{counts_behind}
-use Rattle.whole_calls.specs.Sweeping.{CountsThrough}
+use Rattle.whole_calls.specs.Sweeping.{Followed, of_sweep, CountsThrough}
 use Rattle.schedule.specs.Runs.{Carries}
 use Rattle.whole_calls.proofs.running.finish.Goals as goal
 use Rattle.whole_calls.proofs.running.finish.Given.{Over}
@@ -25,7 +27,7 @@ loop-left-init g c = record {
   others = λ o ne. refl;
   limits = refl;
   goes = goes_nowhere g.S.PageStore g.met.S.PageStore.laws c.args.session (HasGoneFar c.args.session) (here_with c.args.store.now c.args.slots.now (map g.T.DeadRows.is_in c.args.sets.now)) (λ x. far_nowhere c.args.session x);
-  entries = λ honest start history calls fits counted. counted;
+  entries = λ honest start history calls fits what counted. counted;
   budget = λ low honest start history calls fits. omega arith;
 }
 
@@ -48,22 +50,55 @@ answered g c r is = subst (λ (s : Result Answer Fault). CallGoes g.S.PageStore 
 
 -- ... and what it counts
 counted : (g : Over) (c : After-step g)
-    → Carries g.S.PageStore (here_with c.args.store.now c.args.slots.now (map g.T.DeadRows.is_in c.args.sets.now)) (here_with c.step.new.store c.step.new.slots (map g.T.DeadRows.is_in c.args.sets.now)) (λ start history calls.
-    CountsThrough (map g.T.DeadRows.is_in c.args.sets.now) (g.S.PageStore.state c.args.store.now) (g.S.PageStore.state c.step.new.store) (slot_of c.args.slots.now c.args.session) (slot_of c.step.new.slots c.args.session) c.step.result)
-counted g c honest start history calls fits =
+    → Carries g.S.PageStore (here_with c.args.store.now c.args.slots.now (map g.T.DeadRows.is_in c.args.sets.now)) (here_with c.step.new.store c.step.new.slots (map g.T.DeadRows.is_in c.args.sets.now)) (λ start history calls. (what : Followed) →
+    CountsThrough what (map g.T.DeadRows.is_in c.args.sets.now) (g.S.PageStore.state c.args.store.now) (g.S.PageStore.state c.step.new.store) (slot_of c.args.slots.now c.args.session) (slot_of c.step.new.slots c.args.session) c.step.result)
+counted g c honest start history calls fits what =
     let laws = g.met.S.PageStore.laws in
     let later = laws.follows_later c.loop-left.store c.step.new.store (c.step.ensures.steps _ (laws.follows_same _)) in
     let r = c.loop-left.invariant.goes (later.honest honest) start history calls fits in
-    counts_behind (map g.T.DeadRows.is_in c.args.sets.now) (g.S.PageStore.state c.args.store.now) (g.S.PageStore.state c.loop-left.store) (g.S.PageStore.state c.step.new.store)
+    counts_behind what (map g.T.DeadRows.is_in c.args.sets.now) (g.S.PageStore.state c.args.store.now) (g.S.PageStore.state c.loop-left.store) (g.S.PageStore.state c.step.new.store)
     (slot_of c.args.slots.now c.args.session) (slot_of c.loop-left.slots c.args.session) (slot_of c.step.new.slots c.args.session) c.step.result
-    (c.loop-left.invariant.entries (later.honest honest) start history calls fits) (c.step.ensures.entries honest start r.then_history r.then_calls r.ran.fits)
+    (c.loop-left.invariant.entries (later.honest honest) start history calls fits what) (c.step.ensures.entries honest start r.then_history r.then_calls r.ran.fits what)
 
 counted_as : (g : Over) (c : After-step g) (r : Result Answer Fault) → c.step.result ≡ r
-    → Carries g.S.PageStore (here_with c.args.store.now c.args.slots.now (map g.T.DeadRows.is_in c.args.sets.now)) (here_with c.step.new.store c.step.new.slots (map g.T.DeadRows.is_in c.args.sets.now)) (λ start history calls.
-    CountsThrough (map g.T.DeadRows.is_in c.args.sets.now) (g.S.PageStore.state c.args.store.now) (g.S.PageStore.state c.step.new.store) (slot_of c.args.slots.now c.args.session) (slot_of c.step.new.slots c.args.session) r)
-counted_as g c r is honest start history calls fits =
-    subst (λ (s : Result Answer Fault). CountsThrough (map g.T.DeadRows.is_in c.args.sets.now) (g.S.PageStore.state c.args.store.now) (g.S.PageStore.state c.step.new.store) (slot_of c.args.slots.now c.args.session) (slot_of c.step.new.slots c.args.session) s) is
-    (counted g c honest start history calls fits)
+    → Carries g.S.PageStore (here_with c.args.store.now c.args.slots.now (map g.T.DeadRows.is_in c.args.sets.now)) (here_with c.step.new.store c.step.new.slots (map g.T.DeadRows.is_in c.args.sets.now)) (λ start history calls. (what : Followed) →
+    CountsThrough what (map g.T.DeadRows.is_in c.args.sets.now) (g.S.PageStore.state c.args.store.now) (g.S.PageStore.state c.step.new.store) (slot_of c.args.slots.now c.args.session) (slot_of c.step.new.slots c.args.session) r)
+counted_as g c r is honest start history calls fits what =
+    subst (λ (s : Result Answer Fault). CountsThrough what (map g.T.DeadRows.is_in c.args.sets.now) (g.S.PageStore.state c.args.store.now) (g.S.PageStore.state c.step.new.store) (slot_of c.args.slots.now c.args.session) (slot_of c.step.new.slots c.args.session) s) is
+    (counted g c honest start history calls fits what)
+
+-- ... and why it is refused
+caused : (g : Over) (c : After-step g)
+    → Carries g.S.PageStore (here_with c.args.store.now c.args.slots.now (map g.T.DeadRows.is_in c.args.sets.now)) (here_with c.step.new.store c.step.new.slots (map g.T.DeadRows.is_in c.args.sets.now)) (λ start history calls. (full : Bool)
+    → FillsOnly g.S.PageStore start c.args.session full (snapshot_of (here_with c.args.store.now c.args.slots.now (map g.T.DeadRows.is_in c.args.sets.now)) history calls)
+    → CallIsCaused g.S.PageStore c.args.session c.args.least_room full (here_with c.args.store.now c.args.slots.now (map g.T.DeadRows.is_in c.args.sets.now)) c.step.new.store c.step.result calls)
+caused g c honest start history calls fits full fills number call is =
+    let laws = g.met.S.PageStore.laws in
+    let session = c.args.session in
+    let sets = map g.T.DeadRows.is_in c.args.sets.now in
+    let old = here_with c.args.store.now c.args.slots.now sets in
+    let mid = here_with c.loop-left.store c.loop-left.slots sets in
+    let first = laws.follows_later c.args.store.now c.loop-left.store (c.loop-left.invariant.steps _ (laws.follows_same _)) in
+    let later = laws.follows_later c.loop-left.store c.step.new.store (c.step.ensures.steps _ (laws.follows_same _)) in
+    let r = c.loop-left.invariant.goes (later.honest honest) start history calls fits in
+    let x = snapshot_of old history calls in
+    let y = snapshot_of mid r.then_history r.then_calls in
+    let far = r.tells number call is in
+    let runs = gone_runs number call far.0 x y y far.1 session is in
+    let asked : (noted_behind call (length history) far.0).ask ≡ call.ask = same_ask call (length history) far.0 in
+    let came = c.step.ensures.cause honest start r.then_history r.then_calls r.ran.fits number (noted_behind call (length history) far.0) runs in
+    let full_now = is_full_sweep (slot_of c.loop-left.slots session) in
+    ask_wider g.S.PageStore session c.args.least_room old mid c.step.new.store first later.failures (others_before c.args.slots.now c.loop-left.slots session c.loop-left.invariant.others) full_now full call.ask
+    (λ dead asks out. fills y number call dead far.0 is asks far.1 refl c.loop-left.invariant.limits r.ran.fits (c.loop-left.invariant.entries (later.honest honest) start history calls fits of_sweep) out) c.step.result
+    (subst (λ (a : Ask). AskIsCaused g.S.PageStore session c.args.least_room full_now mid c.step.new.store a c.step.result) asked came)
+
+caused_as : (g : Over) (c : After-step g) (r : Result Answer Fault) → c.step.result ≡ r
+    → Carries g.S.PageStore (here_with c.args.store.now c.args.slots.now (map g.T.DeadRows.is_in c.args.sets.now)) (here_with c.step.new.store c.step.new.slots (map g.T.DeadRows.is_in c.args.sets.now)) (λ start history calls. (full : Bool)
+    → FillsOnly g.S.PageStore start c.args.session full (snapshot_of (here_with c.args.store.now c.args.slots.now (map g.T.DeadRows.is_in c.args.sets.now)) history calls)
+    → CallIsCaused g.S.PageStore c.args.session c.args.least_room full (here_with c.args.store.now c.args.slots.now (map g.T.DeadRows.is_in c.args.sets.now)) c.step.new.store r calls)
+caused_as g c r is honest start history calls fits full fills =
+    subst (λ (s : Result Answer Fault). CallIsCaused g.S.PageStore c.args.session c.args.least_room full (here_with c.args.store.now c.args.slots.now (map g.T.DeadRows.is_in c.args.sets.now)) c.step.new.store s calls) is
+    (caused g c honest start history calls fits full fills)
 
 pub returns-in-Ok : goal.returns-in-Ok
 returns-in-Ok g c = record {
@@ -72,6 +107,7 @@ returns-in-Ok g c = record {
   others = λ o ne. c.step.ensures.others o ne ∙ c.loop-left.invariant.others o ne;
   goes = answered g ((goal.at.returns-in-Ok g c).After-step) (Ok c.in-Ok.answer) (search rules);
   entries = counted_as g ((goal.at.returns-in-Ok g c).After-step) (Ok c.in-Ok.answer) (search rules);
+  cause = caused_as g ((goal.at.returns-in-Ok g c).After-step) (Ok c.in-Ok.answer) (search rules);
   over = λ is. search rules;
 }
 
@@ -82,6 +118,7 @@ returns-in-Err g c = record {
   others = λ o ne. c.step.ensures.others o ne ∙ c.loop-left.invariant.others o ne;
   goes = answered g ((goal.at.returns-in-Err g c).After-step) (Err c.in-Err.fault) c.in-Err.is;
   entries = counted_as g ((goal.at.returns-in-Err g c).After-step) (Err c.in-Err.fault) c.in-Err.is;
+  cause = caused_as g ((goal.at.returns-in-Err g c).After-step) (Err c.in-Err.fault) c.in-Err.is;
   over = λ is. absurd cc;
 }
 
@@ -113,6 +150,14 @@ loop-left-preserved g c =
 
 pub returns-clause-goes : goal.returns-clause-goes
 returns-clause-goes g c honest start history calls fits =
+    let low = subst (λ (l : Limits). l.pages ≤ 65536) c.limits-limits.ensures.value c.limits-limits.ensures.allowed.pages_to in
+    let few = steps_few g.S.PageStore g.met.S.PageStore.laws start (snapshot_of (here_with c.args.store.now c.args.slots.now (map g.T.DeadRows.is_in c.args.sets.now)) history calls) c.args.session fits low in
+    let most = c.loop-left.invariant.budget low honest start history calls fits in
+    let out = c.loop-left-test.false in
+    absurd (omega (arith, few, most, out))
+
+pub returns-clause-cause : goal.returns-clause-cause
+returns-clause-cause g c honest start history calls fits full fills number call is =
     let low = subst (λ (l : Limits). l.pages ≤ 65536) c.limits-limits.ensures.value c.limits-limits.ensures.allowed.pages_to in
     let few = steps_few g.S.PageStore g.met.S.PageStore.laws start (snapshot_of (here_with c.args.store.now c.args.slots.now (map g.T.DeadRows.is_in c.args.sets.now)) history calls) c.args.session fits low in
     let most = c.loop-left.invariant.budget low honest start history calls fits in

@@ -1,17 +1,20 @@
 use Rattle.std.specs.Prelude.{map}
-use Rattle.std.proofs.Common.{◌≡◌, Result, Ok, Err, Option, Some, None, List, sym, ap, subst, ◌∙◌}
+use Rattle.std.proofs.Common.{Result, Err, Option, Some, None, List, false, length, refl, sym, ap, subst, ◌∙◌}
+use Rattle.index_model.specs.Calls.{AskInsert}
 use Rattle.index_model.specs.declared.fault.Fault.{Fault}
 use Rattle.session_calls.specs.Sessions.{slot_add}
 use Rattle.session_calls.specs.declared.op.Op.{Op}
 use Rattle.session_calls.specs.declared.request.Request.TheVariants.{Insert as ToInsert}
-use Rattle.schedule.specs.Snapshots.{here_with, slot_of}
-use Rattle.whole_calls.specs.Telling.{TellsStep, TellsEnd, BeginTold, InsertTold, outcome_of, begin_came, step_came}
+use Rattle.schedule.specs.Snapshots.{here_with, slot_of, snapshot_of}
+use Rattle.whole_calls.specs.Refusing.{InsertCallIsCaused}
+use Rattle.whole_calls.specs.Telling.{first_call, HasBegun, TellsStep, TellsEnd, BeginTold, InsertTold, outcome_of, begin_came, step_came}
 use Rattle.session_calls.specs.declared.answer.Answer.TheVariants.{Refused}
 use Rattle.whole_calls.specs.Inserting.{InsertGoes}
 use Rattle.whole_calls.specs.declared.inserted.Inserted.{Inserted}
 use Rattle.whole_calls.proofs.Composing.{goes_first, goes_then, goes_told}
-use Rattle.whole_calls.proofs.Tellings.{begun_next, begun_free}
+use Rattle.whole_calls.proofs.Tellings.{begun_next, begun_free, begun_runs}
 use Rattle.whole_calls.proofs.Inserting.{PutTold, insert_told, insert_goes, not_begun}
+use Rattle.whole_calls.proofs.Refusing.{insert_behind, insert_not_begun, insert_fills, may_have, ask_wider, others_before}
 use Rattle.whole_calls.proofs.running.insert.Goals as goal
 
 pub returns-clause-goes : goal.returns-clause-goes
@@ -45,3 +48,39 @@ returns-in-Err-clause-goes g c =
     goes_told g.S.PageStore session (BeginTold session (ToInsert entry) c.begin.result) (InsertTold session entry (Err c.in-Err.fault)) (begin_came c.begin.result) (Some (Refused c.in-Err.fault)) _ _
     (λ start answers x y at fits came told.
     (rw c.in-Err.is at came, not_begun session entry c.in-Err.fault x y (subst (λ (r : Result (Unit {0}) Fault). BeginTold session (ToInsert entry) r x y) c.in-Err.is told))) c.begin.ensures.goes
+
+pub returns-clause-cause : goal.returns-clause-cause
+returns-clause-cause g c honest start history calls fits =
+    let laws = g.met.S.PageStore.laws in
+    let session = c.args.session in
+    let least = c.args.least_room in
+    let entry = c.args.entry in
+    let request = ToInsert entry in
+    let came = c.finish-came.result in
+    let added = c.added-added.result in
+    let sets = map g.T.DeadRows.is_in c.args.sets.now in
+    let old = here_with c.args.store.now c.args.slots.now sets in
+    let begun = here_with c.begin.new.store c.begin.new.slots sets in
+    let here = here_with c.finish-came.new.store c.finish-came.new.slots sets in
+    let first = laws.follows_later c.args.store.now c.begin.new.store (c.begin.ensures.steps _ (laws.follows_same _)) in
+    let mid = laws.follows_later c.begin.new.store c.finish-came.new.store (c.finish-came.ensures.steps _ (laws.follows_same _)) in
+    let last = laws.follows_later c.finish-came.new.store c.give_up.new.store (c.give_up.ensures.steps _ (laws.follows_same _)) in
+    let so_far = last.honest honest in
+    let r = c.begin.ensures.goes (mid.honest so_far) start history calls fits in
+    let x = snapshot_of old history calls in
+    let y = snapshot_of begun r.then_history r.then_calls in
+    let b : HasBegun session request x y = subst (λ (r : Result (Unit {0}) Fault). BeginTold session request r x y) c.in-Ok.is r.tells in
+    let is = begun_runs session request x y y b in
+    let call = first_call session request x in
+    let t = c.finish-came.ensures.goes so_far start r.then_history r.then_calls r.ran.fits in
+    let may = may_have (length calls) call came y (snapshot_of here t.then_history t.then_calls) (t.tells (length calls) call is) in
+    let caused = c.finish-came.ensures.cause so_far start r.then_history r.then_calls r.ran.fits false (insert_fills g.S.PageStore start session (length calls) call entry y r.ran.fits is refl) (length calls) call is in
+    let wider = ask_wider g.S.PageStore session least old begun c.finish-came.new.store first mid.failures (others_before c.args.slots.now c.begin.new.slots session c.begin.ensures.others) false false (AskInsert entry) (λ dead asks h. h) came caused in
+    subst (λ (r : Result Inserted Fault). InsertCallIsCaused g.S.PageStore session least entry old c.give_up.new.store r) (sym c.outcome.ensures)
+    (insert_behind g.S.PageStore session least old c.finish-came.new.store c.give_up.new.store c.give_up.ensures.backing c.give_up.ensures.acts c.give_up.ensures.frames c.give_up.ensures.limits c.give_up.ensures.pages entry added came may
+    c.finish-came.ensures.over wider)
+
+pub returns-in-Err-clause-cause : goal.returns-in-Err-clause-cause
+returns-in-Err-clause-cause g c honest start history calls fits =
+    let sets = map g.T.DeadRows.is_in c.args.sets.now in
+    insert_not_begun g.S.PageStore c.args.session c.args.least_room c.args.entry (here_with c.args.store.now c.args.slots.now sets) c.begin.new.store start history calls fits c.in-Err.fault c.in-Err.ensures.cause

@@ -1,5 +1,7 @@
 use Rattle.std.proofs.Common.{◌≡◌, ℕ, Some, None, refl, subst, inl, inr, rules}
+use Rattle.index_model.specs.Limits.{AreLimits}
 use Rattle.index_model.specs.declared.fault.Fault.{Fault}
+use Rattle.index_model.specs.declared.limits.Limits.{Limits}
 use Rattle.session_calls.specs.declared.answer.Answer.{Answer}
 use Rattle.session_calls.specs.declared.answer.Answer.TheVariants.{Begun, Going, Added, Ready, Done, Finished, Gave, Ended, Forced, Flushed, Checkpointed, Refused}
 use Rattle.schedule.specs.Events.{Checkpoints, AnswersUpkeep}
@@ -9,6 +11,7 @@ use Rattle.whole_calls.specs.Going.{CameBy}
 use Rattle.whole_calls.specs.Telling.{IsSilent}
 use Rattle.whole_calls.proofs.Composing.{goes_nowhere, goes_by, goes_told}
 use Rattle.whole_calls.proofs.Tellings.{keeps_silent}
+use Rattle.whole_calls.proofs.Refusing.{room_for_act}
 use Rattle.whole_calls.proofs.running.make_room.Goals as goal
 
 pub returns-then-room-least_room-clause-goes : goal.returns-then-room-least_room-clause-goes
@@ -47,3 +50,14 @@ returns-then-room-least_room-clause-room g c = inl (search rules)
 
 pub returns-in_default-clause-room : goal.returns-in_default-clause-room
 returns-in_default-clause-room g c = inr (made _ c.checkpoint.result c.checkpoint.ensures.answers (λ fault is. search rules) c.checkpoint.ensures.room)
+
+pub returns-then-room-least_room-clause-promise : goal.returns-then-room-least_room-clause-promise
+returns-then-room-least_room-clause-promise g c =
+    let are = subst (λ (l : Limits). AreLimits l) c.limits-limits.ensures.value c.limits-limits.ensures.allowed in
+    room_for_act c.args.least_room (g.S.PageStore.state c.args.store.now).limits (g.S.PageStore.backing c.args.store.now) are (g.met.S.PageStore.laws.room_is_promised c.args.store.now) (inl (search rules))
+
+pub returns-in_default-clause-promise : goal.returns-in_default-clause-promise
+returns-in_default-clause-promise g c =
+    let are = subst (λ (l : Limits). AreLimits l) c.limits-limits.ensures.value c.limits-limits.ensures.allowed in
+    room_for_act c.args.least_room (g.S.PageStore.state c.args.store.now).limits (g.S.PageStore.backing c.checkpoint.new.store) are (g.met.S.PageStore.laws.room_is_promised c.checkpoint.new.store)
+    (inr (made _ c.checkpoint.result c.checkpoint.ensures.answers (λ fault is. search rules) c.checkpoint.ensures.room))

@@ -1,17 +1,20 @@
 use Rattle.std.specs.Prelude.{map}
-use Rattle.std.proofs.Common.{◌≡◌, Some, Ok, Err, [], refl, sym, subst}
+use Rattle.std.proofs.Common.{Some, Ok, Err, List, [], refl, sym, subst}
 use Rattle.schedule.specs.Events.{Steps}
 use Rattle.page_action.specs.States.{State}
-use Rattle.schedule.specs.Snapshots.{here_with, slot_of}
+use Rattle.index_model.specs.Calls.{Call}
+use Rattle.schedule.specs.Snapshots.{here_with, slot_of, snapshot_of, IsRunningCall}
+use Rattle.whole_calls.specs.Refusing.{is_full_sweep}
 use Rattle.whole_calls.specs.Spending.{TakesFewer}
 use Rattle.schedule.specs.declared.event.Event.TheVariants.{Step}
 use Rattle.whole_calls.specs.Telling.{IsSilent, TellsStep, room_came}
-use Rattle.whole_calls.proofs.Composing.{goes_then, goes_by, goes_told}
+use Rattle.whole_calls.proofs.Composing.{goes_then, goes_by, goes_told, event_of}
+use Rattle.whole_calls.proofs.Refusing.{step_caused, ask_wider, forced_cause}
 use Rattle.whole_calls.proofs.Gone.{gone_nowhere, silent_then}
 use Rattle.whole_calls.proofs.Tellings.{moves_tells, kept_not_exists}
 use Rattle.whole_calls.proofs.Spending.{run_fewer}
 use Rattle.whole_calls.proofs.Counting.{run_counts}
-use Rattle.whole_calls.specs.Sweeping.{CountsThrough}
+use Rattle.whole_calls.specs.Sweeping.{Followed, CountsThrough}
 use Rattle.session_calls.specs.declared.answer.Answer.TheVariants.{Refused}
 use Rattle.whole_calls.proofs.running.step.Goals as goal
 
@@ -53,7 +56,7 @@ pub returns-in-Err-clause-fewer : goal.returns-in-Err-clause-fewer
 returns-in-Err-clause-fewer g c honest start history calls fits low is = absurd cc
 
 pub returns-in-Ok-clause-entries : goal.returns-in-Ok-clause-entries
-returns-in-Ok-clause-entries g c honest start history calls fits =
+returns-in-Ok-clause-entries g c honest start history calls fits what =
     let laws = g.met.S.PageStore.laws in
     let session = c.args.session in
     let sets = map g.T.DeadRows.is_in c.args.sets.now in
@@ -61,5 +64,27 @@ returns-in-Ok-clause-entries g c honest start history calls fits =
     let there = here_with c.one.new.store c.one.new.slots sets in
     let later = laws.follows_later c.make_room.new.store c.one.new.store (c.one.ensures.steps _ (laws.follows_same _)) in
     let r = c.make_room.ensures.goes session sets (later.honest honest) start history calls fits in
-    subst (λ (st : State). CountsThrough sets st (g.S.PageStore.state c.one.new.store) (slot_of c.args.slots.now session) (slot_of c.one.new.slots session) (Ok c.one.result)) c.make_room.ensures.state
-    (run_counts g.S.PageStore session c.one.result here there c.one.ensures.runs honest start r.then_history r.then_calls r.ran.fits)
+    subst (λ (st : State). CountsThrough what sets st (g.S.PageStore.state c.one.new.store) (slot_of c.args.slots.now session) (slot_of c.one.new.slots session) (Ok c.one.result)) c.make_room.ensures.state
+    (run_counts g.S.PageStore session c.one.result here there c.one.ensures.runs honest start r.then_history r.then_calls r.ran.fits what)
+
+pub returns-in-Ok-clause-cause : goal.returns-in-Ok-clause-cause
+returns-in-Ok-clause-cause g c honest start history calls fits number call is =
+    let laws = g.met.S.PageStore.laws in
+    let session = c.args.session in
+    let sets = map g.T.DeadRows.is_in c.args.sets.now in
+    let old = here_with c.args.store.now c.args.slots.now sets in
+    let here = here_with c.make_room.new.store c.args.slots.now sets in
+    let there = here_with c.one.new.store c.one.new.slots sets in
+    let first = laws.follows_later c.args.store.now c.make_room.new.store (c.make_room.ensures.steps _ (laws.follows_same _)) in
+    let later = laws.follows_later c.make_room.new.store c.one.new.store (c.one.ensures.steps _ (laws.follows_same _)) in
+    let r = c.make_room.ensures.goes session sets (later.honest honest) start history calls fits in
+    let e = event_of g.S.PageStore (Step session) c.one.result here there start r.then_history r.then_calls (c.one.ensures.runs honest start r.then_history r.then_calls r.ran.fits) in
+    let runs = subst (λ (cs : List Call). IsRunningCall cs session number call) (sym r.tells.calls_is) is in
+    let full = is_full_sweep (slot_of c.args.slots.now session) in
+    ask_wider g.S.PageStore session c.args.least_room old here c.one.new.store first later.failures (λ busy. busy) full full call.ask (λ dead asked out. out) (Ok c.one.result)
+    (step_caused g.S.PageStore start session c.args.least_room c.one.result (snapshot_of here r.then_history r.then_calls) (snapshot_of there e.0 e.1) r.ran.fits c.in-Ok.ensures.promise e.2 number call runs)
+
+pub returns-in-Err-clause-cause : goal.returns-in-Err-clause-cause
+returns-in-Err-clause-cause g c honest start history calls fits number call is =
+    let sets = map g.T.DeadRows.is_in c.args.sets.now in
+    forced_cause g.S.PageStore c.args.session c.args.least_room (is_full_sweep (slot_of c.args.slots.now c.args.session)) (here_with c.args.store.now c.args.slots.now sets) c.make_room.new.store call.ask c.in-Err.fault c.in-Err.ensures.cause

@@ -1,3 +1,4 @@
+use Rattle.page_action.specs.States.{State}
 use Rattle.std.proofs.Common.{sym, ap, subst, ◌∙◌, IsTrue}
 use Rattle.page_store.specs.Stores.{state_of, device_of}
 use Rattle.tree_acts.specs.Trees.{IsTree}
@@ -21,3 +22,6 @@ returns-in-Ok-clause-begins g c honest frames limits pages index tree =
 
 pub returns-in-Err-clause-begins : goal.returns-in-Err-clause-begins
 returns-in-Err-clause-begins g c honest frames limits pages index tree = c.in-Err.ensures.same honest frames limits pages index
+
+pub returns-in-Ok-clause-frames : goal.returns-in-Ok-clause-frames
+returns-in-Ok-clause-frames g c = ap (λ s. (state_of g.D.Device s).frames) c.new.ensures.store ∙ ap (λ (st : State). st.frames) c.in-Ok.ensures.opened.is

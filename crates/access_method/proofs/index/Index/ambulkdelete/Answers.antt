@@ -1,15 +1,20 @@
-use Rattle.std.specs.Prelude.{map, []}
-use Rattle.std.proofs.Common.{◌≡◌, ◌∷◌, ℕ, Bool, Option, Some, None, List, Result, refl, sym, ap, subst}
+use Rattle.access_method.proofs.Refusals.{swept_cause, none_vacuums, no_vacuum, finishes, frames_stay}
+use Rattle.access_method.specs.Refusals.{where_run, NoCleanupRuns}
+use Rattle.whole_calls.specs.Refusing.{where_called, where_gone}
+use Rattle.session_calls.specs.declared.request.Request.TheVariants.{Bulk as ToBulk}
+use Rattle.index_model.specs.Faults.{HasCause}
+use Rattle.std.specs.Prelude.{[], IfErr}
+use Rattle.std.proofs.Common.{◌∷◌, Bool, List, refl, subst, ◌≡◌, false, length, rules}
 use Rattle.index_model.specs.Actions.{Action}
 use Rattle.index_model.specs.Calls.{Call}
 use Rattle.index_model.specs.Row.{Row}
 use Rattle.index_model.specs.declared.entry.Entry.{Entry}
-use Rattle.schedule.specs.Snapshots.{here_with, snapshot_of, slot_of, Fits}
-use Rattle.schedule.specs.Crashes.{KeepsHistory, IsCrashSafe}
+use Rattle.schedule.specs.Snapshots.{here_with, snapshot_of, Fits}
 use Rattle.schedule.specs.Runs.{Carries}
 use Rattle.schedule.proofs.Unused.{fits_with, no_set_runs}
-use Rattle.whole_calls.specs.Going.{CallGoes, CallRuns}
+use Rattle.whole_calls.specs.Going.{CallGoes}
 use Rattle.whole_calls.specs.Sweeping.{SweepTold, swept_came, TellsEntries}
+use Rattle.session_calls.specs.declared.request.Request.TheVariants.{Bulk as ToBulk}
 use Rattle.access_method.specs.Indexes.{slots_within, slots_with, IndexFits}
 use Rattle.access_method.proofs.Sweeps.{swept_or_less, none_sweeps, safe_within}
 use Rattle.access_method.proofs.index.Index.ambulkdelete.Given.{Over}
@@ -18,8 +23,8 @@ use Rattle.access_method.proofs.index.Index.ambulkdelete.Goals as goal
 
 -- the run over the one set
 goes : (g : Over) (c : After-bulk_delete g)
-    → CallGoes g.S.PageStore 63 (SweepTold 63 0 c.bulk_delete.result) (swept_came c.bulk_delete.result) (slots_with (g.T.DeadRows.is_in c.args.dead.now) c.args.self.now) (here_with c.bulk_delete.new.store c.bulk_delete.new.slots (g.T.DeadRows.is_in c.args.dead.now ∷ []))
-goes g c = subst (λ (l : List (Row → Bool)). CallGoes g.S.PageStore 63 (SweepTold 63 0 c.bulk_delete.result) (swept_came c.bulk_delete.result) (here_with c.args.self.now.store c.args.self.now.slots l) (here_with c.bulk_delete.new.store c.bulk_delete.new.slots l))
+    → CallGoes g.S.PageStore 63 (SweepTold 63 (ToBulk 0) c.bulk_delete.result) (swept_came c.bulk_delete.result) (slots_with (g.T.DeadRows.is_in c.args.dead.now) c.args.self.now) (here_with c.bulk_delete.new.store c.bulk_delete.new.slots (g.T.DeadRows.is_in c.args.dead.now ∷ []))
+goes g c = subst (λ (l : List (Row → Bool)). CallGoes g.S.PageStore 63 (SweepTold 63 (ToBulk 0) c.bulk_delete.result) (swept_came c.bulk_delete.result) (here_with c.args.self.now.store c.args.self.now.slots l) (here_with c.bulk_delete.new.store c.bulk_delete.new.slots l))
     refl c.bulk_delete.ensures.goes
 
 counted : (g : Over) (c : After-bulk_delete g)
@@ -57,3 +62,25 @@ returns-clause-deletes g c honest start history calls fits =
     let then_fits = fits_then g after start history calls fits in
     let r = goes g after honest start history calls then_fits in
     swept_or_less g.S.PageStore dead (slots_with dead c.args.self.now) (here_with c.bulk_delete.new.store c.bulk_delete.new.slots (dead ∷ [])) refl start history calls then_fits c.bulk_delete.result r (counted g after honest start history calls then_fits)
+
+-- why it is refused
+caused : (g : Over) (c : After-bulk_delete g) → length c.args.self.now.slots ≡ 64
+    → Carries g.S.PageStore (slots_within c.args.self.now) (here_with c.bulk_delete.new.store c.bulk_delete.new.slots []) (λ start history calls. NoCleanupRuns calls → IfErr c.bulk_delete.result (HasCause (where_run g.S.PageStore 63 c.args.self.now c.bulk_delete.new.store)))
+caused g c slots honest start history calls fits calm =
+    let dead = g.T.DeadRows.is_in c.args.dead.now in
+    let now = snapshot_of (slots_within c.args.self.now) history calls in
+    let why = subst (λ (l : List (Row → Bool)). Carries g.S.PageStore (here_with c.args.self.now.store c.args.self.now.slots l) (here_with c.bulk_delete.new.store c.bulk_delete.new.slots l) (λ start history calls.
+    IfErr c.bulk_delete.result (HasCause (where_called g.S.PageStore 63 (ToBulk 0) (here_with c.args.self.now.store c.args.self.now.slots l) (where_gone g.S.PageStore 63 5 false (here_with c.args.self.now.store c.args.self.now.slots l) c.bulk_delete.new.store)))))
+    refl c.bulk_delete.ensures.cause in
+    swept_cause g.S.PageStore dead c.args.self.now c.bulk_delete.new.store c.args.self.now.agree.inserts slots (none_vacuums c.args.self.now.slots (no_vacuum g.S.PageStore start now refl fits calm)) c.bulk_delete.result
+    (why honest start history calls (fits_then g c start history calls fits))
+
+pub returns-clause-cause : goal.returns-clause-cause
+returns-clause-cause g c honest start history calls fits calm = caused g ((goal.at.returns-clause-cause g c).After-bulk_delete) (search rules) honest start history calls fits calm
+
+pub returns-clause-finishes : goal.returns-clause-finishes
+returns-clause-finishes g c honest start history calls fits calm un =
+    let after = (goal.at.returns-clause-finishes g c).After-bulk_delete in
+    let dead = g.T.DeadRows.is_in c.args.dead.now in
+    let same = frames_stay g.S.PageStore 63 _ _ (slots_with dead c.args.self.now) (here_with c.bulk_delete.new.store c.bulk_delete.new.slots (dead ∷ [])) start history calls (goes g after honest start history calls (fits_then g after start history calls fits)) in
+    finishes g.S.PageStore 63 c.args.self.now c.bulk_delete.new.store c.bulk_delete.result un same (caused g ((goal.at.returns-clause-finishes g c).After-bulk_delete) (search rules) honest start history calls fits calm)

@@ -1,7 +1,4 @@
-use Rattle.std.proofs.Common.{None, refl}
-use Rattle.whole_calls.specs.Telling.{TellsEnd}
-use Rattle.whole_calls.proofs.Composing.{goes_nowhere}
-use Rattle.access_method.specs.Indexes.{slots_within}
+use Rattle.std.proofs.Common.{None}
 use Rattle.access_method.proofs.Seats.{agree_over}
 use Rattle.access_method.proofs.index.Index.amendscan.Goals as goal
 

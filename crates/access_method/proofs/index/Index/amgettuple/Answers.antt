@@ -1,3 +1,4 @@
+use Rattle.access_method.proofs.Refusals.{give_cause, run_unhindered, frames_stay}
 use Rattle.std.specs.Prelude.{[]}
 use Rattle.std.proofs.Common.{true, Ok, Some, sym, ◌∙◌}
 use Rattle.schedule.specs.Snapshots.{here_with, snapshot_of}
@@ -25,3 +26,13 @@ invariant_of-self-in-Err g c = record {
   agree = agree_over c.args.self.now.slots c.give.new.slots c.args.self.now.seats c.args.token.session c.args.self.now.agree c.in-Some.ensures.low c.give.ensures.others
       (Some (record { number = c.args.token.number; is_refused = true })) c.in-Err.ensures.over;
 }
+
+pub returns-in-Err-clause-cause : goal.returns-in-Err-clause-cause
+returns-in-Err-clause-cause g c seat honest start history calls fits number call range is ask =
+    give_cause g.S.PageStore c.args.token.session c.args.self.now c.give.new.store c.in-Err.fault (c.in-Err.ensures.cause honest start history calls fits number call range is ask)
+
+pub returns-in-Err-clause-gives : goal.returns-in-Err-clause-gives
+returns-in-Err-clause-gives g c seat honest start history calls fits number call range is ask un =
+    let same = frames_stay g.S.PageStore c.args.token.session _ _ (slots_within c.args.self.now) (here_with c.give.new.store c.give.new.slots []) start history calls (c.in-Err.ensures.goes honest start history calls fits) in
+    absurd (run_unhindered g.S.PageStore c.args.token.session c.args.self.now c.give.new.store un same c.in-Err.fault
+    (give_cause g.S.PageStore c.args.token.session c.args.self.now c.give.new.store c.in-Err.fault (c.in-Err.ensures.cause honest start history calls fits number call range is ask)))

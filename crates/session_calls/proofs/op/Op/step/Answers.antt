@@ -18,6 +18,7 @@ use Rattle.session_calls.specs.declared.op.Op.TheVariants.{Scan}
 use Rattle.session_calls.proofs.Going.{step_is_refused}
 use Rattle.vacuum.specs.Counts.{IsCounted}
 use Rattle.session_calls.proofs.Deleting.{counted_on, set_found, bulk_goes_on, bulk_finishes}
+use Rattle.session_calls.proofs.Cleaning.{cleanup_goes_on, cleanup_finishes, cleanup_is_refused}
 use Rattle.session_calls.proofs.op.Op.step.Goals as goal
 
 pub returns-in-Ok-Going-clause-goes : goal.returns-in-Ok-Going-clause-goes
@@ -150,3 +151,49 @@ returns-in-Ok-Finished-clause-entries g c honest =
     let dead_is = set_found g.T.DeadRows.is_in c.args.sets.now c.in-Bulk.set c.in-Some.dead.now c.in-Some.ensures.lookup.3.0 c.in-Some.ensures.lookup.1 in
     let counts = c.in-Ok-Finished.ensures.counts honest in
     rw c.in-Bulk.is (λ counted. (tt, rw c.in-Ok-Finished.field-0-is at (counts (subst (λ (d : Row → Bool). IsCounted d old c.in-Bulk.op) (sym dead_is) counted))))
+
+pub returns-in-Ok-Going-step-3-clause-goes : goal.returns-in-Ok-Going-step-3-clause-goes
+returns-in-Ok-Going-step-3-clause-goes g c honest start history number call fits =
+    let old = g.S.PageStore.state c.args.store.now in
+    let new = g.S.PageStore.state c.step-in-Cleanup.new.store in
+    let mine = subst (λ (op : Op). CallFits old (map g.T.DeadRows.is_in c.args.sets.now) start history number call op) c.in-Cleanup.is fits in
+    rw c.in-Cleanup.is (cleanup_goes_on old new (g.S.PageStore.backing c.args.store.now) (g.S.PageStore.backing c.step-in-Cleanup.new.store) start history number call c.in-Cleanup.op c.step-in-Cleanup.new.self mine
+    c.step-in-Cleanup.ensures.session (rw c.in-Ok-Going-step-3.field-0-is at (c.in-Ok-Going-step-3.ensures.stepped honest mine.world.order mine.world.starts mine.runs.fits)) (c.step-in-Cleanup.ensures.pins honest))
+
+pub returns-in-Ok-Finished-step-clause-goes : goal.returns-in-Ok-Finished-step-clause-goes
+returns-in-Ok-Finished-step-clause-goes g c honest start history number call fits =
+    let old = g.S.PageStore.state c.args.store.now in
+    let new = g.S.PageStore.state c.step-in-Cleanup.new.store in
+    let mine = subst (λ (op : Op). CallFits old (map g.T.DeadRows.is_in c.args.sets.now) start history number call op) c.in-Cleanup.is fits in
+    rw c.in-Cleanup.is (cleanup_finishes old new (g.S.PageStore.backing c.args.store.now) (g.S.PageStore.backing c.step-in-Cleanup.new.store) start history number call c.in-Cleanup.op c.step-in-Cleanup.new.self mine
+    c.step-in-Cleanup.ensures.session c.in-Ok-Finished-step.stats
+    (rw c.in-Ok-Finished-step.field-0-is at (c.in-Ok-Finished-step.ensures.stepped honest mine.world.order mine.world.starts mine.runs.fits)))
+
+pub returns-in-Err-step-3-clause-goes : goal.returns-in-Err-step-3-clause-goes
+returns-in-Err-step-3-clause-goes g c honest start history number call fits =
+    let old = g.S.PageStore.state c.args.store.now in
+    let new = g.S.PageStore.state c.step-in-Cleanup.new.store in
+    let mine = subst (λ (op : Op). CallFits old (map g.T.DeadRows.is_in c.args.sets.now) start history number call op) c.in-Cleanup.is fits in
+    rw c.in-Cleanup.is (cleanup_is_refused old new (g.S.PageStore.backing c.args.store.now) (g.S.PageStore.backing c.step-in-Cleanup.new.store) start history number call c.in-Cleanup.op c.step-in-Cleanup.new.self mine
+    c.step-in-Cleanup.ensures.session c.in-Err-step-3.fault c.in-Err-step-3.ensures.refused
+    (c.in-Err-step-3.ensures.stepped honest mine.world.order mine.world.starts mine.runs.fits))
+
+pub returns-in-Ok-Going-step-3-clause-entries : goal.returns-in-Ok-Going-step-3-clause-entries
+returns-in-Ok-Going-step-3-clause-entries g c honest =
+    let counts = c.in-Ok-Going-step-3.ensures.counts honest in
+    rw c.in-Cleanup.is (λ fits cleaned. (rw c.in-Ok-Going-step-3.field-0-is at (counts fits cleaned), tt))
+
+pub returns-in-Ok-Finished-step-clause-entries : goal.returns-in-Ok-Finished-step-clause-entries
+returns-in-Ok-Finished-step-clause-entries g c honest =
+    let counts = c.in-Ok-Finished-step.ensures.counts honest in
+    rw c.in-Cleanup.is (λ fits cleaned. (tt, rw c.in-Ok-Finished-step.field-0-is at (counts fits cleaned)))
+
+pub returns-in-Ok-Going-step-3-clause-spares : goal.returns-in-Ok-Going-step-3-clause-spares
+returns-in-Ok-Going-step-3-clause-spares g c honest =
+    let spares = c.in-Ok-Going-step-3.ensures.spares honest in
+    rw c.in-Cleanup.is (λ order below fits alone sparing. (rw c.in-Ok-Going-step-3.field-0-is at (spares order below fits alone sparing), tt))
+
+pub returns-in-Ok-Finished-step-clause-spares : goal.returns-in-Ok-Finished-step-clause-spares
+returns-in-Ok-Finished-step-clause-spares g c honest =
+    let spares = c.in-Ok-Finished-step.ensures.spares honest in
+    rw c.in-Cleanup.is (λ order below fits alone sparing. (tt, rw c.in-Ok-Finished-step.field-0-is at (spares order below fits alone sparing)))

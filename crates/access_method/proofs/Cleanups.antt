@@ -1,0 +1,38 @@
+-- What a cleanup of an index does, read off the run.
+use Rattle.std.proofs.Common.{◌≡◌, ℕ, suc, Bool, Option, Some, None, unwrap_or, Result, Ok, Err, List, [], ◌∷◌, ◌++◌, length, refl, sym, ap, ◌∙◌}
+use Rattle.index_model.specs.Actions.{Effect, Add, Remove, Shape, Action, later_or, last_said, contents_after}
+use Rattle.index_model.specs.Calls.{AskCleanup, Call}
+use Rattle.index_model.specs.declared.entry.Entry.{Entry}
+use Rattle.index_model.specs.declared.fault.Fault.{Fault}
+use Rattle.index_model.specs.declared.stats.VacuumStats.{VacuumStats}
+use Rattle.index_model.proofs.Histories.{contents_after-append}
+use Rattle.page_action.specs.declared.page_store.PageStore.{Ghosts}
+use Rattle.session_calls.specs.declared.request.Request.TheVariants.{Cleanup as ToCleanup}
+use Rattle.schedule.specs.Snapshots.{StoreAndSlots, snapshot_of, Fits}
+use Rattle.whole_calls.specs.Going.{CallRuns}
+use Rattle.whole_calls.specs.Sweeping.{SweepTold, swept_came, TellsCleaned}
+use Rattle.whole_calls.specs.Telling.{acts_by, AreOwnEffects, first_call}
+use Rattle.access_method.specs.Indexes.{IsCleanedUp}
+
+-- what a cleanup does says nothing of any entry
+says_nothing : (number : ℕ) (call : Call) (count : ℕ) (effects : List Effect) (e : Entry) → call.ask ≡ AskCleanup → AreOwnEffects call count effects → last_said (acts_by number effects) e ≡ None
+says_nothing number call count [] e ask own = refl
+says_nothing number call count (Add x ∷ effects) e ask own = absurd (rw ask at own.0)
+says_nothing number call count (Remove es ∷ effects) e ask own = absurd (rw ask at own.0)
+says_nothing number call count (Shape ∷ effects) e ask own = ap (λ (o : Option Bool). later_or o None) (says_nothing number call (suc count) effects e ask own.1)
+
+-- so the contents are those before
+module _ {S : Type 0} (g : Ghosts S) (old new : StoreAndSlots S) (start : Entry → Bool) (history : List Action) (calls : List Call) (fits : Fits g start (snapshot_of old history calls)) where
+  stays : (then_history : List Action) (effects : List Effect) → AreOwnEffects (first_call 63 ToCleanup (snapshot_of old history calls)) (length history) effects → then_history ≡ history ++ acts_by (length calls) effects
+      → (e : Entry) → contents_after start then_history e ≡ contents_after start history e
+  stays then_history effects own is e =
+      ap (λ (l : List Action). contents_after start l e) is ∙ contents_after-append start history (acts_by (length calls) effects) e
+      ∙ ap (λ (o : Option Bool). unwrap_or o (contents_after start history e)) (says_nothing (length calls) (first_call 63 ToCleanup (snapshot_of old history calls)) (length history) effects e refl own)
+
+  pub cleaned_up : (result : Result VacuumStats Fault) → (r : CallRuns g 63 (SweepTold 63 ToCleanup result) (swept_came result) old new start history calls) → TellsCleaned (g.state new.store) result → IsCleanedUp g result old.store new.store
+  cleaned_up (Ok stats) r told =
+      let t = r.tells in
+      record { contents = λ e. r.ran.fits.matches.contents e ∙ stays r.then_history t.effects t.own t.history_is e ∙ sym (fits.matches.contents e); told = told }
+  cleaned_up (Err fault) r told =
+      let t = r.tells in
+      record { contents = λ e. r.ran.fits.matches.contents e ∙ stays r.then_history t.effects t.own t.history_is e ∙ sym (fits.matches.contents e); told = told }

@@ -1,0 +1,253 @@
+-- The causes of refusals of an index's calls, and what is left of them where nothing hinders a call.
+use Rattle.whole_calls.specs.Inserting.{InsertGoes}
+use Rattle.whole_calls.specs.Going.{CallRuns}
+use Rattle.schedule.specs.declared.event.Event.{Event}
+use Rattle.schedule.specs.Runs.{IsRun, Carries}
+use Rattle.session_calls.specs.declared.answer.Answer.{Answer}
+use Rattle.index_model.specs.Calls.{Call}
+use Rattle.index_model.specs.Actions.{Action}
+use Rattle.session_calls.specs.declared.op.Op.{Op}
+use Rattle.session_calls.specs.declared.op.Op.TheVariants.{Insert, Scan, Bulk, Cleanup}
+use Rattle.latch_table.specs.Holdings.{holding_of, nothing_held}
+use Rattle.page_delete.specs.Spares.{IsAlone}
+use Rattle.schedule.proofs.Unused.{no_set_runs}
+use Rattle.whole_calls.proofs.Refusing.{others_idle}
+use Rattle.index_model.specs.declared.stats.VacuumStats.{VacuumStats}
+use Rattle.index_model.specs.Row.{Row}
+use Rattle.std.proofs.Common.{◌≡◌, ℕ, Bool, true, false, ◌||◌, nat_lt, nat_le, Option, Some, None, Result, Ok, Err, length, slice_get, refl, sym, ap, arith, inl, inr, ◌∙◌, suc, [], ◌∷◌, List, not, ◌++◌}
+use Rattle.std.specs.Prelude.{is_none, IfErr, IsOk, unwrap_or}
+use Rattle.std.proofs.lemmas.Bool.{cases_lt, or_cases, ltb-true, leb-true, eqb-true, lt-ltb}
+use Rattle.index_model.specs.Faults.{HasCause}
+use Rattle.index_model.specs.declared.entry.Entry.{Entry}
+use Rattle.index_model.specs.declared.fault.Fault.{Fault}
+use Rattle.index_model.specs.declared.fault.Fault.TheVariants.{NoMemory, Io, Stopped, Blocked, Exists, KeyTooLong, BadRow, IndexFull, LogFull, NoFrame, VacuumRunning, NoSession, SessionBusy, BadSuper, BadVersion, LogDamaged, PageDamaged, BadLimits, TooTall, DeviceTooSmall}
+use Rattle.page_action.specs.Causes.{has_failed, is_at_end}
+use Rattle.page_action.specs.declared.page_store.PageStore.{Ghosts}
+use Rattle.session_calls.specs.Ops.{IsFaultCaused, is_vacuum}
+use Rattle.session_calls.specs.Sessions.{is_busy}
+use Rattle.session_calls.specs.declared.request.Request.TheVariants.{Insert as ToInsert, Bulk as ToBulk}
+use Rattle.schedule.specs.Snapshots.{StoreAndSlots, Snapshot, snapshot_of, Fits, SlotRuns, IsFree, slot_of, one_vacuums}
+use Rattle.schedule.proofs.Lists.{get_some}
+use Rattle.whole_calls.specs.Refusing.{another_runs, where_inserted, where_called, is_used_up, is_tall, InsertCallIsCaused, where_gone}
+use Rattle.whole_calls.specs.declared.inserted.Inserted.{Inserted}
+use Rattle.access_method.specs.Indexes.{slots_within, has_entry, InsertsOrKeeps, slots_with}
+use Rattle.access_method.specs.Refusals.{where_run, where_inserting, InsertHasCause, IsUnhindered, NoCleanupRuns, IsForWantOfSpace, IsOfSpace, InsertsUnhindered}
+use Rattle.access_method.specs.declared.index.Index.{Index}
+
+true_false : true ≡ false → ⊥
+true_false h = cc
+
+or_left : (a b : Bool) → a ≡ true → (a || b) ≡ true
+or_left true b h = refl
+or_left false b h = absurd cc
+
+or_right : (a b : Bool) → b ≡ true → (a || b) ≡ true
+or_right true b h = refl
+or_right false b h = h
+
+there_at : {S : Type 0} (old : Index S) → length old.slots ≡ 64 → is_none (slice_get old.slots 63) ≡ false
+there_at old slots = (let at = get_some old.slots 63 (omega (arith, slots)) in ap is_none at.1)
+
+-- the log failed, or a counter is at its end
+module _ {S : Type 0} (g : Ghosts S) (old : Index S) (new : S) where
+  abbrev had : Bool
+  had = (g.backing old.store).stopped
+
+  abbrev failed : Bool
+  failed = has_failed (g.backing old.store) (g.backing new)
+
+  abbrev begun_all : Bool
+  begun_all = is_at_end (g.state old.store).begun
+
+  abbrev acted_all : Bool
+  acted_all = nat_le 18446744073709551615 (g.state new).acts
+
+  stopped_run : (had || (failed || (acted_all || false))) ≡ true → ((had || failed) || (begun_all || acted_all)) ≡ true
+  stopped_run h = elim (or_cases had (failed || (acted_all || false)) h) [
+    | inl stopped ↦ or_left (had || failed) (begun_all || acted_all) (or_left had failed stopped)
+    | inr rest ↦ elim (or_cases failed (acted_all || false) rest) [
+      | inl now ↦ or_left (had || failed) (begun_all || acted_all) (or_right had failed now)
+      | inr ended ↦ or_right (had || failed) (begun_all || acted_all) (or_right begun_all acted_all (elim (or_cases acted_all false ended) [ inl all ↦ all | inr no_one ↦ absurd (true_false (sym no_one)) ]))
+    ]
+  ]
+
+  stopped_called : ((had || (failed || (acted_all || false))) || begun_all) ≡ true → ((had || failed) || (begun_all || acted_all)) ≡ true
+  stopped_called h = elim (or_cases (had || (failed || (acted_all || false))) begun_all h) [
+    | inl run ↦ stopped_run run
+    | inr begun ↦ or_right (had || failed) (begun_all || acted_all) (or_left begun_all acted_all begun)
+  ]
+
+  -- there is a session for inserts, which runs nothing
+  module _ (inserts : slot_of old.slots 63 ≡ None) (slots : length old.slots ≡ 64) (entry : Entry) where
+    free : is_busy (slot_of old.slots 63) ≡ false
+    free = ap is_busy inserts
+
+    there : is_none (slice_get old.slots 63) ≡ false
+    there = there_at old slots
+
+    refused_cause : (was_there used_up tall : Bool) (fault : Fault) → (fault ≡ Exists → was_there ≡ true)
+        → HasCause (where_called g 63 (ToInsert entry) (slots_within old) (where_inserted g 63 5 used_up tall (slots_within old) new)) fault → HasCause (where_inserting g was_there used_up tall old new) fault
+    refused_cause was_there used_up tall Stopped was h = stopped_called h
+    refused_cause was_there used_up tall Exists was h = was refl
+    refused_cause was_there used_up tall NoSession was h = absurd (true_false (sym h ∙ there))
+    refused_cause was_there used_up tall SessionBusy was h = absurd (true_false (sym h ∙ free))
+    refused_cause was_there used_up tall fault was h = h
+
+    left_cause : (unfinished : Option Fault) → IsFaultCaused (where_inserted g 63 5 true true (slots_within old) new) unfinished → IsFaultCaused (where_inserting g true true true old new) unfinished
+    left_cause None h = tt
+    left_cause (Some Stopped) h = stopped_run h
+    left_cause (Some fault) h = h
+
+    pub insert_cause : (result : Result Inserted Fault) → InsertsOrKeeps g entry result old.store new → InsertCallIsCaused g 63 5 entry (slots_within old) new result → InsertHasCause g entry result old new
+    insert_cause (Ok inserted) told h = left_cause inserted.unfinished h
+    insert_cause (Err fault) told h = refused_cause (has_entry g old.store entry) (is_used_up (g.state new)) (is_tall (g.state new)) fault told.was_there h
+
+-- a run leaves the number of frames as it was
+run_frames : {S : Type 0} (g : Ghosts S) (start : Entry → Bool) (told : List Answer) (events : List Event) (answers : List Answer) (first last : Snapshot S) → IsRun g start told events answers first last
+    → (g.state last.store).frames ≡ (g.state first.store).frames
+run_frames {S} g start told [] [] first last is = ap (λ (m : Snapshot S). (g.state m.store).frames) (sym is)
+run_frames g start told [] (answer ∷ answers) first last is = absurd is
+run_frames g start told (event ∷ events) [] first last is = absurd is
+run_frames g start told (event ∷ events) (answer ∷ answers) first last is = run_frames g start (told ++ answer ∷ []) events answers is.1.0 last is.1.2 ∙ is.1.1.does.quiet.frames
+
+pub frames_stay : {S : Type 0} (g : Ghosts S) (session : ℕ) (Tells : Snapshot S → Snapshot S → Type 0) (came : Option Answer) (old new : StoreAndSlots S) (start : Entry → Bool) (history : List Action) (calls : List Call)
+    → CallRuns g session Tells came old new start history calls → (g.state new.store).frames ≡ (g.state old.store).frames
+frames_stay g session Tells came old new start history calls r = run_frames g start [] r.events r.answers (snapshot_of old history calls) (snapshot_of new r.then_history r.then_calls) r.ran.run
+
+pub insert_frames : {S : Type 0} (g : Ghosts S) (entry : Entry) (result : Result Inserted Fault) (old new : StoreAndSlots S) → InsertGoes g 63 entry result old new → Carries g old new (λ start history calls. (g.state new.store).frames ≡ (g.state old.store).frames)
+insert_frames g entry (Ok inserted) old new (inl goes) honest start history calls fits = frames_stay g 63 _ _ old new start history calls (goes honest start history calls fits)
+insert_frames g entry (Ok inserted) old new (inr cut) honest start history calls fits = frames_stay g 63 _ _ old new start history calls (cut.goes honest start history calls fits)
+insert_frames g entry (Err fault) old new goes honest start history calls fits = frames_stay g 63 _ _ old new start history calls (goes honest start history calls fits)
+
+-- what nothing hinders
+module _ {S : Type 0} (g : Ghosts S) (session : ℕ) (old : Index S) (new : S) (un : IsUnhindered g session old new) (same_frames : (g.state new).frames ≡ (g.state old.store).frames) where
+  none_failed : has_failed (g.backing old.store) (g.backing new) ≡ true → ⊥
+  none_failed h =
+      let k = ltb-true (g.backing old.store).failures (g.backing new).failures h in
+      let same = un.failures in
+      omega (arith, k, same)
+
+  none_stopped : (((g.backing old.store).stopped || has_failed (g.backing old.store) (g.backing new)) || (is_at_end (g.state old.store).begun || nat_le 18446744073709551615 (g.state new).acts)) ≡ true → ⊥
+  none_stopped h = elim (or_cases ((g.backing old.store).stopped || has_failed (g.backing old.store) (g.backing new)) (is_at_end (g.state old.store).begun || nat_le 18446744073709551615 (g.state new).acts) h) [
+    | inl log ↦ elim (or_cases (g.backing old.store).stopped (has_failed (g.backing old.store) (g.backing new)) log) [
+      | inl had ↦ true_false (sym had ∙ un.alive)
+      | inr now ↦ none_failed now
+    ]
+    | inr count ↦ elim (or_cases (is_at_end (g.state old.store).begun) (nat_le 18446744073709551615 (g.state new).acts) count) [
+      | inl begun ↦ (let k = eqb-true (g.state old.store).begun 18446744073709551615 begun in let low = un.begun in omega (arith, k, low))
+      | inr acts ↦ (let k = leb-true 18446744073709551615 (g.state new).acts acts in let low = un.acts in omega (arith, k, low))
+    ]
+  ]
+
+  none_pinned : (another_runs old.slots session || nat_lt (g.state new).frames 4) ≡ true → ⊥
+  none_pinned h = elim (or_cases (another_runs old.slots session) (nat_lt (g.state new).frames 4) h) [
+    | inl busy ↦ true_false (sym busy ∙ un.alone)
+    | inr few ↦ (let k = ltb-true (g.state new).frames 4 few in let many = un.frames in omega (arith, k, many, same_frames))
+  ]
+
+  -- a call that is refused for nothing of its own isn't refused
+  pub run_unhindered : (fault : Fault) → HasCause (where_run g session old new) fault → ⊥
+  run_unhindered Io h = none_failed h
+  run_unhindered Stopped h = none_stopped h
+  run_unhindered (Blocked b) h = true_false (sym h ∙ un.alone)
+  run_unhindered NoFrame h = none_pinned h
+  run_unhindered NoMemory h = true_false (sym h)
+  run_unhindered Exists h = true_false (sym h)
+  run_unhindered KeyTooLong h = h
+  run_unhindered BadRow h = h
+  run_unhindered IndexFull h = true_false (sym h)
+  run_unhindered LogFull h = true_false (sym h)
+  run_unhindered VacuumRunning h = true_false (sym h)
+  run_unhindered NoSession h = true_false (sym h)
+  run_unhindered SessionBusy h = true_false (sym h)
+  run_unhindered BadSuper h = h
+  run_unhindered BadVersion h = h
+  run_unhindered LogDamaged h = h
+  run_unhindered (PageDamaged b) h = true_false (sym h)
+  run_unhindered BadLimits h = h
+  run_unhindered TooTall h = true_false (sym h)
+  run_unhindered DeviceTooSmall h = h
+
+-- ... of an insert
+module _ {S : Type 0} (g : Ghosts S) (entry : Entry) (old : Index S) (new : S) (un : IsUnhindered g 63 old new) (same_frames : (g.state new).frames ≡ (g.state old.store).frames) where
+  refused_unhindered : (fault : Fault) → HasCause (where_inserting g (has_entry g old.store entry) (is_used_up (g.state new)) (is_tall (g.state new)) old new) fault → IsForWantOfSpace g entry old.store new fault
+  refused_unhindered Exists h = h
+  refused_unhindered IndexFull h = h
+  refused_unhindered TooTall h = h
+  refused_unhindered fault h = absurd (run_unhindered g 63 old new un same_frames fault h)
+
+  left_unhindered : (unfinished : Option Fault) → IsFaultCaused (where_inserting g true true true old new) unfinished → IsOfSpace unfinished
+  left_unhindered None h = tt
+  left_unhindered (Some Exists) h = tt
+  left_unhindered (Some IndexFull) h = tt
+  left_unhindered (Some TooTall) h = tt
+  left_unhindered (Some fault) h = absurd (run_unhindered g 63 old new un same_frames fault h)
+
+  pub insert_unhindered : (result : Result Inserted Fault) → InsertHasCause g entry result old new → InsertsUnhindered g entry result old.store new
+  insert_unhindered (Ok inserted) h = left_unhindered inserted.unfinished h
+  insert_unhindered (Err fault) h = refused_unhindered fault h
+
+-- no session runs a bulk delete or a cleanup
+pub none_vacuums : (slots : List (Option Op)) → ((session : ℕ) (op : Op) → slice_get slots session ≡ Some (Some op) → is_vacuum op ≡ true → ⊥) → one_vacuums slots ≡ false
+none_vacuums [] none = refl
+none_vacuums (None ∷ slots) none = none_vacuums slots (λ session op at. none (suc session) op at)
+none_vacuums (Some (Insert op) ∷ slots) none = none_vacuums slots (λ session op at. none (suc session) op at)
+none_vacuums (Some (Scan op) ∷ slots) none = none_vacuums slots (λ session op at. none (suc session) op at)
+none_vacuums (Some (Bulk set op) ∷ slots) none = absurd (none 0 (Bulk set op) refl refl)
+none_vacuums (Some (Cleanup op) ∷ slots) none = absurd (none 0 (Cleanup op) refl refl)
+
+pub no_vacuum : {S : Type 0} (g : Ghosts S) (start : Entry → Bool) (now : Snapshot S) → now.sets ≡ [] → Fits g start now → NoCleanupRuns now.calls
+    → (session : ℕ) (op : Op) → slice_get now.slots session ≡ Some (Some op) → is_vacuum op ≡ true → ⊥
+no_vacuum g start now none fits calm session (Insert op) at is = true_false (sym is)
+no_vacuum g start now none fits calm session (Scan op) at is = true_false (sym is)
+no_vacuum g start now none fits calm session (Bulk set op) at is = no_set_runs g start now none fits session set op at
+no_vacuum g start now none fits calm session (Cleanup op) at is =
+    let runs : SlotRuns g start now session (Cleanup op) = fits.running session (Some (Cleanup op)) at in
+    calm runs.number runs.call runs.is.found runs.is.running runs.runs.ask
+
+-- where no open scan's call runs, nobody else holds a page
+pub all_alone : {S : Type 0} (g : Ghosts S) (start : Entry → Bool) (now : Snapshot S) → Fits g start now → another_runs now.slots 63 ≡ false → IsAlone (g.state now.store) 63
+all_alone g start now fits idle other differ = by (slice_get now.slots other) refl
+  where
+    none : slot_of now.slots other ≡ None
+    none = others_idle now.slots 63 idle other differ
+
+    some_none : {A : Type 0} (x : A) → Some x ≡ None → ⊥
+    some_none x e = cc
+
+    by : (o : Option (Option Op)) → slice_get now.slots other ≡ o → holding_of (g.state now.store).table other ≡ nothing_held
+    by None at = elim (cases_lt other (length now.slots)) [
+      | inl lt ↦ absurd (let s = get_some now.slots other lt in some_none s.0 (sym s.1 ∙ at))
+      | inr ge ↦ (fits.beyond other ge).holds
+    ]
+    by (Some None) at = (let free : IsFree g now other = fits.running other None at in free.idle.holds)
+    by (Some (Some op)) at = absurd (let same : Some op ≡ None = sym (ap (λ (o : Option (Option Op)). unwrap_or o None) at) ∙ none in cc)
+
+-- why a bulk delete is refused
+module _ {S : Type 0} (g : Ghosts S) (dead : Row → Bool) (old : Index S) (new : S) (inserts : slot_of old.slots 63 ≡ None) (slots : length old.slots ≡ 64) (none : one_vacuums old.slots ≡ false) where
+  no_sets : (not (nat_lt 0 (length (dead ∷ []))) || is_none (slice_get old.slots 63)) ≡ true → ⊥
+  no_sets h = elim (or_cases (not (nat_lt 0 (length (dead ∷ [])))) (is_none (slice_get old.slots 63)) h) [
+    | inl no_set ↦ true_false (sym no_set ∙ ap not (lt-ltb 0 1 (omega arith)))
+    | inr no_session ↦ true_false (sym no_session ∙ there_at old slots)
+  ]
+
+  sweep_cause : (fault : Fault) → HasCause (where_called g 63 (ToBulk 0) (slots_with dead old) (where_gone g 63 5 false (slots_with dead old) new)) fault → HasCause (where_run g 63 old new) fault
+  sweep_cause Stopped h = stopped_called g old new h
+  sweep_cause VacuumRunning h = absurd (true_false (sym h ∙ none))
+  sweep_cause NoSession h = absurd (no_sets h)
+  sweep_cause SessionBusy h = absurd (true_false (sym h ∙ ap is_busy inserts))
+  sweep_cause fault h = h
+
+  pub swept_cause : (result : Result VacuumStats Fault) → IfErr result (HasCause (where_called g 63 (ToBulk 0) (slots_with dead old) (where_gone g 63 5 false (slots_with dead old) new))) → IfErr result (HasCause (where_run g 63 old new))
+  swept_cause (Ok stats) h = tt
+  swept_cause (Err fault) h = sweep_cause fault h
+
+-- why a scan gives nothing
+pub give_cause : {S : Type 0} (g : Ghosts S) (session : ℕ) (old : Index S) (new : S) (fault : Fault) → HasCause (where_gone g session 5 false (slots_within old) new) fault → HasCause (where_run g session old new) fault
+give_cause g session old new Stopped h = stopped_run g old new h
+give_cause g session old new fault h = h
+
+-- a call that nothing hinders, and that is refused for nothing of its own
+pub finishes : {S X : Type 0} (g : Ghosts S) (session : ℕ) (old : Index S) (new : S) (result : Result X Fault) → IsUnhindered g session old new → (g.state new).frames ≡ (g.state old.store).frames → IfErr result (HasCause (where_run g session old new)) → IsOk result
+finishes g session old new (Ok x) un same h = refl
+finishes g session old new (Err fault) un same h = absurd (run_unhindered g session old new un same fault h)

@@ -1,0 +1,18 @@
+use Rattle.std.specs.Prelude.{[]}
+use Rattle.schedule.specs.Snapshots.{here_with, snapshot_of}
+use Rattle.access_method.specs.Indexes.{slots_within}
+use Rattle.access_method.proofs.Cleanups.{cleaned_up}
+use Rattle.access_method.proofs.Refusals.{all_alone}
+use Rattle.access_method.proofs.index.Index.amvacuumcleanup.Goals as goal
+
+pub returns-clause-cleans : goal.returns-clause-cleans
+returns-clause-cleans g c honest start history calls fits =
+    let r = c.clean_up.ensures.goes honest start history calls fits in
+    cleaned_up g.S.PageStore (slots_within c.args.self.now) (here_with c.clean_up.new.store c.clean_up.new.slots []) start history calls fits c.clean_up.result r (c.clean_up.ensures.entries honest start history calls fits)
+
+pub returns-clause-spares : goal.returns-clause-spares
+returns-clause-spares g c honest start history calls fits calm =
+    c.clean_up.ensures.spares honest start history calls fits (record {
+      alone = all_alone g.S.PageStore start (snapshot_of (slots_within c.args.self.now) history calls) fits calm.alone;
+      none_dead = calm.none_dead;
+    })

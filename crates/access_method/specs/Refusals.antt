@@ -1,0 +1,93 @@
+-- Why a call of an index is refused that runs steps, and what it answers where nothing hinders it.
+use Rattle.schedule.specs.Snapshots.{IsRunningCall}
+use Rattle.index_model.specs.declared.range.Range.{Range}
+use Rattle.index_model.specs.Calls.{AskScan, AskCleanup, Running, Call}
+use Rattle.page_codec.specs.declared.page.PageState.TheVariants.{HalfDead}
+use Rattle.tree_acts.specs.Deletions.{state_in}
+use Rattle.index_model.specs.Actions.{Action}
+use Rattle.std.specs.Prelude.{◌≡◌, ◌≢◌, slice_get, ℕ, ◌<◌, ◌≤◌, ◌||◌, nat_lt, nat_le, Bool, true, false, Option, Some, None, Result, Ok, Err, List, IfErr, IsOk}
+use Rattle.index_model.specs.Faults.{Circumstances, HasCause}
+use Rattle.index_model.specs.declared.entry.Entry.{Entry}
+use Rattle.index_model.specs.declared.fault.Fault.{Fault}
+use Rattle.index_model.specs.declared.fault.Fault.TheVariants.{Exists, IndexFull, TooTall}
+use Rattle.page_action.specs.Causes.{nothing_wrong, has_failed, is_at_end}
+use Rattle.page_action.specs.declared.page_store.PageStore.{Ghosts}
+use Rattle.session_calls.specs.Ops.{IsFaultCaused}
+use Rattle.whole_calls.specs.Refusing.{another_runs, is_used_up, is_tall}
+use Rattle.whole_calls.specs.declared.inserted.Inserted.{Inserted}
+use Rattle.access_method.specs.Indexes.{has_entry}
+use Rattle.access_method.specs.declared.index.Index.{Index}
+
+-- What may be the cause where a call is refused between these moments: a device call failed meanwhile; the log had failed before, or
+-- a counter is at its end; the call of an open scan, another one, still runs, and may hold a page or a frame; there are fewer frames
+-- than one act needs. The log is never full, there is a session, which has no other call, no bulk delete runs, and no page is
+-- damaged.
+abbrev pub where_run : {S : Type 0} → Ghosts S → ℕ → Index S → S → Circumstances
+where_run g session old new = record nothing_wrong {
+  device_failed = has_failed (g.backing old.store) (g.backing new);
+  is_stopped = ((g.backing old.store).stopped || has_failed (g.backing old.store) (g.backing new)) || (is_at_end (g.state old.store).begun || nat_le 18446744073709551615 (g.state new).acts);
+  is_held_by_another = λ b. another_runs old.slots session;
+  frames_are_pinned = another_runs old.slots session || nat_lt (g.state new).frames 4;
+}
+
+-- ... of an insert also that its entry was there, that each block is in use, or that the root is on level 31, as far as these say so
+abbrev pub where_inserting : {S : Type 0} → Ghosts S → Bool → Bool → Bool → Index S → S → Circumstances
+where_inserting g was_there used_up tall old new = record (where_run g 63 old new) {
+  entry_was_there = was_there;
+  no_block_is_free = used_up;
+  root_is_at_31 = tall;
+}
+
+-- a refused insert had its cause; and so had what an insert leaves unfinished, when it came to it
+abbrev pub InsertHasCause : {S : Type 0} → Ghosts S → Entry → Result Inserted Fault → Index S → S → Type 0
+InsertHasCause g entry (Ok inserted) old new = IsFaultCaused (where_inserting g true true true old new) inserted.unfinished
+InsertHasCause g entry (Err fault) old new = HasCause (where_inserting g (has_entry g old.store entry) (is_used_up (g.state new)) (is_tall (g.state new)) old new) fault
+
+-- Nothing hinders a call of this session between these moments: no other open scan's call runs, the log hasn't failed before and no
+-- device call meanwhile, no counter is at its end, and there are 16 frames.
+pub record IsUnhindered {S : Type 0} (g : Ghosts S) (session : ℕ) (old : Index S) (new : S) : Type 0 where
+  pub alone : another_runs old.slots session ≡ false
+  pub alive : (g.backing old.store).stopped ≡ false
+  pub failures : (g.backing new).failures ≡ (g.backing old.store).failures
+  pub begun : (g.state old.store).begun < 18446744073709551615
+  pub acts : (g.state new).acts < 18446744073709551615
+  pub frames : 16 ≤ (g.state old.store).frames
+
+-- no running call is a cleanup: so it is between an index's calls, of which all but the scans are run to their ends
+abbrev pub NoCleanupRuns : List Call → Type 0
+NoCleanupRuns calls = (number : ℕ) (call : Call) → slice_get calls number ≡ Some call → call.ending ≡ Running → call.ask ≢ AskCleanup
+
+-- no open scan's call runs, and no page is half-dead
+pub record IsCalm {S : Type 0} (g : Ghosts S) (index : Index S) : Type 0 where
+  pub alone : another_runs index.slots 63 ≡ false
+  pub none_dead : (block : ℕ) → state_in (g.state index.store) block ≢ HalfDead
+
+-- why an insert is refused that nothing hinders: its entry was there, each block is in use, or the root is on level 31
+abbrev pub IsForWantOfSpace : {S : Type 0} → Ghosts S → Entry → S → S → Fault → Type 0
+IsForWantOfSpace g entry old new Exists = has_entry g old entry ≡ true
+IsForWantOfSpace g entry old new IndexFull = is_used_up (g.state new) ≡ true
+IsForWantOfSpace g entry old new TooTall = is_tall (g.state new) ≡ true
+IsForWantOfSpace g entry old new fault = ⊥
+
+-- that no block was free, or the root on level 31
+abbrev pub IsOfSpace : Option Fault → Type 0
+IsOfSpace None = Unit {0}
+IsOfSpace (Some Exists) = Unit {0}
+IsOfSpace (Some IndexFull) = Unit {0}
+IsOfSpace (Some TooTall) = Unit {0}
+IsOfSpace (Some fault) = ⊥
+
+-- what an insert answers that nothing hinders
+abbrev pub InsertsUnhindered : {S : Type 0} → Ghosts S → Entry → Result Inserted Fault → S → S → Type 0
+InsertsUnhindered g entry (Ok inserted) old new = IsOfSpace inserted.unfinished
+InsertsUnhindered g entry (Err fault) old new = IsForWantOfSpace g entry old new fault
+
+-- the running scan of the session gives no entry that is asked for one: that has its cause
+abbrev pub GiveHasCause : {S : Type 0} → Ghosts S → ℕ → Result (Option Entry) Fault → Index S → S → (Entry → Bool) → List Action → List Call → Type 0
+GiveHasCause g session result old new start history calls =
+    (number : ℕ) (call : Call) (range : Range) → IsRunningCall calls session number call → call.ask ≡ AskScan range → IfErr result (HasCause (where_run g session old new))
+
+-- ... where nothing hinders it, it gives one, or None
+abbrev pub GivesUnhindered : {S : Type 0} → Ghosts S → ℕ → Result (Option Entry) Fault → Index S → S → (Entry → Bool) → List Action → List Call → Type 0
+GivesUnhindered g session result old new start history calls =
+    (number : ℕ) (call : Call) (range : Range) → IsRunningCall calls session number call → call.ask ≡ AskScan range → IsUnhindered g session old new → IsOk result

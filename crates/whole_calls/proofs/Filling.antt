@@ -1,0 +1,87 @@
+-- The counts of a bulk delete stay far from their end.
+use Rattle.std.proofs.Common.{◌≡◌, ℕ, ◌≤◌, Bool, true, false, Option, Some, None, List, [], ◌∷◌, ◌++◌, length, drop, refl, sym, ap, subst, arith, inl, inr, ◌∙◌}
+use Rattle.std.specs.Prelude.{unwrap_or}
+use Rattle.std.proofs.lemmas.Bool.{or_cases, ltb-true}
+use Rattle.std.proofs.Math.Seq.{drop-append_seam}
+use Rattle.index_model.specs.Actions.{Effect, Action}
+use Rattle.index_model.specs.Calls.{AskBulkDelete, Call, removed_by}
+use Rattle.index_model.specs.Limits.{AreLimits}
+use Rattle.index_model.specs.Row.{Row}
+use Rattle.index_model.specs.declared.entry.Entry.{Entry}
+use Rattle.index_model.specs.declared.limits.Limits.{Limits}
+use Rattle.page_action.specs.declared.page_store.PageStore.{Ghosts}
+use Rattle.vacuum.specs.BulkDeletes.{is_counted_out, is_full_count}
+use Rattle.vacuum.specs.Counts.{entries_below}
+use Rattle.vacuum.specs.declared.steps.BulkDeleteOp.{BulkDeleteOp}
+use Rattle.session_calls.specs.Ops.{asked_of}
+use Rattle.session_calls.specs.Sessions.{noted}
+use Rattle.session_calls.specs.Sweeps.{OpSweeps}
+use Rattle.session_calls.specs.declared.op.Op.{Op}
+use Rattle.session_calls.specs.declared.op.Op.TheVariants.{Insert, Scan, Bulk, Cleanup}
+use Rattle.schedule.specs.Snapshots.{Snapshot, IsRunningCall, Fits, slot_of}
+use Rattle.schedule.proofs.Keeping.{Laws}
+use Rattle.whole_calls.specs.Refusing.{FillsOnly, is_full_sweep}
+use Rattle.whole_calls.specs.Sweeping.{IsCountedIn, removed_of}
+use Rattle.whole_calls.specs.Telling.{acts_by, noted_behind}
+use Rattle.whole_calls.proofs.Gone.{gone_runs, same_ask}
+use Rattle.whole_calls.proofs.Removing.{remove_there, all_once, all_were, all_counted, removed_few, entries_few}
+use Rattle.whole_calls.proofs.Tellings.{runs_in_slot, one_runs}
+
+same_began : (call : Call) (count : ℕ) (xs : List Effect) → (noted_behind call count xs).began ≡ call.began
+same_began call count [] = refl
+same_began call count (x ∷ xs) = same_began (noted call count (Some x)) _ xs
+
+-- neither count is full
+not_out : (op : BulkDeleteOp) → op.left ≤ 3276800 → op.removed ≤ 3276800 → is_counted_out op ≡ true → false ≡ true
+not_out op left removed h = elim (or_cases (is_full_count op.left) (is_full_count op.removed) h) [
+  | inl full ↦ absurd (let k = ltb-true 18446744073709551565 op.left full in omega (arith, k, left))
+  | inr full ↦ absurd (let k = ltb-true 18446744073709551565 op.removed full in omega (arith, k, removed))
+]
+
+-- a bulk delete that has just begun comes to no full count
+module _ {S : Type 0} (g : Ghosts S) (laws : Laws g) (start : Entry → Bool) (session : ℕ) (first : Snapshot S) (fits : Fits g start first) (are : AreLimits (g.state first.store).limits) where
+  removed_low : (now : Snapshot S) (number : ℕ) (call : Call) (dead : Row → Bool) (effects : List Effect) → IsRunningCall now.calls session number call → call.ask ≡ AskBulkDelete dead
+      → now.history ≡ first.history ++ acts_by number effects → Fits g start now → length (removed_of effects) ≤ 3276800
+  removed_low now number call dead effects is asks history then_fits =
+      let apt = remove_there start number now.calls call dead is.found asks first.history now.history effects history then_fits.owned in
+      let most = removed_few (g.state first.store).limits (g.state first.store).pages (removed_of effects) are.items_to (laws.stored first.store) (all_once start number first.history effects apt)
+      (λ e h. fits.matches.contents e ∙ all_were start number first.history effects apt e h) in
+      let few = laws.few first.store in
+      let low = are.pages_to in
+      omega (arith, most, few, low)
+
+  left_low : (now : Snapshot S) → (g.state now.store).limits ≡ (g.state first.store).limits → (n : ℕ) → entries_below (g.state now.store).pages n ≤ 3276800
+  left_low now limits n =
+      let items : (g.state now.store).limits.items ≤ 50 = subst (λ (l : Limits). l.items ≤ 50) (sym limits) are.items_to in
+      let low : (g.state now.store).limits.pages ≤ 65536 = subst (λ (l : Limits). l.pages ≤ 65536) (sym limits) are.pages_to in
+      let most = entries_few (g.state now.store).limits (g.state now.store).pages n items (laws.stored now.store) in
+      let few = laws.few now.store in
+      omega (arith, most, few, low)
+
+  pub bulk_fills : (number : ℕ) (call : Call) → IsRunningCall first.calls session number call → call.began ≡ length first.history → IsCountedIn first.sets (g.state first.store) (slot_of first.slots session) → FillsOnly g start session false first
+  bulk_fills number call is began start_counted now other c dead effects also asked gone sets limits then_fits counted out =
+      let same : c ≡ call = (one_runs g start first fits session number other call c is also).1 in
+      let then_call : Call = noted_behind c (length first.history) effects in
+      let runs = gone_runs other c effects first now now gone session also in
+      let r = runs_in_slot g start now then_fits session other then_call runs in
+      let one = one_runs g start now then_fits session other r.2.number then_call r.2.call runs r.2.is in
+      let slot : slot_of now.slots session ≡ Some r.0 = ap (λ (o : Option (Option Op)). unwrap_or o None) r.1 in
+      let then_asks : then_call.ask ≡ AskBulkDelete dead = same_ask c (length first.history) effects ∙ asked in
+      let asks : asked_of now.sets r.0 ≡ AskBulkDelete dead = sym r.2.runs.ask ∙ ap (λ (k : Call). k.ask) one.1 ∙ then_asks in
+      let then_began : r.2.call.began ≡ length first.history = ap (λ (k : Call). k.began) one.1 ∙ same_began c (length first.history) effects ∙ ap (λ (k : Call). k.began) same ∙ began in
+      let low = removed_low now other then_call dead effects runs then_asks gone.history_is then_fits in
+      let many : removed_by r.2.number (drop r.2.call.began now.history) ≡ length (removed_of effects) =
+      ap (λ (n : ℕ). removed_by n (drop r.2.call.began now.history)) one.0 ∙ ap (λ (n : ℕ). removed_by other (drop n now.history)) then_began ∙ ap (λ (l : List Action). removed_by other (drop (length first.history) l)) gone.history_is
+      ∙ ap (λ (l : List Action). removed_by other l) (drop-append_seam first.history (acts_by other effects)) ∙ all_counted start other effects in
+      of r.0 r.2.number r.2.call.began asks r.2.sweeps (subst (λ (o : Option Op). IsCountedIn first.sets (g.state now.store) o) slot (counted start_counted)) many low limits (subst (λ (o : Option Op). is_full_sweep o ≡ true) slot out)
+    where
+      of : (op : Op) (n b : ℕ) → asked_of now.sets op ≡ AskBulkDelete dead → OpSweeps (g.state now.store) now.sets start now.history n b op → IsCountedIn first.sets (g.state now.store) (Some op)
+          → removed_by n (drop b now.history) ≡ length (removed_of effects) → length (removed_of effects) ≤ 3276800 → (g.state now.store).limits ≡ (g.state first.store).limits → is_full_sweep (Some op) ≡ true → false ≡ true
+      of (Insert op) n b asks sweeps counts many low limits out = out
+      of (Scan op) n b asks sweeps counts many low limits out = out
+      of (Cleanup op) n b asks sweeps counts many low limits out = absurd counts
+      of (Bulk set op) n b asks sweeps counts many low limits out =
+          let left = left_low now limits op.cursor in
+          let is_left = counts.counted in
+          let is_removed = sweeps.1.removed in
+          not_out op (omega (arith, left, is_left)) (omega (arith, low, many, is_removed)) out

@@ -1,0 +1,133 @@
+-- Why a call is refused that is run to its end, told from the moment before to the moment behind it.
+use Rattle.std.specs.Prelude.{◌≡◌, ℕ, suc, ◌&&◌, ◌||◌, ◌==◌, not, nat_lt, nat_le, Bool, true, false, Option, Some, None, Result, Ok, Err, List, [], ◌∷◌, length, slice_get, is_none, IfErr}
+use Rattle.index_model.specs.Actions.{Effect}
+use Rattle.index_model.specs.Calls.{Ask, AskInsert, AskScan, AskBulkDelete, AskCleanup, Call}
+use Rattle.index_model.specs.Faults.{Circumstances, HasCause}
+use Rattle.index_model.specs.Row.{Row}
+use Rattle.index_model.specs.declared.entry.Entry.{Entry}
+use Rattle.index_model.specs.declared.fault.Fault.{Fault}
+use Rattle.index_model.specs.declared.range.Range.{Range}
+use Rattle.page_action.specs.Causes.{nothing_wrong, has_failed, is_at_end}
+use Rattle.page_action.specs.States.{State}
+use Rattle.page_action.specs.declared.page_store.PageStore.{Ghosts}
+use Rattle.descent.specs.Ways.{root_level}
+use Rattle.session_calls.specs.Ops.{asks_vacuum, IsFaultCaused}
+use Rattle.session_calls.specs.Sessions.{is_busy}
+use Rattle.session_calls.specs.declared.answer.Answer.{Answer}
+use Rattle.session_calls.specs.declared.answer.Answer.TheVariants.{Added, Refused}
+use Rattle.session_calls.specs.declared.op.Op.{Op}
+use Rattle.session_calls.specs.declared.op.Op.TheVariants.{Insert, Scan, Bulk, Cleanup}
+use Rattle.session_calls.specs.declared.request.Request.{Request}
+use Rattle.session_calls.specs.declared.request.Request.TheVariants.{Insert as ToInsert}
+use Rattle.schedule.specs.Events.{is_of_sets}
+use Rattle.schedule.specs.Snapshots.{StoreAndSlots, Snapshot, IsRunningCall, Fits, slot_of, one_vacuums}
+use Rattle.vacuum.specs.BulkDeletes.{is_counted_out}
+use Rattle.whole_calls.specs.Sweeping.{IsCountedIn}
+use Rattle.whole_calls.specs.Telling.{HasGoneOn}
+use Rattle.whole_calls.specs.declared.inserted.Inserted.{Inserted}
+
+-- one of these slots, which are those from this number on, runs a call, and is not the session's
+abbrev pub others_run : ℕ → List (Option Op) → ℕ → Bool
+others_run from [] session = false
+others_run from (slot ∷ slots) session = (not (from == session) && is_busy slot) || others_run (suc from) slots session
+
+-- another session runs a call, so that it may hold pages and frames
+abbrev pub another_runs : List (Option Op) → ℕ → Bool
+another_runs slots session = others_run 0 slots session
+
+-- the session runs a bulk delete that has no room left to count the entries of one more leaf
+abbrev pub is_full_sweep : Option Op → Bool
+is_full_sweep None = false
+is_full_sweep (Some (Insert op)) = false
+is_full_sweep (Some (Scan op)) = false
+is_full_sweep (Some (Bulk set op)) = is_counted_out op
+is_full_sweep (Some (Cleanup op)) = false
+
+-- What may be the cause where a running call is refused between these moments, at a step or at the checkpoint before it: a
+-- device call failed meanwhile; the log had failed before, or a counter is at its end; another session runs a call, and may hold
+-- a page or a frame; there are fewer frames than one act needs. The log is full only where less room is asked for than one image
+-- more than an act has.
+abbrev pub where_gone : {S : Type 0} → Ghosts S → ℕ → ℕ → Bool → StoreAndSlots S → S → Circumstances
+where_gone g session least_room counts_full old new = record nothing_wrong {
+  device_failed = has_failed (g.backing old.store) (g.backing new);
+  is_stopped = (g.backing old.store).stopped || (has_failed (g.backing old.store) (g.backing new) || (nat_le 18446744073709551615 (g.state new).acts || counts_full));
+  is_held_by_another = λ b. another_runs old.slots session;
+  log_is_full = nat_lt least_room 5;
+  frames_are_pinned = another_runs old.slots session || nat_lt (g.state new).frames 4;
+}
+
+-- ... of an insert also that its entry was there, and that no block is unused or that the root is on level 31, as far as these say so
+abbrev pub where_inserted : {S : Type 0} → Ghosts S → ℕ → ℕ → Bool → Bool → StoreAndSlots S → S → Circumstances
+where_inserted g session least_room used_up tall old new = record (where_gone g session least_room false old new) {
+  entry_was_there = true;
+  no_block_is_free = used_up;
+  root_is_at_31 = tall;
+}
+
+-- every block is in use
+abbrev pub is_used_up : State → Bool
+is_used_up st = nat_le st.limits.pages (length st.pages)
+
+-- the root is on level 31
+abbrev pub is_tall : State → Bool
+is_tall st = nat_le 31 (root_level st.pages)
+
+-- an insert that came to this had a cause: for its refusal; or for what it left unfinished, which may be that each block was in use
+-- then, or that the root was on level 31
+abbrev pub InsertIsCaused : {S : Type 0} → Ghosts S → ℕ → ℕ → StoreAndSlots S → S → Result Answer Fault → Type 0
+InsertIsCaused g session least_room old new (Ok (Refused fault)) = HasCause (where_inserted g session least_room (is_used_up (g.state new)) (is_tall (g.state new)) old new) fault
+InsertIsCaused g session least_room old new (Ok (Added action unfinished)) = IsFaultCaused (where_inserted g session least_room true true old new) unfinished
+InsertIsCaused g session least_room old new (Ok answer) = Unit {0}
+InsertIsCaused g session least_room old new (Err fault) = HasCause (where_inserted g session least_room (is_used_up (g.state new)) (is_tall (g.state new)) old new) fault
+
+-- ... so had another call
+abbrev pub CameIsCaused : Circumstances → Result Answer Fault → Type 0
+CameIsCaused at (Ok (Refused fault)) = HasCause at fault
+CameIsCaused at (Ok answer) = Unit {0}
+CameIsCaused at (Err fault) = HasCause at fault
+
+-- what a call came to that was asked this had a cause
+abbrev pub AskIsCaused : {S : Type 0} → Ghosts S → ℕ → ℕ → Bool → StoreAndSlots S → S → Ask → Result Answer Fault → Type 0
+AskIsCaused g session least_room counts_full old new (AskInsert e) result = InsertIsCaused g session least_room old new result
+AskIsCaused g session least_room counts_full old new (AskScan range) result = CameIsCaused (where_gone g session least_room false old new) result
+AskIsCaused g session least_room counts_full old new (AskBulkDelete dead) result = CameIsCaused (where_gone g session least_room counts_full old new) result
+AskIsCaused g session least_room counts_full old new AskCleanup result = Unit {0}
+
+-- ... of the session's running call
+abbrev pub CallIsCaused : {S : Type 0} → Ghosts S → ℕ → ℕ → Bool → StoreAndSlots S → S → Result Answer Fault → List Call → Type 0
+CallIsCaused g session least_room counts_full old new result calls =
+    (number : ℕ) (call : Call) → IsRunningCall calls session number call → AskIsCaused g session least_room counts_full old new call.ask result
+
+-- wherever the session's running bulk delete comes to while it goes on, it has no room to count more only where this says so
+abbrev pub FillsOnly : {S : Type 0} → Ghosts S → (Entry → Bool) → ℕ → Bool → Snapshot S → Type 0
+FillsOnly {S} g start session counts_full first =
+    (now : Snapshot S) (number : ℕ) (call : Call) (dead : Row → Bool) (effects : List Effect) → IsRunningCall first.calls session number call → call.ask ≡ AskBulkDelete dead
+    → HasGoneOn number call effects first now → now.sets ≡ first.sets → (g.state now.store).limits ≡ (g.state first.store).limits → Fits g start now
+    → (IsCountedIn first.sets (g.state first.store) (slot_of first.slots session) → IsCountedIn first.sets (g.state now.store) (slot_of now.slots session))
+    → is_full_sweep (slot_of now.slots session) ≡ true → counts_full ≡ true
+
+-- ... or why the call wasn't begun: the log had failed or a counter was at its end; there is no such session, or no such set; the
+-- session has a call; a bulk delete or a cleanup runs
+abbrev pub where_called : {S : Type 0} → Ghosts S → ℕ → Request → StoreAndSlots S → Circumstances → Circumstances
+where_called g session request old at = record at {
+  is_stopped = at.is_stopped || is_at_end (g.state old.store).begun;
+  vacuum_runs = asks_vacuum request && one_vacuums old.slots;
+  no_such_session = not (is_of_sets old.sets request) || is_none (slice_get old.slots session);
+  session_has_a_call = is_busy (slot_of old.slots session);
+}
+
+-- why an insert answers this that is run to its end in the session: for its refusal, and for what it leaves unfinished
+abbrev pub InsertCallIsCaused : {S : Type 0} → Ghosts S → ℕ → ℕ → Entry → StoreAndSlots S → S → Result Inserted Fault → Type 0
+InsertCallIsCaused g session least_room entry old new (Ok inserted) = IsFaultCaused (where_inserted g session least_room true true old new) inserted.unfinished
+InsertCallIsCaused g session least_room entry old new (Err fault) =
+    HasCause (where_called g session (ToInsert entry) old (where_inserted g session least_room (is_used_up (g.state new)) (is_tall (g.state new)) old new)) fault
+
+-- what the session's running scan came to had its cause
+abbrev pub ScanIsCaused : {S : Type 0} → Ghosts S → ℕ → ℕ → StoreAndSlots S → S → Result Answer Fault → List Call → Type 0
+ScanIsCaused g session least_room old new result calls =
+    (number : ℕ) (call : Call) (range : Range) → IsRunningCall calls session number call → call.ask ≡ AskScan range → CameIsCaused (where_gone g session least_room false old new) result
+
+-- why the session's running scan gives no entry that is asked for one
+abbrev pub GiveIsCaused : {S : Type 0} → Ghosts S → ℕ → ℕ → StoreAndSlots S → S → Result (Option Entry) Fault → List Call → Type 0
+GiveIsCaused g session least_room old new result calls =
+    (number : ℕ) (call : Call) (range : Range) → IsRunningCall calls session number call → call.ask ≡ AskScan range → IfErr result (HasCause (where_gone g session least_room false old new))
