@@ -1,7 +1,7 @@
 -- The lines that are events.
 use Rattle.std.specs.Prelude.{ℕ, Option, Some, None}
 use Rattle.schedule.specs.declared.event.Event.{Event}
-use Rattle.schedule.specs.declared.event.Event.TheVariants.{Insert as InsertEvent, Scan as ScanEvent, Bulk as BulkEvent, Step as StepEvent, Next as NextEvent, End as EndEvent, Force as ForceEvent, Flush as FlushEvent, Checkpoint as CheckpointEvent}
+use Rattle.schedule.specs.declared.event.Event.TheVariants.{Insert as InsertEvent, Scan as ScanEvent, Bulk as BulkEvent, Cleanup as CleanupEvent, Step as StepEvent, Next as NextEvent, End as EndEvent, Force as ForceEvent, Flush as FlushEvent, Checkpoint as CheckpointEvent}
 use Rattle.btidx.specs.declared.line.Line.{Line}
 use Rattle.btidx.specs.declared.line.Line.TheVariants.{Nothing, Insert, Scan, Bulk, Cleanup, Step, Run, Next, End, Put, List as ListOf, Force, Flush, Checkpoint, Fail, Stop, Crash as CrashOf, Dump}
 
@@ -11,7 +11,7 @@ event_of set Nothing = None
 event_of set (Insert session entry) = Some (InsertEvent session entry)
 event_of set (Scan session range) = Some (ScanEvent session range)
 event_of set (Bulk session rows) = Some (BulkEvent session set)
-event_of set (Cleanup session) = None
+event_of set (Cleanup session) = Some (CleanupEvent session)
 event_of set (Step session) = Some (StepEvent session)
 event_of set (Run session) = None
 event_of set (Next session) = Some (NextEvent session)

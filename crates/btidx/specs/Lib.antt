@@ -4,3 +4,6 @@ pub mod Printing
 pub mod Script
 pub mod Events
 pub mod Settings
+pub mod Files
+pub mod Reporting
+pub mod Dumping

@@ -1,7 +1,7 @@
 //! The command line.
 
 use crate::engine::Setting;
-use clap::{Arg, ArgMatches, Command, value_parser};
+use clap::{Arg, ArgAction, ArgMatches, Command, value_parser};
 use index_model::Limits;
 use std::alloc::{AllocError, Global};
 
@@ -32,6 +32,20 @@ A crash keeps all that wasn't synced, drops it, or tears it: half of each write 
 A line may also answer `refused N` with the number of a fault; `refused 4 BLOCK`: that page is latched, step again.
 Any other line ends the script with status 2.";
 
+// What the sizes of an index are.
+const ITEMS: &str = "Items that a page holds at most: 4 to 50";
+
+const PAGES: &str = "Blocks of the index: 8 to 65536";
+
+const LOG: &str = "Bytes of the log: 65536 to 16777216, a multiple of 4096";
+
+/// What a check answers, as the help shows it.
+const REPORT: &str = "Prints, with status 0, where no damage is found:
+  ok levels=L pages=P entries=E halfdead=H deleted=D unfinished=U
+L: levels.  P: blocks in use.  E: entries.  H: half-dead pages.  D: deleted ones.  U: ones whose split is unfinished.
+Else the first damage, with status 1:
+  damage N block B";
+
 /// The whole command line.
 pub fn program<'a>(alloc: Global) -> Result<Command<'a>, AllocError> {
     Command::new(alloc, "btidx")
@@ -39,26 +53,19 @@ pub fn program<'a>(alloc: Global) -> Result<Command<'a>, AllocError> {
         .subcommand_required(true)
         .arg_required_else_help(true)
         .disable_help_subcommand(true)
-        .subcommand(play(alloc)?)
+        .subcommand(play(alloc)?)?
+        .subcommand(create(alloc)?)?
+        .subcommand(check(alloc)?)?
+        .subcommand(dump(alloc)?)
 }
 
 fn play<'a>(alloc: Global) -> Result<Command<'a>, AllocError> {
     Command::new(alloc, "play")
         .about("Run a script from standard input over an index in memory")
         .after_help(LINES)
-        .arg(size(
-            alloc,
-            "items",
-            "4",
-            "Items that a page holds at most: 4 to 50",
-        ))?
-        .arg(size(alloc, "pages", "64", "Blocks of the index: 8 to 65536"))?
-        .arg(size(
-            alloc,
-            "log",
-            "1048576",
-            "Bytes of the log: 65536 to 16777216, a multiple of 4096",
-        ))?
+        .arg(size(alloc, "items", "4", ITEMS))?
+        .arg(size(alloc, "pages", "64", PAGES))?
+        .arg(size(alloc, "log", "1048576", LOG))?
         .arg(size(
             alloc,
             "frames",
@@ -66,6 +73,50 @@ fn play<'a>(alloc: Global) -> Result<Command<'a>, AllocError> {
             "Pages that are held in memory: 16 to 1024",
         ))?
         .arg(size(alloc, "sessions", "8", "Sessions: 1 to 64"))
+}
+
+fn create<'a>(alloc: Global) -> Result<Command<'a>, AllocError> {
+    Command::new(alloc, "create")
+        .about("Make an empty index in a new file")
+        .arg(file(alloc))?
+        .arg(needed_size(alloc, "items", ITEMS))?
+        .arg(needed_size(alloc, "pages", PAGES))?
+        .arg(needed_size(alloc, "log", LOG))
+}
+
+fn check<'a>(alloc: Global) -> Result<Command<'a>, AllocError> {
+    Command::new(alloc, "check")
+        .about("Look for damage in the index in a file")
+        .after_help(REPORT)
+        .arg(file(alloc))?
+        .arg(
+            Arg::new(alloc, "parents")
+                .long("parents")
+                .action(ArgAction::SetTrue)
+                .help("Compare parents and children too"),
+        )
+}
+
+fn dump<'a>(alloc: Global) -> Result<Command<'a>, AllocError> {
+    Command::new(alloc, "dump")
+        .about("Print each page of the index in a file, with its items")
+        .arg(file(alloc))
+}
+
+fn file<'a>(alloc: Global) -> Arg<'a> {
+    Arg::new(alloc, "path")
+        .value_name("PATH")
+        .required(true)
+        .help("The file of the index")
+}
+
+fn needed_size<'a>(alloc: Global, name: &'a str, help: &'a str) -> Arg<'a> {
+    Arg::new(alloc, name)
+        .long(name)
+        .value_name("N")
+        .value_parser(value_parser!(u32))
+        .required(true)
+        .help(help)
 }
 
 fn size<'a>(alloc: Global, name: &'a str, value: &'a str, help: &'a str) -> Arg<'a> {
@@ -80,14 +131,29 @@ fn size<'a>(alloc: Global, name: &'a str, value: &'a str, help: &'a str) -> Arg<
 /// The sizes on a command line of `play`.
 pub fn setting(matches: &ArgMatches<'_>) -> Setting {
     Setting {
-        limits: Limits {
-            items: number(matches, "items"),
-            pages: number(matches, "pages"),
-            log_bytes: number(matches, "log"),
-        },
+        limits: limits(matches),
         frames: number(matches, "frames"),
         sessions: number(matches, "sessions"),
     }
+}
+
+/// The sizes of an index on a command line of `create` or `play`.
+pub fn limits(matches: &ArgMatches<'_>) -> Limits {
+    Limits {
+        items: number(matches, "items"),
+        pages: number(matches, "pages"),
+        log_bytes: number(matches, "log"),
+    }
+}
+
+/// The file on a command line of `create`, `check` or `dump`.
+pub fn path<'a>(matches: &ArgMatches<'a>) -> &'a str {
+    matches.get_str("path").unwrap_or("")
+}
+
+/// Whether a command line of `check` asks for parents and children too.
+pub fn has_parents(matches: &ArgMatches<'_>) -> bool {
+    matches.get_flag("parents")
 }
 
 fn number(matches: &ArgMatches<'_>, name: &str) -> u32 {

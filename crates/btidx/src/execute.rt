@@ -2,18 +2,23 @@
 
 ghost use Rattle.std.specs.Prelude.{◌≡◌, ◌≤◌};
 
-use crate::command::{program, setting};
-use crate::play::{End, play};
+use crate::command::{has_parents, limits, path, program, setting};
+use crate::end::End;
+use crate::file_commands::{check, create, dump};
+use crate::play::play;
 use crate::refusal::print_refusal;
 use clap::{ArgMatches, Error};
 use index_model::Fault;
 use std::alloc::Global;
 use std::convert::AsStr;
+use std::fs::File;
 use std::io::{self, BufWriter, Read, Write};
+use std::rt::Files;
 
-/// Runs the command of these words, the program's own name first, and answers its status: 0 where all was done, 2
-/// where it was refused. `input` is read by `play`. A refusal is printed on `err`.
-pub fn execute<'a, S: AsStr, R: Read, W: Write, E: Write>(
+/// Runs the command of these words, the program's own name first, and answers its status: 0 where all was done, 1 where
+/// a check found damage, 2 where it was refused. `input` is read by `play`. A refusal is printed on `err`.
+pub fn execute<'a, F: Files<File = File>, S: AsStr, R: Read, W: Write, E: Write>(
+    rt: &F,
     alloc: Global,
     words: &'a [S],
     input: &mut R,
@@ -22,8 +27,9 @@ pub fn execute<'a, S: AsStr, R: Read, W: Write, E: Write>(
 ) -> u8
     ensures { result ≤ 2 }
 {
-    match buffered(alloc, words, input, out, err) {
+    match buffered(rt, alloc, words, input, out, err) {
         Ok(End::Done) => 0,
+        Ok(End::Damaged) => 1,
         Ok(End::Said) => 2,
         Ok(End::Refused(fault)) => refuse(err, fault),
         Err(error) => refuse(err, fault_of(&error)),
@@ -31,7 +37,8 @@ pub fn execute<'a, S: AsStr, R: Read, W: Write, E: Write>(
 }
 
 /// The command, with what it prints on `out` gathered in a buffer, which is handed on at its end at the latest.
-fn buffered<'a, S: AsStr, R: Read, W: Write, E: Write>(
+fn buffered<'a, F: Files<File = File>, S: AsStr, R: Read, W: Write, E: Write>(
+    rt: &F,
     alloc: Global,
     words: &'a [S],
     input: &mut R,
@@ -39,7 +46,7 @@ fn buffered<'a, S: AsStr, R: Read, W: Write, E: Write>(
     err: &mut E,
 ) -> io::Result<End> {
     let mut out = BufWriter::new(alloc, out)?;
-    let end = command(alloc, words, input, &mut out, err);
+    let end = command(rt, alloc, words, input, &mut out, err);
     out.flush()?;
     end
 }
@@ -59,7 +66,8 @@ fn fault_of(error: &io::Error) -> Fault {
     }
 }
 
-fn command<'a, S: AsStr, R: Read, W: Write, E: Write>(
+fn command<'a, F: Files<File = File>, S: AsStr, R: Read, W: Write, E: Write>(
+    rt: &F,
     alloc: Global,
     words: &'a [S],
     input: &mut R,
@@ -70,7 +78,7 @@ fn command<'a, S: AsStr, R: Read, W: Write, E: Write>(
         return Ok(End::Refused(Fault::NoMemory));
     };
     match program.try_get_matches_from(words) {
-        Ok(matches) => run(alloc, &matches, input, out, err),
+        Ok(matches) => run(rt, alloc, &matches, input, out, err),
         Err(error) => print_usage(&error, out, err),
     }
 }
@@ -85,7 +93,8 @@ fn print_usage<W: Write, E: Write>(error: &Error, out: &mut W, err: &mut E) -> i
     Ok(End::Done)
 }
 
-fn run<R: Read, W: Write, E: Write>(
+fn run<F: Files<File = File>, R: Read, W: Write, E: Write>(
+    rt: &F,
     alloc: Global,
     matches: &ArgMatches<'_>,
     input: &mut R,
@@ -94,6 +103,9 @@ fn run<R: Read, W: Write, E: Write>(
 ) -> io::Result<End> {
     match matches.subcommand() {
         Some(("play", matches)) => play(alloc, &setting(matches), input, out, err),
+        Some(("create", matches)) => create(rt, path(matches), &limits(matches), out),
+        Some(("check", matches)) => check(rt, alloc, path(matches), has_parents(matches), out),
+        Some(("dump", matches)) => dump(rt, alloc, path(matches), out),
         _ => Ok(End::Said),
     }
 }

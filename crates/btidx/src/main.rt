@@ -2,12 +2,17 @@
 #![tactic(auto)]
 
 mod answer;
+mod checking;
 mod command;
 mod dead;
 mod dump;
+mod end;
 mod engine;
 mod execute;
+mod file_commands;
+mod files;
 mod line;
+mod listing;
 mod number;
 mod play;
 mod refusal;
@@ -25,6 +30,13 @@ fn main(rt: HostRuntime) -> io::Result<ExitCode> {
     let mut input = rt.stdin();
     let mut out = rt.stdout();
     let mut err = rt.stderr();
-    let status = execute(rt.alloc(), words.as_slice(), &mut input, &mut out, &mut err);
+    let status = execute(
+        &rt,
+        rt.alloc(),
+        words.as_slice(),
+        &mut input,
+        &mut out,
+        &mut err,
+    );
     Ok(ExitCode::from(status))
 }

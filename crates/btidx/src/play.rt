@@ -6,6 +6,7 @@ ghost use Rattle.btidx.specs.Events.{event_of};
 use crate::answer::{print_answer, print_entry, print_refused};
 use crate::dead::{DeadList, dead_of};
 use crate::dump::print_page;
+use crate::end::End;
 use crate::engine::{Engine, Setting, Sink};
 use crate::line::{Crash, Line, LineError, parse};
 use crate::refusal::print_no_event;
@@ -16,17 +17,6 @@ use schedule::Event;
 use session_calls::Answer;
 use std::alloc::{AllocError, Global};
 use std::io::{self, Read, Write};
-
-/// How a command ended.
-#[derive(Clone, Copy, Debug, PartialEq, Eq)]
-pub enum End {
-    /// All was done.
-    Done,
-    /// What was wrong is said.
-    Said,
-    /// It is to be said why.
-    Refused(Fault),
-}
 
 /// Prints what an engine gives.
 #[derive(Drop)]
@@ -208,6 +198,7 @@ fn event_of(line: &Line<'_>, set: u32) -> Option<Event>
         Line::Insert(session, entry) => Some(Event::Insert(*session, *entry)),
         Line::Scan(session, range) => Some(Event::Scan(*session, *range)),
         Line::Bulk(session, _) => Some(Event::Bulk(*session, set)),
+        Line::Cleanup(session) => Some(Event::Cleanup(*session)),
         Line::Step(session) => Some(Event::Step(*session)),
         Line::Next(session) => Some(Event::Next(*session)),
         Line::End(session) => Some(Event::End(*session)),

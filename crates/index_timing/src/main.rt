@@ -1,15 +1,20 @@
 //! How many entries a second an index takes, gives and deletes on one core, and how long an open takes over a full log:
-//! `index_timing time` prints it to standard error. Without an argument it fills two small indexes, scans them and deletes half.
+//! `index_timing time` prints it to standard error, and `index_timing file` what the calls cost over a file. Without an
+//! argument it fills two small indexes, scans them and deletes half.
 #![tactic(auto)]
 
+mod filing;
 mod opening;
+mod reuse;
 
 use access_method::Index;
-use device::MemDevice;
+use device::{Device, MemDevice};
+use filing::time_files;
 use index_model::{DeadRows, Entry, Fault, Key, Limits, Range, RowAddr};
 use opening::time_open;
 use page_store::Store;
 use recovery::create;
+use reuse::time_reuse;
 use std::alloc::Global;
 use std::io::Eprint;
 use std::rt::Clock;
@@ -41,22 +46,41 @@ const SHUFFLED: u32 = 7_919;
 #[derive(Clone, Copy)]
 struct Load {
     count: u32,
+    keys: Keys,
     stride: u32,
     commit_every: u32,
     frames: u32,
 }
 
-// Entry i, with a key of four bytes.
-fn entry(i: u32) -> Entry {
+/// How many bytes the keys have.
+#[derive(Clone, Copy)]
+enum Keys {
+    Four,
+    Sixteen,
+}
+
+// Entry i.
+fn entry(i: u32, keys: Keys) -> Entry {
+    let number = i.to_be_bytes();
+    let mut long = [0x6b; 16];
+    long[12..].copy_from_slice(&number);
+    let key = match keys {
+        Keys::Four => Key::new(&number),
+        Keys::Sixteen => Key::new(&long),
+    };
     Entry {
-        key: Key::new(&i.to_be_bytes()).unwrap_or(Key::EMPTY),
+        key: key.unwrap_or(Key::EMPTY),
         row: RowAddr::new(i, 1).unwrap_or_default(),
     }
 }
 
-// An empty index, made on a device in memory and opened.
-fn empty_index(alloc: Global, frames: u32) -> Result<Index<Store<MemDevice>>, Fault> {
-    let mut device = MemDevice::new(alloc, LEN)?;
+// An empty index on this device.
+fn made_on<D: Device + Drop>(
+    alloc: Global,
+    device: D,
+    frames: u32,
+) -> Result<Index<Store<D>>, Fault> {
+    let mut device = device;
     create(&mut device, &LIMITS)?;
     match Index::open(alloc, device, frames) {
         Ok(index) => Ok(index),
@@ -64,10 +88,15 @@ fn empty_index(alloc: Global, frames: u32) -> Result<Index<Store<MemDevice>>, Fa
     }
 }
 
-fn fill(index: &mut Index<Store<MemDevice>>, load: Load) -> Result<(), Fault> {
+// An empty index in memory.
+fn empty_index(alloc: Global, frames: u32) -> Result<Index<Store<MemDevice>>, Fault> {
+    made_on(alloc, MemDevice::new(alloc, LEN)?, frames)
+}
+
+fn fill<D: Device + Drop>(index: &mut Index<Store<D>>, load: Load) -> Result<(), Fault> {
     for i in 0..load.count {
         let at = i.wrapping_mul(load.stride) % load.count.max(1);
-        index.aminsert(entry(at))?;
+        index.aminsert(entry(at, load.keys))?;
         if i % load.commit_every.max(1) + 1 == load.commit_every {
             index.commit()?;
         }
@@ -77,7 +106,7 @@ fn fill(index: &mut Index<Store<MemDevice>>, load: Load) -> Result<(), Fault> {
 }
 
 // How many entries a scan of the whole index gives; it stops behind one more than there may be.
-fn scan(index: &mut Index<Store<MemDevice>>, most: u32) -> Result<u32, Fault> {
+fn scan<D: Device + Drop>(index: &mut Index<Store<D>>, most: u32) -> Result<u32, Fault> {
     let token = index.ambeginscan(ALL)?;
     let mut given = 0u32;
     for _ in 0..most {
@@ -104,7 +133,7 @@ impl DeadRows for EverySecond {
 }
 
 // Deletes every second entry: how many were deleted, and how many were left.
-fn delete(index: &mut Index<Store<MemDevice>>) -> Result<(u64, u64), Fault> {
+fn delete<D: Device + Drop>(index: &mut Index<Store<D>>) -> Result<(u64, u64), Fault> {
     let stats = index.ambulkdelete(&EverySecond {})?;
     Ok((stats.tuples_removed, stats.num_index_tuples))
 }
@@ -155,6 +184,7 @@ fn time_all(rt: &(impl Clock + Eprint), alloc: Global, count: u32, frames: u32) 
             "ascending",
             Load {
                 count,
+                keys: Keys::Four,
                 stride: 1,
                 commit_every,
                 frames,
@@ -166,6 +196,7 @@ fn time_all(rt: &(impl Clock + Eprint), alloc: Global, count: u32, frames: u32) 
             "shuffled",
             Load {
                 count,
+                keys: Keys::Four,
                 stride: SHUFFLED,
                 commit_every,
                 frames,
@@ -175,11 +206,25 @@ fn time_all(rt: &(impl Clock + Eprint), alloc: Global, count: u32, frames: u32) 
     Ok(())
 }
 
+fn time_in_memory(rt: &(impl Clock + Eprint), alloc: Global) -> io::Result<()> {
+    for _ in 0..3 {
+        time_open(rt, alloc)?;
+    }
+    for count in [1_000, 10_000, 100_000] {
+        time_all(rt, alloc, count, FRAMES)?;
+    }
+    for frames in [16, 64] {
+        time_all(rt, alloc, 100_000, frames)?;
+    }
+    time_reuse(rt, alloc, 100_000)
+}
+
 fn main(rt: HostRuntime) -> io::Result<()> {
     let alloc = rt.alloc();
     for stride in [1, SHUFFLED] {
         let load = Load {
             count: 1_000,
+            keys: Keys::Four,
             stride,
             commit_every: 100,
             frames: FRAMES,
@@ -188,16 +233,10 @@ fn main(rt: HostRuntime) -> io::Result<()> {
             println!(rt; "1000 entries inserted and scanned, and half of them deleted")?;
         }
     }
-    if env::args(&rt)?.count() > 1 {
-        for _ in 0..3 {
-            time_open(&rt, alloc)?;
-        }
-        for count in [1_000, 10_000, 100_000] {
-            time_all(&rt, alloc, count, FRAMES)?;
-        }
-        for frames in [16, 64] {
-            time_all(&rt, alloc, 100_000, frames)?;
-        }
+    let words: Vec<String> = env::args(&rt)?.collect(alloc)?;
+    match words.get(1) {
+        None => Ok(()),
+        Some(word) if word.as_str() == "file" => time_files(&rt, alloc),
+        Some(_) => time_in_memory(&rt, alloc),
     }
-    Ok(())
 }
