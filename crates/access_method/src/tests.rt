@@ -220,7 +220,10 @@ fn deleted_pages_are_used_again(rt: HostRuntime) -> Result<(), Fail> {
     assert_eq!(rt; (cleaned.tuples_removed, cleaned.num_index_tuples), (0, 0));
     // The metapage, the root and its last child are left.
     assert_eq!(rt; cleaned.num_pages, removed.num_pages);
-    assert_eq!(rt; cleaned.pages_newly_deleted + 3, cleaned.num_pages);
+    assert_eq!(rt;
+        cleaned.pages_newly_deleted.wrapping_add(3),
+        cleaned.num_pages
+    );
     assert_eq!(rt; cleaned.pages_deleted, cleaned.pages_newly_deleted);
 
     insert_9(&mut index)?;

@@ -127,6 +127,8 @@ fn trees_in_memory(rt: HostRuntime) -> Result<(), Fail> {
         (600, 3, 7, 2_000, 1),
         (700, 8, 12, 2_000, 1),
     ] {
+        // Deletes keep some of the trees low.
+        let mut highest = 0;
         for round in 0..12u64 {
             let outcome = ran(
                 roomy(alloc, sessions, items),
@@ -134,20 +136,20 @@ fn trees_in_memory(rt: HostRuntime) -> Result<(), Fail> {
                 events,
             )?;
             assert!(rt; outcome.is_right, "{seed} + {round}: {outcome:?}");
-            assert!(rt;
-                outcome.tally.level >= level,
-                "{seed} + {round}: {outcome:?}"
-            );
+            highest = outcome.tally.level.max(highest);
             total.join(outcome.tally);
         }
+        assert!(rt; highest >= level, "{seed}: {highest}");
     }
     assert!(rt; total.index_full == 0 && total.log_full == 0, "{total:?}");
     assert!(rt;
-        total.met >= 300
-            && total.exists >= 500
-            && total.blocked >= 5_000
+        total.met >= 100
+            && total.exists >= 300
+            && total.blocked >= 3_000
             && total.deletes >= 100
-            && total.removes >= 300,
+            && total.removes >= 150
+            && total.cleanups >= 50
+            && total.deaths >= 50,
         "{total:?}"
     );
     Ok(())
