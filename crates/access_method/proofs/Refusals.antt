@@ -10,7 +10,6 @@ use Rattle.session_calls.specs.declared.op.Op.{Op}
 use Rattle.session_calls.specs.declared.op.Op.TheVariants.{Insert, Scan, Bulk, Cleanup}
 use Rattle.latch_table.specs.Holdings.{holding_of, nothing_held}
 use Rattle.page_delete.specs.Spares.{IsAlone}
-use Rattle.schedule.proofs.Unused.{no_set_runs}
 use Rattle.whole_calls.proofs.Refusing.{others_idle}
 use Rattle.index_model.specs.declared.stats.VacuumStats.{VacuumStats}
 use Rattle.index_model.specs.Row.{Row}
@@ -26,12 +25,13 @@ use Rattle.page_action.specs.declared.page_store.PageStore.{Ghosts}
 use Rattle.session_calls.specs.Ops.{IsFaultCaused, is_vacuum}
 use Rattle.session_calls.specs.Sessions.{is_busy}
 use Rattle.session_calls.specs.declared.request.Request.TheVariants.{Insert as ToInsert, Bulk as ToBulk}
-use Rattle.schedule.specs.Snapshots.{StoreAndSlots, Snapshot, snapshot_of, Fits, SlotRuns, IsFree, slot_of, one_vacuums}
+use Rattle.schedule.specs.Snapshots.{StoreAndSlots, Snapshot, snapshot_of, Fits, IsFree, slot_of, slot_vacuums, one_vacuums}
 use Rattle.schedule.proofs.Lists.{get_some}
 use Rattle.whole_calls.specs.Refusing.{another_runs, where_inserted, where_called, is_used_up, is_tall, InsertCallIsCaused, where_gone}
 use Rattle.whole_calls.specs.declared.inserted.Inserted.{Inserted}
 use Rattle.access_method.specs.Indexes.{slots_within, has_entry, InsertsOrKeeps, slots_with}
-use Rattle.access_method.specs.Refusals.{where_run, where_inserting, InsertHasCause, IsUnhindered, NoCleanupRuns, IsForWantOfSpace, IsOfSpace, InsertsUnhindered}
+use Rattle.access_method.specs.Refusals.{where_run, where_inserting, InsertHasCause, IsUnhindered, IsForWantOfSpace, IsOfSpace, InsertsUnhindered}
+use Rattle.access_method.specs.Tokens.{NoneVacuums}
 use Rattle.access_method.specs.declared.index.Index.{Index}
 
 true_false : true ≡ false → ⊥
@@ -188,7 +188,7 @@ module _ {S : Type 0} (g : Ghosts S) (entry : Entry) (old : Index S) (new : S) (
   insert_unhindered (Err fault) h = refused_unhindered fault h
 
 -- no session runs a bulk delete or a cleanup
-pub none_vacuums : (slots : List (Option Op)) → ((session : ℕ) (op : Op) → slice_get slots session ≡ Some (Some op) → is_vacuum op ≡ true → ⊥) → one_vacuums slots ≡ false
+none_vacuums : (slots : List (Option Op)) → ((session : ℕ) (op : Op) → slice_get slots session ≡ Some (Some op) → is_vacuum op ≡ true → ⊥) → one_vacuums slots ≡ false
 none_vacuums [] none = refl
 none_vacuums (None ∷ slots) none = none_vacuums slots (λ session op at. none (suc session) op at)
 none_vacuums (Some (Insert op) ∷ slots) none = none_vacuums slots (λ session op at. none (suc session) op at)
@@ -196,14 +196,8 @@ none_vacuums (Some (Scan op) ∷ slots) none = none_vacuums slots (λ session op
 none_vacuums (Some (Bulk set op) ∷ slots) none = absurd (none 0 (Bulk set op) refl refl)
 none_vacuums (Some (Cleanup op) ∷ slots) none = absurd (none 0 (Cleanup op) refl refl)
 
-pub no_vacuum : {S : Type 0} (g : Ghosts S) (start : Entry → Bool) (now : Snapshot S) → now.sets ≡ [] → Fits g start now → NoCleanupRuns now.calls
-    → (session : ℕ) (op : Op) → slice_get now.slots session ≡ Some (Some op) → is_vacuum op ≡ true → ⊥
-no_vacuum g start now none fits calm session (Insert op) at is = true_false (sym is)
-no_vacuum g start now none fits calm session (Scan op) at is = true_false (sym is)
-no_vacuum g start now none fits calm session (Bulk set op) at is = no_set_runs g start now none fits session set op at
-no_vacuum g start now none fits calm session (Cleanup op) at is =
-    let runs : SlotRuns g start now session (Cleanup op) = fits.running session (Some (Cleanup op)) at in
-    calm runs.number runs.call runs.is.found runs.is.running runs.runs.ask
+pub calm_slots : (slots : List (Option Op)) → NoneVacuums slots → one_vacuums slots ≡ false
+calm_slots slots none = none_vacuums slots (λ session op at is. true_false (sym is ∙ sym (ap (λ (o : Option (Option Op)). slot_vacuums (unwrap_or o None)) at) ∙ none session))
 
 -- where no open scan's call runs, nobody else holds a page
 pub all_alone : {S : Type 0} (g : Ghosts S) (start : Entry → Bool) (now : Snapshot S) → Fits g start now → another_runs now.slots 63 ≡ false → IsAlone (g.state now.store) 63

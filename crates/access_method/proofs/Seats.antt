@@ -12,11 +12,12 @@ use Rattle.page_action.specs.States.{Backing}
 use Rattle.index_model.specs.declared.range.Range.{Range}
 use Rattle.page_action.specs.Contents.{entry_on_live_leaf}
 use Rattle.page_action.specs.declared.page_store.PageStore.{Ghosts}
-use Rattle.session_calls.specs.Ops.{DeadSets}
+use Rattle.session_calls.specs.Ops.{DeadSets, RunsOn}
+use Rattle.session_calls.proofs.RunningOn.{stays_vacuum}
 use Rattle.session_calls.specs.Sessions.{begun_call}
 use Rattle.session_calls.specs.declared.request.Request.TheVariants.{Scan as ToScan}
 use Rattle.session_calls.specs.declared.op.Op.{Op}
-use Rattle.schedule.specs.Snapshots.{Snapshot, slot_of}
+use Rattle.schedule.specs.Snapshots.{Snapshot, slot_of, slot_vacuums}
 use Rattle.schedule.specs.Events.{OthersStay, where_begun_at}
 use Rattle.schedule.proofs.Unused.{in_replicate}
 use Rattle.schedule.proofs.Lists.{get_set_same, get_set_other, get_some}
@@ -24,7 +25,7 @@ use Rattle.whole_calls.specs.Telling.{TellsEnd, BeginTold}
 use Rattle.page_codec.specs.declared.page.Page.{Page}
 use Rattle.access_method.specs.declared.index.Index.{Index}
 use Rattle.access_method.specs.Indexes.{IndexFits, IndexKeeps, RescanTold}
-use Rattle.access_method.specs.Tokens.{SeatsAgree, seat_for}
+use Rattle.access_method.specs.Tokens.{SeatsAgree, NoneVacuums, seat_for}
 use Rattle.access_method.specs.declared.token.Seat.{Seat}
 
 -- no token is open
@@ -39,6 +40,26 @@ closed_at n i number seats is = of (slice_get seats i) refl
 -- the slots of sessions that stay
 stays_at : (old new : List (Option Op)) (session other : ℕ) → OthersStay session old new → other ≢ session → slot_of new other ≡ slot_of old other
 stays_at old new session other stay apart = ap (λ (o : Option (Option Op)). unwrap_or o None) (stay other apart)
+
+-- what runs on vacuums no more than it did
+pub runs_calm : (before slot : Option Op) → RunsOn before slot → slot_vacuums before ≡ false → slot_vacuums slot ≡ false
+runs_calm before None on none = refl
+runs_calm None (Some op) on none = absurd on
+runs_calm (Some before) (Some op) on none = stays_vacuum before op on ∙ none
+
+-- no session vacuums behind a change of one session's slot, which doesn't
+module _ (old new : List (Option Op)) (session : ℕ) (none : NoneVacuums old) (stay : OthersStay session old new) where
+  pub calm_still : slot_vacuums (slot_of new session) ≡ false → NoneVacuums new
+  calm_still here other = elim (cases_eq other session) [
+    | inl same ↦ subst (λ (n : ℕ). slot_vacuums (slot_of new n) ≡ false) (sym same) here
+    | inr apart ↦ ap slot_vacuums (stays_at old new session other stay apart) ∙ none other
+  ]
+
+  pub calm_over : slot_of new session ≡ None → NoneVacuums new
+  calm_over over = calm_still (ap slot_vacuums over)
+
+  pub calm_on : RunsOn (slot_of old session) (slot_of new session) → NoneVacuums new
+  calm_on on = calm_still (runs_calm (slot_of old session) (slot_of new session) on (none session))
 
 module _ (old new : List (Option Op)) (seats : List (Option Seat)) (session : ℕ) (agree : SeatsAgree old seats) (low : session < 63) (stay : OthersStay session old new) where
   inserts_stay : slot_of new 63 ≡ None

@@ -1,11 +1,11 @@
 -- Why a call of an index is refused that runs steps, and what it answers where nothing hinders it.
 use Rattle.schedule.specs.Snapshots.{IsRunningCall}
 use Rattle.index_model.specs.declared.range.Range.{Range}
-use Rattle.index_model.specs.Calls.{AskScan, AskCleanup, Running, Call}
+use Rattle.index_model.specs.Calls.{AskScan, Call}
 use Rattle.page_codec.specs.declared.page.PageState.TheVariants.{HalfDead}
 use Rattle.tree_acts.specs.Deletions.{state_in}
 use Rattle.index_model.specs.Actions.{Action}
-use Rattle.std.specs.Prelude.{◌≡◌, ◌≢◌, slice_get, ℕ, ◌<◌, ◌≤◌, ◌||◌, nat_lt, nat_le, Bool, true, false, Option, Some, None, Result, Ok, Err, List, IfErr, IsOk}
+use Rattle.std.specs.Prelude.{◌≡◌, ◌≢◌, ℕ, ◌<◌, ◌≤◌, ◌||◌, nat_lt, nat_le, Bool, true, false, Option, Some, None, Result, Ok, Err, List, IfErr, IsOk}
 use Rattle.index_model.specs.Faults.{Circumstances, HasCause}
 use Rattle.index_model.specs.declared.entry.Entry.{Entry}
 use Rattle.index_model.specs.declared.fault.Fault.{Fault}
@@ -20,8 +20,8 @@ use Rattle.access_method.specs.declared.index.Index.{Index}
 
 -- What may be the cause where a call is refused between these moments: a device call failed meanwhile; the log had failed before, or
 -- a counter is at its end; the call of an open scan, another one, still runs, and may hold a page or a frame; there are fewer frames
--- than one act needs. The log is never full, there is a session, which has no other call, no bulk delete runs, and no page is
--- damaged.
+-- than one act needs. The log is never full, there is a session, which has no other call, no bulk delete or cleanup runs, and no page
+-- is damaged.
 abbrev pub where_run : {S : Type 0} → Ghosts S → ℕ → Index S → S → Circumstances
 where_run g session old new = record nothing_wrong {
   device_failed = has_failed (g.backing old.store) (g.backing new);
@@ -52,10 +52,6 @@ pub record IsUnhindered {S : Type 0} (g : Ghosts S) (session : ℕ) (old : Index
   pub begun : (g.state old.store).begun < 18446744073709551615
   pub acts : (g.state new).acts < 18446744073709551615
   pub frames : 16 ≤ (g.state old.store).frames
-
--- no running call is a cleanup: so it is between an index's calls, of which all but the scans are run to their ends
-abbrev pub NoCleanupRuns : List Call → Type 0
-NoCleanupRuns calls = (number : ℕ) (call : Call) → slice_get calls number ≡ Some call → call.ending ≡ Running → call.ask ≢ AskCleanup
 
 -- no open scan's call runs, and no page is half-dead
 pub record IsCalm {S : Type 0} (g : Ghosts S) (index : Index S) : Type 0 where

@@ -1,7 +1,7 @@
 -- Tokens, and which of them are open.
-use Rattle.std.specs.Prelude.{◌≡◌, ◌≢◌, ℕ, ◌==◌, if◌then◌else◌, Option, Some, None, List, slice_get}
+use Rattle.std.specs.Prelude.{◌≡◌, ◌≢◌, ℕ, false, ◌==◌, if◌then◌else◌, Option, Some, None, List, slice_get}
 use Rattle.session_calls.specs.declared.op.Op.{Op}
-use Rattle.schedule.specs.Snapshots.{slot_of}
+use Rattle.schedule.specs.Snapshots.{slot_of, slot_vacuums}
 use Rattle.access_method.specs.declared.token.ScanToken.{ScanToken}
 use Rattle.access_method.specs.declared.token.Seat.{Seat}
 
@@ -19,6 +19,10 @@ seat_of seats token = seat_for token.number (slice_get seats token.session)
 pub record SeatsAgree (slots : List (Option Op)) (seats : List (Option Seat)) : Type 0 where
   pub inserts : slot_of slots 63 ≡ None
   pub free : (session : ℕ) → slice_get seats session ≡ Some None → slot_of slots session ≡ None
+
+-- no session runs a bulk delete or a cleanup
+abbrev pub NoneVacuums : List (Option Op) → Type 0
+NoneVacuums slots = (session : ℕ) → slot_vacuums (slot_of slots session) ≡ false
 
 -- no seat is free
 abbrev pub AreTaken : List (Option Seat) → Type 0

@@ -2,7 +2,7 @@
 
 ghost use Rattle.std.specs.Prelude.{◌≡◌, ◌<◌, None, IfSome, length, replicate};
 ghost use Rattle.access_method.specs.Counted.{counted};
-ghost use Rattle.access_method.specs.Tokens.{SeatsAgree, IsFreeSeat};
+ghost use Rattle.access_method.specs.Tokens.{SeatsAgree, NoneVacuums, IsFreeSeat};
 
 use crate::token::{ScanToken, Seat};
 use device::Device;
@@ -19,8 +19,8 @@ use whole_calls::{Inserted, bulk_delete, clean_up, give, give_up, insert, open};
 // How many images of pages the log has room for before a step: an act takes four at most, and a force that it makes one more.
 const LEAST_ROOM: u32 = 5;
 
-/// The index of one user over a store of pages. Session 63 runs its inserts, sessions 0 to 62 its open scans; each call
-/// is run to its end before it answers. Nothing takes memory.
+/// The index of one user over a store of pages. Session 63 runs its inserts, bulk deletes and cleanups, sessions 0 to 62 its open
+/// scans; each call is run to its end before it answers, so that between calls no session vacuums. Nothing takes memory.
 #[derive(Drop)]
 pub struct Index<S> {
     store: S,
@@ -28,6 +28,7 @@ pub struct Index<S> {
     seats: [Option<Seat>; 63],
     given: u64,
     ghost agree: { SeatsAgree slots seats },
+    ghost none_vacuums: { NoneVacuums slots },
 }
 
 // No session runs anything.
@@ -109,7 +110,7 @@ impl<S: PageStore> Index<S> {
     ghost use Rattle.access_method.specs.Tokens.{seat_of};
     ghost use Rattle.access_method.specs.Indexes.{IndexFits, IndexKeeps, IndexGoes, IndexInserts, IndexCarries, SweepRuns, KeepsTokens, IsNewToken, SeatBecomes, seat_with, RescanTold, TokenAfter, InsertsOrKeeps, IsSweptOrLess, IsCleanedUp, AnswersScan, NotOpenedFor, NotRescannedFor, cannot_begin};
     ghost use Rattle.access_method.specs.Counted.{kept_came};
-    ghost use Rattle.access_method.specs.Refusals.{where_run, InsertHasCause, IsUnhindered, NoCleanupRuns, IsCalm, InsertsUnhindered, GiveHasCause, GivesUnhindered};
+    ghost use Rattle.access_method.specs.Refusals.{where_run, InsertHasCause, IsUnhindered, IsCalm, InsertsUnhindered, GiveHasCause, GivesUnhindered};
 
     /// An index over the store, with no call and no open scan. Where the store's pages are in order and it has made no
     /// act, the index is fitted by the contents of its pages, no actions and no calls; over an own device it keeps them
@@ -172,11 +173,9 @@ impl<S: PageStore> Index<S> {
             self.old.store self.new.store) }
         // It never answers `LogFull`, `NoSession`, `SessionBusy` nor `VacuumRunning`.
         ensures cause { IndexCarries S.PageStore self.old self.new (λ start history calls.
-            NoCleanupRuns calls
-            → IfErr result (HasCause (where_run S.PageStore 63 self.old self.new.store))) }
+            IfErr result (HasCause (where_run S.PageStore 63 self.old self.new.store))) }
         ensures finishes { IndexCarries S.PageStore self.old self.new (λ start history calls.
-            NoCleanupRuns calls
-            → IsUnhindered S.PageStore 63 self.old self.new.store → IsOk result) }
+            IsUnhindered S.PageStore 63 self.old self.new.store → IsOk result) }
         ensures tokens { KeepsTokens self.old self.new }
     {
         bulk_delete(

@@ -11,12 +11,13 @@ use Rattle.page_action.specs.Causes.{nothing_wrong, where_forced}
 use Rattle.page_action.specs.States.{State}
 use Rattle.page_action.specs.declared.page_store.PageStore.{Ghosts}
 use Rattle.session_calls.specs.Due.{IsDueIn, CountsDown, HasSteps}
-use Rattle.session_calls.specs.Ops.{DeadSets, op_before, asks_vacuum, asks_sweep, is_sweep, session_of, asked_of, where_slot_stepped, where_asked_next, where_requesting, where_beginning, AnswersStopped}
+use Rattle.session_calls.specs.Ops.{DeadSets, op_before, asks_vacuum, asks_sweep, is_sweep, session_of, asked_of, where_slot_stepped, where_asked_next, where_requesting, where_beginning, RunsOn, AnswersStopped}
 use Rattle.session_calls.specs.Sessions.{Matches, IsIdle, SlotFits, KeepsPages, SessionGoes, SessionBegins, IsBegun, BeginsBy, after_call, let_go, is_busy, slot_add, LeavesLess, LeavesNoMore, GivesLess, AnswersStep, AnswersNext, AnswersEnd, RefusalChangesNothing, OnlyWritersAct, OnlyOwnAreFlagged, LeavesOwnFlagged, KeepsBeforePins, CountsEntries, SparesLeaves}
 use Rattle.session_calls.specs.declared.answer.Answer.{Answer}
 use Rattle.session_calls.specs.declared.answer.Answer.TheVariants.{Begun, Going, Added, Ready, Done, Finished, Gave, Ended, Forced, Flushed, Checkpointed, Refused}
 use Rattle.session_calls.specs.declared.op.Op.{Op}
 use Rattle.session_calls.specs.declared.request.Request.{Request}
+use Rattle.session_calls.proofs.RunningOn.{runs_over}
 use Rattle.schedule.specs.Snapshots.{here_with, snapshot_of, slot_of, one_vacuums, Fits}
 use Rattle.schedule.specs.Events.{Steps, Takes, GivesUp, Upkeep, Forces, Flushes, Checkpoints, BeginsCall, MovesCall, KeepsStore, kept_answer, is_of_sets, session_to_begin, where_begun_at, DoesOneAct, EventAlways, AnswersUpkeep}
 use Rattle.schedule.specs.Runs.{EventRuns, Makes}
@@ -75,8 +76,9 @@ module _ {S : Type 0} (g : Ghosts S) (laws : Laws g) (old new : S) (follows : g.
       → ((g.backing new).honest ≡ true → KeepsBeforePins (g.state old) before slot answer)
       → ((g.backing new).honest ≡ true → CountsEntries sets (g.state old) (g.state new) before slot answer)
       → ((g.backing new).honest ≡ true → SparesLeaves (g.state old) (g.state new) before slot answer)
+      → RunsOn before slot
       → Makes g (MovesCall session Steps) answer (here_with old slots sets) (here_with new (slice_set slots session slot) sets)
-  step_makes kind refused stopped less kept calm no_more goes due flagged pins entries spares = record {
+  step_makes kind refused stopped less kept calm no_more goes due flagged pins entries spares runs_on = record {
     sessions = length_set slots session slot;
     always = always;
     does = λ honest start history calls fits.
@@ -108,6 +110,7 @@ module _ {S : Type 0} (g : Ghosts S) (laws : Laws g) (old new : S) (follows : g.
         causes = tt;
         order = tt;
         fresh = tt;
+        runs_on = at_slots slots session before slot (λ x y. RunsOn x y) found_at runs_on;
       }
 
   pub end_makes : AnswersEnd before answer → slot ≡ None → g.backing new ≡ g.backing old → g.state new ≡ after_call op (g.state old)
@@ -139,6 +142,7 @@ module _ {S : Type 0} (g : Ghosts S) (laws : Laws g) (old new : S) (follows : g.
         causes = tt;
         order = tt;
         fresh = tt;
+        runs_on = at_slots slots session before slot (λ x y. RunsOn x y) found_at (runs_over before slot over);
       }
 
 -- a `next` of a session's running call, which changes nothing of the store
@@ -158,11 +162,11 @@ module _ {S : Type 0} (g : Ghosts S) (laws : Laws g) (store : S) (slots : List (
   refused_same (Checkpointed n) h fault e = absurd cc
   refused_same (Refused f) h fault e = h.0
 
-  pub next_makes : AnswersNext before answer → GivesLess before slot answer
+  pub next_makes : AnswersNext before answer → GivesLess before slot answer → RunsOn before slot
       → ((st : State) (start : Entry → Bool) (history : List Action) (number : ℕ) (call : Call) → SlotFits st sets start history number call before → SessionGoes (where_asked_next call.ask) st st sets start history number call slot answer)
       → ((st : State) (steps : ℕ) → IsDueIn st before steps → IsDueIn st slot steps)
       → Makes g (MovesCall session Takes) answer (here_with store slots sets) (here_with store (slice_set slots session slot) sets)
-  next_makes kind less goes due = record {
+  next_makes kind less runs_on goes due = record {
     sessions = length_set slots session slot;
     always = always;
     does = λ honest start history calls fits.
@@ -190,6 +194,7 @@ module _ {S : Type 0} (g : Ghosts S) (laws : Laws g) (store : S) (slots : List (
         causes = tt;
         order = tt;
         fresh = tt;
+        runs_on = at_slots slots session before slot (λ x y. RunsOn x y) found_at runs_on;
       }
 
 -- what is done for the store
@@ -231,6 +236,7 @@ module _ {S : Type 0} (g : Ghosts S) (laws : Laws g) (old new : S) (follows : g.
         causes = tt;
         order = tt;
         fresh = tt;
+        runs_on = tt;
       }
 
   pub not_kept_makes : (fault : Fault) → ((g.backing old).stopped ≡ true → fault ≡ Stopped) → HasCause (where_forced (g.backing old) (g.backing new)) fault
@@ -257,6 +263,7 @@ module _ {S : Type 0} (g : Ghosts S) (laws : Laws g) (old new : S) (follows : g.
         causes = tt;
         order = tt;
         fresh = tt;
+        runs_on = tt;
       }
 
 -- a changed page is written to its place
@@ -282,6 +289,7 @@ flush_makes g laws old new follows slots sets same block first alive = record {
       causes = tt;
       order = tt;
       fresh = tt;
+      runs_on = tt;
     }
 
 -- the cause of a beginning that is refused, where there is the set that it names
@@ -328,6 +336,7 @@ module _ {S : Type 0} (g : Ghosts S) (laws : Laws g) (old new : S) (follows : g.
     causes = tt;
     order = λ fault e. absurd (found_one fault e);
     fresh = λ begun. set_is slots session slot (get_within slots session None free) ∙ h.runs;
+    runs_on = tt;
   }
   always_of (Refused fault) h = record {
     answers = tt;
@@ -341,6 +350,7 @@ module _ {S : Type 0} (g : Ghosts S) (laws : Laws g) (old new : S) (follows : g.
     causes = cause_of fault h.cause;
     order = λ f e. absurd (found_one f e);
     fresh = λ e. absurd cc;
+    runs_on = tt;
   }
   always_of Going h = absurd h
   always_of (Added x u) h = absurd h
@@ -426,4 +436,5 @@ not_found_makes g laws store slots sets session request fault none = record {
       causes = not_found_why g store (one_vacuums slots) sets request session (g.backing store).stopped (is_of_sets sets request) (slice_get slots session) fault refl refl none;
       order = λ f e. ap Refused (let both : Err fault ≡ Err f = none ∙ e in cc);
       fresh = λ e. absurd cc;
+      runs_on = tt;
     }

@@ -14,7 +14,7 @@ use Rattle.page_codec.specs.declared.page.Page.{Page}
 use Rattle.tree_acts.specs.Leaves.{IsLeafAt, WasLeaf}
 use Rattle.descent.specs.Shared.{OthersRely}
 use Rattle.session_calls.specs.Due.{IsDueIn, CountsDown, HasSteps}
-use Rattle.session_calls.specs.Ops.{DeadSets, asked_by, op_before, asks_vacuum, asked_of, where_stepped, where_asked_next, where_beginning, IsCaused, AnswersStopped}
+use Rattle.session_calls.specs.Ops.{DeadSets, asked_by, op_before, asks_vacuum, asked_of, where_stepped, where_asked_next, where_beginning, RunsOn, IsCaused, AnswersStopped}
 use Rattle.session_calls.specs.Sessions.{Told, IsAsked, MovesShape, acts_of, begun_call, is_busy, slot_add, LeavesLess, LeavesNoMore, GivesLess, AnswersStep, AnswersNext, AnswersEnd, RefusalChangesNothing, OnlyWritersAct, OnlyOwnAreFlagged, LeavesOwnFlagged, KeepsBeforePins, CountsEntries, SparesLeaves}
 use Rattle.session_calls.specs.declared.answer.Answer.{Answer}
 use Rattle.session_calls.specs.declared.answer.Answer.TheVariants.{Begun, Forced, Flushed, Checkpointed, Refused}
@@ -310,10 +310,15 @@ abbrev pub StartsFresh : Kind → Answer → Option Op → Type 0
 StartsFresh (BeginsCall session request) answer after = answer ≡ Begun → after ≡ Some (op_before session request)
 StartsFresh kind answer after = Unit {0}
 
+-- behind a move of its call a session runs nothing, or a call of the same kind
+abbrev pub MoveRunsOn : Kind → Option Op → Option Op → Type 0
+MoveRunsOn (MovesCall session move) before after = RunsOn before after
+MoveRunsOn kind before after = Unit {0}
+
 -- What holds of an event whatever the pages are: what it may answer; that a refusal changes nothing; that a stopped log
 -- refuses it first; what is left to do for its call, over a device that keeps its model; that it does one act at most, and
 -- only a step of an insert, of a bulk delete or of a cleanup does one; that no other session's slot is changed; what it leaves; that a
--- beginning that is refused has its cause, the first that there is; and what a beginning begins.
+-- beginning that is refused has its cause, the first that there is; what a beginning begins; and that a call stays of its kind.
 pub record EventAlways {S : Type 0} (g : Ghosts S) (kind : Kind) (answer : Answer) (old new : StoreAndSlots S) : Type 0 where
   pub answers : AnswersEvent kind answer old.slots new.slots
   pub refused : RefusalKeeps g kind answer old new
@@ -326,6 +331,7 @@ pub record EventAlways {S : Type 0} (g : Ghosts S) (kind : Kind) (answer : Answe
   pub causes : BeginningIsCaused g kind answer old
   pub order : RefusesInOrder g kind answer old
   pub fresh : StartsFresh kind answer (slot_of new.slots (session_at kind))
+  pub runs_on : MoveRunsOn kind (slot_of old.slots (session_at kind)) (slot_of new.slots (session_at kind))
 
 -- A step: a call that was due comes to what is awaited at its last step, and each step before leaves one fewer. While no
 -- action is logged, no more is left to do than before, whether it was due or not.

@@ -14,3 +14,4 @@ pub mod Bounds
 pub mod Beginning
 pub mod Counting
 pub mod Hindering
+pub mod RunningOn

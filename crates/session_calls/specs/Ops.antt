@@ -96,6 +96,25 @@ is_sweep (Scan op) = false
 is_sweep (Bulk set op) = true
 is_sweep (Cleanup op) = false
 
+-- the kinds of calls, a bulk delete's with the place of its set
+pub data CallKind : Type 0 where
+  InsertKind : CallKind
+  ScanKind : CallKind
+  BulkKind : (set : ℕ) → CallKind
+  CleanupKind : CallKind
+
+abbrev pub call_kind : Op → CallKind
+call_kind (Insert op) = InsertKind
+call_kind (Scan op) = ScanKind
+call_kind (Bulk set op) = BulkKind set
+call_kind (Cleanup op) = CleanupKind
+
+-- behind an event of its call a session runs nothing, or a call of the same kind
+abbrev pub RunsOn : Option Op → Option Op → Type 0
+RunsOn before None = Unit {0}
+RunsOn None (Some op) = ⊥
+RunsOn (Some before) (Some op) = call_kind op ≡ call_kind before
+
 -- what it was asked, with these sets
 abbrev pub asked_of : DeadSets → Op → Ask
 asked_of sets (Insert op) = AskInsert op.entry

@@ -21,7 +21,7 @@ use Rattle.page_delete.specs.Counts.{IsCleaned, AllIsCleaned}
 use Rattle.page_delete.specs.Parts.{PinnedLeavesStay}
 use Rattle.page_delete.specs.Spares.{IsAlone, IsSparing, OnlyNeededStay}
 use Rattle.vacuum.specs.Counts.{IsCounted, entries_below}
-use Rattle.session_calls.specs.Ops.{DeadSets, set_at, asked_by, op_before, session_of, asked_of, add_of, ready_of, OpFits, OpKnows, where_requesting, asks_sweep, is_sweep, IsOfSets, IsCaused, ends_call, is_last, OpAnswers, AnswersStopped, op_work, op_targets}
+use Rattle.session_calls.specs.Ops.{DeadSets, set_at, asked_by, op_before, session_of, asked_of, add_of, ready_of, OpFits, OpKnows, where_requesting, asks_sweep, is_sweep, IsOfSets, call_kind, IsCaused, ends_call, is_last, OpAnswers, AnswersStopped, op_work, op_targets}
 use Rattle.tree_acts.specs.Leaves.{LeavesStay, IsLeafAt}
 use Rattle.session_calls.specs.Sweeps.{OpSweeps, SlotSweeps}
 use Rattle.session_calls.specs.declared.answer.Answer.{Answer}
@@ -449,12 +449,14 @@ pub record SessionBegins (old new : State) (sets : DeadSets) (start : Entry → 
 abbrev pub slot_after : Answer → Op → Option Op
 slot_after answer op = if is_last answer then None else Some op
 
--- A step of an operation, before what it holds is let go at its end. On any pages: what it may answer; it does one act at
--- most; a refusal changes nothing; a stopped log refuses it; and over a device that keeps its model, what is left to do.
+-- A step of an operation, before what it holds is let go at its end. On any pages: it stays of its kind; what it may answer; it
+-- does one act at most; a refusal changes nothing; a stopped log refuses it; and over a device that keeps its model, what is left
+-- to do.
 pub record OpSteps {S : Type 0} (g : Ghosts S) (before after : Op) (old new : S) (answer : Answer) : Type 0 where
   pub steps : Continues g.follows old new
   pub session : session_of after ≡ session_of before
   pub sweep : is_sweep after ≡ is_sweep before
+  pub one_kind : call_kind after ≡ call_kind before
   pub kind : OpAnswers before after answer
   pub refused : (fault : Fault) → answer ≡ Refused fault → (g.state new ≡ g.state old) × (after ≡ before)
   pub stopped : (g.backing old).stopped ≡ true → AnswersStopped (add_of before) answer

@@ -7,7 +7,7 @@ ghost use Rattle.index_model.specs.declared.entry.Entry.{Entry};
 ghost use Rattle.page_action.specs.Causes.{nothing_wrong};
 ghost use Rattle.page_action.specs.States.{State, Continues};
 ghost use Rattle.session_calls.specs.Due.{IsDueIn, CountsDown};
-ghost use Rattle.session_calls.specs.Ops.{DeadSets, where_slot_stepped, where_asked_next, is_last, AnswersStopped};
+ghost use Rattle.session_calls.specs.Ops.{DeadSets, where_slot_stepped, where_asked_next, is_last, RunsOn, AnswersStopped};
 ghost use Rattle.session_calls.specs.Sessions.{SlotFits, SessionGoes, KeepsPages, OnlyWritersAct, OnlyOwnAreFlagged, LeavesOwnFlagged, KeepsBeforePins, CountsEntries, SparesLeaves, LeavesLess, LeavesNoMore, GivesLess, AnswersStep, AnswersNext, AnswersEnd, RefusalChangesNothing, no_call, slot_add, after_call};
 ghost use Rattle.session_calls.specs.declared.op.Op.{Op};
 
@@ -30,6 +30,7 @@ pub fn step<S: PageStore, T: DeadRows>(store: &mut S, slot: &mut Option<Op>, set
     ensures stopped { (S.backing store.old).stopped ≡ true
         → AnswersStopped (slot_add slot.old) result }
     ensures kind { AnswersStep slot.old slot.new result }
+    ensures runs_on { RunsOn slot.old slot.new }
     ensures kept { KeepsPages (S.state store.old) (S.state store.new) }
     ensures calm { OnlyWritersAct slot.old (S.state store.old) (S.state store.new) }
     ensures less { (S.backing store.new).honest ≡ true
@@ -108,6 +109,7 @@ fn is_last(answer: &Answer) -> bool
 pub fn next(slot: &mut Option<Op>) -> Answer
     ensures idle { slot.old ≡ None → (slot.new ≡ None) × (result ≡ no_call false) }
     ensures kind { AnswersNext slot.old result }
+    ensures runs_on { RunsOn slot.old slot.new }
     ensures less { GivesLess slot.old slot.new result }
     ensures goes { (st : State) (sets : DeadSets) (start : Entry → Bool) (history : List Action)
         (number : ℕ) (call : Call)

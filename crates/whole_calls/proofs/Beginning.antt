@@ -1,6 +1,6 @@
 -- Beginnings as runs of one event.
 use Rattle.std.proofs.Common.{◌≡◌, ℕ, Result, Some, List, [], ◌∷◌, refl, sym, subst}
-use Rattle.std.specs.Prelude.{IfErr, OnErr}
+use Rattle.std.specs.Prelude.{IfErr, OnOk, OnErr}
 use Rattle.index_model.specs.Faults.{Circumstances, HasCause}
 use Rattle.session_calls.specs.Ops.{IsCaused}
 use Rattle.index_model.specs.declared.fault.Fault.{Fault}
@@ -81,3 +81,21 @@ caused_by at answer result is kind h = subst (λ (r : Result (Unit {0}) Fault). 
 
 pub refused_by : (Unchanged : Type 0) (answer : Answer) (result : Result (Unit {0}) Fault) → result ≡ begun_of answer → AnswersBeginning answer → ((fault : Fault) → answer ≡ Refused fault → Unchanged) → OnErr result Unchanged
 refused_by Unchanged answer result is kind h = subst (λ (r : Result (Unit {0}) Fault). OnErr r Unchanged) (sym is) (begun_refused Unchanged answer kind h)
+
+-- one that isn't refused begins what was asked for
+begun_fresh : (Fresh : Type 0) (answer : Answer) → AnswersBeginning answer → (answer ≡ Begun → Fresh) → OnOk (begun_of answer) Fresh
+begun_fresh Fresh Begun kind h = h refl
+begun_fresh Fresh (Refused fault) kind h = tt
+begun_fresh Fresh Going kind h = absurd kind
+begun_fresh Fresh (Added a u) kind h = absurd kind
+begun_fresh Fresh (Ready r) kind h = absurd kind
+begun_fresh Fresh Done kind h = absurd kind
+begun_fresh Fresh (Finished s) kind h = absurd kind
+begun_fresh Fresh (Gave e) kind h = absurd kind
+begun_fresh Fresh Ended kind h = absurd kind
+begun_fresh Fresh (Forced n) kind h = absurd kind
+begun_fresh Fresh (Flushed b) kind h = absurd kind
+begun_fresh Fresh (Checkpointed n) kind h = absurd kind
+
+pub begins_by : (Fresh : Type 0) (answer : Answer) (result : Result (Unit {0}) Fault) → result ≡ begun_of answer → AnswersBeginning answer → (answer ≡ Begun → Fresh) → OnOk result Fresh
+begins_by Fresh answer result is kind h = subst (λ (r : Result (Unit {0}) Fault). OnOk r Fresh) (sym is) (begun_fresh Fresh answer kind h)

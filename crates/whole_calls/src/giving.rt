@@ -1,8 +1,9 @@
 //! Scans that give one entry after the other.
 
-ghost use Rattle.std.specs.Prelude.{◌≡◌, ◌≤◌, true, length, map, slice_get, OnErr, IfErr, None};
+ghost use Rattle.std.specs.Prelude.{◌≡◌, ◌≤◌, true, length, map, slice_get, Some, OnOk, OnErr, IfErr, None};
 ghost use Rattle.index_model.specs.Faults.{HasCause};
 ghost use Rattle.page_action.specs.States.{Continues};
+ghost use Rattle.session_calls.specs.Ops.{op_before, RunsOn};
 ghost use Rattle.session_calls.specs.declared.request.Request.TheVariants.{Scan as ToScan};
 ghost use Rattle.schedule.specs.Snapshots.{here_with, slot_of, one_vacuums};
 ghost use Rattle.schedule.specs.Events.{OthersStay, IsUnchanged, where_begun_at};
@@ -37,6 +38,7 @@ fn advance<S: PageStore, T: DeadRows>(
         → GoesDownBy (S.state store.old) (S.state store.new) (slot_of slots.old session)
         (slot_of slots.new session) result }
     ensures kind { AnswersAdvance result }
+    ensures runs_on { RunsOn (slot_of slots.old session) (slot_of slots.new session) }
     ensures cause { let old = here_with store.old slots.old (map T.is_in sets.now) in
         Carries S.PageStore old (here_with store.new slots.new (map T.is_in sets.now))
         (λ start history calls.
@@ -65,6 +67,7 @@ fn seek<S: PageStore, T: DeadRows>(
         (here_with store.old slots.old (map T.is_in sets.now))
         (here_with store.new slots.new (map T.is_in sets.now)) }
     ensures kind { AnswersSeek result }
+    ensures runs_on { RunsOn (slot_of slots.old session) (slot_of slots.new session) }
     ensures cause { let old = here_with store.old slots.old (map T.is_in sets.now) in
         Carries S.PageStore old (here_with store.new slots.new (map T.is_in sets.now))
         (λ start history calls.
@@ -116,6 +119,7 @@ pub fn give<S: PageStore, T: DeadRows>(
     ensures sessions { length slots.new ≡ length slots.old }
     ensures others { OthersStay session slots.old slots.new }
     ensures over { EndsUnlessGiven result (slot_of slots.new session) }
+    ensures runs_on { RunsOn (slot_of slots.old session) (slot_of slots.new session) }
     ensures less { (S.backing store.new).honest ≡ true
         → GiveLeavesLess (S.state store.old) (S.state store.new)
         (slot_of slots.old session) (slot_of slots.new session) result }
@@ -159,6 +163,8 @@ pub fn open<S: PageStore, T: DeadRows>(
         (begin_came result)
         (here_with store.old slots.old (map T.is_in sets.now))
         (here_with store.new slots.new (map T.is_in sets.now)) }
+    ensures begins { OnOk result (slot_of slots.new session
+        ≡ Some (op_before session (ToScan range))) }
     ensures refused { OnErr result (IsUnchanged S.PageStore
         (here_with store.old slots.old (map T.is_in sets.now))
         (here_with store.new slots.new (map T.is_in sets.now))) }

@@ -6,7 +6,7 @@ ghost use Rattle.std.specs.Prelude.{◌≡◌, ◌≢◌, ◌≤◌, Bool, true,
 ghost use Rattle.index_model.specs.Faults.{HasCause};
 ghost use Rattle.page_action.specs.Causes.{where_forced};
 ghost use Rattle.page_action.specs.States.{Continues};
-ghost use Rattle.session_calls.specs.Ops.{DeadSets};
+ghost use Rattle.session_calls.specs.Ops.{DeadSets, RunsOn};
 ghost use Rattle.session_calls.specs.Sessions.{AnswersStep, OnlyWritersAct, slot_add};
 ghost use Rattle.session_calls.specs.declared.request.Request.TheVariants.{Insert as ToInsert};
 ghost use Rattle.schedule.specs.Snapshots.{here_with, slot_of, snapshot_of, one_vacuums};
@@ -90,6 +90,8 @@ pub(crate) fn step<S: PageStore, T: DeadRows>(
         (slot_of slots.old session) (slot_of slots.new session) result }
     ensures kind { IfOk result (AnswersStep (slot_of slots.old session)
         (slot_of slots.new session)) }
+    // What the session runs then, if anything, is of the kind that it ran before.
+    ensures runs_on { RunsOn (slot_of slots.old session) (slot_of slots.new session) }
 {
     match make_room(store, slots, least_room) {
         Ok(()) => Ok(one(store, slots, sets, Event::Step(session))),
@@ -125,6 +127,7 @@ pub fn finish<S: PageStore, T: DeadRows>(
         (λ start history calls. (full : Bool)
         → FillsOnly S.PageStore start session full (snapshot_of old history calls)
         → CallIsCaused S.PageStore session least_room full old store.new result calls) }
+    ensures runs_on { RunsOn (slot_of slots.old session) (slot_of slots.new session) }
     ensures over { result ≢ Ok Answer.Going }
 {
     let _limits = store.limits();

@@ -11,5 +11,5 @@ returns g c =
     record {
       makes = λ sets. next_makes g.S.PageStore g.met.S.PageStore.laws c.args.store.now slots sets c.args.session _ c.next.new.slot at.0 c.next.result at.1
           (slot_read slots c.args.session c.index-slots-session.result within c.index-slots-session.is)
-          c.next.ensures.kind c.next.ensures.less (λ st. c.next.ensures.goes st sets) c.next.ensures.due;
+          c.next.ensures.kind c.next.ensures.less c.next.ensures.runs_on (λ st. c.next.ensures.goes st sets) c.next.ensures.due;
     }

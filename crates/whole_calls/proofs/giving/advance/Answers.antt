@@ -17,6 +17,7 @@ use Rattle.whole_calls.proofs.Given.{next_down, next_kind, calm_scan, step_down,
 use Rattle.whole_calls.proofs.Tellings.{moves_tells, runs_in_slot, one_runs}
 use Rattle.whole_calls.proofs.Refusing.{ask_wider, others_before, next_caused}
 use Rattle.whole_calls.specs.Refusing.{AskIsCaused, is_full_sweep}
+use Rattle.session_calls.proofs.RunningOn.{runs_on_then}
 use Rattle.whole_calls.proofs.giving.advance.Goals as goal
 
 pub returns-in_default-clause-goes : goal.returns-in_default-clause-goes
@@ -99,3 +100,7 @@ returns-clause-cause g c honest start history calls fits number call range is as
     let full = is_full_sweep (slot_of c.one-answer.new.slots session) in
     let came = subst (λ (a : Ask). AskIsCaused g.S.PageStore session c.args.least_room full here c.step.new.store a result) ask (c.step.ensures.cause honest start r.then_history r.then_calls r.ran.fits number call runs) in
     ask_wider g.S.PageStore session c.args.least_room old here c.step.new.store first later.failures (others_before c.args.slots.now c.one-answer.new.slots session (c.one-answer.ensures.always.others session refl)) full full (AskScan range) (λ dead asks h. h) result came
+
+pub returns-clause-runs_on : goal.returns-clause-runs_on
+returns-clause-runs_on g c =
+    runs_on_then (slot_of c.args.slots.now c.args.session) (slot_of c.one-answer.new.slots c.args.session) (slot_of c.step.new.slots c.args.session) c.one-answer.ensures.always.runs_on c.step.ensures.runs_on

@@ -3,13 +3,14 @@ use Rattle.index_model.specs.Faults.{HasCause}
 use Rattle.std.proofs.Common.{◌≡◌, false, Result, Ok, Err, Option, None, Some, sym, subst, ap, ◌∙◌}
 use Rattle.index_model.specs.declared.entry.Entry.{Entry}
 use Rattle.index_model.specs.declared.fault.Fault.{Fault}
-use Rattle.schedule.specs.Snapshots.{here_with}
+use Rattle.schedule.specs.Snapshots.{here_with, slot_of}
 use Rattle.whole_calls.specs.Telling.{TellsEnd, step_came}
 use Rattle.whole_calls.specs.Giving.{TellsScan, TellsGiven, given_of, give_came}
 use Rattle.whole_calls.proofs.Composing.{goes_first, goes_told}
 use Rattle.whole_calls.proofs.Given.{given_down, some_given, end_given, give_comes}
 use Rattle.whole_calls.proofs.Refusing.{given_caused, gone_behind}
 use Rattle.whole_calls.specs.Refusing.{where_gone}
+use Rattle.session_calls.proofs.RunningOn.{runs_over}
 use Rattle.whole_calls.proofs.giving.give.Goals as goal
 
 pub returns-in-Ok-Some-clause-goes : goal.returns-in-Ok-Some-clause-goes
@@ -70,3 +71,9 @@ returns-in-Err-clause-cause g c honest start history calls fits number call rang
     let why = given_caused at came c.seek-came.ensures.kind (c.seek-came.ensures.cause (last.honest honest) start history calls fits number call range is ask) in
     gone_behind g.S.PageStore session c.args.least_room old c.seek-came.new.store c.give_up-in-Err.new.store c.give_up-in-Err.ensures.backing c.give_up-in-Err.ensures.acts c.give_up-in-Err.ensures.frames false fault
     (subst (λ (r : Result (Option Entry) Fault). IfErr r (HasCause at)) is_err why)
+
+pub returns-in-Ok-None-clause-runs_on : goal.returns-in-Ok-None-clause-runs_on
+returns-in-Ok-None-clause-runs_on g c = runs_over (slot_of c.args.slots.now c.args.session) (slot_of c.give_up.new.slots c.args.session) c.give_up.ensures.over
+
+pub returns-in-Err-clause-runs_on : goal.returns-in-Err-clause-runs_on
+returns-in-Err-clause-runs_on g c = runs_over (slot_of c.args.slots.now c.args.session) (slot_of c.give_up-in-Err.new.slots c.args.session) c.give_up-in-Err.ensures.over

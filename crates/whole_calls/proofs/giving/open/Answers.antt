@@ -1,7 +1,7 @@
 use Rattle.std.proofs.Common.{refl}
 use Rattle.schedule.specs.declared.event.Event.TheVariants.{Scan}
 use Rattle.session_calls.specs.declared.request.Request.TheVariants.{Scan as ToScan}
-use Rattle.whole_calls.proofs.Beginning.{goes_begun, caused_by, refused_by}
+use Rattle.whole_calls.proofs.Beginning.{goes_begun, caused_by, refused_by, begins_by}
 use Rattle.whole_calls.proofs.giving.open.Goals as goal
 
 pub returns-clause-goes : goal.returns-clause-goes
@@ -12,3 +12,6 @@ returns-clause-refused g c = refused_by _ c.one.result _ c.begun.ensures c.one.e
 
 pub returns-clause-cause : goal.returns-clause-cause
 returns-clause-cause g c = caused_by _ c.one.result _ c.begun.ensures c.one.ensures.always.answers c.one.ensures.always.causes
+
+pub returns-clause-begins : goal.returns-clause-begins
+returns-clause-begins g c = begins_by _ c.one.result _ c.begun.ensures c.one.ensures.always.answers c.one.ensures.always.fresh

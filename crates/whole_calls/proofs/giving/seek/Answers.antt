@@ -15,6 +15,7 @@ use Rattle.whole_calls.proofs.Composing.{goes_then, goes_nowhere, goes_told}
 use Rattle.whole_calls.proofs.Given.{sought, down_after, scan_then, stays_then, going_stays, ready_stays}
 use Rattle.whole_calls.proofs.Refusing.{came_wider, others_before}
 use Rattle.whole_calls.specs.Refusing.{CameIsCaused, ScanIsCaused, where_gone}
+use Rattle.session_calls.proofs.RunningOn.{runs_on_same, runs_on_then}
 use Rattle.whole_calls.proofs.giving.seek.Goals as goal
 use Rattle.whole_calls.proofs.giving.seek.Given.{Over}
 use Rattle.whole_calls.proofs.giving.seek.Goals.{After-advance}
@@ -24,6 +25,7 @@ loop-left-init g c = record {
   steps = λ f h. h;
   sessions = refl;
   others = λ o ne. refl;
+  runs_on = runs_on_same (slot_of c.args.slots.now c.args.session);
   goes = goes_nowhere g.S.PageStore g.met.S.PageStore.laws c.args.session (ScanStays c.args.session) (here_with c.args.store.now c.args.slots.now (map g.T.DeadRows.is_in c.args.sets.now)) (λ x number call range is ask. record { history_is = refl; calls_is = refl });
   budget = λ honest. omega arith;
   fewer = omega arith;
@@ -74,6 +76,7 @@ returns-in_default g c =
       steps = λ f h. c.advance.ensures.steps f (c.loop-left.invariant.steps f h);
       sessions = c.advance.ensures.sessions ∙ c.loop-left.invariant.sessions;
       others = λ o ne. c.advance.ensures.others o ne ∙ c.loop-left.invariant.others o ne;
+      runs_on = runs_on_then (slot_of c.args.slots.now c.args.session) (slot_of c.loop-left.slots c.args.session) (slot_of c.advance.new.slots c.args.session) c.loop-left.invariant.runs_on c.advance.ensures.runs_on;
       goes = answered g ((goal.at.returns-in_default g c).After-advance) (Ok c.in-Ok.answer) c.in-Ok.is;
       kind = sought c.in-Ok.answer (subst AnswersAdvance c.in-Ok.is c.advance.ensures.kind) (λ is. search rules) (λ count is. search rules);
       cause = caused g ((goal.at.returns-in_default g c).After-advance) (Ok c.in-Ok.answer) c.in-Ok.is;
@@ -88,6 +91,7 @@ returns-in-Err g c = record {
   steps = λ f h. c.advance.ensures.steps f (c.loop-left.invariant.steps f h);
   sessions = c.advance.ensures.sessions ∙ c.loop-left.invariant.sessions;
   others = λ o ne. c.advance.ensures.others o ne ∙ c.loop-left.invariant.others o ne;
+  runs_on = runs_on_then (slot_of c.args.slots.now c.args.session) (slot_of c.loop-left.slots c.args.session) (slot_of c.advance.new.slots c.args.session) c.loop-left.invariant.runs_on c.advance.ensures.runs_on;
   goes = answered g ((goal.at.returns-in-Err g c).After-advance) (Err c.in-Err.fault) c.in-Err.is;
   kind = tt;
   cause = caused g ((goal.at.returns-in-Err g c).After-advance) (Err c.in-Err.fault) c.in-Err.is;
@@ -105,6 +109,7 @@ loop-left-preserved g c =
       steps = λ f h. c.advance.ensures.steps f (c.loop-left.invariant.steps f h);
       sessions = c.advance.ensures.sessions ∙ c.loop-left.invariant.sessions;
       others = λ o ne. c.advance.ensures.others o ne ∙ c.loop-left.invariant.others o ne;
+      runs_on = runs_on_then (slot_of c.args.slots.now c.args.session) (slot_of c.loop-left.slots c.args.session) (slot_of c.advance.new.slots c.args.session) c.loop-left.invariant.runs_on c.advance.ensures.runs_on;
       goes = goes_told g.S.PageStore session (ScanStays session) (ScanStays session) (step_came result) None _ _ (λ start answers x y at fits came told. (tt, told))
           (goes_then g.S.PageStore laws session (ScanStays session) (TellsScan session result) (ScanStays session) None (step_came result)
           (here_with c.args.store.now c.args.slots.now (map g.T.DeadRows.is_in c.args.sets.now)) (here_with c.loop-left.store c.loop-left.slots (map g.T.DeadRows.is_in c.args.sets.now)) (here_with c.advance.new.store c.advance.new.slots (map g.T.DeadRows.is_in c.args.sets.now))

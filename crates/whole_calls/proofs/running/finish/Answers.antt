@@ -16,6 +16,7 @@ use Rattle.whole_calls.proofs.Spending.{steps_few}
 use Rattle.whole_calls.proofs.Counting.{counts_behind}
 use Rattle.whole_calls.specs.Sweeping.{Followed, of_sweep, CountsThrough}
 use Rattle.schedule.specs.Runs.{Carries}
+use Rattle.session_calls.proofs.RunningOn.{runs_on_same, runs_on_then}
 use Rattle.whole_calls.proofs.running.finish.Goals as goal
 use Rattle.whole_calls.proofs.running.finish.Given.{Over}
 use Rattle.whole_calls.proofs.running.finish.Goals.{After-step}
@@ -25,6 +26,7 @@ loop-left-init g c = record {
   steps = λ f h. h;
   sessions = refl;
   others = λ o ne. refl;
+  runs_on = runs_on_same (slot_of c.args.slots.now c.args.session);
   limits = refl;
   goes = goes_nowhere g.S.PageStore g.met.S.PageStore.laws c.args.session (HasGoneFar c.args.session) (here_with c.args.store.now c.args.slots.now (map g.T.DeadRows.is_in c.args.sets.now)) (λ x. far_nowhere c.args.session x);
   entries = λ honest start history calls fits what counted. counted;
@@ -105,6 +107,7 @@ returns-in-Ok g c = record {
   steps = λ f h. c.step.ensures.steps f (c.loop-left.invariant.steps f h);
   sessions = c.step.ensures.sessions ∙ c.loop-left.invariant.sessions;
   others = λ o ne. c.step.ensures.others o ne ∙ c.loop-left.invariant.others o ne;
+  runs_on = runs_on_then (slot_of c.args.slots.now c.args.session) (slot_of c.loop-left.slots c.args.session) (slot_of c.step.new.slots c.args.session) c.loop-left.invariant.runs_on c.step.ensures.runs_on;
   goes = answered g ((goal.at.returns-in-Ok g c).After-step) (Ok c.in-Ok.answer) (search rules);
   entries = counted_as g ((goal.at.returns-in-Ok g c).After-step) (Ok c.in-Ok.answer) (search rules);
   cause = caused_as g ((goal.at.returns-in-Ok g c).After-step) (Ok c.in-Ok.answer) (search rules);
@@ -116,6 +119,7 @@ returns-in-Err g c = record {
   steps = λ f h. c.step.ensures.steps f (c.loop-left.invariant.steps f h);
   sessions = c.step.ensures.sessions ∙ c.loop-left.invariant.sessions;
   others = λ o ne. c.step.ensures.others o ne ∙ c.loop-left.invariant.others o ne;
+  runs_on = runs_on_then (slot_of c.args.slots.now c.args.session) (slot_of c.loop-left.slots c.args.session) (slot_of c.step.new.slots c.args.session) c.loop-left.invariant.runs_on c.step.ensures.runs_on;
   goes = answered g ((goal.at.returns-in-Err g c).After-step) (Err c.in-Err.fault) c.in-Err.is;
   entries = counted_as g ((goal.at.returns-in-Err g c).After-step) (Err c.in-Err.fault) c.in-Err.is;
   cause = caused_as g ((goal.at.returns-in-Err g c).After-step) (Err c.in-Err.fault) c.in-Err.is;
@@ -132,6 +136,7 @@ loop-left-preserved g c =
       steps = λ f h. c.step.ensures.steps f (c.loop-left.invariant.steps f h);
       sessions = c.step.ensures.sessions ∙ c.loop-left.invariant.sessions;
       others = λ o ne. c.step.ensures.others o ne ∙ c.loop-left.invariant.others o ne;
+      runs_on = runs_on_then (slot_of c.args.slots.now c.args.session) (slot_of c.loop-left.slots c.args.session) (slot_of c.step.new.slots c.args.session) c.loop-left.invariant.runs_on c.step.ensures.runs_on;
       limits = c.step.ensures.limits ∙ c.loop-left.invariant.limits;
       goes = goes_told g.S.PageStore session (HasGoneFar session) (HasGoneFar session) (step_came result) None _ _ (λ start answers x y at fits came told. (tt, told))
           (goes_then g.S.PageStore laws session (HasGoneFar session) (TellsStep session result) (HasGoneFar session) None (step_came result)

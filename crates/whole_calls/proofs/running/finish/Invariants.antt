@@ -1,6 +1,7 @@
 use Rattle.std.specs.Prelude.{map}
 use Rattle.std.proofs.Common.{◌≡◌, ◌+◌, ◌≤◌, Bool, None, length}
 use Rattle.page_action.specs.States.{Continues}
+use Rattle.session_calls.specs.Ops.{RunsOn}
 use Rattle.schedule.specs.Snapshots.{here_with, slot_of}
 use Rattle.schedule.specs.Events.{OthersStay}
 use Rattle.schedule.specs.Runs.{Carries}
@@ -15,6 +16,7 @@ invariant-loop-left g l = record {
   steps : Continues g.S.PageStore.follows l.fn.store l.store;
   sessions : length l.slots ≡ length l.fn.slots;
   others : OthersStay l.session l.fn.slots l.slots;
+  runs_on : RunsOn (slot_of l.fn.slots l.session) (slot_of l.slots l.session);
   limits : (g.S.PageStore.state l.store).limits ≡ (g.S.PageStore.state l.fn.store).limits;
   goes : CallGoes g.S.PageStore l.session (HasGoneFar l.session) None (here_with l.fn.store l.fn.slots (map g.T.DeadRows.is_in l.sets)) (here_with l.store l.slots (map g.T.DeadRows.is_in l.sets));
   entries : Carries g.S.PageStore (here_with l.fn.store l.fn.slots (map g.T.DeadRows.is_in l.sets)) (here_with l.store l.slots (map g.T.DeadRows.is_in l.sets)) (λ start history calls.

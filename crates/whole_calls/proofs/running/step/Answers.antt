@@ -16,6 +16,7 @@ use Rattle.whole_calls.proofs.Spending.{run_fewer}
 use Rattle.whole_calls.proofs.Counting.{run_counts}
 use Rattle.whole_calls.specs.Sweeping.{Followed, CountsThrough}
 use Rattle.session_calls.specs.declared.answer.Answer.TheVariants.{Refused}
+use Rattle.session_calls.proofs.RunningOn.{runs_on_same}
 use Rattle.whole_calls.proofs.running.step.Goals as goal
 
 pub returns-in-Ok-clause-goes : goal.returns-in-Ok-clause-goes
@@ -88,3 +89,6 @@ pub returns-in-Err-clause-cause : goal.returns-in-Err-clause-cause
 returns-in-Err-clause-cause g c honest start history calls fits number call is =
     let sets = map g.T.DeadRows.is_in c.args.sets.now in
     forced_cause g.S.PageStore c.args.session c.args.least_room (is_full_sweep (slot_of c.args.slots.now c.args.session)) (here_with c.args.store.now c.args.slots.now sets) c.make_room.new.store call.ask c.in-Err.fault c.in-Err.ensures.cause
+
+pub returns-in-Err-clause-runs_on : goal.returns-in-Err-clause-runs_on
+returns-in-Err-clause-runs_on g c = runs_on_same (slot_of c.args.slots.now c.args.session)

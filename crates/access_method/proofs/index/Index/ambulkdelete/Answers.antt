@@ -1,5 +1,5 @@
-use Rattle.access_method.proofs.Refusals.{swept_cause, none_vacuums, no_vacuum, finishes, frames_stay}
-use Rattle.access_method.specs.Refusals.{where_run, NoCleanupRuns}
+use Rattle.access_method.proofs.Refusals.{swept_cause, calm_slots, finishes, frames_stay}
+use Rattle.access_method.specs.Refusals.{where_run}
 use Rattle.whole_calls.specs.Refusing.{where_called, where_gone}
 use Rattle.session_calls.specs.declared.request.Request.TheVariants.{Bulk as ToBulk}
 use Rattle.index_model.specs.Faults.{HasCause}
@@ -65,22 +65,21 @@ returns-clause-deletes g c honest start history calls fits =
 
 -- why it is refused
 caused : (g : Over) (c : After-bulk_delete g) → length c.args.self.now.slots ≡ 64
-    → Carries g.S.PageStore (slots_within c.args.self.now) (here_with c.bulk_delete.new.store c.bulk_delete.new.slots []) (λ start history calls. NoCleanupRuns calls → IfErr c.bulk_delete.result (HasCause (where_run g.S.PageStore 63 c.args.self.now c.bulk_delete.new.store)))
-caused g c slots honest start history calls fits calm =
+    → Carries g.S.PageStore (slots_within c.args.self.now) (here_with c.bulk_delete.new.store c.bulk_delete.new.slots []) (λ start history calls. IfErr c.bulk_delete.result (HasCause (where_run g.S.PageStore 63 c.args.self.now c.bulk_delete.new.store)))
+caused g c slots honest start history calls fits =
     let dead = g.T.DeadRows.is_in c.args.dead.now in
-    let now = snapshot_of (slots_within c.args.self.now) history calls in
     let why = subst (λ (l : List (Row → Bool)). Carries g.S.PageStore (here_with c.args.self.now.store c.args.self.now.slots l) (here_with c.bulk_delete.new.store c.bulk_delete.new.slots l) (λ start history calls.
     IfErr c.bulk_delete.result (HasCause (where_called g.S.PageStore 63 (ToBulk 0) (here_with c.args.self.now.store c.args.self.now.slots l) (where_gone g.S.PageStore 63 5 false (here_with c.args.self.now.store c.args.self.now.slots l) c.bulk_delete.new.store)))))
     refl c.bulk_delete.ensures.cause in
-    swept_cause g.S.PageStore dead c.args.self.now c.bulk_delete.new.store c.args.self.now.agree.inserts slots (none_vacuums c.args.self.now.slots (no_vacuum g.S.PageStore start now refl fits calm)) c.bulk_delete.result
+    swept_cause g.S.PageStore dead c.args.self.now c.bulk_delete.new.store c.args.self.now.agree.inserts slots (calm_slots c.args.self.now.slots c.args.self.now.none_vacuums) c.bulk_delete.result
     (why honest start history calls (fits_then g c start history calls fits))
 
 pub returns-clause-cause : goal.returns-clause-cause
-returns-clause-cause g c honest start history calls fits calm = caused g ((goal.at.returns-clause-cause g c).After-bulk_delete) (search rules) honest start history calls fits calm
+returns-clause-cause g c honest start history calls fits = caused g ((goal.at.returns-clause-cause g c).After-bulk_delete) (search rules) honest start history calls fits
 
 pub returns-clause-finishes : goal.returns-clause-finishes
-returns-clause-finishes g c honest start history calls fits calm un =
+returns-clause-finishes g c honest start history calls fits un =
     let after = (goal.at.returns-clause-finishes g c).After-bulk_delete in
     let dead = g.T.DeadRows.is_in c.args.dead.now in
     let same = frames_stay g.S.PageStore 63 _ _ (slots_with dead c.args.self.now) (here_with c.bulk_delete.new.store c.bulk_delete.new.slots (dead ∷ [])) start history calls (goes g after honest start history calls (fits_then g after start history calls fits)) in
-    finishes g.S.PageStore 63 c.args.self.now c.bulk_delete.new.store c.bulk_delete.result un same (caused g ((goal.at.returns-clause-finishes g c).After-bulk_delete) (search rules) honest start history calls fits calm)
+    finishes g.S.PageStore 63 c.args.self.now c.bulk_delete.new.store c.bulk_delete.result un same (caused g ((goal.at.returns-clause-finishes g c).After-bulk_delete) (search rules) honest start history calls fits)

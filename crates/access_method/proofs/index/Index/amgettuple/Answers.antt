@@ -5,7 +5,7 @@ use Rattle.schedule.specs.Snapshots.{here_with, snapshot_of}
 use Rattle.whole_calls.proofs.Tellings.{runs_has_call, true_false}
 use Rattle.access_method.specs.Indexes.{slots_within}
 use Rattle.access_method.proofs.Results.{gives_right}
-use Rattle.access_method.proofs.Seats.{agree_over}
+use Rattle.access_method.proofs.Seats.{agree_over, calm_on}
 use Rattle.access_method.proofs.index.Index.amgettuple.Goals as goal
 
 pub returns-then-not-is_running-clause-answers : goal.returns-then-not-is_running-clause-answers
@@ -25,6 +25,7 @@ pub invariant_of-self-in-Err : goal.invariant_of-self-in-Err
 invariant_of-self-in-Err g c = record {
   agree = agree_over c.args.self.now.slots c.give.new.slots c.args.self.now.seats c.args.token.session c.args.self.now.agree c.in-Some.ensures.low c.give.ensures.others
       (Some (record { number = c.args.token.number; is_refused = true })) c.in-Err.ensures.over;
+  none_vacuums = calm_on c.args.self.now.slots c.give.new.slots c.args.token.session c.args.self.now.none_vacuums c.give.ensures.others c.give.ensures.runs_on;
 }
 
 pub returns-in-Err-clause-cause : goal.returns-in-Err-clause-cause

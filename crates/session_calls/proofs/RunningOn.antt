@@ -1,0 +1,38 @@
+-- What a session runs on behind events of its call.
+use Rattle.std.proofs.Common.{◌≡◌, Bool, true, false, Option, Some, None, refl, ap, subst, sym, ◌∙◌}
+use Rattle.session_calls.specs.Ops.{CallKind, InsertKind, ScanKind, BulkKind, CleanupKind, call_kind, is_vacuum, RunsOn}
+use Rattle.session_calls.specs.declared.op.Op.{Op}
+use Rattle.session_calls.specs.declared.op.Op.TheVariants.{Insert, Scan, Bulk, Cleanup}
+
+-- what stays as it was runs on,
+pub runs_on_same : (slot : Option Op) → RunsOn slot slot
+runs_on_same None = tt
+runs_on_same (Some op) = refl
+
+-- and what runs on and on
+pub runs_on_then : (first mid last : Option Op) → RunsOn first mid → RunsOn mid last → RunsOn first last
+runs_on_then first mid None h k = tt
+runs_on_then first None (Some c) h k = absurd k
+runs_on_then None (Some b) (Some c) h k = absurd h
+runs_on_then (Some a) (Some b) (Some c) h k = k ∙ h
+
+-- a session that runs nothing runs nothing then
+pub runs_over : (before slot : Option Op) → slot ≡ None → RunsOn before slot
+runs_over before slot over = subst (λ (o : Option Op). RunsOn before o) (sym over) tt
+
+-- whether a kind is that of a bulk delete or of a cleanup
+abbrev kind_vacuums : CallKind → Bool
+kind_vacuums InsertKind = false
+kind_vacuums ScanKind = false
+kind_vacuums (BulkKind set) = true
+kind_vacuums CleanupKind = true
+
+vacuum_kind : (op : Op) → is_vacuum op ≡ kind_vacuums (call_kind op)
+vacuum_kind (Insert op) = refl
+vacuum_kind (Scan op) = refl
+vacuum_kind (Bulk set op) = refl
+vacuum_kind (Cleanup op) = refl
+
+-- what runs on is a bulk delete or a cleanup exactly where it was one
+pub stays_vacuum : (before op : Op) → call_kind op ≡ call_kind before → is_vacuum op ≡ is_vacuum before
+stays_vacuum before op same = vacuum_kind op ∙ ap kind_vacuums same ∙ sym (vacuum_kind before)
