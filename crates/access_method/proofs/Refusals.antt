@@ -24,7 +24,7 @@ use Rattle.page_action.specs.Causes.{has_failed, is_at_end}
 use Rattle.page_action.specs.declared.page_store.PageStore.{Ghosts}
 use Rattle.session_calls.specs.Ops.{IsFaultCaused, is_vacuum}
 use Rattle.session_calls.specs.Sessions.{is_busy}
-use Rattle.session_calls.specs.declared.request.Request.TheVariants.{Insert as ToInsert, Bulk as ToBulk}
+use Rattle.session_calls.specs.declared.request.Request.TheVariants.{Insert as ToInsert, Bulk as ToBulk, Cleanup as ToCleanup}
 use Rattle.schedule.specs.Snapshots.{StoreAndSlots, Snapshot, snapshot_of, Fits, IsFree, slot_of, slot_vacuums, one_vacuums}
 use Rattle.schedule.proofs.Lists.{get_some}
 use Rattle.whole_calls.specs.Refusing.{another_runs, where_inserted, where_called, is_used_up, is_tall, InsertCallIsCaused, where_gone}
@@ -235,6 +235,19 @@ module _ {S : Type 0} (g : Ghosts S) (dead : Row → Bool) (old : Index S) (new 
   pub swept_cause : (result : Result VacuumStats Fault) → IfErr result (HasCause (where_called g 63 (ToBulk 0) (slots_with dead old) (where_gone g 63 5 false (slots_with dead old) new))) → IfErr result (HasCause (where_run g 63 old new))
   swept_cause (Ok stats) h = tt
   swept_cause (Err fault) h = sweep_cause fault h
+
+-- why a cleanup is refused
+module _ {S : Type 0} (g : Ghosts S) (old : Index S) (new : S) (inserts : slot_of old.slots 63 ≡ None) (slots : length old.slots ≡ 64) (none : one_vacuums old.slots ≡ false) where
+  clean_cause : (fault : Fault) → HasCause (where_called g 63 ToCleanup (slots_within old) (where_gone g 63 5 false (slots_within old) new)) fault → HasCause (where_run g 63 old new) fault
+  clean_cause Stopped h = stopped_called g old new h
+  clean_cause VacuumRunning h = absurd (true_false (sym h ∙ none))
+  clean_cause NoSession h = absurd (true_false (sym h ∙ there_at old slots))
+  clean_cause SessionBusy h = absurd (true_false (sym h ∙ ap is_busy inserts))
+  clean_cause fault h = h
+
+  pub cleaned_cause : (result : Result VacuumStats Fault) → IfErr result (HasCause (where_called g 63 ToCleanup (slots_within old) (where_gone g 63 5 false (slots_within old) new))) → IfErr result (HasCause (where_run g 63 old new))
+  cleaned_cause (Ok stats) h = tt
+  cleaned_cause (Err fault) h = clean_cause fault h
 
 -- why a scan gives nothing
 pub give_cause : {S : Type 0} (g : Ghosts S) (session : ℕ) (old : Index S) (new : S) (fault : Fault) → HasCause (where_gone g session 5 false (slots_within old) new) fault → HasCause (where_run g session old new) fault

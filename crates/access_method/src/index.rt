@@ -190,8 +190,8 @@ impl<S: PageStore> Index<S> {
 
     /// Deletes empty leaves and counts the entries: begins a cleanup and runs its steps to the end. The contents stay, whatever
     /// it answers, and so do open scans; a leaf on which one stands is passed. Where it answers, no half-dead page is left, and
-    /// `num_index_tuples` is the number of entries. Refused with `Io` (2), `Stopped` (3), `Blocked` (4), `LogFull` (9) and
-    /// `NoFrame` (10), each for the cause of one of its events, and with `PageDamaged` (17) on pages that are no tree.
+    /// `num_index_tuples` is the number of entries. Refused with `Io` (2) and `Stopped` (3), with `Blocked` (4) or `NoFrame` (10)
+    /// where open scans hold what it needs, and with `PageDamaged` (17) on pages that are no tree.
     pub fn amvacuumcleanup(&mut self) -> Result<VacuumStats, Fault>
         ensures steps { Continues S.follows self.old.store self.new.store }
         ensures runs { IndexGoes S.PageStore 63 (SweepTold 63 ToCleanup result)
@@ -204,6 +204,11 @@ impl<S: PageStore> Index<S> {
         ensures spares { IndexCarries S.PageStore self.old self.new
             (λ start history calls. IsCalm S.PageStore self.old
             → LeavesOnlyNeeded (S.state self.new.store) result) }
+        // It never answers `LogFull`, `NoSession`, `SessionBusy` nor `VacuumRunning`.
+        ensures cause { IndexCarries S.PageStore self.old self.new (λ start history calls.
+            IfErr result (HasCause (where_run S.PageStore 63 self.old self.new.store))) }
+        ensures finishes { IndexCarries S.PageStore self.old self.new (λ start history calls.
+            IsUnhindered S.PageStore 63 self.old self.new.store → IsOk result) }
         ensures tokens { KeepsTokens self.old self.new }
     {
         clean_up(&mut self.store, &mut self.slots, &NO_SETS, 63, LEAST_ROOM)

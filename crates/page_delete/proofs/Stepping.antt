@@ -31,7 +31,7 @@ use Rattle.descent.specs.declared.way.Onward.TheVariants.{Going as LeadsOn, Here
 use Rattle.descent.specs.declared.way.Way.{Way}
 use Rattle.descent.proofs.Acting.{one_nothing, cleans_nothing}
 use Rattle.page_delete.specs.Cleanups.{IsUnderway, CleanupFits, CleanupSteps, where_cleaning}
-use Rattle.page_delete.specs.Counts.{IsEmptyAt, IsFoundEmpty, IsCleaned, AllIsCleaned}
+use Rattle.page_delete.specs.Counts.{IsEmptyAt, IsFoundEmpty, come_to, IsCleaned, AllIsCleaned}
 use Rattle.page_delete.specs.Ops.{is_counted_out, cleanup_stats, turned_to, gone_past, gone_past_deleted, TurnsAt, unlinks, tries, passes}
 use Rattle.page_delete.specs.Parts.{IsTried, DeletesOn, AreInUse, LeafDies, IsSpared, IsInUse, PageGoes, IsNotDead, left_to, left_root, left_page, left_answer}
 use Rattle.page_delete.specs.Spares.{IsAlone, IsSought, IsSparing, EditsALeaf}
@@ -47,6 +47,10 @@ use Rattle.page_delete.specs.declared.steps.CleanupAt.TheVariants.{Look, Start, 
 use Rattle.page_delete.specs.declared.steps.CleanupOp.{CleanupOp}
 use Rattle.page_delete.specs.declared.steps.CleanupStep.{CleanupStep}
 use Rattle.page_delete.specs.declared.steps.CleanupStep.TheVariants.{Going, Finished}
+
+-- behind the look at it the page at the cursor is in use
+come_within : (st : State) (op : CleanupOp) (at : CleanupAt) → op.at ≡ at → IsCleaned st op → come_to op.cursor at ≤ length st.pages
+come_within st op at is h = subst (λ (a : CleanupAt). come_to op.cursor a ≤ length st.pages) is h.within
 
 or_more : (a b c : Bool) → (a || b) ≡ true → (a || (b || c)) ≡ true
 or_more true b c h = refl
@@ -225,7 +229,7 @@ module _ {S : Type 0} (g : Ghosts S) (before : CleanupOp) (parent : ℕ) (old ne
       (subst (λ (a : CleanupAt). cleanup_left most used before.cursor Unlink < cleanup_left most used before.cursor a) (sym at) (judge_unlinks most used before.cursor parent))
       (subst (λ (a : CleanupAt). TurnsFrom a (g.state old) before (Some Shape) (turned_to before Unlink)) (sym at) (inl (refl, refl)))
       (λ order fits d. (d.own fits.start fits.running).trails 0 before.cursor 0 (under fits).0)
-      (λ h moved. cleaned_dying (g.state old) (g.state new) before h moved (found_empty h).0)
+      (λ h moved. cleaned_dying (g.state old) (g.state new) before h (come_within (g.state old) before (Judge parent) at h) tried.used moved (found_empty h).0)
       (λ order h moved edit. spared_dying (g.state old) (g.state new) before parent at tried.used h moved edit)
 
   pub leaf_spared : IsTried g before.session (AreInUse before.cursor parent) (LeafDies before.cursor) (IsSpared before.session before.cursor parent) old new (Ok false) → CleanupSteps g before (gone_past before 0) old new (Ok Going)
@@ -233,7 +237,7 @@ module _ {S : Type 0} (g : Ghosts S) (before : CleanupOp) (parent : ℕ) (old ne
       moves g before (gone_past before 0) old new tried.steps (tried.stays refl) refl alive
       (subst (λ (a : CleanupAt). cleanup_left most used (suc before.cursor) Look < cleanup_left most used before.cursor a) (sym at) (judge_passes most used before.cursor parent))
       (λ honest order fits. (subst (λ (a : CleanupAt). TurnsFrom a (g.state old) before None (gone_past before 0)) (sym at) (inr (refl, refl, tried.passes honest (has_room (g.state old) before fits) refl)), tt))
-      (λ honest fits h. cleaned_past (g.state old) before 0 h (found_empty h).0 (found_empty h).1)
+      (λ honest fits h. cleaned_past (g.state old) before 0 h (come_within (g.state old) before (Judge parent) at h) (found_empty h).0 (found_empty h).1)
       (λ honest order fits alone h. spared_judged (g.state old) before parent order alone at h (tried.passes honest (has_room (g.state old) before fits) refl))
 
 -- a page that isn't half-dead, or none
@@ -261,7 +265,7 @@ module _ {S : Type 0} (g : Ghosts S) (before : CleanupOp) (old new : S) (at : be
       (subst (λ (a : CleanupAt). cleanup_left (g.state old).limits.pages (length (g.state old).pages) (suc before.cursor) Look < cleanup_left (g.state old).limits.pages (length (g.state old).pages) before.cursor a) (sym at) (unlink_passes (g.state old).limits.pages (length (g.state old).pages) before.cursor))
       (subst (λ (a : CleanupAt). TurnsFrom a (g.state old) before (Some Shape) (gone_past_deleted before)) (sym at) (inl (refl, refl)))
       (λ order fits d. tt)
-      (λ h moved. cleaned_deleted (g.state old) (g.state new) before h moved (subst (IsFoundEmpty (g.state old) before.cursor) at h.empty))
+      (λ h moved. cleaned_deleted (g.state old) (g.state new) before h (come_within (g.state old) before Unlink at h) tried.used moved (subst (IsFoundEmpty (g.state old) before.cursor) at h.empty))
       (λ order h moved edit. spared_deleted (g.state old) (g.state new) before order.tree at tried.used h moved edit)
 
   pub page_stays : IsTried g before.session (IsInUse before.cursor) (PageGoes before.cursor) (IsNotDead before.cursor) old new (Ok false) → CleanupSteps g before (gone_past before 0) old new (Ok Going)
@@ -269,7 +273,7 @@ module _ {S : Type 0} (g : Ghosts S) (before : CleanupOp) (old new : S) (at : be
       moves g before (gone_past before 0) old new tried.steps (tried.stays refl) refl alive
       (subst (λ (a : CleanupAt). cleanup_left (g.state old).limits.pages (length (g.state old).pages) (suc before.cursor) Look < cleanup_left (g.state old).limits.pages (length (g.state old).pages) before.cursor a) (sym at) (unlink_passes (g.state old).limits.pages (length (g.state old).pages) before.cursor))
       (λ honest order fits. (subst (λ (a : CleanupAt). TurnsFrom a (g.state old) before None (gone_past before 0)) (sym at) (inr (refl, refl, tried.passes honest (has_room (g.state old) before fits) refl)), tt))
-      (λ honest fits h. cleaned_past (g.state old) before 0 h (subst (IsFoundEmpty (g.state old) before.cursor) at h.empty) (not_dead (tried.passes honest (has_room (g.state old) before fits) refl)))
+      (λ honest fits h. cleaned_past (g.state old) before 0 h (come_within (g.state old) before Unlink at h) (subst (IsFoundEmpty (g.state old) before.cursor) at h.empty) (not_dead (tried.passes honest (has_room (g.state old) before fits) refl)))
       (λ honest order fits alone h. absurd (not_dead (tried.passes honest (has_room (g.state old) before fits) refl) (subst (IsSought (g.state old) before.cursor) at h.sought)))
 
 -- the page at the cursor is looked at
@@ -284,7 +288,7 @@ looks g before after old new page at alive steps same inside stored found turn =
           (refl, (λ p there. subst (λ (q : Page). TurnsAt q before after) (same_page (g.state old).pages before.cursor page p (found honest) there) turn)),
       under honest order fits turn,
     ))
-    (λ honest fits h. cleaned_looking (g.state old) before after page (found honest) h turn)
+    (λ honest fits h. cleaned_looking (g.state old) before after page (found honest) (omega (arith, inside)) h turn)
     (λ honest order fits alone h. spared_looking (g.state old) before after page order.tree (found honest) at h turn)
   where
     session_is : TurnsAt page before after → after.session ≡ before.session
@@ -348,7 +352,7 @@ starts g before after high old new meta way at alive steps same admitted found l
               (refl, (λ m there. let one = same_page (g.state old).pages 0 meta m (found honest) there in inl (ap (λ (p : Page). p.level) (sym one) ∙ sym level ∙ z, is0))),
           rw is0 tt,
         ))
-        (λ honest fits h. let e = found_empty h in rw is0 (cleaned_past (g.state old) before 0 h e.0 e.1))
+        (λ honest fits h. let e = found_empty h in rw is0 (cleaned_past (g.state old) before 0 h (come_within (g.state old) before (Start high) at h) e.0 e.1))
         (λ honest order fits alone h. absurd (no_root_leaf (g.state old) before.cursor high order.tree
         (ap (λ (p : Page). p.level) (same_page (g.state old).pages 0 order.tree.tree.meta meta order.tree.tree.meta_at (found honest)) ∙ sym level ∙ z)
         (subst (IsSought (g.state old) before.cursor) at h.sought)))
@@ -375,7 +379,7 @@ starts g before after high old new meta way at alive steps same admitted found l
             }),
           ),
         ))
-        (λ honest fits h. let e = found_empty h in rw is1 (cleaned_at (g.state old) before (Down high way) h e))
+        (λ honest fits h. let e = found_empty h in rw is1 (cleaned_at (g.state old) before (Down high way) h (come_within (g.state old) before (Start high) at h) e))
         (λ honest order fits alone h. rw is1 (spared_at (g.state old) before (Down high way) h (λ e. start_differs (sym at ∙ e)) (subst (IsSought (g.state old) before.cursor) at h.sought)))
 
 -- a page on the way is read
@@ -395,7 +399,7 @@ descends g before after high way old new (Some (LeadsOn on)) result at alive ste
       subst (λ (a : CleanupAt). TurnsFrom a (g.state old) before None after) (sym at) (refl, inl (on, op)),
       rw op (u.0, leads honest fits.start order u.1),
     ))
-    (λ honest fits h. rw op (cleaned_at (g.state old) before (Down high on) h (subst (IsFoundEmpty (g.state old) before.cursor) at h.empty)))
+    (λ honest fits h. rw op (cleaned_at (g.state old) before (Down high on) h (come_within (g.state old) before (Down high way) at h) (subst (IsFoundEmpty (g.state old) before.cursor) at h.empty)))
     (λ honest order fits alone h. rw op (spared_at (g.state old) before (Down high on) h (λ e. down_differs (sym at ∙ e)) (subst (IsSought (g.state old) before.cursor) at h.sought))))
 descends g before after high way old new (Some Here) result at alive steps same some less leads op is = subst (CleanupSteps g before after old new) (sym is)
     (moves g before after old new steps same (ap (λ (o : CleanupOp). o.session) op) alive
@@ -411,7 +415,7 @@ descends g before after high way old new (Some Here) result at alive steps same 
             (trail_begins_here (g.state old) fits.start way.level (bound_aim high) false way.block order.tree u.1.place),
       ),
     ))
-    (λ honest fits h. rw op (cleaned_at (g.state old) before (Judge way.block) h (subst (IsFoundEmpty (g.state old) before.cursor) at h.empty)))
+    (λ honest fits h. rw op (cleaned_at (g.state old) before (Judge way.block) h (come_within (g.state old) before (Down high way) at h) (subst (IsFoundEmpty (g.state old) before.cursor) at h.empty)))
     (λ honest order fits alone h. rw op (spared_at (g.state old) before (Judge way.block) h (λ e. down_differs (sym at ∙ e)) (record {
       high = high;
       leaf = subst (IsSought (g.state old) before.cursor) at h.sought;

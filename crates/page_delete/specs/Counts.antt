@@ -1,5 +1,5 @@
 -- What a cleanup counts, and what it has cleaned, where nobody else acts.
-use Rattle.std.specs.Prelude.{◌≡◌, ◌≢◌, ℕ, ◌<◌, Result, Ok, Err, length, slice_get}
+use Rattle.std.specs.Prelude.{◌≡◌, ◌≢◌, ℕ, suc, ◌<◌, ◌≤◌, Result, Ok, Err, length, slice_get}
 use Rattle.index_model.specs.declared.fault.Fault.{Fault}
 use Rattle.page_codec.specs.declared.page.PageState.TheVariants.{HalfDead}
 use Rattle.page_action.specs.States.{State}
@@ -23,12 +23,22 @@ IsFoundEmpty st cursor (Down high way) = IsEmptyAt st cursor × (state_in st cur
 IsFoundEmpty st cursor (Judge parent) = IsEmptyAt st cursor × (state_in st cursor ≢ HalfDead)
 IsFoundEmpty st cursor Unlink = IsEmptyAt st cursor
 
+-- how many blocks it has come to: those before the cursor, and the one at it once it was looked at
+abbrev pub come_to : ℕ → CleanupAt → ℕ
+come_to cursor Look = cursor
+come_to cursor (Start high) = suc cursor
+come_to cursor (Down high way) = suc cursor
+come_to cursor (Judge parent) = suc cursor
+come_to cursor Unlink = suc cursor
+
 -- Where nobody else acted since it began: the pages before the cursor have as many entries as it counted, and none of them is
--- half-dead.
+-- half-dead; it has come to blocks in use alone, and has unlinked fewer pages than it went past.
 pub record IsCleaned (st : State) (op : CleanupOp) : Type 0 where
   pub counted : op.left ≡ entries_below st.pages op.cursor
   pub none_dead : (block : ℕ) → block < op.cursor → state_in st block ≢ HalfDead
   pub empty : IsFoundEmpty st op.cursor op.at
+  pub within : come_to op.cursor op.at ≤ length st.pages
+  pub fewer : op.deleted < op.cursor
 
 -- all pages in use have so many entries, and none of them is half-dead
 pub record AllIsCleaned (st : State) (count : ℕ) : Type 0 where

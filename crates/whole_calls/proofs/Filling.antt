@@ -1,7 +1,7 @@
--- The counts of a bulk delete stay far from their end.
-use Rattle.std.proofs.Common.{◌≡◌, ℕ, ◌≤◌, Bool, true, false, Option, Some, None, List, [], ◌∷◌, ◌++◌, length, drop, refl, sym, ap, subst, arith, inl, inr, ◌∙◌}
+-- The counts of a bulk delete and of a cleanup stay far from their end.
+use Rattle.std.proofs.Common.{◌≡◌, ℕ, ◌<◌, ◌≤◌, ◌||◌, Bool, true, false, Option, Some, None, List, [], ◌∷◌, ◌++◌, length, drop, refl, sym, ap, subst, arith, inl, inr, ◌∙◌}
 use Rattle.std.specs.Prelude.{unwrap_or}
-use Rattle.std.proofs.lemmas.Bool.{or_cases, ltb-true}
+use Rattle.std.proofs.lemmas.Bool.{or_cases, ltb-true, eqb-true}
 use Rattle.std.proofs.Math.Seq.{drop-append_seam}
 use Rattle.index_model.specs.Actions.{Effect, Action}
 use Rattle.index_model.specs.Calls.{AskBulkDelete, Call, removed_by}
@@ -13,6 +13,11 @@ use Rattle.page_action.specs.declared.page_store.PageStore.{Ghosts}
 use Rattle.vacuum.specs.BulkDeletes.{is_counted_out, is_full_count}
 use Rattle.vacuum.specs.Counts.{entries_below}
 use Rattle.vacuum.specs.declared.steps.BulkDeleteOp.{BulkDeleteOp}
+use Rattle.page_delete.specs.Counts.{come_to}
+use Rattle.page_delete.specs.Ops.{is_last_number, is_counted_out as is_cleanup_full}
+use Rattle.page_delete.specs.declared.steps.CleanupAt.{CleanupAt}
+use Rattle.page_delete.specs.declared.steps.CleanupAt.TheVariants.{Look, Start, Down, Judge, Unlink}
+use Rattle.page_delete.specs.declared.steps.CleanupOp.{CleanupOp}
 use Rattle.session_calls.specs.Ops.{asked_of}
 use Rattle.session_calls.specs.Sessions.{noted}
 use Rattle.session_calls.specs.Sweeps.{OpSweeps}
@@ -20,8 +25,8 @@ use Rattle.session_calls.specs.declared.op.Op.{Op}
 use Rattle.session_calls.specs.declared.op.Op.TheVariants.{Insert, Scan, Bulk, Cleanup}
 use Rattle.schedule.specs.Snapshots.{Snapshot, IsRunningCall, Fits, slot_of}
 use Rattle.schedule.proofs.Keeping.{Laws}
-use Rattle.whole_calls.specs.Refusing.{FillsOnly, is_full_sweep}
-use Rattle.whole_calls.specs.Sweeping.{IsCountedIn, removed_of}
+use Rattle.whole_calls.specs.Refusing.{FillsOnly, is_full_vacuum}
+use Rattle.whole_calls.specs.Sweeping.{of_sweep, of_cleanup, IsCountedAs, IsCountedIn, removed_of}
 use Rattle.whole_calls.specs.Telling.{acts_by, noted_behind}
 use Rattle.whole_calls.proofs.Gone.{gone_runs, same_ask}
 use Rattle.whole_calls.proofs.Removing.{remove_there, all_once, all_were, all_counted, removed_few, entries_few}
@@ -38,7 +43,25 @@ not_out op left removed h = elim (or_cases (is_full_count op.left) (is_full_coun
   | inr full ↦ absurd (let k = ltb-true 18446744073709551565 op.removed full in omega (arith, k, removed))
 ]
 
--- a bulk delete that has just begun comes to no full count
+-- none of a cleanup's counts is
+cleanup_not_full : (op : CleanupOp) → op.left ≤ 3276800 → op.cursor ≤ 65536 → op.deleted < op.cursor → is_cleanup_full op ≡ true → false ≡ true
+cleanup_not_full op left cursor fewer h = elim (or_cases (is_full_count op.left) (is_last_number op.cursor || is_last_number op.deleted) h) [
+  | inl full ↦ absurd (let k = ltb-true 18446744073709551565 op.left full in omega (arith, k, left))
+  | inr ends ↦ elim (or_cases (is_last_number op.cursor) (is_last_number op.deleted) ends) [
+    | inl last ↦ absurd (let k = eqb-true op.cursor 4294967295 last in omega (arith, k, cursor))
+    | inr last ↦ absurd (let k = eqb-true op.deleted 4294967295 last in omega (arith, k, cursor, fewer))
+  ]
+]
+
+-- the cursor is no further than the cleanup has come
+cursor_low : (cursor : ℕ) (at : CleanupAt) → cursor ≤ come_to cursor at
+cursor_low cursor Look = omega arith
+cursor_low cursor (Start high) = omega arith
+cursor_low cursor (Down high way) = omega arith
+cursor_low cursor (Judge parent) = omega arith
+cursor_low cursor Unlink = omega arith
+
+-- one that has just begun comes to no full count
 module _ {S : Type 0} (g : Ghosts S) (laws : Laws g) (start : Entry → Bool) (session : ℕ) (first : Snapshot S) (fits : Fits g start first) (are : AreLimits (g.state first.store).limits) where
   removed_low : (now : Snapshot S) (number : ℕ) (call : Call) (dead : Row → Bool) (effects : List Effect) → IsRunningCall now.calls session number call → call.ask ≡ AskBulkDelete dead
       → now.history ≡ first.history ++ acts_by number effects → Fits g start now → length (removed_of effects) ≤ 3276800
@@ -58,9 +81,16 @@ module _ {S : Type 0} (g : Ghosts S) (laws : Laws g) (start : Entry → Bool) (s
       let few = laws.few now.store in
       omega (arith, most, few, low)
 
-  pub bulk_fills : (number : ℕ) (call : Call) → IsRunningCall first.calls session number call → call.began ≡ length first.history → IsCountedIn first.sets (g.state first.store) (slot_of first.slots session) → FillsOnly g start session false first
-  bulk_fills number call is began start_counted now other c dead effects also asked gone sets limits then_fits counted out =
+  used_low : (now : Snapshot S) → (g.state now.store).limits ≡ (g.state first.store).limits → length (g.state now.store).pages ≤ 65536
+  used_low now limits =
+      let low : (g.state now.store).limits.pages ≤ 65536 = subst (λ (l : Limits). l.pages ≤ 65536) (sym limits) are.pages_to in
+      let few = laws.few now.store in
+      omega (arith, few, low)
+
+  pub bulk_fills : (number : ℕ) (call : Call) (dead : Row → Bool) → IsRunningCall first.calls session number call → call.ask ≡ AskBulkDelete dead → call.began ≡ length first.history → IsCountedIn first.sets (g.state first.store) (slot_of first.slots session) → FillsOnly g start session false first
+  bulk_fills number call dead is call_asks began start_counted now other c effects also counts gone sets limits then_fits counted out =
       let same : c ≡ call = (one_runs g start first fits session number other call c is also).1 in
+      let asked : c.ask ≡ AskBulkDelete dead = ap (λ (k : Call). k.ask) same ∙ call_asks in
       let then_call : Call = noted_behind c (length first.history) effects in
       let runs = gone_runs other c effects first now now gone session also in
       let r = runs_in_slot g start now then_fits session other then_call runs in
@@ -73,10 +103,10 @@ module _ {S : Type 0} (g : Ghosts S) (laws : Laws g) (start : Entry → Bool) (s
       let many : removed_by r.2.number (drop r.2.call.began now.history) ≡ length (removed_of effects) =
       ap (λ (n : ℕ). removed_by n (drop r.2.call.began now.history)) one.0 ∙ ap (λ (n : ℕ). removed_by other (drop n now.history)) then_began ∙ ap (λ (l : List Action). removed_by other (drop (length first.history) l)) gone.history_is
       ∙ ap (λ (l : List Action). removed_by other l) (drop-append_seam first.history (acts_by other effects)) ∙ all_counted start other effects in
-      of r.0 r.2.number r.2.call.began asks r.2.sweeps (subst (λ (o : Option Op). IsCountedIn first.sets (g.state now.store) o) slot (counted start_counted)) many low limits (subst (λ (o : Option Op). is_full_sweep o ≡ true) slot out)
+      of r.0 r.2.number r.2.call.began asks r.2.sweeps (subst (λ (o : Option Op). IsCountedIn first.sets (g.state now.store) o) slot (counted of_sweep start_counted)) many low limits (subst (λ (o : Option Op). is_full_vacuum o ≡ true) slot out)
     where
       of : (op : Op) (n b : ℕ) → asked_of now.sets op ≡ AskBulkDelete dead → OpSweeps (g.state now.store) now.sets start now.history n b op → IsCountedIn first.sets (g.state now.store) (Some op)
-          → removed_by n (drop b now.history) ≡ length (removed_of effects) → length (removed_of effects) ≤ 3276800 → (g.state now.store).limits ≡ (g.state first.store).limits → is_full_sweep (Some op) ≡ true → false ≡ true
+          → removed_by n (drop b now.history) ≡ length (removed_of effects) → length (removed_of effects) ≤ 3276800 → (g.state now.store).limits ≡ (g.state first.store).limits → is_full_vacuum (Some op) ≡ true → false ≡ true
       of (Insert op) n b asks sweeps counts many low limits out = out
       of (Scan op) n b asks sweeps counts many low limits out = out
       of (Cleanup op) n b asks sweeps counts many low limits out = absurd counts
@@ -85,3 +115,20 @@ module _ {S : Type 0} (g : Ghosts S) (laws : Laws g) (start : Entry → Bool) (s
           let is_left = counts.counted in
           let is_removed = sweeps.1.removed in
           not_out op (omega (arith, left, is_left)) (omega (arith, low, many, is_removed)) out
+
+  -- nor does a cleanup
+  pub cleanup_fills : IsCountedAs of_cleanup first.sets (g.state first.store) (slot_of first.slots session) → FillsOnly g start session false first
+  cleanup_fills start_counted now other c effects also counts gone sets limits then_fits counted out =
+      of (slot_of now.slots session) (counted of_cleanup start_counted) (λ n. left_low now limits n) (used_low now limits) out
+    where
+      of : (slot : Option Op) → IsCountedAs of_cleanup first.sets (g.state now.store) slot → ((n : ℕ) → entries_below (g.state now.store).pages n ≤ 3276800) → length (g.state now.store).pages ≤ 65536 → is_full_vacuum slot ≡ true → false ≡ true
+      of None is_counted left used full = full
+      of (Some (Insert op)) is_counted left used full = full
+      of (Some (Scan op)) is_counted left used full = full
+      of (Some (Bulk set op)) is_counted left used full = absurd is_counted
+      of (Some (Cleanup op)) is_counted left used full =
+          let few = left op.cursor in
+          let is_left = is_counted.counted in
+          let come = cursor_low op.cursor op.at in
+          let within = is_counted.within in
+          cleanup_not_full op (omega (arith, few, is_left)) (omega (arith, come, within, used)) is_counted.fewer full

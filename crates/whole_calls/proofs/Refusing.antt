@@ -35,6 +35,9 @@ use Rattle.scan.specs.Scans.{ScanFits, leaf_pinned, pins_of, where_scanning}
 use Rattle.scan.specs.declared.steps.ScanOp.{ScanOp}
 use Rattle.vacuum.specs.BulkDeletes.{BulkDeleteFits, where_deleting, is_counted_out}
 use Rattle.vacuum.specs.declared.steps.BulkDeleteOp.{BulkDeleteOp}
+use Rattle.page_delete.specs.Cleanups.{CleanupFits, where_cleaning}
+use Rattle.page_delete.specs.Ops.{is_counted_out as is_cleanup_full}
+use Rattle.page_delete.specs.declared.steps.CleanupOp.{CleanupOp}
 use Rattle.session_calls.specs.Ops.{DeadSets, OpFits, IsCaused, where_stepped, asked_of, session_of}
 use Rattle.session_calls.specs.Sessions.{Told, acts_of, is_busy, AnswersNext}
 use Rattle.session_calls.specs.declared.answer.Answer.{Answer}
@@ -45,9 +48,8 @@ use Rattle.session_calls.specs.declared.request.Request.{Request}
 use Rattle.session_calls.specs.declared.request.Request.TheVariants.{Insert as ToInsert}
 use Rattle.schedule.specs.Snapshots.{StoreAndSlots, Snapshot, snapshot_of, here_at, slot_of, IsRunningCall, Fits, one_vacuums}
 use Rattle.schedule.specs.Events.{MovesCall, Steps, CallGoesOn, MovesOn, EventDoes, where_moving, where_begun_at, is_of_sets, OthersStay}
-use Rattle.whole_calls.specs.Refusing.{others_run, another_runs, is_full_sweep, where_gone, where_inserted, is_used_up, is_tall, InsertIsCaused, CameIsCaused, AskIsCaused, FillsOnly, where_called, InsertCallIsCaused}
+use Rattle.whole_calls.specs.Refusing.{others_run, another_runs, is_full_vacuum, where_gone, where_inserted, is_used_up, is_tall, InsertIsCaused, CameIsCaused, AskIsCaused, AsksToCount, FillsOnly, where_called, InsertCallIsCaused}
 use Rattle.whole_calls.specs.Giving.{AnswersSeek, given_of}
-use Rattle.whole_calls.specs.Sweeping.{swept_of}
 use Rattle.whole_calls.specs.Telling.{RoomIsMade, MayAnswer, StepTold, left_behind, outcome_of}
 use Rattle.whole_calls.proofs.Tellings.{runs_in_slot, runs_has_call, one_runs, true_false}
 
@@ -276,19 +278,34 @@ module _ {S : Type 0} (g : Ghosts S) (start : Entry → Bool) (session least_roo
   scanning op is f LogFull h = absurd (true_false (sym h))
   scanning op is f fault h = h
 
-  deleting : (op : BulkDeleteOp) → op.session ≡ session → BulkDeleteFits st op → (fault : Fault) → HasCause (where_deleting st (g.backing x.store) (g.backing y.store) op) fault → HasCause (where_gone g session least_room (is_counted_out op) (here_at x) y.store) fault
-  deleting op is f Stopped h = elim (or_cases (g.backing x.store).stopped (is_at_end st.acts || is_counted_out op) h) [
-    | inl stopped ↦ stopped_cause (g.backing x.store).stopped (has_failed (g.backing x.store) (g.backing y.store)) (is_counted_out op) (or_left (g.backing x.store).stopped (is_at_end st.acts) stopped)
-    | inr ended ↦ elim (or_cases (is_at_end st.acts) (is_counted_out op) ended) [
-      | inl last ↦ stopped_cause (g.backing x.store).stopped (has_failed (g.backing x.store) (g.backing y.store)) (is_counted_out op) (or_right (g.backing x.store).stopped (is_at_end st.acts) last)
-      | inr full ↦ or_right (g.backing x.store).stopped (has_failed (g.backing x.store) (g.backing y.store) || (nat_le 18446744073709551615 (g.state y.store).acts || is_counted_out op))
-          (or_right (has_failed (g.backing x.store) (g.backing y.store)) (nat_le 18446744073709551615 (g.state y.store).acts || is_counted_out op) (or_right (nat_le 18446744073709551615 (g.state y.store).acts) (is_counted_out op) full))
+  -- ... or the call has no room to count more
+  counts_cause : (full : Bool) → ((g.backing x.store).stopped || (is_at_end st.acts || full)) ≡ true
+      → ((g.backing x.store).stopped || (has_failed (g.backing x.store) (g.backing y.store) || (nat_le 18446744073709551615 (g.state y.store).acts || full))) ≡ true
+  counts_cause full h = elim (or_cases (g.backing x.store).stopped (is_at_end st.acts || full) h) [
+    | inl stopped ↦ stopped_cause (g.backing x.store).stopped (has_failed (g.backing x.store) (g.backing y.store)) full (or_left (g.backing x.store).stopped (is_at_end st.acts) stopped)
+    | inr ended ↦ elim (or_cases (is_at_end st.acts) full ended) [
+      | inl last ↦ stopped_cause (g.backing x.store).stopped (has_failed (g.backing x.store) (g.backing y.store)) full (or_right (g.backing x.store).stopped (is_at_end st.acts) last)
+      | inr out ↦ or_right (g.backing x.store).stopped (has_failed (g.backing x.store) (g.backing y.store) || (nat_le 18446744073709551615 (g.state y.store).acts || full))
+          (or_right (has_failed (g.backing x.store) (g.backing y.store)) (nat_le 18446744073709551615 (g.state y.store).acts || full) (or_right (nat_le 18446744073709551615 (g.state y.store).acts) full out))
     ]
   ]
+
+  deleting : (op : BulkDeleteOp) → op.session ≡ session → BulkDeleteFits st op → (fault : Fault) → HasCause (where_deleting st (g.backing x.store) (g.backing y.store) op) fault → HasCause (where_gone g session least_room (is_counted_out op) (here_at x) y.store) fault
+  deleting op is f Stopped h = counts_cause (is_counted_out op) h
   deleting op is f (Blocked b) h = held_cause b Cleanup (subst (λ (s : ℕ). is_held_by_another st.table s b Cleanup ≡ true) is h)
   deleting op is f LogFull h = enough least_room (g.backing x.store).promised 1 room (omega arith) h
   deleting op is f NoFrame h = pins_cause 1 1 nothing_held (subst (λ (s : ℕ). holding_of st.table s ≡ nothing_held) is f.held) (omega arith) (omega arith) h
   deleting op is f fault h = h
+
+  cleaning : (op : CleanupOp) → op.session ≡ session → CleanupFits st op → (fault : Fault) → HasCause (where_cleaning st (g.backing x.store) (g.backing y.store) op) fault → HasCause (where_gone g session least_room (is_cleanup_full op) (here_at x) y.store) fault
+  cleaning op is f Stopped h = counts_cause (is_cleanup_full op) h
+  cleaning op is f (Blocked b) h = elim (or_cases (is_held_by_another st.table op.session b Shared) (is_held_by_another st.table op.session b Exclusive) h) [
+    | inl shared ↦ held_cause b Shared (subst (λ (s : ℕ). is_held_by_another st.table s b Shared ≡ true) is shared)
+    | inr alone ↦ held_cause b Exclusive (subst (λ (s : ℕ). is_held_by_another st.table s b Exclusive ≡ true) is alone)
+  ]
+  cleaning op is f LogFull h = enough least_room (g.backing x.store).promised 3 room (omega arith) h
+  cleaning op is f NoFrame h = pins_cause 3 3 nothing_held (subst (λ (s : ℕ). holding_of st.table s ≡ nothing_held) is f.held) (omega arith) (omega arith) h
+  cleaning op is f fault h = h
 
   -- a refused step leaves the pages as they were
   module _ (limits : (g.state y.store).limits ≡ st.limits) where
@@ -317,12 +334,17 @@ module _ {S : Type 0} (g : Ghosts S) (start : Entry → Bool) (session least_roo
     bulk_came op is f (Refused fault) c = deleting op is f fault c
     bulk_came op is f answer c = tt
 
+    cleanup_came : (op : CleanupOp) → op.session ≡ session → CleanupFits st op → (answer : Answer) → IsCaused (where_cleaning st (g.backing x.store) (g.backing y.store) op) answer
+        → CameIsCaused (where_gone g session least_room (is_cleanup_full op) (here_at x) y.store) (Ok answer)
+    cleanup_came op is f (Refused fault) c = cleaning op is f fault c
+    cleanup_came op is f answer c = tt
+
     op_came : (op : Op) → session_of op ≡ session → OpFits st op → (answer : Answer) → ((fault : Fault) → answer ≡ Refused fault → (g.state y.store).pages ≡ st.pages) → IsCaused (where_stepped op st (g.backing x.store) (g.backing y.store)) answer
-        → AskIsCaused g session least_room (is_full_sweep (Some op)) (here_at x) y.store (asked_of x.sets op) (Ok answer)
+        → AskIsCaused g session least_room (is_full_vacuum (Some op)) (here_at x) y.store (asked_of x.sets op) (Ok answer)
     op_came (Insert op) is f answer same c = insert_came op is f answer same c
     op_came (Scan op) is f answer same c = scan_came op is f answer c
     op_came (Bulk set op) is f answer same c = bulk_came op is f answer c
-    op_came (Cleanup op) is f answer same c = tt
+    op_came (Cleanup op) is f answer same c = cleanup_came op is f answer c
 
 -- a step of the session's call, by its event
 module _ {S : Type 0} (g : Ghosts S) (start : Entry → Bool) (session least_room : ℕ) (answer : Answer) (x y : Snapshot S) (fits : Fits g start x) (room : 5 ≤ least_room → 5 ≤ (g.backing x.store).promised)
@@ -341,17 +363,17 @@ module _ {S : Type 0} (g : Ghosts S) (start : Entry → Bool) (session least_roo
     | inr more ↦ omega (arith, more)
   ]
 
-  pub step_caused : AskIsCaused g session least_room (is_full_sweep (slot_of x.slots session)) (here_at x) y.store call.ask (Ok answer)
+  pub step_caused : AskIsCaused g session least_room (is_full_vacuum (slot_of x.slots session)) (here_at x) y.store call.ask (Ok answer)
   step_caused =
       let r = runs_in_slot g start x fits session number call is in
       let same : r.2.call ≡ call = (one_runs g start x fits session number r.2.number call r.2.call is r.2.is).1 in
       let slot : slot_of x.slots session ≡ Some r.0 = ap (λ (o : Option (Option Op)). unwrap_or o None) r.1 in
       let ask : asked_of x.sets r.0 ≡ call.ask = sym r.2.runs.ask ∙ ap (λ (c : Call). c.ask) same in
       let caused : IsCaused (where_stepped r.0 (g.state x.store) (g.backing x.store) (g.backing y.store)) answer = subst (λ (o : Option (Option Op)). IsCaused (where_moving g x.sets x.store y.store Steps o) answer) r.1 does.caused in
-      let came : AskIsCaused g session least_room (is_full_sweep (Some r.0)) (here_at x) y.store (asked_of x.sets r.0) (Ok answer) =
+      let came : AskIsCaused g session least_room (is_full_vacuum (Some r.0)) (here_at x) y.store (asked_of x.sets r.0) (Ok answer) =
       op_came g start session least_room x y fits room does.quiet.frames acts_on does.quiet.limits r.0 (r.2.runs.session ∙ r.2.is.session_is) r.2.runs.fits answer pages_stay caused in
-      subst (λ (o : Option Op). AskIsCaused g session least_room (is_full_sweep o) (here_at x) y.store call.ask (Ok answer)) (sym slot)
-      (subst (λ (a : Ask). AskIsCaused g session least_room (is_full_sweep (Some r.0)) (here_at x) y.store a (Ok answer)) ask came)
+      subst (λ (o : Option Op). AskIsCaused g session least_room (is_full_vacuum o) (here_at x) y.store call.ask (Ok answer)) (sym slot)
+      (subst (λ (a : Ask). AskIsCaused g session least_room (is_full_vacuum (Some r.0)) (here_at x) y.store a (Ok answer)) ask came)
 
 -- what is a cause since a later moment is one since an earlier
 module _ {S : Type 0} (g : Ghosts S) (session least_room : ℕ) (old mid : StoreAndSlots S) (new : S) (later : IsLater (g.backing old.store) (g.backing mid.store)) (after : (g.backing mid.store).failures ≤ (g.backing new).failures)
@@ -409,12 +431,12 @@ module _ {S : Type 0} (g : Ghosts S) (session least_room : ℕ) (old mid : Store
   came_wider full wide more (Ok answer) c = tt
   came_wider full wide more (Err fault) c = gone_wider full wide more fault c
 
-  pub ask_wider : (full wide : Bool) (ask : Ask) → ((dead : Row → Bool) → ask ≡ AskBulkDelete dead → full ≡ true → wide ≡ true) → (result : Result Answer Fault) → AskIsCaused g session least_room full mid new ask result
+  pub ask_wider : (full wide : Bool) (ask : Ask) → (AsksToCount ask → full ≡ true → wide ≡ true) → (result : Result Answer Fault) → AskIsCaused g session least_room full mid new ask result
       → AskIsCaused g session least_room wide old new ask result
   ask_wider full wide (AskInsert e) more result c = insert_wider result c
   ask_wider full wide (AskScan range) more result c = came_wider false false (λ f. f) result c
-  ask_wider full wide (AskBulkDelete dead) more result c = came_wider full wide (more dead refl) result c
-  ask_wider full wide AskCleanup more result c = tt
+  ask_wider full wide (AskBulkDelete dead) more result c = came_wider full wide (more tt) result c
+  ask_wider full wide AskCleanup more result c = came_wider full wide (more tt) result c
 
 gone_forced : {S : Type 0} (g : Ghosts S) (session least_room : ℕ) (full : Bool) (old : StoreAndSlots S) (new : S) (fault : Fault) → HasCause (where_forced (g.backing old.store) (g.backing new)) fault
     → HasCause (where_gone g session least_room full old new) fault
@@ -442,7 +464,7 @@ forced_cause g session least_room full old new (AskInsert e) fault h = of fault 
     of f h = h
 forced_cause g session least_room full old new (AskScan range) fault h = gone_forced g session least_room false old new fault h
 forced_cause g session least_room full old new (AskBulkDelete dead) fault h = gone_forced g session least_room full old new fault h
-forced_cause g session least_room full old new AskCleanup fault h = tt
+forced_cause g session least_room full old new AskCleanup fault h = gone_forced g session least_room full old new fault h
 
 -- a call that wasn't begun
 module _ {S : Type 0} (g : Ghosts S) (session least_room : ℕ) (request : Request) (old : StoreAndSlots S) (new : S) where
@@ -562,13 +584,12 @@ insert_not_begun g session least_room entry old new start history calls fits fau
     gone_inserted g session least_room (ToInsert entry) old new (is_used_up (g.state new)) (is_tall (g.state new)) fault
     (not_begun_cause g session least_room (ToInsert entry) old new false start history calls fits fault h)
 
--- a session that runs an insert runs no bulk delete
+-- a session that runs an insert runs no bulk delete and no cleanup
 pub insert_fills : {S : Type 0} (g : Ghosts S) (start : Entry → Bool) (session number : ℕ) (call : Call) (entry : Entry) (first : Snapshot S) → Fits g start first → IsRunningCall first.calls session number call → call.ask ≡ AskInsert entry
     → FillsOnly g start session false first
-insert_fills g start session number call entry first fits is asks now other c dead effects also asked gone sets limits then_fits counted out =
+insert_fills g start session number call entry first fits is asks now other c effects also counts gone sets limits then_fits counted out =
     let same : c ≡ call = (one_runs g start first fits session number other call c is also).1 in
-    let e : AskInsert entry ≡ AskBulkDelete dead = sym asks ∙ ap (λ (k : Call). k.ask) (sym same) ∙ asked in
-    absurd cc
+    absurd (subst AsksToCount (ap (λ (k : Call). k.ask) same ∙ asks) counts)
 
 -- what a call may answer that came so far
 pub may_have : {S : Type 0} (number : ℕ) (call : Call) (came : Result Answer Fault) (x y : Snapshot S) → StepTold number call came x y → IfOk came (MayAnswer call.ask)
@@ -599,22 +620,6 @@ given_caused at (Ok Ended) kind h = absurd kind
 given_caused at (Ok (Forced n)) kind h = absurd kind
 given_caused at (Ok (Flushed b)) kind h = absurd kind
 given_caused at (Ok (Checkpointed n)) kind h = absurd kind
-
--- why a bulk delete is refused that came so far
-pub swept_caused : (at : Circumstances) (dead : Row → Bool) (came : Result Answer Fault) → IfOk came (MayAnswer (AskBulkDelete dead)) → came ≢ Ok Going → CameIsCaused at came → IfErr (swept_of came) (HasCause at)
-swept_caused at dead (Ok (Finished stats)) may over h = tt
-swept_caused at dead (Ok (Refused fault)) may over h = h
-swept_caused at dead (Err fault) may over h = h
-swept_caused at dead (Ok Going) may over h = absurd (over refl)
-swept_caused at dead (Ok Begun) may over h = absurd may
-swept_caused at dead (Ok (Added a u)) may over h = absurd may
-swept_caused at dead (Ok (Ready n)) may over h = absurd may
-swept_caused at dead (Ok Done) may over h = absurd may
-swept_caused at dead (Ok (Gave e)) may over h = absurd may
-swept_caused at dead (Ok Ended) may over h = absurd may
-swept_caused at dead (Ok (Forced n)) may over h = absurd may
-swept_caused at dead (Ok (Flushed b)) may over h = absurd may
-swept_caused at dead (Ok (Checkpointed n)) may over h = absurd may
 
 -- a refusal that has one cause has a wider one
 pub refusal_wider : {X : Type 0} (at wide : Circumstances) (result : Result X Fault) → ((fault : Fault) → HasCause at fault → HasCause wide fault) → IfErr result (HasCause at) → IfErr result (HasCause wide)

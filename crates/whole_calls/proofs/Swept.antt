@@ -1,6 +1,8 @@
 -- What a bulk delete or a cleanup tells that is run to its end.
 use Rattle.std.proofs.Common.{◌≡◌, ◌≢◌, ℕ, suc, true, false, Option, Result, Ok, Err, List, [], ◌∷◌, ◌++◌, length, refl, sym, ap, ◌∙◌}
+use Rattle.std.specs.Prelude.{IfOk, IfErr}
 use Rattle.std.proofs.lemmas.List.{append-nil}
+use Rattle.index_model.specs.Faults.{Circumstances, HasCause}
 use Rattle.index_model.specs.Actions.{Effect, Add, Remove, Shape, Action}
 use Rattle.index_model.specs.Calls.{Vacuumed, Call}
 use Rattle.index_model.specs.declared.fault.Fault.{Fault}
@@ -14,6 +16,7 @@ use Rattle.session_calls.specs.declared.request.Request.{Request}
 use Rattle.session_calls.specs.declared.request.Request.TheVariants.{Insert as ToInsert, Scan as ToScan, Bulk as ToBulk, Cleanup as ToCleanup}
 use Rattle.schedule.specs.Snapshots.{Snapshot}
 use Rattle.whole_calls.specs.Going.{CameBy}
+use Rattle.whole_calls.specs.Refusing.{CameIsCaused}
 use Rattle.whole_calls.specs.Sweeping.{swept_of, swept_came, IsSweptNow, IsSweptSoFar, SweepTold}
 use Rattle.whole_calls.specs.Telling.{MayAnswer, acts_by, noted_behind, AreOwnEffects, IsTold, IsHeldUp, HasNone, TellsEnd, with_call, first_call, NextTold, NothingTold, step_came}
 use Rattle.whole_calls.proofs.Gone.{whole_told}
@@ -145,6 +148,22 @@ sweep_came session request vacuums x y answers (Ok Ended) over t h = absurd (vac
 sweep_came session request vacuums x y answers (Ok (Forced n)) over t h = absurd (vacuum_may x.sets request vacuums (Forced n) t.may)
 sweep_came session request vacuums x y answers (Ok (Flushed b)) over t h = absurd (vacuum_may x.sets request vacuums (Flushed b) t.may)
 sweep_came session request vacuums x y answers (Ok (Checkpointed n)) over t h = absurd (vacuum_may x.sets request vacuums (Checkpointed n) t.may)
+
+-- why it is refused
+pub swept_caused : (at : Circumstances) (sets : DeadSets) (request : Request) → asks_vacuum request ≡ true → (came : Result Answer Fault) → IfOk came (MayAnswer (asked_by sets request)) → came ≢ Ok Going → CameIsCaused at came → IfErr (swept_of came) (HasCause at)
+swept_caused at sets request vacuums (Ok (Finished stats)) may over h = tt
+swept_caused at sets request vacuums (Ok (Refused fault)) may over h = h
+swept_caused at sets request vacuums (Err fault) may over h = h
+swept_caused at sets request vacuums (Ok Going) may over h = absurd (over refl)
+swept_caused at sets request vacuums (Ok Begun) may over h = absurd (vacuum_may sets request vacuums Begun may)
+swept_caused at sets request vacuums (Ok (Added a u)) may over h = absurd (vacuum_may sets request vacuums (Added a u) may)
+swept_caused at sets request vacuums (Ok (Ready n)) may over h = absurd (vacuum_may sets request vacuums (Ready n) may)
+swept_caused at sets request vacuums (Ok Done) may over h = absurd (vacuum_may sets request vacuums Done may)
+swept_caused at sets request vacuums (Ok (Gave e)) may over h = absurd (vacuum_may sets request vacuums (Gave e) may)
+swept_caused at sets request vacuums (Ok Ended) may over h = absurd (vacuum_may sets request vacuums Ended may)
+swept_caused at sets request vacuums (Ok (Forced n)) may over h = absurd (vacuum_may sets request vacuums (Forced n) may)
+swept_caused at sets request vacuums (Ok (Flushed b)) may over h = absurd (vacuum_may sets request vacuums (Flushed b) may)
+swept_caused at sets request vacuums (Ok (Checkpointed n)) may over h = absurd (vacuum_may sets request vacuums (Checkpointed n) may)
 
 -- one that was not begun
 pub not_swept : {S : Type 0} (session : ℕ) (request : Request) (fault : Fault) (x y : Snapshot S) → NothingTold fault x y → IsSweptSoFar session request x y

@@ -3,7 +3,6 @@ use Rattle.std.specs.Prelude.{◌≡◌, ℕ, suc, ◌&&◌, ◌||◌, ◌==◌,
 use Rattle.index_model.specs.Actions.{Effect}
 use Rattle.index_model.specs.Calls.{Ask, AskInsert, AskScan, AskBulkDelete, AskCleanup, Call}
 use Rattle.index_model.specs.Faults.{Circumstances, HasCause}
-use Rattle.index_model.specs.Row.{Row}
 use Rattle.index_model.specs.declared.entry.Entry.{Entry}
 use Rattle.index_model.specs.declared.fault.Fault.{Fault}
 use Rattle.index_model.specs.declared.range.Range.{Range}
@@ -22,7 +21,8 @@ use Rattle.session_calls.specs.declared.request.Request.TheVariants.{Insert as T
 use Rattle.schedule.specs.Events.{is_of_sets}
 use Rattle.schedule.specs.Snapshots.{StoreAndSlots, Snapshot, IsRunningCall, Fits, slot_of, one_vacuums}
 use Rattle.vacuum.specs.BulkDeletes.{is_counted_out}
-use Rattle.whole_calls.specs.Sweeping.{IsCountedIn}
+use Rattle.page_delete.specs.Ops.{is_counted_out as is_cleanup_full}
+use Rattle.whole_calls.specs.Sweeping.{Followed, IsCountedAs}
 use Rattle.whole_calls.specs.Telling.{HasGoneOn}
 use Rattle.whole_calls.specs.declared.inserted.Inserted.{Inserted}
 
@@ -35,13 +35,13 @@ others_run from (slot ∷ slots) session = (not (from == session) && is_busy slo
 abbrev pub another_runs : List (Option Op) → ℕ → Bool
 another_runs slots session = others_run 0 slots session
 
--- the session runs a bulk delete that has no room left to count the entries of one more leaf
-abbrev pub is_full_sweep : Option Op → Bool
-is_full_sweep None = false
-is_full_sweep (Some (Insert op)) = false
-is_full_sweep (Some (Scan op)) = false
-is_full_sweep (Some (Bulk set op)) = is_counted_out op
-is_full_sweep (Some (Cleanup op)) = false
+-- the session runs a bulk delete or a cleanup that has no room left to count one more page, or its entries
+abbrev pub is_full_vacuum : Option Op → Bool
+is_full_vacuum None = false
+is_full_vacuum (Some (Insert op)) = false
+is_full_vacuum (Some (Scan op)) = false
+is_full_vacuum (Some (Bulk set op)) = is_counted_out op
+is_full_vacuum (Some (Cleanup op)) = is_cleanup_full op
 
 -- What may be the cause where a running call is refused between these moments, at a step or at the checkpoint before it: a
 -- device call failed meanwhile; the log had failed before, or a counter is at its end; another session runs a call, and may hold
@@ -91,20 +91,28 @@ abbrev pub AskIsCaused : {S : Type 0} → Ghosts S → ℕ → ℕ → Bool → 
 AskIsCaused g session least_room counts_full old new (AskInsert e) result = InsertIsCaused g session least_room old new result
 AskIsCaused g session least_room counts_full old new (AskScan range) result = CameIsCaused (where_gone g session least_room false old new) result
 AskIsCaused g session least_room counts_full old new (AskBulkDelete dead) result = CameIsCaused (where_gone g session least_room counts_full old new) result
-AskIsCaused g session least_room counts_full old new AskCleanup result = Unit {0}
+AskIsCaused g session least_room counts_full old new AskCleanup result = CameIsCaused (where_gone g session least_room counts_full old new) result
 
 -- ... of the session's running call
 abbrev pub CallIsCaused : {S : Type 0} → Ghosts S → ℕ → ℕ → Bool → StoreAndSlots S → S → Result Answer Fault → List Call → Type 0
 CallIsCaused g session least_room counts_full old new result calls =
     (number : ℕ) (call : Call) → IsRunningCall calls session number call → AskIsCaused g session least_room counts_full old new call.ask result
 
--- wherever the session's running bulk delete comes to while it goes on, it has no room to count more only where this says so
+-- a call that was asked this counts pages or entries: a bulk delete, or a cleanup
+abbrev pub AsksToCount : Ask → Type 0
+AsksToCount (AskInsert e) = ⊥
+AsksToCount (AskScan range) = ⊥
+AsksToCount (AskBulkDelete dead) = Unit {0}
+AsksToCount AskCleanup = Unit {0}
+
+-- wherever the session's running bulk delete or cleanup comes to while it goes on, it has no room to count more only where this
+-- says so
 abbrev pub FillsOnly : {S : Type 0} → Ghosts S → (Entry → Bool) → ℕ → Bool → Snapshot S → Type 0
 FillsOnly {S} g start session counts_full first =
-    (now : Snapshot S) (number : ℕ) (call : Call) (dead : Row → Bool) (effects : List Effect) → IsRunningCall first.calls session number call → call.ask ≡ AskBulkDelete dead
+    (now : Snapshot S) (number : ℕ) (call : Call) (effects : List Effect) → IsRunningCall first.calls session number call → AsksToCount call.ask
     → HasGoneOn number call effects first now → now.sets ≡ first.sets → (g.state now.store).limits ≡ (g.state first.store).limits → Fits g start now
-    → (IsCountedIn first.sets (g.state first.store) (slot_of first.slots session) → IsCountedIn first.sets (g.state now.store) (slot_of now.slots session))
-    → is_full_sweep (slot_of now.slots session) ≡ true → counts_full ≡ true
+    → ((what : Followed) → IsCountedAs what first.sets (g.state first.store) (slot_of first.slots session) → IsCountedAs what first.sets (g.state now.store) (slot_of now.slots session))
+    → is_full_vacuum (slot_of now.slots session) ≡ true → counts_full ≡ true
 
 -- ... or why the call wasn't begun: the log had failed or a counter was at its end; there is no such session, or no such set; the
 -- session has a call; a bulk delete or a cleanup runs

@@ -15,7 +15,7 @@ ghost use Rattle.schedule.specs.Runs.{Carries};
 ghost use Rattle.whole_calls.specs.Going.{CallGoes};
 ghost use Rattle.whole_calls.specs.Giving.{StepLeavesLess};
 ghost use Rattle.whole_calls.specs.Inserting.{InsertGoes};
-ghost use Rattle.whole_calls.specs.Refusing.{CallIsCaused, FillsOnly, InsertCallIsCaused, is_full_sweep};
+ghost use Rattle.whole_calls.specs.Refusing.{CallIsCaused, FillsOnly, InsertCallIsCaused, is_full_vacuum};
 ghost use Rattle.whole_calls.specs.Spending.{TakesFewer};
 ghost use Rattle.whole_calls.specs.Sweeping.{Followed, CountsThrough};
 ghost use Rattle.whole_calls.specs.Telling.{RoomIsMade, IsSilent, TellsStep, TellsEnd, HasCome, left_behind, outcome_of, BeginTold, begun_of, step_came, begin_came, room_came};
@@ -80,7 +80,7 @@ pub(crate) fn step<S: PageStore, T: DeadRows>(
         (S.state store.new) (slot_of slots.old session) (slot_of slots.new session) result) }
     ensures cause { Carries S.PageStore (here_with store.old slots.old (map T.is_in sets.now))
         (here_with store.new slots.new (map T.is_in sets.now)) (λ start history calls.
-        CallIsCaused S.PageStore session least_room (is_full_sweep (slot_of slots.old session))
+        CallIsCaused S.PageStore session least_room (is_full_vacuum (slot_of slots.old session))
         (here_with store.old slots.old (map T.is_in sets.now)) store.new result calls) }
     ensures limits { (S.state store.new).limits ≡ (S.state store.old).limits }
     ensures calm { OnlyWritersAct (slot_of slots.old session) (S.state store.old)

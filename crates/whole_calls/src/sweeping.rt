@@ -132,6 +132,10 @@ fn begin_cleanup<S: PageStore, T: DeadRows>(
         IsUndisturbed (S.state store.old) session
         → BeginsToCount of_leaves (map T.is_in sets.now) (S.state store.new)
         (slot_of slots.new session) result) }
+    ensures cause { IfErr result
+        (HasCause (where_begun_at S.PageStore store.old (one_vacuums slots.old)
+        (map T.is_in sets.now) ToCleanup (slice_get slots.old session))) }
+    ensures limits { (S.state store.new).limits ≡ (S.state store.old).limits }
 {
     begun(one(store, slots, sets, Event::Cleanup(session)))
 }
@@ -163,7 +167,14 @@ pub fn clean_up<S: PageStore, T: DeadRows>(
     ensures spares { Carries S.PageStore (here_with store.old slots.old (map T.is_in sets.now))
         (here_with store.new slots.new (map T.is_in sets.now)) (λ start history calls.
         IsUndisturbed (S.state store.old) session → LeavesOnlyNeeded (S.state store.new) result) }
+    // With `least_room` 5 or more it never answers `LogFull`; and it is never refused because it had no room to count.
+    ensures cause { let old = here_with store.old slots.old (map T.is_in sets.now) in
+        Carries S.PageStore old (here_with store.new slots.new (map T.is_in sets.now))
+        (λ start history calls. IfErr result
+        (HasCause (where_called S.PageStore session ToCleanup old
+        (where_gone S.PageStore session least_room false old store.new)))) }
 {
+    let _limits = store.limits();
     match begin_cleanup(store, slots, sets, session) {
         Ok(()) => {}
         Err(fault) => return Err(fault),

@@ -16,7 +16,7 @@ use Rattle.whole_calls.proofs.Composing.{goes_then, goes_by, goes_told}
 use Rattle.whole_calls.proofs.Given.{next_down, next_kind, calm_scan, step_down, step_kind, scan_told, scan_then, none_stays}
 use Rattle.whole_calls.proofs.Tellings.{moves_tells, runs_in_slot, one_runs}
 use Rattle.whole_calls.proofs.Refusing.{ask_wider, others_before, next_caused}
-use Rattle.whole_calls.specs.Refusing.{AskIsCaused, is_full_sweep}
+use Rattle.whole_calls.specs.Refusing.{AskIsCaused, is_full_vacuum}
 use Rattle.session_calls.proofs.RunningOn.{runs_on_then}
 use Rattle.whole_calls.proofs.giving.advance.Goals as goal
 
@@ -97,9 +97,9 @@ returns-clause-cause g c honest start history calls fits number call range is as
     let y = snapshot_of here r.then_history r.then_calls in
     let silent = none_stays session x y (subst (λ (a : Answer). TellsScan session (Ok a) x y) whole r.tells) number call range is ask in
     let runs = subst (λ (cs : List Call). IsRunningCall cs session number call) (sym silent.calls_is) is in
-    let full = is_full_sweep (slot_of c.one-answer.new.slots session) in
+    let full = is_full_vacuum (slot_of c.one-answer.new.slots session) in
     let came = subst (λ (a : Ask). AskIsCaused g.S.PageStore session c.args.least_room full here c.step.new.store a result) ask (c.step.ensures.cause honest start r.then_history r.then_calls r.ran.fits number call runs) in
-    ask_wider g.S.PageStore session c.args.least_room old here c.step.new.store first later.failures (others_before c.args.slots.now c.one-answer.new.slots session (c.one-answer.ensures.always.others session refl)) full full (AskScan range) (λ dead asks h. h) result came
+    ask_wider g.S.PageStore session c.args.least_room old here c.step.new.store first later.failures (others_before c.args.slots.now c.one-answer.new.slots session (c.one-answer.ensures.always.others session refl)) full full (AskScan range) (λ counts h. h) result came
 
 pub returns-clause-runs_on : goal.returns-clause-runs_on
 returns-clause-runs_on g c =

@@ -7,14 +7,14 @@ use Rattle.session_calls.specs.declared.answer.Answer.{Answer}
 use Rattle.session_calls.specs.declared.answer.Answer.TheVariants.{Going}
 use Rattle.schedule.specs.Snapshots.{here_with, slot_of, snapshot_of}
 use Rattle.whole_calls.specs.Going.{CallGoes}
-use Rattle.whole_calls.specs.Refusing.{CallIsCaused, AskIsCaused, FillsOnly, is_full_sweep}
+use Rattle.whole_calls.specs.Refusing.{CallIsCaused, AskIsCaused, FillsOnly, is_full_vacuum}
 use Rattle.whole_calls.specs.Telling.{TellsStep, step_came, noted_behind}
 use Rattle.whole_calls.proofs.Composing.{goes_then, goes_nowhere, goes_told}
 use Rattle.whole_calls.proofs.Gone.{HasGoneFar, far_nowhere, far_then, far_last, gone_runs, same_ask}
 use Rattle.whole_calls.proofs.Refusing.{ask_wider, others_before}
 use Rattle.whole_calls.proofs.Spending.{steps_few}
 use Rattle.whole_calls.proofs.Counting.{counts_behind}
-use Rattle.whole_calls.specs.Sweeping.{Followed, of_sweep, CountsThrough}
+use Rattle.whole_calls.specs.Sweeping.{Followed, CountsThrough}
 use Rattle.schedule.specs.Runs.{Carries}
 use Rattle.session_calls.proofs.RunningOn.{runs_on_same, runs_on_then}
 use Rattle.whole_calls.proofs.running.finish.Goals as goal
@@ -89,9 +89,9 @@ caused g c honest start history calls fits full fills number call is =
     let runs = gone_runs number call far.0 x y y far.1 session is in
     let asked : (noted_behind call (length history) far.0).ask ≡ call.ask = same_ask call (length history) far.0 in
     let came = c.step.ensures.cause honest start r.then_history r.then_calls r.ran.fits number (noted_behind call (length history) far.0) runs in
-    let full_now = is_full_sweep (slot_of c.loop-left.slots session) in
+    let full_now = is_full_vacuum (slot_of c.loop-left.slots session) in
     ask_wider g.S.PageStore session c.args.least_room old mid c.step.new.store first later.failures (others_before c.args.slots.now c.loop-left.slots session c.loop-left.invariant.others) full_now full call.ask
-    (λ dead asks out. fills y number call dead far.0 is asks far.1 refl c.loop-left.invariant.limits r.ran.fits (c.loop-left.invariant.entries (later.honest honest) start history calls fits of_sweep) out) c.step.result
+    (λ counts out. fills y number call far.0 is counts far.1 refl c.loop-left.invariant.limits r.ran.fits (c.loop-left.invariant.entries (later.honest honest) start history calls fits) out) c.step.result
     (subst (λ (a : Ask). AskIsCaused g.S.PageStore session c.args.least_room full_now mid c.step.new.store a c.step.result) asked came)
 
 caused_as : (g : Over) (c : After-step g) (r : Result Answer Fault) → c.step.result ≡ r

@@ -75,7 +75,7 @@ returns-clause-cause g c honest start history calls fits =
     let t = c.finish-came.ensures.goes so_far start r.then_history r.then_calls r.ran.fits in
     let may = may_have (length calls) call came y (snapshot_of here t.then_history t.then_calls) (t.tells (length calls) call is) in
     let caused = c.finish-came.ensures.cause so_far start r.then_history r.then_calls r.ran.fits false (insert_fills g.S.PageStore start session (length calls) call entry y r.ran.fits is refl) (length calls) call is in
-    let wider = ask_wider g.S.PageStore session least old begun c.finish-came.new.store first mid.failures (others_before c.args.slots.now c.begin.new.slots session c.begin.ensures.others) false false (AskInsert entry) (λ dead asks h. h) came caused in
+    let wider = ask_wider g.S.PageStore session least old begun c.finish-came.new.store first mid.failures (others_before c.args.slots.now c.begin.new.slots session c.begin.ensures.others) false false (AskInsert entry) (λ counts h. h) came caused in
     subst (λ (r : Result Inserted Fault). InsertCallIsCaused g.S.PageStore session least entry old c.give_up.new.store r) (sym c.outcome.ensures)
     (insert_behind g.S.PageStore session least old c.finish-came.new.store c.give_up.new.store c.give_up.ensures.backing c.give_up.ensures.acts c.give_up.ensures.frames c.give_up.ensures.limits c.give_up.ensures.pages entry added came may
     c.finish-came.ensures.over wider)

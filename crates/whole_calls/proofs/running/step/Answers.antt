@@ -4,7 +4,7 @@ use Rattle.schedule.specs.Events.{Steps}
 use Rattle.page_action.specs.States.{State}
 use Rattle.index_model.specs.Calls.{Call}
 use Rattle.schedule.specs.Snapshots.{here_with, slot_of, snapshot_of, IsRunningCall}
-use Rattle.whole_calls.specs.Refusing.{is_full_sweep}
+use Rattle.whole_calls.specs.Refusing.{is_full_vacuum}
 use Rattle.whole_calls.specs.Spending.{TakesFewer}
 use Rattle.schedule.specs.declared.event.Event.TheVariants.{Step}
 use Rattle.whole_calls.specs.Telling.{IsSilent, TellsStep, room_came}
@@ -81,14 +81,14 @@ returns-in-Ok-clause-cause g c honest start history calls fits number call is =
     let r = c.make_room.ensures.goes session sets (later.honest honest) start history calls fits in
     let e = event_of g.S.PageStore (Step session) c.one.result here there start r.then_history r.then_calls (c.one.ensures.runs honest start r.then_history r.then_calls r.ran.fits) in
     let runs = subst (λ (cs : List Call). IsRunningCall cs session number call) (sym r.tells.calls_is) is in
-    let full = is_full_sweep (slot_of c.args.slots.now session) in
-    ask_wider g.S.PageStore session c.args.least_room old here c.one.new.store first later.failures (λ busy. busy) full full call.ask (λ dead asked out. out) (Ok c.one.result)
+    let full = is_full_vacuum (slot_of c.args.slots.now session) in
+    ask_wider g.S.PageStore session c.args.least_room old here c.one.new.store first later.failures (λ busy. busy) full full call.ask (λ counts out. out) (Ok c.one.result)
     (step_caused g.S.PageStore start session c.args.least_room c.one.result (snapshot_of here r.then_history r.then_calls) (snapshot_of there e.0 e.1) r.ran.fits c.in-Ok.ensures.promise e.2 number call runs)
 
 pub returns-in-Err-clause-cause : goal.returns-in-Err-clause-cause
 returns-in-Err-clause-cause g c honest start history calls fits number call is =
     let sets = map g.T.DeadRows.is_in c.args.sets.now in
-    forced_cause g.S.PageStore c.args.session c.args.least_room (is_full_sweep (slot_of c.args.slots.now c.args.session)) (here_with c.args.store.now c.args.slots.now sets) c.make_room.new.store call.ask c.in-Err.fault c.in-Err.ensures.cause
+    forced_cause g.S.PageStore c.args.session c.args.least_room (is_full_vacuum (slot_of c.args.slots.now c.args.session)) (here_with c.args.store.now c.args.slots.now sets) c.make_room.new.store call.ask c.in-Err.fault c.in-Err.ensures.cause
 
 pub returns-in-Err-clause-runs_on : goal.returns-in-Err-clause-runs_on
 returns-in-Err-clause-runs_on g c = runs_on_same (slot_of c.args.slots.now c.args.session)

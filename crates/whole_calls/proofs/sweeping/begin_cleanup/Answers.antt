@@ -4,7 +4,7 @@ use Rattle.schedule.specs.Snapshots.{here_with, slot_of, snapshot_of}
 use Rattle.schedule.specs.declared.event.Event.TheVariants.{Cleanup}
 use Rattle.session_calls.specs.declared.request.Request.TheVariants.{Cleanup as ToCleanup}
 use Rattle.whole_calls.specs.Sweeping.{of_cleanup, BeginsToCount, of_leaves}
-use Rattle.whole_calls.proofs.Beginning.{goes_begun}
+use Rattle.whole_calls.proofs.Beginning.{goes_begun, caused_by}
 use Rattle.whole_calls.proofs.Composing.{event_of}
 use Rattle.whole_calls.proofs.Counting.{begins_clean, begins_sparing}
 use Rattle.whole_calls.proofs.sweeping.begin_cleanup.Goals as goal
@@ -29,3 +29,6 @@ returns-clause-spares g c honest start history calls fits calm =
     let e = event_of g.S.PageStore (Cleanup c.args.session) c.one.result here there start history calls (c.one.ensures.runs honest start history calls fits) in
     subst (λ (b : Result (Unit {0}) Fault). BeginsToCount of_leaves sets (g.S.PageStore.state c.one.new.store) (slot_of c.one.new.slots c.args.session) b) (sym c.begun.ensures)
     (begins_sparing g.S.PageStore start c.args.session c.one.result (snapshot_of here history calls) (snapshot_of there e.0 e.1) fits e.2 calm c.one.ensures.always.fresh)
+
+pub returns-clause-cause : goal.returns-clause-cause
+returns-clause-cause g c = caused_by _ c.one.result _ c.begun.ensures c.one.ensures.always.answers c.one.ensures.always.causes

@@ -16,10 +16,10 @@ use Rattle.whole_calls.specs.Telling.{first_call, HasBegun, TellsStep, TellsEnd,
 use Rattle.whole_calls.specs.Sweeping.{of_sweep, SweepTold, swept_of, swept_came, TellsEntries, BeginsToCount}
 use Rattle.whole_calls.proofs.Composing.{goes_first, goes_then, goes_told}
 use Rattle.whole_calls.proofs.Counting.{tells_entries}
-use Rattle.whole_calls.proofs.Swept.{SweepGone, sweep_told, sweep_came, not_swept}
+use Rattle.whole_calls.proofs.Swept.{SweepGone, sweep_told, sweep_came, swept_caused, not_swept}
 use Rattle.whole_calls.proofs.Tellings.{begun_next, begun_free, begun_runs}
 use Rattle.whole_calls.proofs.Filling.{bulk_fills}
-use Rattle.whole_calls.proofs.Refusing.{came_wider, others_before, may_have, swept_caused, refusal_wider, gone_called, gone_behind, not_begun_cause}
+use Rattle.whole_calls.proofs.Refusing.{came_wider, others_before, may_have, refusal_wider, gone_called, gone_behind, not_begun_cause}
 use Rattle.whole_calls.proofs.sweeping.bulk_delete.Goals as goal
 
 pub returns-clause-goes : goal.returns-clause-goes
@@ -94,14 +94,14 @@ returns-clause-cause g c honest start history calls fits =
     let call = first_call session request x in
     let counted = subst (λ (o : Result (Unit {0}) Fault). BeginsToCount of_sweep sets (g.S.PageStore.state c.begin.new.store) (slot_of c.begin.new.slots session) o) c.in-Ok.is (c.begin.ensures.entries (mid.honest so_far) start history calls fits) in
     let are = subst (λ (l : Limits). AreLimits l) (c.limits-limits.ensures.value ∙ sym c.begin.ensures.limits) c.limits-limits.ensures.allowed in
-    let fills = bulk_fills g.S.PageStore laws start session y r.ran.fits are (length calls) call is (sym (ap (λ (l : List Action). length l) b.history_is)) counted in
+    let fills = bulk_fills g.S.PageStore laws start session y r.ran.fits are (length calls) call (set_at sets set) is refl (sym (ap (λ (l : List Action). length l) b.history_is)) counted in
     let t = c.finish-came.ensures.goes so_far start r.then_history r.then_calls r.ran.fits in
     let may = may_have (length calls) call came y (snapshot_of here t.then_history t.then_calls) (t.tells (length calls) call is) in
     let caused = c.finish-came.ensures.cause so_far start r.then_history r.then_calls r.ran.fits false fills (length calls) call is in
     let wider = came_wider g.S.PageStore session least old begun c.finish-came.new.store first mid.failures (others_before c.args.slots.now c.begin.new.slots session c.begin.ensures.others) false false (λ f. f) came caused in
     let at = where_gone g.S.PageStore session least false old c.finish-came.new.store in
     let wide = where_called g.S.PageStore session request old (where_gone g.S.PageStore session least false old c.give_up.new.store) in
-    let why = swept_caused at (set_at sets set) came may c.finish-came.ensures.over wider in
+    let why = swept_caused at sets request refl came may c.finish-came.ensures.over wider in
     subst (λ (o : Result VacuumStats Fault). IfErr o (HasCause wide)) (sym c.swept.ensures)
     (refusal_wider at wide (swept_of came) (λ fault h. gone_called g.S.PageStore session least request old c.give_up.new.store false fault
     (gone_behind g.S.PageStore session least old c.finish-came.new.store c.give_up.new.store c.give_up.ensures.backing c.give_up.ensures.acts c.give_up.ensures.frames false fault h)) why)

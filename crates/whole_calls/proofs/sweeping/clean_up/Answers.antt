@@ -1,17 +1,23 @@
-use Rattle.std.specs.Prelude.{map}
-use Rattle.std.proofs.Common.{refl, true, Result, Err, Some, None, sym, subst}
+use Rattle.std.specs.Prelude.{map, IfErr}
+use Rattle.std.proofs.Common.{refl, true, false, Result, Err, Some, None, length, sym, subst, ◌∙◌}
+use Rattle.index_model.specs.Faults.{HasCause}
+use Rattle.index_model.specs.Limits.{AreLimits}
+use Rattle.index_model.specs.declared.limits.Limits.{Limits}
 use Rattle.index_model.specs.declared.fault.Fault.{Fault}
 use Rattle.index_model.specs.declared.stats.VacuumStats.{VacuumStats}
 use Rattle.session_calls.specs.declared.answer.Answer.TheVariants.{Refused}
 use Rattle.session_calls.specs.declared.request.Request.TheVariants.{Cleanup as ToCleanup}
-use Rattle.schedule.specs.Snapshots.{here_with, slot_of}
+use Rattle.schedule.specs.Snapshots.{here_with, slot_of, snapshot_of}
+use Rattle.whole_calls.specs.Refusing.{where_called, where_gone}
 use Rattle.whole_calls.specs.Going.{CallGoes}
-use Rattle.whole_calls.specs.Telling.{TellsStep, TellsEnd, BeginTold, begin_came, step_came}
+use Rattle.whole_calls.specs.Telling.{first_call, HasBegun, TellsStep, TellsEnd, BeginTold, begin_came, step_came}
 use Rattle.whole_calls.specs.Sweeping.{of_cleanup, SweepTold, swept_of, swept_came, TellsCleaned, BeginsToCount, of_leaves, LeavesOnlyNeeded}
 use Rattle.whole_calls.proofs.Composing.{goes_first, goes_then, goes_told}
 use Rattle.whole_calls.proofs.Counting.{tells_entries}
-use Rattle.whole_calls.proofs.Swept.{SweepGone, sweep_told, sweep_came, not_swept}
-use Rattle.whole_calls.proofs.Tellings.{begun_next, begun_free}
+use Rattle.whole_calls.proofs.Swept.{SweepGone, sweep_told, sweep_came, swept_caused, not_swept}
+use Rattle.whole_calls.proofs.Tellings.{begun_next, begun_free, begun_runs}
+use Rattle.whole_calls.proofs.Filling.{cleanup_fills}
+use Rattle.whole_calls.proofs.Refusing.{came_wider, others_before, may_have, refusal_wider, gone_called, gone_behind, not_begun_cause}
 use Rattle.whole_calls.proofs.sweeping.clean_up.Goals as goal
 
 pub returns-clause-goes : goal.returns-clause-goes
@@ -76,3 +82,43 @@ returns-clause-spares g c honest start history calls fits calm =
     subst (λ (b : Result VacuumStats Fault). LeavesOnlyNeeded (g.S.PageStore.state c.give_up.new.store) b) (sym c.swept.ensures)
     (tells_entries of_leaves sets (g.S.PageStore.state c.begin_cleanup.new.store) (g.S.PageStore.state c.finish-came.new.store) (g.S.PageStore.state c.give_up.new.store) (slot_of c.begin_cleanup.new.slots session) (slot_of c.finish-came.new.slots session) came
     c.give_up.ensures.pages counted (c.finish-came.ensures.entries here start r.then_history r.then_calls r.ran.fits of_leaves))
+
+pub returns-clause-cause : goal.returns-clause-cause
+returns-clause-cause g c honest start history calls fits =
+    let laws = g.met.S.PageStore.laws in
+    let session = c.args.session in
+    let least = c.args.least_room in
+    let request = ToCleanup in
+    let came = c.finish-came.result in
+    let sets = map g.T.DeadRows.is_in c.args.sets.now in
+    let old = here_with c.args.store.now c.args.slots.now sets in
+    let begun = here_with c.begin_cleanup.new.store c.begin_cleanup.new.slots sets in
+    let here = here_with c.finish-came.new.store c.finish-came.new.slots sets in
+    let first = laws.follows_later c.args.store.now c.begin_cleanup.new.store (c.begin_cleanup.ensures.steps _ (laws.follows_same _)) in
+    let mid = laws.follows_later c.begin_cleanup.new.store c.finish-came.new.store (c.finish-came.ensures.steps _ (laws.follows_same _)) in
+    let last = laws.follows_later c.finish-came.new.store c.give_up.new.store (c.give_up.ensures.steps _ (laws.follows_same _)) in
+    let so_far = last.honest honest in
+    let r = c.begin_cleanup.ensures.goes (mid.honest so_far) start history calls fits in
+    let x = snapshot_of old history calls in
+    let y = snapshot_of begun r.then_history r.then_calls in
+    let b : HasBegun session request x y = subst (λ (o : Result (Unit {0}) Fault). BeginTold session request o x y) c.in-Ok.is r.tells in
+    let is = begun_runs session request x y y b in
+    let call = first_call session request x in
+    let counted = subst (λ (o : Result (Unit {0}) Fault). BeginsToCount of_cleanup sets (g.S.PageStore.state c.begin_cleanup.new.store) (slot_of c.begin_cleanup.new.slots session) o) c.in-Ok.is (c.begin_cleanup.ensures.entries (mid.honest so_far) start history calls fits) in
+    let are = subst (λ (l : Limits). AreLimits l) (c.limits-limits.ensures.value ∙ sym c.begin_cleanup.ensures.limits) c.limits-limits.ensures.allowed in
+    let fills = cleanup_fills g.S.PageStore laws start session y r.ran.fits are counted in
+    let t = c.finish-came.ensures.goes so_far start r.then_history r.then_calls r.ran.fits in
+    let may = may_have (length calls) call came y (snapshot_of here t.then_history t.then_calls) (t.tells (length calls) call is) in
+    let caused = c.finish-came.ensures.cause so_far start r.then_history r.then_calls r.ran.fits false fills (length calls) call is in
+    let wider = came_wider g.S.PageStore session least old begun c.finish-came.new.store first mid.failures (others_before c.args.slots.now c.begin_cleanup.new.slots session c.begin_cleanup.ensures.others) false false (λ f. f) came caused in
+    let at = where_gone g.S.PageStore session least false old c.finish-came.new.store in
+    let wide = where_called g.S.PageStore session request old (where_gone g.S.PageStore session least false old c.give_up.new.store) in
+    let why = swept_caused at sets request refl came may c.finish-came.ensures.over wider in
+    subst (λ (o : Result VacuumStats Fault). IfErr o (HasCause wide)) (sym c.swept.ensures)
+    (refusal_wider at wide (swept_of came) (λ fault h. gone_called g.S.PageStore session least request old c.give_up.new.store false fault
+    (gone_behind g.S.PageStore session least old c.finish-came.new.store c.give_up.new.store c.give_up.ensures.backing c.give_up.ensures.acts c.give_up.ensures.frames false fault h)) why)
+
+pub returns-in-Err-clause-cause : goal.returns-in-Err-clause-cause
+returns-in-Err-clause-cause g c honest start history calls fits =
+    let sets = map g.T.DeadRows.is_in c.args.sets.now in
+    not_begun_cause g.S.PageStore c.args.session c.args.least_room ToCleanup (here_with c.args.store.now c.args.slots.now sets) c.begin_cleanup.new.store false start history calls fits c.in-Err.fault c.in-Err.ensures.cause

@@ -1,8 +1,9 @@
 use Rattle.std.specs.Prelude.{[]}
+use Rattle.std.proofs.Common.{rules}
 use Rattle.schedule.specs.Snapshots.{here_with, snapshot_of}
 use Rattle.access_method.specs.Indexes.{slots_within}
 use Rattle.access_method.proofs.Cleanups.{cleaned_up}
-use Rattle.access_method.proofs.Refusals.{all_alone}
+use Rattle.access_method.proofs.Refusals.{all_alone, calm_slots, cleaned_cause, finishes, frames_stay}
 use Rattle.access_method.proofs.index.Index.amvacuumcleanup.Goals as goal
 
 pub returns-clause-cleans : goal.returns-clause-cleans
@@ -16,3 +17,15 @@ returns-clause-spares g c honest start history calls fits calm =
       alone = all_alone g.S.PageStore start (snapshot_of (slots_within c.args.self.now) history calls) fits calm.alone;
       none_dead = calm.none_dead;
     })
+
+pub returns-clause-cause : goal.returns-clause-cause
+returns-clause-cause g c honest start history calls fits =
+    let index = c.args.self.now in
+    cleaned_cause g.S.PageStore index c.clean_up.new.store index.agree.inserts (search rules) (calm_slots index.slots index.none_vacuums) c.clean_up.result (c.clean_up.ensures.cause honest start history calls fits)
+
+pub returns-clause-finishes : goal.returns-clause-finishes
+returns-clause-finishes g c honest start history calls fits un =
+    let index = c.args.self.now in
+    let same = frames_stay g.S.PageStore 63 _ _ (slots_within index) (here_with c.clean_up.new.store c.clean_up.new.slots []) start history calls (c.clean_up.ensures.goes honest start history calls fits) in
+    finishes g.S.PageStore 63 index c.clean_up.new.store c.clean_up.result un same
+    (cleaned_cause g.S.PageStore index c.clean_up.new.store index.agree.inserts (search rules) (calm_slots index.slots index.none_vacuums) c.clean_up.result (c.clean_up.ensures.cause honest start history calls fits))
