@@ -1,5 +1,5 @@
 use Rattle.std.specs.Prelude.{map}
-use Rattle.std.proofs.Common.{◌≡◌, ◌+◌, ◌≤◌, Bool, None, length}
+use Rattle.std.proofs.Common.{◌≡◌, ◌+◌, ◌≤◌, None, length}
 use Rattle.page_action.specs.States.{Continues}
 use Rattle.session_calls.specs.Ops.{RunsOn}
 use Rattle.schedule.specs.Snapshots.{here_with, slot_of}

@@ -14,7 +14,7 @@ use Rattle.whole_calls.proofs.Gone.{gone_nowhere, silent_then}
 use Rattle.whole_calls.proofs.Tellings.{moves_tells, kept_not_exists}
 use Rattle.whole_calls.proofs.Spending.{run_fewer}
 use Rattle.whole_calls.proofs.Counting.{run_counts}
-use Rattle.whole_calls.specs.Sweeping.{Followed, CountsThrough}
+use Rattle.whole_calls.specs.Sweeping.{CountsThrough}
 use Rattle.session_calls.specs.declared.answer.Answer.TheVariants.{Refused}
 use Rattle.session_calls.proofs.RunningOn.{runs_on_same}
 use Rattle.whole_calls.proofs.running.step.Goals as goal

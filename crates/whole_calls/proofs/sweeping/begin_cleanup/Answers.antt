@@ -8,7 +8,7 @@ use Rattle.whole_calls.proofs.Beginning.{goes_begun, caused_by}
 use Rattle.whole_calls.proofs.Composing.{event_of}
 use Rattle.whole_calls.proofs.Counting.{begins_clean, begins_sparing}
 use Rattle.whole_calls.proofs.sweeping.begin_cleanup.Goals as goal
-use Rattle.std.proofs.Common.{true, Result, sym}
+use Rattle.std.proofs.Common.{Result, sym}
 use Rattle.index_model.specs.declared.fault.Fault.{Fault}
 
 pub returns-clause-goes : goal.returns-clause-goes

@@ -1,5 +1,5 @@
 use Rattle.std.specs.Prelude.{map, IfErr}
-use Rattle.std.proofs.Common.{refl, true, false, Result, Err, Some, None, length, sym, subst, ◌∙◌}
+use Rattle.std.proofs.Common.{refl, false, Result, Err, Some, None, length, sym, subst, ◌∙◌}
 use Rattle.index_model.specs.Faults.{HasCause}
 use Rattle.index_model.specs.Limits.{AreLimits}
 use Rattle.index_model.specs.declared.limits.Limits.{Limits}
