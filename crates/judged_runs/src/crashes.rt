@@ -14,17 +14,17 @@ use std::test::Fail;
 use world::{NotOpened, World};
 
 /// Pages in memory at once: all, so that who looks at a page makes no device call, and none of those that fail.
-const FRAMES: u32 = 1_024;
+pub const FOR_ALL: u32 = 1_024;
 
 /// A world over a device in memory.
-type OverDevice = World<Store<MemDevice>, Blocks>;
+pub type OverDevice = World<Store<MemDevice>, Blocks>;
 
-/// Opens the index that the device holds.
-fn opened(run: Run, device: MemDevice) -> Result<OverDevice, Fault> {
+/// Opens the index that the device holds, with so many frames.
+pub fn opened(run: Run, frames: u32, device: MemDevice) -> Result<OverDevice, Fault> {
     match World::open(
         run.alloc,
         device,
-        FRAMES,
+        frames,
         run.space.sessions,
         sets_of(run.alloc, run.space)?,
     ) {
@@ -33,12 +33,12 @@ fn opened(run: Run, device: MemDevice) -> Result<OverDevice, Fault> {
     }
 }
 
-/// An empty index on a device in memory.
-fn on_a_device(run: Run) -> Result<OverDevice, Fault> {
+/// An empty index on a device in memory, with so many frames.
+pub fn on_a_device(run: Run, frames: u32) -> Result<OverDevice, Fault> {
     let pages = u64::from(run.limits.pages) * 4_096;
     let mut device = MemDevice::new(run.alloc, 4_096 + u64::from(run.limits.log_bytes) + pages)?;
     create(&mut device, &run.limits)?;
-    opened(run, device)
+    opened(run, frames, device)
 }
 
 /// What a crash leaves.
@@ -50,10 +50,11 @@ fn image(dice: &mut Dice) -> CrashImage {
     }
 }
 
-/// Opens the index behind a crash. Half of the times the device stops inside of the first open, which may be refused with
-/// `Io`, and crashes again.
-fn opened_again(
+/// Opens the index behind a crash, with so many frames. Half of the times the device stops inside of the first open, which may
+/// be refused with `Io`, and crashes again.
+pub fn opened_again(
     run: Run,
+    frames: u32,
     world: &OverDevice,
     dice: &mut Dice,
     tally: &mut Tally,
@@ -63,8 +64,8 @@ fn opened_again(
         left.stop_at(u64::from(dice.roll(20)) + 1);
     }
     let sets = sets_of(run.alloc, run.space)?;
-    match World::open(run.alloc, left, FRAMES, run.space.sessions, sets) {
-        Ok(world) => opened(run, world.crash(run.alloc, image(dice))?),
+    match World::open(run.alloc, left, frames, run.space.sessions, sets) {
+        Ok(world) => opened(run, frames, world.crash(run.alloc, image(dice))?),
         Err(
             NotOpened {
                 fault: Fault::Io,
@@ -73,7 +74,7 @@ fn opened_again(
             },
         ) => {
             tally.crash_opening();
-            opened(run, device.crash(run.alloc, image(dice))?)
+            opened(run, frames, device.crash(run.alloc, image(dice))?)
         }
         Err(not_opened) => Err(not_opened.fault),
     }
@@ -108,13 +109,13 @@ fn fails_right(
 /// A run over a device with so many crashes, each behind so many events.
 pub fn crashed(run: Run, seed: u64, crashes: u32, events: u32) -> Result<Outcome, Fail> {
     let mut dice = Dice::new(seed);
-    let mut world = on_a_device(run)?;
+    let mut world = on_a_device(run, FOR_ALL)?;
     let mut judge = judge_of(run, &mut world)?;
     let mut tally = Tally::default();
     let mut is_right = true;
     for _ in 0..crashes {
         is_right = is_right && fails_right(run, &mut world, &mut judge, &mut dice, events)?;
-        world = opened_again(run, &world, &mut dice, &mut tally)?;
+        world = opened_again(run, FOR_ALL, &world, &mut dice, &mut tally)?;
         let next = judge_of(run, &mut world)?;
         is_right = is_right && judge.crashes(&next);
         tally.join(judge.tally());

@@ -45,7 +45,7 @@ impl Dice {
     }
 
     /// A number from 0 to below this one, or 0.
-    fn pick(&mut self, count: u32) -> u32 {
+    pub fn pick(&mut self, count: u32) -> u32 {
         self.roll(count.max(1))
     }
 

@@ -3,6 +3,7 @@
 use crate::dead::rows_of;
 use crate::dice::Space;
 use crate::pages::{contents, flagged, is_on, lost, root_level};
+use crate::runs::fault_of;
 use crate::tally::Tally;
 use crate::waiting::Waiting;
 use index_model::{Entry, Fault};
@@ -37,6 +38,10 @@ pub struct Judge {
     is_in_memory: bool,
     /// Whether calls of the device are made to fail.
     is_failing: bool,
+    /// Whether one has failed, as an answer said.
+    has_failed: bool,
+    /// How many pages are in memory at once; None where all are.
+    frames: Option<u32>,
     /// Whether the log is known to have failed.
     is_stopped: bool,
     tally: Tally,
@@ -71,6 +76,8 @@ impl Judge {
             waiting: Waiting::new(alloc),
             is_in_memory: false,
             is_failing: false,
+            has_failed: false,
+            frames: None,
             is_stopped: false,
             tally: Tally::default(),
         })
@@ -99,6 +106,21 @@ impl Judge {
     /// From now on calls of the device may fail.
     pub fn expects_failures(&mut self) {
         self.is_failing = true;
+    }
+
+    /// So many pages are in memory at once.
+    pub fn expects_frames(&mut self, frames: u32) {
+        self.frames = Some(frames);
+    }
+
+    /// Whether the log is known to have failed.
+    pub fn is_stopped(&self) -> bool {
+        self.is_stopped
+    }
+
+    /// How many actions were durable when it was last said.
+    pub fn forced(&self) -> usize {
+        self.forced
     }
 
     /// How many actions there were.
@@ -198,7 +220,7 @@ impl Judge {
         let adds = matches!(&effect, PlainEffect::Adds(_));
         let removes = matches!(&effect, PlainEffect::Removes(_));
         let cleans = self.is_cleaning(session);
-        self.tally.reach(root_level(&pages));
+        self.tally.reach(root_level(&pages), pages.len());
         self.waiting
             .changes(&self.pages, &pages, self.history.len())?;
         self.pages = pages;
@@ -222,9 +244,9 @@ impl Judge {
     /// Keeps the answer of an event, and says whether it is right. The event's action is kept before.
     pub fn hears(&mut self, event: &Event, answer: &Answer) -> Result<bool, AllocError> {
         self.tally.hear(answer);
-        if self.is_failing && says_stopped(answer) {
-            self.is_stopped = true;
-        }
+        self.has_failed = self.has_failed || says(answer, Fault::Io);
+        // The log is stopped by a device call alone, whose failure was answered.
+        self.is_stopped = self.is_stopped || self.has_failed && says(answer, Fault::Stopped);
         match event {
             Event::Insert(_, _)
             | Event::Scan(_, _)
@@ -297,7 +319,7 @@ impl Judge {
                 self.is_running(session)
             }
             Answer::Added { action, unfinished } => {
-                is_right_unfinished(*unfinished)
+                self.may_leave(*unfinished)
                     && self.ends(
                         session,
                         PlainEnding::HasAdded(*action as usize, *unfinished),
@@ -313,12 +335,36 @@ impl Judge {
             Answer::Refused(Fault::LogFull) if self.is_vacuuming(session) => {
                 self.ends(session, PlainEnding::HasFailed(Fault::LogFull))
             }
+            Answer::Refused(fault) if self.may_lack_a_page(*fault) => {
+                self.ends(session, PlainEnding::HasFailed(*fault))
+            }
             Answer::Refused(fault) => {
                 self.is_to_add(session).is_some()
                     && matches!(fault, Fault::Exists | Fault::IndexFull | Fault::LogFull)
                     && self.ends(session, PlainEnding::HasFailed(*fault))
             }
             _ => false,
+        }
+    }
+
+    /// Whether a page may not be had for this: a device call has failed, or the pinned pages, two of each call, and the four
+    /// of an act may be more than the frames.
+    fn may_lack_a_page(&self, fault: Fault) -> bool {
+        match (fault, self.frames) {
+            (Fault::Io, _) => self.is_failing,
+            (Fault::NoFrame, Some(frames)) => {
+                let calls = self.running.iter().filter(|call| call.is_some()).count();
+                calls.saturating_mul(2).saturating_add(4) > frames as usize
+            }
+            _ => false,
+        }
+    }
+
+    /// Whether a split may be left unfinished for this.
+    fn may_leave(&self, unfinished: Option<Fault>) -> bool {
+        match unfinished {
+            None | Some(Fault::IndexFull | Fault::LogFull) => true,
+            Some(fault) => self.may_lack_a_page(fault),
         }
     }
 
@@ -535,19 +581,10 @@ impl Judge {
     }
 }
 
-/// Whether the answer says that the log has failed.
-fn says_stopped(answer: &Answer) -> bool {
-    matches!(
-        answer,
-        Answer::Refused(Fault::Stopped)
-            | Answer::Added {
-                unfinished: Some(Fault::Stopped),
-                ..
-            }
-    )
-}
-
-/// Whether a split may be left unfinished for this.
-fn is_right_unfinished(unfinished: Option<Fault>) -> bool {
-    matches!(unfinished, None | Some(Fault::IndexFull | Fault::LogFull))
+/// Whether the answer says that this kept it from more.
+fn says(answer: &Answer, fault: Fault) -> bool {
+    match fault_of(answer) {
+        Some(other) => other == fault,
+        None => false,
+    }
 }

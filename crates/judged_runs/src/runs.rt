@@ -35,7 +35,7 @@ pub fn judge_of<S: PageStore>(run: Run, world: &mut World<S, Blocks>) -> Result<
 }
 
 /// The session that an event names.
-fn session_of(event: &Event) -> u32 {
+pub fn session_of(event: &Event) -> u32 {
     match event {
         Event::Insert(session, _)
         | Event::Scan(session, _)
@@ -49,7 +49,7 @@ fn session_of(event: &Event) -> u32 {
 }
 
 /// Keeps the action that the session's call just made: whether it is right.
-fn acts<S: PageStore>(
+pub fn acts<S: PageStore>(
     alloc: Global,
     world: &mut World<S, Blocks>,
     judge: &mut Judge,
@@ -60,8 +60,8 @@ fn acts<S: PageStore>(
     judge.acts(session, pages, &entries)
 }
 
-/// What an answer says that something is full of.
-fn is_full_of(answer: &Answer) -> Option<Fault> {
+/// What an answer says that kept it from more.
+pub fn fault_of(answer: &Answer) -> Option<Fault> {
     match answer {
         Answer::Refused(fault) => Some(*fault),
         Answer::Added { unfinished, .. } => *unfinished,
@@ -70,8 +70,8 @@ fn is_full_of(answer: &Answer) -> Option<Fault> {
 }
 
 /// Whether what the answer calls full is full: each block is used, or the log has no room for the four images of an act.
-fn is_full<S: PageStore>(world: &World<S, Blocks>, limits: Limits, answer: &Answer) -> bool {
-    match is_full_of(answer) {
+pub fn is_full<S: PageStore>(world: &World<S, Blocks>, limits: Limits, answer: &Answer) -> bool {
+    match fault_of(answer) {
         Some(Fault::IndexFull) => world.used() == limits.pages,
         Some(Fault::LogFull) => world.room() <= 4,
         _ => true,
@@ -79,7 +79,7 @@ fn is_full<S: PageStore>(world: &World<S, Blocks>, limits: Limits, answer: &Answ
 }
 
 /// Whether the same sessions run calls.
-fn are_running<S: PageStore>(world: &World<S, Blocks>, judge: &Judge, sessions: u32) -> bool {
+pub fn are_running<S: PageStore>(world: &World<S, Blocks>, judge: &Judge, sessions: u32) -> bool {
     (0..sessions).all(|session| world.is_running(session) == judge.is_running(session))
 }
 

@@ -38,6 +38,8 @@ pub struct Tally {
     pub index_full: u32,
     /// Refusals with `LogFull`.
     pub log_full: u32,
+    /// Refusals with `NoFrame`.
+    pub no_frame: u32,
     /// Refusals with `Io`.
     pub io: u32,
     /// Refusals with `Stopped`.
@@ -52,6 +54,8 @@ pub struct Tally {
     pub half_done: u32,
     /// The highest level of a root.
     pub level: u8,
+    /// The most pages in use.
+    pub pages: usize,
 }
 
 fn count(number: &mut u32) {
@@ -81,6 +85,7 @@ impl Tally {
             Fault::Exists => count(&mut self.exists),
             Fault::IndexFull => count(&mut self.index_full),
             Fault::LogFull => count(&mut self.log_full),
+            Fault::NoFrame => count(&mut self.no_frame),
             Fault::Io => count(&mut self.io),
             Fault::Stopped => count(&mut self.stopped),
             _ => {}
@@ -119,9 +124,10 @@ impl Tally {
         }
     }
 
-    /// Marks the level of a root.
-    pub fn reach(&mut self, level: u8) {
+    /// Marks the level of a root, and how many pages are in use.
+    pub fn reach(&mut self, level: u8, pages: usize) {
         self.level = self.level.max(level);
+        self.pages = self.pages.max(pages);
     }
 
     /// Counts a crash inside of an open.
@@ -158,12 +164,13 @@ impl Tally {
         self.exists = self.exists.saturating_add(other.exists);
         self.index_full = self.index_full.saturating_add(other.index_full);
         self.log_full = self.log_full.saturating_add(other.log_full);
+        self.no_frame = self.no_frame.saturating_add(other.no_frame);
         self.io = self.io.saturating_add(other.io);
         self.stopped = self.stopped.saturating_add(other.stopped);
         self.crashes = self.crashes.saturating_add(other.crashes);
         self.losing = self.losing.saturating_add(other.losing);
         self.opening = self.opening.saturating_add(other.opening);
         self.half_done = self.half_done.saturating_add(other.half_done);
-        self.reach(other.level);
+        self.reach(other.level, other.pages);
     }
 }
