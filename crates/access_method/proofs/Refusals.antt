@@ -86,14 +86,14 @@ module _ {S : Type 0} (g : Ghosts S) (old : Index S) (new : S) where
     there = there_at old slots
 
     refused_cause : (was_there used_up tall : Bool) (fault : Fault) → (fault ≡ Exists → was_there ≡ true)
-        → HasCause (where_called g 63 (ToInsert entry) (slots_within old) (where_inserted g 63 5 used_up tall (slots_within old) new)) fault → HasCause (where_inserting g was_there used_up tall old new) fault
+        → HasCause (where_called g 63 (ToInsert entry) (slots_within old) (where_inserted g 63 5 true used_up tall (slots_within old) new)) fault → HasCause (where_inserting g was_there used_up tall old new) fault
     refused_cause was_there used_up tall Stopped was h = stopped_called h
     refused_cause was_there used_up tall Exists was h = was refl
     refused_cause was_there used_up tall NoSession was h = absurd (true_false (sym h ∙ there))
     refused_cause was_there used_up tall SessionBusy was h = absurd (true_false (sym h ∙ free))
     refused_cause was_there used_up tall fault was h = h
 
-    left_cause : (unfinished : Option Fault) → IsFaultCaused (where_inserted g 63 5 true true (slots_within old) new) unfinished → IsFaultCaused (where_inserting g true true true old new) unfinished
+    left_cause : (unfinished : Option Fault) → IsFaultCaused (where_inserted g 63 5 false true true (slots_within old) new) unfinished → IsFaultCaused (where_inserting g false true true old new) unfinished
     left_cause None h = tt
     left_cause (Some Stopped) h = stopped_run h
     left_cause (Some fault) h = h
@@ -176,9 +176,8 @@ module _ {S : Type 0} (g : Ghosts S) (entry : Entry) (old : Index S) (new : S) (
   refused_unhindered TooTall h = h
   refused_unhindered fault h = absurd (run_unhindered g 63 old new un same_frames fault h)
 
-  left_unhindered : (unfinished : Option Fault) → IsFaultCaused (where_inserting g true true true old new) unfinished → IsOfSpace unfinished
+  left_unhindered : (unfinished : Option Fault) → IsFaultCaused (where_inserting g false true true old new) unfinished → IsOfSpace unfinished
   left_unhindered None h = tt
-  left_unhindered (Some Exists) h = tt
   left_unhindered (Some IndexFull) h = tt
   left_unhindered (Some TooTall) h = tt
   left_unhindered (Some fault) h = absurd (run_unhindered g 63 old new un same_frames fault h)

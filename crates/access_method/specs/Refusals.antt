@@ -38,9 +38,9 @@ where_inserting g was_there used_up tall old new = record (where_run g 63 old ne
   root_is_at_31 = tall;
 }
 
--- a refused insert had its cause; and so had what an insert leaves unfinished, when it came to it
+-- a refused insert had its cause; and so had what an insert leaves unfinished, when it came to it: never that its entry was there
 abbrev pub InsertHasCause : {S : Type 0} → Ghosts S → Entry → Result Inserted Fault → Index S → S → Type 0
-InsertHasCause g entry (Ok inserted) old new = IsFaultCaused (where_inserting g true true true old new) inserted.unfinished
+InsertHasCause g entry (Ok inserted) old new = IsFaultCaused (where_inserting g false true true old new) inserted.unfinished
 InsertHasCause g entry (Err fault) old new = HasCause (where_inserting g (has_entry g old.store entry) (is_used_up (g.state new)) (is_tall (g.state new)) old new) fault
 
 -- Nothing hinders a call of this session between these moments: no other open scan's call runs, the log hasn't failed before and no
@@ -68,7 +68,6 @@ IsForWantOfSpace g entry old new fault = ⊥
 -- that no block was free, or the root on level 31
 abbrev pub IsOfSpace : Option Fault → Type 0
 IsOfSpace None = Unit {0}
-IsOfSpace (Some Exists) = Unit {0}
 IsOfSpace (Some IndexFull) = Unit {0}
 IsOfSpace (Some TooTall) = Unit {0}
 IsOfSpace (Some fault) = ⊥

@@ -15,7 +15,7 @@ use Rattle.split_finish.specs.Targets.{OnlyTargetsAreFlagged, FinishFits, finish
 use Rattle.split_finish.specs.Turns.{splits_root_of}
 use Rattle.split_finish.specs.declared.finish.FinishOp.{FinishOp}
 use Rattle.split_finish.specs.declared.finish.FinishStep.TheVariants.{Going as FinishGoing, Done}
-use Rattle.insert_split.specs.Inserts.{InsertFits, InsertStands, InsertSteps, IsNoted, insert_left, targets_at, where_inserting}
+use Rattle.insert_split.specs.Inserts.{InsertFits, InsertStands, InsertSteps, IsNoted, insert_left, targets_at, where_inserting, where_left}
 use Rattle.insert_split.specs.Straight.{IsStraight}
 use Rattle.insert_split.specs.Turns.{GoesOn, GoesOnFrom, Leaves, LeavesBy, IsRefusedRightly, is_blocked}
 use Rattle.insert_split.specs.declared.insert.InsertAt.{InsertAt}
@@ -42,6 +42,13 @@ finishing_cause st old new op splits fault at_is session h =
     subst (λ (a : InsertAt). HasCause (where_inserting st old new op.session op.entry a) fault) (sym at_is)
     (as_inserting st old new op.session op.entry (Finishing splits) (images_of splits.at) (frames_of splits.at) (takes_block_of splits.at) (splits_root_of splits.at) fault refl
     (subst (λ (s : ℕ). HasCause (where_finishing st old new s splits.at) fault) session h))
+
+-- ... and once the entry is logged
+finishing_left : (st : State) (old new : Backing) (op : InsertOp) (splits : FinishOp) (fault : Fault) → op.at ≡ Finishing splits → splits.session ≡ op.session
+    → HasCause (where_finishing st old new splits.session splits.at) fault → HasCause (where_left st old new op.session op.entry op.at) fault
+finishing_left st old new op splits fault at_is session h =
+    subst (λ (a : InsertAt). HasCause (where_left st old new op.session op.entry a) fault) (sym at_is)
+    (subst (λ (s : ℕ). HasCause (where_finishing st old new s splits.at) fault) session h)
 
 -- ... that goes on
 pub finish_goes : {S : Type 0} (g : Ghosts S) (before : InsertOp) (splits then_splits : FinishOp) (old new : S) → before.at ≡ Finishing splits → (g.backing old).stopped ≡ false
@@ -150,6 +157,12 @@ finish_refused g before splits then_splits fault result old new at_is alive h le
         let there = finishing_there (g.state old) before splits at_is fits in
         finishing_cause (g.state old) (g.backing old) (g.backing new) before splits fault at_is there.0 (h.stepped honest order there.1)
 
+    left_cause : (g.backing new).honest ≡ true → IsInOrder (g.state old) → InsertFits (g.state old) before
+        → HasCause (where_left (g.state old) (g.backing old) (g.backing new) before.session before.entry before.at) fault
+    left_cause honest order fits =
+        let there = finishing_there (g.state old) before splits at_is fits in
+        finishing_left (g.state old) (g.backing old) (g.backing new) before splits fault at_is there.0 (h.stepped honest order there.1)
+
     refusal : InsertSteps g before (record before { at = Finishing then_splits }) old new (Err fault)
     refusal = subst (λ (o : InsertOp). InsertSteps g before o old new (Err fault)) (sym same) (refuses g before old new fault h.steps h.refused.state alive cause)
 
@@ -166,7 +179,7 @@ finish_refused g before splits then_splits fault result old new at_is alive h le
         effect = None;
         does = nothing_else before.session (g.state old) (g.state new) h.refused.state order;
         noted = sym is;
-        left = (refl, cause honest order fits);
+        left = (refl, left_cause honest order fits);
       };
       straight = λ honest order fits whole on room. absurd (subst (IsStraight (g.state old) before.entry) at_is on);
     })

@@ -127,6 +127,11 @@ where_inserting st old new session e at =
       entry_was_there = entry_on_live_leaf st.pages e;
     }
 
+-- ... and why it leaves splits unfinished, once its entry is logged: never that its entry was there
+abbrev pub where_left : State → Backing → Backing → ℕ → Entry → InsertAt → Circumstances
+where_left st old new session e at =
+    record (where_inserting st old new session e at) { entry_was_there = false }
+
 -- what the insert notes of a step: the number of the action that adds its entry
 abbrev pub IsNoted : Option Effect → ℕ → Entry → Option ℕ → Option ℕ → Type 0
 IsNoted None acts e before after = after ≡ before
@@ -152,8 +157,7 @@ IsLeft old old_backing new new_backing before effect None =
     OnlyTargetsAreFlagged old (targets_at before.at)
     → (block : ℕ) → is_flagged new block ≡ false
 IsLeft old old_backing new new_backing before effect (Some fault) = (effect ≡ None)
-    × HasCause (where_inserting old old_backing new_backing before.session before.entry before.at)
-    fault
+    × HasCause (where_left old old_backing new_backing before.session before.entry before.at) fault
 
 -- the last step of an insert whose entry is logged, by the action of this number
 pub record InsertEnds (old : State) (old_backing : Backing) (new : State) (new_backing : Backing)

@@ -9,7 +9,7 @@ use Rattle.index_model.specs.declared.fault.Fault.{Fault}
 use Rattle.page_action.specs.Contents.{entry_on_live_leaf}
 use Rattle.page_action.specs.States.{State}
 use Rattle.descent.proofs.Acting.{nothing_else}
-use Rattle.session_calls.specs.Ops.{DeadSets, session_of, is_sweep, asked_of, add_of, OpFits, OpKnows, IsCaused, IsFaultCaused, is_last, ends_call}
+use Rattle.session_calls.specs.Ops.{DeadSets, session_of, is_sweep, asked_of, add_of, OpFits, OpKnows, IsCaused, once_added, IsFaultCaused, is_last, ends_call}
 use Rattle.session_calls.specs.Sessions.{Matches, OpRuns, CallFits, acts_of, act_count, IsAsked, add_after, noted, ended, Told, let_go, after_call, cycle_behind, Works, SessionGoes, OpGoes, HoldsOn}
 use Rattle.session_calls.specs.Sweeps.{OpSweeps}
 use Rattle.session_calls.specs.declared.answer.Answer.{Answer}
@@ -211,7 +211,7 @@ module _ {sets : DeadSets} (at : Circumstances) (old new : State) (start : Entry
 
   -- an insert that is over with its Add, which it may make now
   pub step_adds : (e : Entry) (action : ℕ) (unfinished : Option Fault) (effect : Option Effect) → asked_of sets before ≡ AskInsert e → Works (session_of before) (asked_of sets before) effect old new
-      → IsAsked (contents_after start history) call.ask call.added effect → add_after (add_of before) (suc (length history)) effect ≡ Some action → IsFaultCaused at unfinished
+      → IsAsked (contents_after start history) call.ask call.added effect → add_after (add_of before) (suc (length history)) effect ≡ Some action → IsFaultCaused (once_added at) unfinished
       → OpGoes at old new sets start history number call after (Added action unfinished)
   step_adds e action unfinished effect inserts works asked add caused =
       let more : List Action = history ++ acts_of number effect in

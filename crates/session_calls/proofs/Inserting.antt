@@ -12,7 +12,7 @@ use Rattle.descent.specs.Steps.{Changes}
 use Rattle.insert_split.specs.Inserts.{IsNoted, IsLeft, InsertGoesOn, InsertEnds, InsertStays, where_inserting}
 use Rattle.insert_split.specs.Turns.{is_blocked, IsRefusedRightly}
 use Rattle.insert_split.specs.declared.insert.InsertOp.{InsertOp}
-use Rattle.session_calls.specs.Ops.{DeadSets, ends_call, where_stepped, IsFaultCaused}
+use Rattle.session_calls.specs.Ops.{DeadSets, ends_call, where_stepped, once_added, IsFaultCaused}
 use Rattle.session_calls.specs.Sessions.{CallFits, IsAsked, add_after, OpGoes}
 use Rattle.session_calls.specs.declared.answer.Answer.TheVariants.{Going, Added, Refused}
 use Rattle.session_calls.specs.declared.op.Op.TheVariants.{Insert}
@@ -77,7 +77,7 @@ module _ {sets : DeadSets} (old new : State) (first second : Backing) (start : E
       step_goes_on at_op old new start history number call (Insert before) (Insert after) fits session (ap AskInsert entry) step.effect (works_on before.session (AskInsert before.entry) step.effect old new refl step.does)
       (asked step.effect after.added step.does.changes step.noted) (noted_is step.effect after.added step.noted) step.fits tt tt
 
-  left_caused : (effect : Option Effect) (unfinished : Option Fault) → IsLeft old first new second before effect unfinished → IsFaultCaused at_op unfinished
+  left_caused : (effect : Option Effect) (unfinished : Option Fault) → IsLeft old first new second before effect unfinished → IsFaultCaused (once_added at_op) unfinished
   left_caused effect None h = tt
   left_caused effect (Some fault) h = h.1
 

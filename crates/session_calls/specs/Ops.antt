@@ -195,10 +195,14 @@ abbrev pub IsFaultCaused : Circumstances → Option Fault → Type 0
 IsFaultCaused at None = Unit {0}
 IsFaultCaused at (Some fault) = HasCause at fault
 
+-- the circumstances of an insert whose entry is logged: none of them is that the entry was there
+abbrev pub once_added : Circumstances → Circumstances
+once_added at = record at { entry_was_there = false }
+
 -- a refusal has its cause, and so has the fault of a split that an insert leaves unfinished
 abbrev pub IsCaused : Circumstances → Answer → Type 0
 IsCaused at (Refused fault) = HasCause at fault
-IsCaused at (Added action unfinished) = IsFaultCaused at unfinished
+IsCaused at (Added action unfinished) = IsFaultCaused (once_added at) unfinished
 IsCaused at answer = Unit {0}
 
 -- whether a fault ends the call: one that is blocked goes on, and so does one that the event doesn't fit

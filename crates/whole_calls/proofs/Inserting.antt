@@ -221,6 +221,20 @@ module _ {S : Type 0} (g : Ghosts S) (start : Entry → Bool) (session : ℕ) (e
             end.calls_is (ended_none session x y after free calls (λ k. cc)) ∙ calls);
       }
 
+  -- a session whose insert a fault has ended runs nothing
+  failed_runs_none : (fault : Fault) (l : IsLeftSo insert_number request_call fault begun y) → l.after ≡ ended (noted_behind request_call (length x.history) l.effects) (Failed fault) (length y.history) → slot_of y.slots session ≡ None
+  failed_runs_none fault l is =
+      let calls : y.calls ≡ x.calls ++ l.after ∷ [] = last_call fault l in
+      let over : l.after.ending ≡ Running → ⊥ = λ e. (let f : l.after.ending ≡ Failed fault = ap (λ (c : Call). c.ending) is in cc) in
+      is_empty g start y fits session (ended_none session x y l.after free calls over)
+
+  -- an insert that has added its entry isn't refused because the entry was there
+  pub not_there : (action : ℕ) → slot_add (slot_of y.slots session) ≡ Some action → NextTold session (ToInsert entry) (Ok (Refused Exists)) x y → ⊥
+  not_there action some t =
+      let l : IsLeftSo insert_number request_call Exists begun y = refused_so insert_number request_call Exists begun y t in
+      let none : slot_add (slot_of y.slots session) ≡ None = ap slot_add (failed_runs_none Exists l (l.exists_is refl)) in
+      cc
+
   -- where it has one, it still runs, and is given up
   left_with : (fault : Fault) (l : IsLeftSo insert_number request_call fault begun y) (action : ℕ) → slot_add (slot_of y.slots session) ≡ Some action → IsAddedNow session entry (record { action = action; unfinished = Some fault }) x z
   left_with fault l action some = elim l.after_is [
@@ -238,10 +252,7 @@ module _ {S : Type 0} (g : Ghosts S) (start : Entry → Bool) (session : ℕ) (e
           calls_is = calls ∙ ap (λ (c : Call). x.calls ++ ended c GivenUp (length y.history) ∷ []) (is ∙ o.noted_is) ∙ ap (λ (h : List Action). x.calls ++ inserted_call session entry (length x.history) action GivenUp (length h) ∷ []) (sym end.history_is);
         })
     | inr is ↦ absurd (
-        let calls : y.calls ≡ x.calls ++ l.after ∷ [] = last_call fault l in
-        let over : l.after.ending ≡ Running → ⊥ = λ e. (let f : l.after.ending ≡ Failed fault = ap (λ (c : Call). c.ending) is in cc) in
-        let empty : slot_of y.slots session ≡ None = is_empty g start y fits session (ended_none session x y l.after free calls over) in
-        let none : slot_add (slot_of y.slots session) ≡ None = ap slot_add empty in cc)
+        let none : slot_add (slot_of y.slots session) ≡ None = ap slot_add (failed_runs_none fault l is) in cc)
   ]
 
   left_told : (fault : Fault) (added : Option ℕ) → slot_add (slot_of y.slots session) ≡ added → IsLeftSo insert_number request_call fault begun y → InsertTold session entry (left_behind added fault) x z

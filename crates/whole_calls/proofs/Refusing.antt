@@ -16,6 +16,7 @@ use Rattle.latch_table.specs.Holdings.{Holding, Table, nothing_held, holding_of,
 use Rattle.latch_table.specs.declared.mode.Mode.{Mode}
 use Rattle.latch_table.specs.declared.mode.Mode.TheVariants.{Shared, Exclusive, Cleanup}
 use Rattle.latch_table.proofs.Tables.{is_held_by_another-by}
+use Rattle.page_action.specs.Contents.{entry_on_live_leaf}
 use Rattle.page_action.specs.Causes.{where_forced, has_failed, is_at_end, pinned_blocks, count_apart}
 use Rattle.page_action.specs.Room.{IsPromised, whole_room}
 use Rattle.page_action.specs.States.{State, Backing, IsLater}
@@ -252,19 +253,24 @@ module _ {S : Type 0} (g : Ghosts S) (start : Entry → Bool) (session least_roo
       few (Link way) = omega arith
       few Root = omega arith
 
-  inserting : (used_up tall : Bool) (op : InsertOp) → op.session ≡ session → InsertFits st op → ((takes_block_at st op.at && is_out_of_blocks st) ≡ true → used_up ≡ true) → ((splits_root_at op.at && nat_le 31 (root_level st.pages)) ≡ true → tall ≡ true)
-      → (fault : Fault) → HasCause (where_inserting st (g.backing x.store) (g.backing y.store) op.session op.entry op.at) fault → HasCause (where_inserted g session least_room used_up tall (here_at x) y.store) fault
-  inserting used_up tall op is f blocks root Stopped h = stopped_cause (g.backing x.store).stopped (has_failed (g.backing x.store) (g.backing y.store)) false h
-  inserting used_up tall op is f blocks root (Blocked b) h = elim (or_cases (is_held_by_another st.table op.session b Shared) (is_held_by_another st.table op.session b Exclusive) h) [
+  inserting : (was_there used_up tall : Bool) (op : InsertOp) → op.session ≡ session → InsertFits st op → ((takes_block_at st op.at && is_out_of_blocks st) ≡ true → used_up ≡ true) → ((splits_root_at op.at && nat_le 31 (root_level st.pages)) ≡ true → tall ≡ true)
+      → (fault : Fault) → HasCause (record (where_inserting st (g.backing x.store) (g.backing y.store) op.session op.entry op.at) { entry_was_there = was_there }) fault
+      → HasCause (where_inserted g session least_room was_there used_up tall (here_at x) y.store) fault
+  inserting was_there used_up tall op is f blocks root Stopped h = stopped_cause (g.backing x.store).stopped (has_failed (g.backing x.store) (g.backing y.store)) false h
+  inserting was_there used_up tall op is f blocks root (Blocked b) h = elim (or_cases (is_held_by_another st.table op.session b Shared) (is_held_by_another st.table op.session b Exclusive) h) [
     | inl shared ↦ held_cause b Shared (subst (λ (s : ℕ). is_held_by_another st.table s b Shared ≡ true) is shared)
     | inr alone ↦ held_cause b Exclusive (subst (λ (s : ℕ). is_held_by_another st.table s b Exclusive ≡ true) is alone)
   ]
-  inserting used_up tall op is f blocks root Exists h = refl
-  inserting used_up tall op is f blocks root IndexFull h = blocks h
-  inserting used_up tall op is f blocks root LogFull h = enough least_room (g.backing x.store).promised (images_at st op.at) room (few_at st op.at) h
-  inserting used_up tall op is f blocks root NoFrame h = insert_frames op.session f.start op.entry op.at is f.stands h
-  inserting used_up tall op is f blocks root TooTall h = root h
-  inserting used_up tall op is f blocks root fault h = h
+  inserting was_there used_up tall op is f blocks root IndexFull h = blocks h
+  inserting was_there used_up tall op is f blocks root LogFull h = enough least_room (g.backing x.store).promised (images_at st op.at) room (few_at st op.at) h
+  inserting was_there used_up tall op is f blocks root NoFrame h = insert_frames op.session f.start op.entry op.at is f.stands h
+  inserting was_there used_up tall op is f blocks root TooTall h = root h
+  inserting was_there used_up tall op is f blocks root fault h = h
+
+  -- where it isn't told whether the entry was there
+  any_was : (was_there used_up tall : Bool) (fault : Fault) → HasCause (where_inserted g session least_room was_there used_up tall (here_at x) y.store) fault → HasCause (where_inserted g session least_room true used_up tall (here_at x) y.store) fault
+  any_was was_there used_up tall Exists h = refl
+  any_was was_there used_up tall fault h = h
 
   scanning : (op : ScanOp) → op.session ≡ session → ScanFits st op → (fault : Fault) → HasCause (where_scanning st (g.backing x.store) (g.backing y.store) op.session) fault → HasCause (where_gone g session least_room false (here_at x) y.store) fault
   scanning op is f Stopped h = or_left (g.backing x.store).stopped (has_failed (g.backing x.store) (g.backing y.store) || (nat_le 18446744073709551615 (g.state y.store).acts || false)) h
@@ -319,9 +325,10 @@ module _ {S : Type 0} (g : Ghosts S) (start : Entry → Bool) (session least_roo
     insert_came : (op : InsertOp) → op.session ≡ session → InsertFits st op → (answer : Answer) → ((fault : Fault) → answer ≡ Refused fault → (g.state y.store).pages ≡ st.pages)
         → IsCaused (where_inserting st (g.backing x.store) (g.backing y.store) op.session op.entry op.at) answer → InsertIsCaused g session least_room (here_at x) y.store (Ok answer)
     insert_came op is f (Refused fault) same c =
-        inserting (is_used_up (g.state y.store)) (is_tall (g.state y.store)) op is f (used (takes_block_at st op.at) (same fault refl)) (tall (splits_root_at op.at) (same fault refl)) fault c
+        any_was (entry_on_live_leaf st.pages op.entry) (is_used_up (g.state y.store)) (is_tall (g.state y.store)) fault
+        (inserting (entry_on_live_leaf st.pages op.entry) (is_used_up (g.state y.store)) (is_tall (g.state y.store)) op is f (used (takes_block_at st op.at) (same fault refl)) (tall (splits_root_at op.at) (same fault refl)) fault c)
     insert_came op is f (Added a None) same c = tt
-    insert_came op is f (Added a (Some fault)) same c = inserting true true op is f (λ h. refl) (λ h. refl) fault c
+    insert_came op is f (Added a (Some fault)) same c = inserting false true true op is f (λ h. refl) (λ h. refl) fault c
     insert_came op is f answer same c = tt
 
     scan_came : (op : ScanOp) → op.session ≡ session → ScanFits st op → (answer : Answer) → IsCaused (where_scanning st (g.backing x.store) (g.backing y.store) op.session) answer → CameIsCaused (where_gone g session least_room false (here_at x) y.store) (Ok answer)
@@ -411,19 +418,19 @@ module _ {S : Type 0} (g : Ghosts S) (session least_room : ℕ) (old mid : Store
   ]
   gone_wider full wide more fault h = h
 
-  inserted_wider : (used_up tall : Bool) (fault : Fault) → HasCause (where_inserted g session least_room used_up tall mid new) fault → HasCause (where_inserted g session least_room used_up tall old new) fault
-  inserted_wider used_up tall Io h = gone_wider false false (λ f. f) Io h
-  inserted_wider used_up tall Stopped h = gone_wider false false (λ f. f) Stopped h
-  inserted_wider used_up tall (Blocked b) h = gone_wider false false (λ f. f) (Blocked b) h
-  inserted_wider used_up tall NoFrame h = gone_wider false false (λ f. f) NoFrame h
-  inserted_wider used_up tall fault h = h
+  inserted_wider : (was_there used_up tall : Bool) (fault : Fault) → HasCause (where_inserted g session least_room was_there used_up tall mid new) fault → HasCause (where_inserted g session least_room was_there used_up tall old new) fault
+  inserted_wider was_there used_up tall Io h = gone_wider false false (λ f. f) Io h
+  inserted_wider was_there used_up tall Stopped h = gone_wider false false (λ f. f) Stopped h
+  inserted_wider was_there used_up tall (Blocked b) h = gone_wider false false (λ f. f) (Blocked b) h
+  inserted_wider was_there used_up tall NoFrame h = gone_wider false false (λ f. f) NoFrame h
+  inserted_wider was_there used_up tall fault h = h
 
   insert_wider : (result : Result Answer Fault) → InsertIsCaused g session least_room mid new result → InsertIsCaused g session least_room old new result
-  insert_wider (Ok (Refused fault)) c = inserted_wider (is_used_up (g.state new)) (is_tall (g.state new)) fault c
+  insert_wider (Ok (Refused fault)) c = inserted_wider true (is_used_up (g.state new)) (is_tall (g.state new)) fault c
   insert_wider (Ok (Added a None)) c = tt
-  insert_wider (Ok (Added a (Some fault))) c = inserted_wider true true fault c
+  insert_wider (Ok (Added a (Some fault))) c = inserted_wider false true true fault c
   insert_wider (Ok answer) c = tt
-  insert_wider (Err fault) c = inserted_wider (is_used_up (g.state new)) (is_tall (g.state new)) fault c
+  insert_wider (Err fault) c = inserted_wider false (is_used_up (g.state new)) (is_tall (g.state new)) fault c
 
   pub came_wider : (full wide : Bool) → (full ≡ true → wide ≡ true) → (result : Result Answer Fault) → CameIsCaused (where_gone g session least_room full mid new) result → CameIsCaused (where_gone g session least_room wide old new) result
   came_wider full wide more (Ok (Refused fault)) c = gone_wider full wide more fault c
@@ -455,7 +462,6 @@ forced_cause g session least_room full old new (AskInsert e) fault h = of fault 
     of Io h = h
     of Stopped h = or_left (g.backing old.store).stopped (has_failed (g.backing old.store) (g.backing new) || (nat_le 18446744073709551615 (g.state new).acts || false)) h
     of (Blocked b) h = absurd (true_false (sym h))
-    of Exists h = refl
     of IndexFull h = absurd (true_false (sym h))
     of LogFull h = absurd (true_false (sym h))
     of NoFrame h = absurd (true_false (sym h))
@@ -496,14 +502,14 @@ module _ {S : Type 0} (g : Ghosts S) (session least_room : ℕ) (request : Reque
 
   -- which says more than an insert has to
   gone_inserted : (used_up tall : Bool) (fault : Fault) → HasCause (where_called g session request old (where_gone g session least_room false old new)) fault
-      → HasCause (where_called g session request old (where_inserted g session least_room used_up tall old new)) fault
+      → HasCause (where_called g session request old (where_inserted g session least_room true used_up tall old new)) fault
   gone_inserted used_up tall Exists h = refl
   gone_inserted used_up tall IndexFull h = absurd (true_false (sym h))
   gone_inserted used_up tall TooTall h = absurd (true_false (sym h))
   gone_inserted used_up tall fault h = h
 
   -- a call that was begun
-  inserted_called : (used_up tall : Bool) (fault : Fault) → HasCause (where_inserted g session least_room used_up tall old new) fault → HasCause (where_called g session request old (where_inserted g session least_room used_up tall old new)) fault
+  inserted_called : (used_up tall : Bool) (fault : Fault) → HasCause (where_inserted g session least_room true used_up tall old new) fault → HasCause (where_called g session request old (where_inserted g session least_room true used_up tall old new)) fault
   inserted_called used_up tall Stopped h =
       or_left ((g.backing old.store).stopped || (has_failed (g.backing old.store) (g.backing new) || (nat_le 18446744073709551615 (g.state new).acts || false))) (is_at_end (g.state old.store).begun) h
   inserted_called used_up tall VacuumRunning h = absurd (true_false (sym h))
@@ -535,14 +541,15 @@ module _ {S : Type 0} (g : Ghosts S) (session least_room : ℕ) (old : StoreAndS
   gone_behind full NoFrame h = ap (λ (n : ℕ). another_runs old.slots session || nat_lt n 4) frames ∙ h
   gone_behind full fault h = h
 
-  inserted_behind : (used_up tall then_used_up then_tall : Bool) → (used_up ≡ true → then_used_up ≡ true) → (tall ≡ true → then_tall ≡ true) → (fault : Fault)
-      → HasCause (where_inserted g session least_room used_up tall old mid) fault → HasCause (where_inserted g session least_room then_used_up then_tall old new) fault
-  inserted_behind used_up tall then_used_up then_tall blocks root Io h = gone_behind false Io h
-  inserted_behind used_up tall then_used_up then_tall blocks root Stopped h = gone_behind false Stopped h
-  inserted_behind used_up tall then_used_up then_tall blocks root NoFrame h = gone_behind false NoFrame h
-  inserted_behind used_up tall then_used_up then_tall blocks root IndexFull h = blocks h
-  inserted_behind used_up tall then_used_up then_tall blocks root TooTall h = root h
-  inserted_behind used_up tall then_used_up then_tall blocks root fault h = h
+  inserted_behind : (was_there then_there used_up tall then_used_up then_tall : Bool) → (used_up ≡ true → then_used_up ≡ true) → (tall ≡ true → then_tall ≡ true) → (fault : Fault) → (fault ≡ Exists → was_there ≡ true → then_there ≡ true)
+      → HasCause (where_inserted g session least_room was_there used_up tall old mid) fault → HasCause (where_inserted g session least_room then_there then_used_up then_tall old new) fault
+  inserted_behind was_there then_there used_up tall then_used_up then_tall blocks root Io there h = gone_behind false Io h
+  inserted_behind was_there then_there used_up tall then_used_up then_tall blocks root Stopped there h = gone_behind false Stopped h
+  inserted_behind was_there then_there used_up tall then_used_up then_tall blocks root NoFrame there h = gone_behind false NoFrame h
+  inserted_behind was_there then_there used_up tall then_used_up then_tall blocks root IndexFull there h = blocks h
+  inserted_behind was_there then_there used_up tall then_used_up then_tall blocks root Exists there h = there refl h
+  inserted_behind was_there then_there used_up tall then_used_up then_tall blocks root TooTall there h = root h
+  inserted_behind was_there then_there used_up tall then_used_up then_tall blocks root fault there h = h
 
   -- an insert that came to this, and is over
   module _ (limits : (g.state new).limits ≡ (g.state mid).limits) (pages : (g.state new).pages ≡ (g.state mid).pages) where
@@ -552,29 +559,30 @@ module _ {S : Type 0} (g : Ghosts S) (session least_room : ℕ) (old : StoreAndS
     root_same : is_tall (g.state mid) ≡ true → is_tall (g.state new) ≡ true
     root_same h = ap (λ (ps : List Page). nat_le 31 (root_level ps)) pages ∙ h
 
-    refused_behind : (entry : Entry) (added : Option ℕ) (fault : Fault) → HasCause (where_inserted g session least_room (is_used_up (g.state mid)) (is_tall (g.state mid)) old mid) fault
-        → InsertCallIsCaused g session least_room entry old new (left_behind added fault)
-    refused_behind entry None fault h =
+    refused_behind : (was_there : Bool) (entry : Entry) (added : Option ℕ) (fault : Fault) → ((action : ℕ) → added ≡ Some action → fault ≡ Exists → was_there ≡ true → ⊥)
+        → HasCause (where_inserted g session least_room was_there (is_used_up (g.state mid)) (is_tall (g.state mid)) old mid) fault → InsertCallIsCaused g session least_room entry old new (left_behind added fault)
+    refused_behind was_there entry None fault apart h =
         inserted_called g session least_room (ToInsert entry) old new (is_used_up (g.state new)) (is_tall (g.state new)) fault
-        (inserted_behind (is_used_up (g.state mid)) (is_tall (g.state mid)) (is_used_up (g.state new)) (is_tall (g.state new)) blocks_same root_same fault h)
-    refused_behind entry (Some action) fault h = inserted_behind (is_used_up (g.state mid)) (is_tall (g.state mid)) true true (λ e. refl) (λ e. refl) fault h
+        (inserted_behind was_there true (is_used_up (g.state mid)) (is_tall (g.state mid)) (is_used_up (g.state new)) (is_tall (g.state new)) blocks_same root_same fault (λ e was. refl) h)
+    refused_behind was_there entry (Some action) fault apart h =
+        inserted_behind was_there false (is_used_up (g.state mid)) (is_tall (g.state mid)) true true (λ e. refl) (λ e. refl) fault (λ e was. absurd (apart action refl e was)) h
 
-    pub insert_behind : (entry : Entry) (added : Option ℕ) (came : Result Answer Fault) → IfOk came (MayAnswer (AskInsert entry)) → came ≢ Ok Going → InsertIsCaused g session least_room old mid came
-        → InsertCallIsCaused g session least_room entry old new (outcome_of came added)
-    insert_behind entry added (Ok (Added action None)) may over c = tt
-    insert_behind entry added (Ok (Added action (Some fault))) may over c = inserted_behind true true true true (λ e. refl) (λ e. refl) fault c
-    insert_behind entry added (Ok (Refused fault)) may over c = refused_behind entry added fault c
-    insert_behind entry added (Err fault) may over c = refused_behind entry added fault c
-    insert_behind entry added (Ok Going) may over c = absurd (over refl)
-    insert_behind entry added (Ok Begun) may over c = absurd may
-    insert_behind entry added (Ok (Ready count)) may over c = absurd may
-    insert_behind entry added (Ok Done) may over c = absurd may
-    insert_behind entry added (Ok (Finished stats)) may over c = absurd may
-    insert_behind entry added (Ok (Gave e)) may over c = absurd may
-    insert_behind entry added (Ok Ended) may over c = absurd may
-    insert_behind entry added (Ok (Forced n)) may over c = absurd may
-    insert_behind entry added (Ok (Flushed b)) may over c = absurd may
-    insert_behind entry added (Ok (Checkpointed n)) may over c = absurd may
+    pub insert_behind : (entry : Entry) (added : Option ℕ) (came : Result Answer Fault) → IfOk came (MayAnswer (AskInsert entry)) → came ≢ Ok Going → ((action : ℕ) → added ≡ Some action → came ≢ Ok (Refused Exists))
+        → InsertIsCaused g session least_room old mid came → InsertCallIsCaused g session least_room entry old new (outcome_of came added)
+    insert_behind entry added (Ok (Added action None)) may over apart c = tt
+    insert_behind entry added (Ok (Added action (Some fault))) may over apart c = inserted_behind false false true true true true (λ e. refl) (λ e. refl) fault (λ e was. was) c
+    insert_behind entry added (Ok (Refused fault)) may over apart c = refused_behind true entry added fault (λ action some e was. apart action some (ap (λ (f : Fault). Ok (Refused f)) e)) c
+    insert_behind entry added (Err fault) may over apart c = refused_behind false entry added fault (λ action some e was. true_false (sym was)) c
+    insert_behind entry added (Ok Going) may over apart c = absurd (over refl)
+    insert_behind entry added (Ok Begun) may over apart c = absurd may
+    insert_behind entry added (Ok (Ready count)) may over apart c = absurd may
+    insert_behind entry added (Ok Done) may over apart c = absurd may
+    insert_behind entry added (Ok (Finished stats)) may over apart c = absurd may
+    insert_behind entry added (Ok (Gave e)) may over apart c = absurd may
+    insert_behind entry added (Ok Ended) may over apart c = absurd may
+    insert_behind entry added (Ok (Forced n)) may over apart c = absurd may
+    insert_behind entry added (Ok (Flushed b)) may over apart c = absurd may
+    insert_behind entry added (Ok (Checkpointed n)) may over apart c = absurd may
 
 -- an insert whose beginning is refused
 pub insert_not_begun : {S : Type 0} (g : Ghosts S) (session least_room : ℕ) (entry : Entry) (old : StoreAndSlots S) (new : S) (start : Entry → Bool) (history : List Action) (calls : List Call) → Fits g start (snapshot_of old history calls) → (fault : Fault)

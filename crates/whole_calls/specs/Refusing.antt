@@ -56,10 +56,10 @@ where_gone g session least_room counts_full old new = record nothing_wrong {
   frames_are_pinned = another_runs old.slots session || nat_lt (g.state new).frames 4;
 }
 
--- ... of an insert also that its entry was there, and that no block is unused or that the root is on level 31, as far as these say so
-abbrev pub where_inserted : {S : Type 0} → Ghosts S → ℕ → ℕ → Bool → Bool → StoreAndSlots S → S → Circumstances
-where_inserted g session least_room used_up tall old new = record (where_gone g session least_room false old new) {
-  entry_was_there = true;
+-- ... of an insert also that its entry was there, that no block is unused or that the root is on level 31, as far as these say so
+abbrev pub where_inserted : {S : Type 0} → Ghosts S → ℕ → ℕ → Bool → Bool → Bool → StoreAndSlots S → S → Circumstances
+where_inserted g session least_room was_there used_up tall old new = record (where_gone g session least_room false old new) {
+  entry_was_there = was_there;
   no_block_is_free = used_up;
   root_is_at_31 = tall;
 }
@@ -73,12 +73,12 @@ abbrev pub is_tall : State → Bool
 is_tall st = nat_le 31 (root_level st.pages)
 
 -- an insert that came to this had a cause: for its refusal; or for what it left unfinished, which may be that each block was in use
--- then, or that the root was on level 31
+-- then, or that the root was on level 31, but never that its entry was there, nor is that why a checkpoint before a step fails
 abbrev pub InsertIsCaused : {S : Type 0} → Ghosts S → ℕ → ℕ → StoreAndSlots S → S → Result Answer Fault → Type 0
-InsertIsCaused g session least_room old new (Ok (Refused fault)) = HasCause (where_inserted g session least_room (is_used_up (g.state new)) (is_tall (g.state new)) old new) fault
-InsertIsCaused g session least_room old new (Ok (Added action unfinished)) = IsFaultCaused (where_inserted g session least_room true true old new) unfinished
+InsertIsCaused g session least_room old new (Ok (Refused fault)) = HasCause (where_inserted g session least_room true (is_used_up (g.state new)) (is_tall (g.state new)) old new) fault
+InsertIsCaused g session least_room old new (Ok (Added action unfinished)) = IsFaultCaused (where_inserted g session least_room false true true old new) unfinished
 InsertIsCaused g session least_room old new (Ok answer) = Unit {0}
-InsertIsCaused g session least_room old new (Err fault) = HasCause (where_inserted g session least_room (is_used_up (g.state new)) (is_tall (g.state new)) old new) fault
+InsertIsCaused g session least_room old new (Err fault) = HasCause (where_inserted g session least_room false (is_used_up (g.state new)) (is_tall (g.state new)) old new) fault
 
 -- ... so had another call
 abbrev pub CameIsCaused : Circumstances → Result Answer Fault → Type 0
@@ -126,9 +126,9 @@ where_called g session request old at = record at {
 
 -- why an insert answers this that is run to its end in the session: for its refusal, and for what it leaves unfinished
 abbrev pub InsertCallIsCaused : {S : Type 0} → Ghosts S → ℕ → ℕ → Entry → StoreAndSlots S → S → Result Inserted Fault → Type 0
-InsertCallIsCaused g session least_room entry old new (Ok inserted) = IsFaultCaused (where_inserted g session least_room true true old new) inserted.unfinished
+InsertCallIsCaused g session least_room entry old new (Ok inserted) = IsFaultCaused (where_inserted g session least_room false true true old new) inserted.unfinished
 InsertCallIsCaused g session least_room entry old new (Err fault) =
-    HasCause (where_called g session (ToInsert entry) old (where_inserted g session least_room (is_used_up (g.state new)) (is_tall (g.state new)) old new)) fault
+    HasCause (where_called g session (ToInsert entry) old (where_inserted g session least_room true (is_used_up (g.state new)) (is_tall (g.state new)) old new)) fault
 
 -- what the session's running scan came to had its cause
 abbrev pub ScanIsCaused : {S : Type 0} → Ghosts S → ℕ → ℕ → StoreAndSlots S → S → Result Answer Fault → List Call → Type 0

@@ -1,19 +1,21 @@
 use Rattle.std.specs.Prelude.{map}
-use Rattle.std.proofs.Common.{Result, Err, Option, Some, None, List, false, length, refl, sym, ap, subst, ◌∙◌}
+use Rattle.std.proofs.Common.{◌≡◌, ◌≢◌, ℕ, Result, Ok, Err, Option, Some, None, List, false, length, refl, sym, ap, subst, ◌∙◌}
 use Rattle.index_model.specs.Calls.{AskInsert}
 use Rattle.index_model.specs.declared.fault.Fault.{Fault}
+use Rattle.index_model.specs.declared.fault.Fault.TheVariants.{Exists}
 use Rattle.session_calls.specs.Sessions.{slot_add}
 use Rattle.session_calls.specs.declared.op.Op.{Op}
 use Rattle.session_calls.specs.declared.request.Request.TheVariants.{Insert as ToInsert}
 use Rattle.schedule.specs.Snapshots.{here_with, slot_of, snapshot_of}
 use Rattle.whole_calls.specs.Refusing.{InsertCallIsCaused}
-use Rattle.whole_calls.specs.Telling.{first_call, HasBegun, TellsStep, TellsEnd, BeginTold, InsertTold, outcome_of, begin_came, step_came}
+use Rattle.whole_calls.specs.Telling.{first_call, HasBegun, TellsStep, TellsEnd, BeginTold, InsertTold, NextTold, outcome_of, begin_came, step_came}
+use Rattle.session_calls.specs.declared.answer.Answer.{Answer}
 use Rattle.session_calls.specs.declared.answer.Answer.TheVariants.{Refused}
 use Rattle.whole_calls.specs.Inserting.{InsertGoes}
 use Rattle.whole_calls.specs.declared.inserted.Inserted.{Inserted}
 use Rattle.whole_calls.proofs.Composing.{goes_first, goes_then, goes_told}
 use Rattle.whole_calls.proofs.Tellings.{begun_next, begun_free, begun_runs}
-use Rattle.whole_calls.proofs.Inserting.{PutTold, insert_told, insert_goes, not_begun}
+use Rattle.whole_calls.proofs.Inserting.{PutTold, insert_told, insert_goes, not_begun, not_there}
 use Rattle.whole_calls.proofs.Refusing.{insert_behind, insert_not_begun, insert_fills, may_have, ask_wider, others_before}
 use Rattle.whole_calls.proofs.running.insert.Goals as goal
 
@@ -75,10 +77,16 @@ returns-clause-cause g c honest start history calls fits =
     let t = c.finish-came.ensures.goes so_far start r.then_history r.then_calls r.ran.fits in
     let may = may_have (length calls) call came y (snapshot_of here t.then_history t.then_calls) (t.tells (length calls) call is) in
     let caused = c.finish-came.ensures.cause so_far start r.then_history r.then_calls r.ran.fits false (insert_fills g.S.PageStore start session (length calls) call entry y r.ran.fits is refl) (length calls) call is in
+    let e = c.give_up.ensures.goes honest start t.then_history t.then_calls t.ran.fits in
+    let z = snapshot_of here t.then_history t.then_calls in
+    let free = begun_free session request x y z b g.S.PageStore start r.ran.fits in
+    let next = begun_next session request x y z b came (t.tells (length calls) call is) in
+    let apart : (action : ℕ) → added ≡ Some action → came ≢ Ok (Refused Exists) = λ action some same. not_there g.S.PageStore start session entry x z _ free t.ran.fits e.tells action (sym c.added-added.ensures ∙ some)
+    (subst (λ (r : Result Answer Fault). NextTold session request r x z) same next) in
     let wider = ask_wider g.S.PageStore session least old begun c.finish-came.new.store first mid.failures (others_before c.args.slots.now c.begin.new.slots session c.begin.ensures.others) false false (AskInsert entry) (λ counts h. h) came caused in
     subst (λ (r : Result Inserted Fault). InsertCallIsCaused g.S.PageStore session least entry old c.give_up.new.store r) (sym c.outcome.ensures)
     (insert_behind g.S.PageStore session least old c.finish-came.new.store c.give_up.new.store c.give_up.ensures.backing c.give_up.ensures.acts c.give_up.ensures.frames c.give_up.ensures.limits c.give_up.ensures.pages entry added came may
-    c.finish-came.ensures.over wider)
+    c.finish-came.ensures.over apart wider)
 
 pub returns-in-Err-clause-cause : goal.returns-in-Err-clause-cause
 returns-in-Err-clause-cause g c honest start history calls fits =
