@@ -6,9 +6,7 @@ use Rattle.std.proofs.lemmas.Grind.{common_steps}
 use Rattle.std.proofs.lemmas.Bool.Decides.{nat_tests}
 use Rattle.std.specs.Prelude.{nat_le, if◌then◌else◌, ◌==◌}
 use Rattle.device.specs.Disk.{Moment, Trace, next, first, wrote, synced, put, is_in, MayLeave}
-use Rattle.device.specs.Record.{did, done, is_inside, are_inside, Notes, written_over, torn, torn_over, synced_calls, synced_over, torn_after_sync}
-use Rattle.device.specs.declared.record.Call.{Call}
-use Rattle.device.specs.declared.record.Call.TheVariants.{Write, Sync}
+use Rattle.device.specs.Record.{Call, Write, Sync, did, done, is_inside, are_inside, written_over, torn, torn_over, synced_calls, synced_over, torn_after_sync}
 use Rattle.device.specs.Memory.{trace_of, left_by}
 use Rattle.device.specs.declared.memory.MemDevice.{MemDevice}
 use Rattle.device.specs.declared.memory.CrashImage.{CrashImage}
@@ -27,43 +25,109 @@ inside-push n (c ∷ calls) call all one = go (is_inside n c) all (λ h. inside-
     go true h f = f h
     go false h f = cc
 
-module _ (size : ℕ) (piece : List ℕ) (at : ℕ) (old new : List Call) (n : Notes at piece old new) where
-  pub note_trace : (t : Trace) → done t new ≡ next (wrote at piece (done t old).now) (done t old)
-  note_trace t = ap (done t) n.more ∙ (done-push t old (Write at n.copy) ∙ ap (λ (l : List ℕ). next (wrote at l (done t old).now) (done t old)) n.same)
+pub write_trace : (t : Trace) (calls : List Call) (at : ℕ) (piece : List ℕ) → done t (calls ++ Write at piece ∷ []) ≡ next (wrote at piece (done t calls).now) (done t calls)
+write_trace t calls at piece = done-push t calls (Write at piece)
 
-  pub note_inside : IsTrue (are_inside size old) → at + length piece ≤ size → IsTrue (are_inside size new)
-  note_inside all fits =
-      let le : at + length n.copy.items ≤ size = omega (arith, ap length n.same, fits) in
-      let one : is_inside size (Write at n.copy) ≡ true = grind (arith, nat_tests) in
-      ap (are_inside size) n.more ∙ inside-push size old (Write at n.copy) all one
+pub sync_trace : (t : Trace) (calls : List Call) → done t (calls ++ Sync ∷ []) ≡ next (synced (done t calls).now) (done t calls)
+sync_trace t calls = done-push t calls Sync
 
-pub sync_trace : (t : Trace) (old new : List Call) → new ≡ old ++ Sync ∷ [] → done t new ≡ next (synced (done t old).now) (done t old)
-sync_trace t old new is = ap (done t) is ∙ done-push t old Sync
+some_more : (n : ℕ) → (if suc n == 0 then 0 else suc (suc n)) ≡ suc (suc n)
+some_more n = grind (arith, nat_tests)
 
-pub sync_inside : (n : ℕ) (old new : List Call) → new ≡ old ++ Sync ∷ [] → IsTrue (are_inside n old) → IsTrue (are_inside n new)
-sync_inside n old new is all = ap (are_inside n) is ∙ inside-push n old Sync all refl
+-- a write moves the last sync not, and a sync is the last one
+write_syncs_none : (calls : List Call) (at : ℕ) (piece : List ℕ) → synced_calls (calls ++ Write at piece ∷ []) ≡ synced_calls calls
+write_syncs_none [] at piece = refl
+write_syncs_none (Write a p ∷ calls) at piece = ap (λ (n : ℕ). if n == 0 then 0 else suc n) (write_syncs_none calls at piece)
+write_syncs_none (Sync ∷ calls) at piece = ap suc (write_syncs_none calls at piece)
 
--- what a device in memory keeps: its bytes are those of the calls, which lie inside of as many
-abbrev pub AreDone : List ℕ → List ℕ → List Call → Type 0
-AreDone start bytes calls = record {
+sync_is_last : (calls : List Call) → synced_calls (calls ++ Sync ∷ []) ≡ suc (length calls)
+sync_is_last [] = refl
+sync_is_last (Write a p ∷ calls) = ap (λ (n : ℕ). if n == 0 then 0 else suc n) (sync_is_last calls) ∙ some_more (length calls)
+sync_is_last (Sync ∷ calls) = ap suc (sync_is_last calls)
+
+synced_within : (calls : List Call) → synced_calls calls ≤ length calls
+synced_within [] = omega arith
+synced_within (Write a p ∷ calls) = by (synced_calls calls) (synced_within calls)
+  where
+    by : (n : ℕ) → n ≤ length calls → (if n == 0 then 0 else suc n) ≤ suc (length calls)
+    by zero h = omega arith
+    by (suc n) h = omega (arith, h, some_more n)
+synced_within (Sync ∷ calls) = (let h = synced_within calls in omega (arith, h))
+
+take_push : (k : ℕ) (calls : List Call) (call : Call) → k ≤ length calls → take k (calls ++ call ∷ []) ≡ take k calls
+take_push zero calls call le = refl
+take_push (suc k) [] call le = absurd (omega (arith, le))
+take_push (suc k) (c ∷ calls) call le = ap (λ (l : List Call). c ∷ l) (take_push k calls call (omega (arith, le)))
+
+drop_push : (k : ℕ) (calls : List Call) (call : Call) → k ≤ length calls → drop k (calls ++ call ∷ []) ≡ drop k calls ++ call ∷ []
+drop_push zero calls call le = refl
+drop_push (suc k) [] call le = absurd (omega (arith, le))
+drop_push (suc k) (c ∷ calls) call le = drop_push k calls call (omega (arith, le))
+
+take_whole : (calls : List Call) (call : Call) → take (suc (length calls)) (calls ++ call ∷ []) ≡ calls ++ call ∷ []
+take_whole [] call = refl
+take_whole (c ∷ calls) call = ap (λ (l : List Call). c ∷ l) (take_whole calls call)
+
+drop_whole : (calls : List Call) (call : Call) → drop (suc (length calls)) (calls ++ call ∷ []) ≡ []
+drop_whole [] call = refl
+drop_whole (c ∷ calls) call = drop_whole calls call
+
+written_sync : (bytes : List ℕ) (calls : List Call) → written_over bytes (calls ++ Sync ∷ []) ≡ written_over bytes calls
+written_sync bytes [] = refl
+written_sync bytes (Write at piece ∷ calls) = written_sync (put bytes at piece) calls
+written_sync bytes (Sync ∷ calls) = written_sync bytes calls
+
+written_parts : (k : ℕ) (bytes : List ℕ) (calls : List Call) → written_over bytes calls ≡ written_over (written_over bytes (take k calls)) (drop k calls)
+written_parts zero bytes calls = refl
+written_parts (suc k) bytes [] = refl
+written_parts (suc k) bytes (Write at piece ∷ calls) = written_parts k (put bytes at piece) calls
+written_parts (suc k) bytes (Sync ∷ calls) = written_parts k bytes calls
+
+-- what a device in memory keeps: its bytes are those of the calls, which lie inside of as many; those at the last sync, and the
+-- writes since
+abbrev pub AreDone : List ℕ → List Call → List ℕ → List ℕ → List Call → Type 0
+AreDone start calls firm bytes since = record {
   replayed : bytes ≡ (done (first start) calls).now.seen;
   inside : IsTrue (are_inside (length start) calls);
   sized : length bytes ≡ length start;
   small : length (done (first start) calls).now.seen < 2 ^ 63;
+  firm_is : firm ≡ synced_over start calls;
+  since_is : since ≡ drop (synced_calls calls) calls;
 }
 
--- also when a write was recorded and done
-pub written_done : (start bytes written piece : List ℕ) (at : ℕ) (old new : List Call) → Notes at piece old new → at + length piece ≤ length bytes → written ≡ put bytes at piece
-    → AreDone start bytes old → AreDone start written new
-written_done start bytes written piece at old new n fits there are =
-    let replayed : written ≡ (done (first start) new).now.seen =
-    there ∙ (ap (λ (l : List ℕ). put l at piece) are.replayed ∙ sym (ap (λ (x : Trace). x.now.seen) (note_trace 0 piece at old new n (first start)))) in
+-- also when a write was noted and done
+pub written_done : (start : List ℕ) (calls : List Call) (firm bytes written piece : List ℕ) (at : ℕ) (since now : List Call) → now ≡ since ++ Write at piece ∷ [] → at + length piece ≤ length bytes
+    → written ≡ put bytes at piece → AreDone start calls firm bytes since → AreDone start (calls ++ Write at piece ∷ []) firm written now
+written_done start calls firm bytes written piece at since now noted fits there are =
+    let replayed : written ≡ (done (first start) (calls ++ Write at piece ∷ [])).now.seen =
+    there ∙ (ap (λ (l : List ℕ). put l at piece) are.replayed ∙ sym (ap (λ (x : Trace). x.now.seen) (write_trace (first start) calls at piece))) in
     let sized = ap length there ∙ length-put bytes at piece fits ∙ are.sized in
+    let le : at + length piece ≤ length start = omega (arith, fits, are.sized) in
+    let one : is_inside (length start) (Write at piece) ≡ true = grind (arith, nat_tests) in
     record {
       replayed = replayed;
-      inside = note_inside (length start) piece at old new n are.inside (omega (arith, fits, are.sized));
+      inside = inside-push (length start) calls (Write at piece) are.inside one;
       sized = sized;
       small = omega (arith, ap length replayed, sized, ap length are.replayed, are.sized, are.small);
+      firm_is = are.firm_is ∙ ap (λ (l : List Call). written_over start l) (sym (take_push (synced_calls calls) calls (Write at piece) (synced_within calls)))
+          ∙ ap (λ (n : ℕ). written_over start (take n (calls ++ Write at piece ∷ []))) (sym (write_syncs_none calls at piece));
+      since_is = noted ∙ ap (λ (l : List Call). l ++ Write at piece ∷ []) are.since_is ∙ sym (drop_push (synced_calls calls) calls (Write at piece) (synced_within calls))
+          ∙ ap (λ (n : ℕ). drop n (calls ++ Write at piece ∷ [])) (sym (write_syncs_none calls at piece));
+    }
+
+-- ... and when all was synced
+pub synced_done : (start : List ℕ) (calls : List Call) (firm bytes made : List ℕ) (since now : List Call) → made ≡ written_over firm since → now ≡ [] → AreDone start calls firm bytes since
+    → AreDone start (calls ++ Sync ∷ []) made bytes now
+synced_done start calls firm bytes made since now is none are =
+    let same : (done (first start) calls).now.seen ≡ (done (first start) (calls ++ Sync ∷ [])).now.seen = sym (ap (λ (t : Trace). t.now.seen) (sync_trace (first start) calls)) in
+    record {
+      replayed = are.replayed ∙ same;
+      inside = inside-push (length start) calls Sync are.inside refl;
+      sized = are.sized;
+      small = subst (λ (l : List ℕ). length l < 2 ^ 63) same are.small;
+      firm_is = is ∙ ap (λ (l : List ℕ). written_over l since) are.firm_is ∙ ap (λ (l : List Call). written_over (synced_over start calls) l) are.since_is ∙ sym (written_parts (synced_calls calls) start calls) ∙ sym (written_sync start calls)
+          ∙ ap (λ (l : List Call). written_over start l) (sym (take_whole calls Sync)) ∙ ap (λ (n : ℕ). written_over start (take n (calls ++ Sync ∷ []))) (sym (sync_is_last calls));
+      since_is = none ∙ sym (drop_whole calls Sync) ∙ ap (λ (n : ℕ). drop n (calls ++ Sync ∷ [])) (sym (sync_is_last calls));
     }
 
 -- so many bytes, also after the writes
@@ -78,9 +142,9 @@ pub length-written_over : (bytes : List ℕ) (calls : List Call) → IsTrue (are
 length-written_over bytes [] inside = refl
 length-written_over bytes (Sync ∷ calls) inside = length-written_over bytes calls inside
 length-written_over bytes (Write at v ∷ calls) inside =
-    let h = and_true (nat_le (at + length v.items) (length bytes)) (are_inside (length bytes) calls) inside in
-    let same : length (put bytes at v.items) ≡ length bytes = length-put bytes at v.items (inside_is _ at (length v.items) h.0) in
-    length-written_over (put bytes at v.items) calls (ap (λ (n : ℕ). are_inside n calls) same ∙ h.1) ∙ same
+    let h = and_true (nat_le (at + length v) (length bytes)) (are_inside (length bytes) calls) inside in
+    let same : length (put bytes at v) ≡ length bytes = length-put bytes at v (inside_is _ at (length v) h.0) in
+    length-written_over (put bytes at v) calls (ap (λ (n : ℕ). are_inside n calls) same ∙ h.1) ∙ same
 
 pub inside-take : (n k : ℕ) (calls : List Call) → IsTrue (are_inside n calls) → IsTrue (are_inside n (take k calls))
 inside-take n zero calls inside = refl
@@ -104,9 +168,6 @@ done-take-drop : (t : Trace) (k : ℕ) (calls : List Call) → done t calls ≡ 
 done-take-drop t zero calls = refl
 done-take-drop t (suc k) [] = refl
 done-take-drop t (suc k) (c ∷ calls) = done-take-drop (did c t) k calls
-
-some_more : (n : ℕ) → (if suc n == 0 then 0 else suc (suc n)) ≡ suc (suc n)
-some_more n = grind (arith, nat_tests)
 
 -- behind the last sync there is none
 none_behind : (calls : List Call) → synced_calls (drop (synced_calls calls) calls) ≡ 0
@@ -166,21 +227,21 @@ left_behind : (t : Trace) (image : List ℕ) (calls : List Call) → synced_call
 left_behind t image [] none inside left = left
 left_behind t image (Sync ∷ calls) none inside left = absurd (omega arith)
 left_behind t image (Write at v ∷ calls) none inside left =
-    let h = and_true (nat_le (at + length v.items) (length t.now.seen)) (are_inside (length t.now.seen) calls) inside in
-    let fits = inside_is _ at (length v.items) h.0 in
+    let h = and_true (nat_le (at + length v) (length t.now.seen)) (are_inside (length t.now.seen) calls) inside in
+    let fits = inside_is _ at (length v) h.0 in
     left_behind (did (Write at v) t) image calls (no_sync (synced_calls calls) none)
-    (ap (λ (n : ℕ). are_inside n calls) (length-put t.now.seen at v.items fits) ∙ h.1)
-    (left_alone at v.items image t.now fits left)
+    (ap (λ (n : ℕ). are_inside n calls) (length-put t.now.seen at v fits) ∙ h.1)
+    (left_alone at v image t.now fits left)
 
 left_behind_torn : (t : Trace) (image : List ℕ) (calls : List Call) → synced_calls calls ≡ 0 → IsTrue (are_inside (length t.now.seen) calls) → MayLeave t.now image → MayLeave (done t calls).now (torn_over image calls)
 left_behind_torn t image [] none inside left = left
 left_behind_torn t image (Sync ∷ calls) none inside left = absurd (omega arith)
 left_behind_torn t image (Write at v ∷ calls) none inside left =
-    let h = and_true (nat_le (at + length v.items) (length t.now.seen)) (are_inside (length t.now.seen) calls) inside in
-    let fits = inside_is _ at (length v.items) h.0 in
-    left_behind_torn (did (Write at v) t) (put image at (torn v.items)) calls (no_sync (synced_calls calls) none)
-    (ap (λ (n : ℕ). are_inside n calls) (length-put t.now.seen at v.items fits) ∙ h.1)
-    (left_torn at v.items image t.now fits left (torn v.items) (length-torn v.items))
+    let h = and_true (nat_le (at + length v) (length t.now.seen)) (are_inside (length t.now.seen) calls) inside in
+    let fits = inside_is _ at (length v) h.0 in
+    left_behind_torn (did (Write at v) t) (put image at (torn v)) calls (no_sync (synced_calls calls) none)
+    (ap (λ (n : ℕ). are_inside n calls) (length-put t.now.seen at v fits) ∙ h.1)
+    (left_torn at v image t.now fits left (torn v) (length-torn v))
 
 module _ (start : List ℕ) (calls : List Call) (inside : IsTrue (are_inside (length start) calls)) where
   abbrev at_sync : Trace
@@ -195,8 +256,11 @@ module _ (start : List ℕ) (calls : List Call) (inside : IsTrue (are_inside (le
       (ap length bytes_at_sync ∙ length-written_over start (take (synced_calls calls) calls) (inside-take (length start) (synced_calls calls) calls inside))
       ∙ inside-drop (length start) (synced_calls calls) calls inside
 
-  pub image_inside : (image : List ℕ) (n : ℕ) → image ≡ synced_over start calls → IsTrue (are_inside (length image) (take n (drop (synced_calls calls) calls)))
-  image_inside image n is = inside-take (length image) n (drop (synced_calls calls) calls) (subst (λ (l : List ℕ). IsTrue (are_inside (length l) (drop (synced_calls calls) calls))) (bytes_at_sync ∙ sym is) behind_inside)
+  -- the writes since the last sync lie inside of the bytes at it
+  pub since_inside : (firm : List ℕ) (since : List Call) → firm ≡ synced_over start calls → since ≡ drop (synced_calls calls) calls → IsTrue (are_inside (length firm) since)
+  since_inside firm since is from =
+      subst (λ (l : List ℕ). IsTrue (are_inside (length l) since)) (bytes_at_sync ∙ sym is)
+      (subst (λ (l : List Call). IsTrue (are_inside (length at_sync.now.seen) l)) (sym from) behind_inside)
 
   stays_at_sync : MayLeave at_sync.now (synced_over start calls)
   stays_at_sync = record { same_length = ap length (sym bytes_at_sync); same = λ i firm. ap (λ (l : List ℕ). get_or l i 0) (sym bytes_at_sync) }
@@ -212,6 +276,6 @@ module _ (start : List ℕ) (calls : List Call) (inside : IsTrue (are_inside (le
       (left_behind_torn at_sync (synced_over start calls) (drop (synced_calls calls) calls) (none_behind calls) behind_inside stays_at_sync)
 
 pub left_by_a_crash : (m : MemDevice) (image : CrashImage) → MayLeave (trace_of m).now (left_by image m)
-left_by_a_crash m Drop = drop_left m.start.items m.calls.items m.inside
+left_by_a_crash m Drop = drop_left m.past.start m.past.calls m.inside
 left_by_a_crash m Keep = seen_stays (trace_of m).now
-left_by_a_crash m Tear = tear_left m.start.items m.calls.items m.inside
+left_by_a_crash m Tear = tear_left m.past.start m.past.calls m.inside

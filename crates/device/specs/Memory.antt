@@ -7,9 +7,9 @@ use Rattle.device.specs.declared.memory.CrashImage.TheVariants.{Drop, Keep, Tear
 use Rattle.device.specs.declared.memory.MemDevice.{MemDevice}
 use Rattle.device.specs.declared.plan.Plan.{Plan}
 
--- its moments, by its record
+-- its moments, by its calls
 abbrev pub trace_of : MemDevice → Trace
-trace_of m = done (first m.start.items) m.calls.items
+trace_of m = done (first m.past.start) m.past.calls
 
 -- how many of its calls have failed
 abbrev pub failures_of : MemDevice → ℕ
@@ -22,6 +22,6 @@ plan_of m = m.plan
 -- what it leaves: the bytes at the last sync, all bytes as written, or those at the last sync with
 -- each later write torn
 abbrev pub left_by : CrashImage → MemDevice → List ℕ
-left_by Drop m = synced_over m.start.items m.calls.items
+left_by Drop m = synced_over m.past.start m.past.calls
 left_by Keep m = (trace_of m).now.seen
-left_by Tear m = torn_after_sync m.start.items m.calls.items
+left_by Tear m = torn_after_sync m.past.start m.past.calls

@@ -1,13 +1,15 @@
--- What a record of writes and syncs says of a device.
-use Rattle.std.specs.Prelude.{◌≡◌, ℕ, suc, ◌+◌, ◌/◌, ◌-◌, ◌==◌, Bool, true, ◌&&◌, nat_le, if◌then◌else◌, List, [], ◌∷◌, ◌++◌, length, take, drop, replicate, Vec}
-use Rattle.std.specs.declared.alloc.Global.{Global}
+-- What a list of writes and syncs says of a device.
+use Rattle.std.specs.Prelude.{ℕ, suc, ◌+◌, ◌/◌, ◌-◌, ◌==◌, Bool, true, ◌&&◌, nat_le, if◌then◌else◌, List, [], ◌∷◌, ◌++◌, length, take, drop, replicate}
 use Rattle.device.specs.Disk.{Trace, next, wrote, synced, put}
-use Rattle.device.specs.declared.record.Call.{Call}
-use Rattle.device.specs.declared.record.Call.TheVariants.{Write, Sync}
 
--- a device after one recorded call
+-- a call that changed what a crash may leave: these bytes were written there, or all was synced
+pub data Call : Type 0 where
+  Write : ℕ → List ℕ → Call
+  Sync : Call
+
+-- a device after one such call
 abbrev pub did : Call → Trace → Trace
-did (Write at v) t = next (wrote at v.items t.now) t
+did (Write at bytes) t = next (wrote at bytes t.now) t
 did Sync t = next (synced t.now) t
 
 -- and after all of them, the oldest first
@@ -18,7 +20,7 @@ done t (call ∷ calls) = done (did call t) calls
 -- the bytes after these calls
 abbrev pub written_over : List ℕ → List Call → List ℕ
 written_over bytes [] = bytes
-written_over bytes (Write at v ∷ calls) = written_over (put bytes at v.items) calls
+written_over bytes (Write at piece ∷ calls) = written_over (put bytes at piece) calls
 written_over bytes (Sync ∷ calls) = written_over bytes calls
 
 -- the first half as written, each other byte A5
@@ -28,13 +30,13 @@ torn bytes = take (length bytes / 2) bytes ++ replicate (length bytes - length b
 -- the bytes after these calls, each write torn
 abbrev pub torn_over : List ℕ → List Call → List ℕ
 torn_over bytes [] = bytes
-torn_over bytes (Write at v ∷ calls) = torn_over (put bytes at (torn v.items)) calls
+torn_over bytes (Write at piece ∷ calls) = torn_over (put bytes at (torn piece)) calls
 torn_over bytes (Sync ∷ calls) = torn_over bytes calls
 
 -- how many calls there are up to the last sync, and with it
 abbrev pub synced_calls : List Call → ℕ
 synced_calls [] = 0
-synced_calls (Write at v ∷ calls) = if synced_calls calls == 0 then 0 else suc (synced_calls calls)
+synced_calls (Write at piece ∷ calls) = if synced_calls calls == 0 then 0 else suc (synced_calls calls)
 synced_calls (Sync ∷ calls) = suc (synced_calls calls)
 
 -- the bytes at the last sync, if these were there before the calls
@@ -47,16 +49,10 @@ torn_after_sync bytes calls = torn_over (synced_over bytes calls) (drop (synced_
 
 -- the write lies inside so many bytes
 abbrev pub is_inside : ℕ → Call → Bool
-is_inside n (Write at v) = nat_le (at + length v.items) n
+is_inside n (Write at piece) = nat_le (at + length piece) n
 is_inside n Sync = true
 
 -- each write does
 abbrev pub are_inside : ℕ → List Call → Bool
 are_inside n [] = true
 are_inside n (call ∷ calls) = is_inside n call && are_inside n calls
-
--- the record has a write of these bytes more
-pub record Notes (at : ℕ) (bytes : List ℕ) (old new : List Call) : Type 0 where
-  pub copy : Vec ℕ Global
-  pub same : copy.items ≡ bytes
-  pub more : new ≡ old ++ Write at copy ∷ []

@@ -7,6 +7,7 @@ mod device;
 mod events;
 mod file;
 mod memory;
+mod past;
 mod plan;
 mod record;
 

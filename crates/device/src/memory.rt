@@ -1,13 +1,15 @@
 //! A device in memory.
 
-ghost use Rattle.std.specs.Prelude.{◌≡◌, ◌⊎◌, ◌↔◌, ◌+◌, ◌<◌, ◌≤◌, ◌^◌, suc, Bool, true, IsTrue, IsOk, OnOk, OnErr, IfOk, IfErr, length, replicate};
+ghost use Rattle.std.specs.Prelude.{◌≡◌, ◌⊎◌, ◌↔◌, ◌+◌, ◌<◌, ◌≤◌, ◌^◌, suc, Bool, true, IsTrue, IsOk, OnOk, OnErr, IfOk, IfErr, length, replicate, drop};
 ghost use Rattle.device.specs.Disk.{MayLeave, first, Reads, Writes, IsKeptOrNot, Syncs, CountsFailures};
-ghost use Rattle.device.specs.Record.{done, are_inside};
+ghost use Rattle.device.specs.Record.{done, are_inside, synced_calls, synced_over};
+ghost use Rattle.device.specs.Past.{writes_of};
 
 use crate::count::Count;
 use crate::device::Device;
+use crate::past::Past;
 use crate::plan::{Fate, Plan};
-use crate::record::{Call, dropped, sync_noted, torn_image, write_noted};
+use crate::record::{Piece, settle, torn_image, write_noted};
 use index_model::Fault;
 use std::alloc::Global;
 
@@ -24,20 +26,23 @@ pub enum CrashImage {
 }
 
 /// A device in memory, which keeps the model. Calls of it can be made to fail, and it can be asked
-/// what a crash leaves. It records its writes and syncs; a call that cannot be recorded does nothing
-/// and answers `Io`.
+/// what a crash leaves. It notes its writes since the last sync; a write that cannot be noted does
+/// nothing and answers `Io`.
 #[derive(Drop)]
 pub struct MemDevice {
     alloc: Global,
-    start: Vec<u8>,
+    firm: Vec<u8>,
     bytes: Vec<u8>,
-    calls: Vec<Call>,
+    since: Vec<Piece>,
     failures: Count,
     plan: Plan,
-    ghost replayed: { bytes.items ≡ (done (first start.items) calls.items).now.seen },
-    ghost inside: { IsTrue (are_inside (length start.items) calls.items) },
-    ghost sized: { length bytes.items ≡ length start.items },
-    ghost small: { length (done (first start.items) calls.items).now.seen < 2 ^ 63 },
+    past: Past,
+    ghost replayed: { bytes.items ≡ (done (first past.start) past.calls).now.seen },
+    ghost inside: { IsTrue (are_inside (length past.start) past.calls) },
+    ghost sized: { length bytes.items ≡ length past.start },
+    ghost small: { length (done (first past.start) past.calls).now.seen < 2 ^ 63 },
+    ghost firm_is: { firm.items ≡ synced_over past.start past.calls },
+    ghost since_is: { writes_of since.items ≡ drop (synced_calls past.calls) past.calls },
 }
 
 impl MemDevice {
@@ -54,10 +59,10 @@ impl MemDevice {
         if len >= 1 << 63 {
             return Err(Fault::NoMemory);
         }
-        let Ok(start) = vec![in alloc; 0u8; len as usize] else {
+        let Ok(firm) = vec![in alloc; 0u8; len as usize] else {
             return Err(Fault::NoMemory);
         };
-        MemDevice::of_bytes(alloc, start)
+        MemDevice::of_bytes(alloc, firm)
     }
 
     /// The nth call from now, of reads, writes and syncs, fails once; a write is kept as written all
@@ -92,32 +97,35 @@ impl MemDevice {
     {
         let made = match image {
             CrashImage::Keep => self.bytes.to_vec(alloc),
-            CrashImage::Drop => dropped(alloc, &self.start, &self.calls),
-            CrashImage::Tear => torn_image(alloc, &self.start, &self.calls),
+            CrashImage::Drop => self.firm.to_vec(alloc),
+            CrashImage::Tear => torn_image(alloc, &self.firm, &self.since),
         };
-        let Ok(start) = made else {
+        let Ok(firm) = made else {
             return Err(Fault::NoMemory);
         };
-        MemDevice::of_bytes(alloc, start)
+        MemDevice::of_bytes(alloc, firm)
     }
 
     /// A device of these bytes, all synced, of which no call is made to fail.
-    fn of_bytes(alloc: Global, start: Vec<u8>) -> Result<MemDevice, Fault>
-        requires { length start.items < 2 ^ 63 }
-        ensures bytes { IfOk result (λ d. trace_of d ≡ first start.items) }
+    fn of_bytes(alloc: Global, firm: Vec<u8>) -> Result<MemDevice, Fault>
+        requires { length firm.items < 2 ^ 63 }
+        ensures bytes { IfOk result (λ d. trace_of d ≡ first firm.items) }
         ensures plan { IfOk result (λ d. plan_of d ≡ no_plan) }
         ensures fault { IfErr result (λ e. e ≡ Fault.NoMemory) }
     {
-        let Ok(bytes) = start.to_vec(alloc) else {
+        let Ok(bytes) = firm.to_vec(alloc) else {
             return Err(Fault::NoMemory);
         };
+        let mut past = Past::new();
+        past.begin(&firm);
         Ok(MemDevice {
             alloc,
-            start,
+            firm,
             bytes,
-            calls: Vec::new(alloc),
+            since: Vec::new(alloc),
             failures: Count::new(),
             plan: Plan::NONE,
+            past,
         })
     }
 }
@@ -135,7 +143,7 @@ impl Device for MemDevice {
     ghost use Rattle.device.specs.Memory.{trace_of, failures_of, plan_of};
     ghost use Rattle.device.specs.Plans.{fate_of, after_call};
 
-    ghost trace = { λ m. done (first m.start.items) m.calls.items };
+    ghost trace = { λ m. done (first m.past.start) m.past.calls };
 
     ghost failures = { λ m. m.failures.value };
 
@@ -171,7 +179,7 @@ impl Device for MemDevice {
         ensures fate { IsOk result → fate_of (plan_of self.old) ≡ Fate.Runs }
         ensures dead { fate_of (plan_of self.old) ≡ Fate.Dead
             → trace_of self.new ≡ trace_of self.old }
-        // A write that fails is kept as written, unless it could not be recorded.
+        // A write that fails is kept as written, unless it could not be noted.
         ensures kept { OnErr result
             (IsKeptOrNot at bytes.now (trace_of self.old) (trace_of self.new)) }
         ensures plan { plan_of self.new ≡ after_call (plan_of self.old) }
@@ -180,9 +188,10 @@ impl Device for MemDevice {
         if fate == Fate::Dead {
             return Err(count_failure(&mut self.failures));
         }
-        let Ok(()) = write_noted(self.alloc, &mut self.calls, &mut self.bytes, at, bytes) else {
+        let Ok(()) = write_noted(self.alloc, &mut self.since, &mut self.bytes, at, bytes) else {
             return Err(count_failure(&mut self.failures));
         };
+        self.past.write(at, bytes);
         if fate == Fate::Fails {
             return Err(count_failure(&mut self.failures));
         }
@@ -199,9 +208,8 @@ impl Device for MemDevice {
         let Fate::Runs = self.plan.next() else {
             return Err(count_failure(&mut self.failures));
         };
-        let Ok(()) = sync_noted(&mut self.calls) else {
-            return Err(count_failure(&mut self.failures));
-        };
+        settle(&mut self.firm, &mut self.since);
+        self.past.sync();
         Ok(())
     }
 }

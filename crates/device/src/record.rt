@@ -1,43 +1,37 @@
-//! The record of a device's writes and syncs, and what it says of the bytes.
+//! The writes since the last sync of a device in memory, and what they say of the bytes.
 
 ghost use Rattle.std.specs.Prelude.{◌≡◌, ◌++◌, [], ◌∷◌, ◌+◌, ◌≤◌, IsTrue, length, OnOk, OnErr, IfOk};
 ghost use Rattle.device.specs.Disk.{put};
-ghost use Rattle.device.specs.Record.{are_inside, is_inside, Notes, written_over, torn, torn_over, synced_calls, synced_over, torn_after_sync};
+ghost use Rattle.device.specs.Record.{are_inside, Write, written_over, torn, torn_over};
+ghost use Rattle.device.specs.Past.{writes_of};
 
 use std::alloc::{AllocError, Global};
 
-/// A call that changed what a crash may leave.
+/// Bytes that were written, and where.
 #[derive(Drop)]
-pub enum Call {
-    Write(u64, Vec<u8>),
-    Sync,
+pub struct Piece {
+    at: u64,
+    bytes: Vec<u8>,
 }
 
-/// Records a write and does it. Without memory for the record nothing is done.
+/// Notes a write and does it. Without memory for the note nothing is done.
 pub(crate) fn write_noted(
     alloc: Global,
-    calls: &mut Vec<Call>,
+    since: &mut Vec<Piece>,
     bytes: &mut Vec<u8>,
     at: u64,
     piece: &[u8],
 ) -> Result<(), AllocError>
     requires { at + length piece.now ≤ length bytes.old.items }
-    ensures noted { OnOk result (Notes at piece.now calls.old.items calls.new.items) }
+    ensures noted { OnOk result (writes_of since.new.items
+        ≡ writes_of since.old.items ++ Write at piece.now ∷ []) }
     ensures bytes { OnOk result (bytes.new.items ≡ put bytes.old.items at piece.now) }
-    ensures calls_kept { OnErr result (calls.new.items ≡ calls.old.items) }
+    ensures since_kept { OnErr result (since.new.items ≡ since.old.items) }
     ensures bytes_kept { OnErr result (bytes.new.items ≡ bytes.old.items) }
 {
-    calls.push(Call::Write(at, piece.to_vec(alloc)?))?;
+    let noted = piece.to_vec(alloc)?;
+    since.push(Piece { at, bytes: noted })?;
     lay(bytes, at, piece);
-    Ok(())
-}
-
-/// Records a sync. Without memory for the record nothing is done.
-pub(crate) fn sync_noted(calls: &mut Vec<Call>) -> Result<(), AllocError>
-    ensures noted { OnOk result (calls.new.items ≡ calls.old.items ++ Call.Sync ∷ []) }
-    ensures calls_kept { OnErr result (calls.new.items ≡ calls.old.items) }
-{
-    calls.push(Call::Sync)?;
     Ok(())
 }
 
@@ -62,66 +56,46 @@ fn tear(bytes: &mut [u8], at: u64, piece: &[u8])
     place[half..].fill(0xa5);
 }
 
-/// How many calls there are up to the last sync, and with it.
-fn last_sync(calls: &[Call]) -> usize
-    ensures value { result ≡ synced_calls calls.now }
-    ensures within { result ≤ length calls.now }
+/// Does the writes since the last sync on the bytes that were there then, and forgets them.
+pub(crate) fn settle(firm: &mut Vec<u8>, since: &mut Vec<Piece>)
+    requires { IsTrue (are_inside (length firm.old.items) (writes_of since.old.items)) }
+    ensures firm { firm.new.items ≡ written_over firm.old.items (writes_of since.old.items) }
+    ensures since { since.new.items ≡ [] }
 {
-    let mut end = 0;
-    let mut rest = calls;
-    while let [call, behind @ ..] = rest {
-        if let Call::Sync = call {
-            end = calls.len() - behind.len();
-        }
-        rest = behind;
-    }
-    end
+    write_over(firm, since);
+    since.clear();
 }
 
 /// Does the writes again.
-fn write_over(bytes: &mut [u8], calls: &[Call])
-    requires { IsTrue (are_inside (length bytes.old) calls.now) }
-    ensures { bytes.new ≡ written_over bytes.old calls.now }
+fn write_over(bytes: &mut [u8], pieces: &[Piece])
+    requires { IsTrue (are_inside (length bytes.old) (writes_of pieces.now)) }
+    ensures { bytes.new ≡ written_over bytes.old (writes_of pieces.now) }
 {
-    let mut rest = calls;
-    while let [call, behind @ ..] = rest {
-        if let Call::Write(at, piece) = call {
-            lay(bytes, *at, piece);
-        }
+    let mut rest = pieces;
+    while let [piece, behind @ ..] = rest {
+        lay(bytes, piece.at, &piece.bytes);
         rest = behind;
     }
 }
 
 /// Does the writes again, each torn.
-fn tear_over(bytes: &mut [u8], calls: &[Call])
-    requires { IsTrue (are_inside (length bytes.old) calls.now) }
-    ensures { bytes.new ≡ torn_over bytes.old calls.now }
+fn tear_over(bytes: &mut [u8], pieces: &[Piece])
+    requires { IsTrue (are_inside (length bytes.old) (writes_of pieces.now)) }
+    ensures { bytes.new ≡ torn_over bytes.old (writes_of pieces.now) }
 {
-    let mut rest = calls;
-    while let [call, behind @ ..] = rest {
-        if let Call::Write(at, piece) = call {
-            tear(bytes, *at, piece);
-        }
+    let mut rest = pieces;
+    while let [piece, behind @ ..] = rest {
+        tear(bytes, piece.at, &piece.bytes);
         rest = behind;
     }
 }
 
-/// The bytes at the last sync.
-pub(crate) fn dropped(alloc: Global, start: &[u8], calls: &[Call]) -> Result<Vec<u8>, AllocError>
-    requires { IsTrue (are_inside (length start.now) calls.now) }
-    ensures { IfOk result (λ image. image.items ≡ synced_over start.now calls.now) }
+/// The bytes with each of the writes torn.
+pub(crate) fn torn_image(alloc: Global, firm: &[u8], since: &[Piece]) -> Result<Vec<u8>, AllocError>
+    requires { IsTrue (are_inside (length firm.now) (writes_of since.now)) }
+    ensures { IfOk result (λ image. image.items ≡ torn_over firm.now (writes_of since.now)) }
 {
-    let mut image = start.to_vec(alloc)?;
-    write_over(&mut image, &calls[..last_sync(calls)]);
-    Ok(image)
-}
-
-/// The bytes at the last sync, with each later write torn.
-pub(crate) fn torn_image(alloc: Global, start: &[u8], calls: &[Call]) -> Result<Vec<u8>, AllocError>
-    requires { IsTrue (are_inside (length start.now) calls.now) }
-    ensures { IfOk result (λ image. image.items ≡ torn_after_sync start.now calls.now) }
-{
-    let mut image = dropped(alloc, start, calls)?;
-    tear_over(&mut image, &calls[last_sync(calls)..]);
+    let mut image = firm.to_vec(alloc)?;
+    tear_over(&mut image, since);
     Ok(image)
 }

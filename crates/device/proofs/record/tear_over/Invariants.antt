@@ -1,11 +1,12 @@
 use Rattle.std.proofs.Common.{◌≡◌, IsTrue, length}
 use Rattle.device.specs.Record.{are_inside, torn_over}
+use Rattle.device.specs.Past.{writes_of}
 use Rattle.device.proofs.record.tear_over.Given as goal
 
 abbrev pub invariant-loop-rest : goal.invariant-loop-rest
 invariant-loop-rest l = record {
-  same : torn_over l.bytes l.rest ≡ torn_over l.fn.bytes l.calls;
-  inside : IsTrue (are_inside (length l.bytes) l.rest);
+  same : torn_over l.bytes (writes_of l.rest) ≡ torn_over l.fn.bytes (writes_of l.pieces);
+  inside : IsTrue (are_inside (length l.bytes) (writes_of l.rest));
 }
 
 abbrev pub decreases-loop-rest : goal.decreases-loop-rest

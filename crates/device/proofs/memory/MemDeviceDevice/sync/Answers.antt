@@ -1,19 +1,22 @@
-use Rattle.std.proofs.Common.{◌∙◌, ◌<◌, ◌^◌, length, sym, ap, subst}
-use Rattle.device.specs.Disk.{Trace, first}
-use Rattle.device.proofs.Noting.{sync_trace, sync_inside}
+use Rattle.std.proofs.Common.{sym, ap, subst, ◌∙◌}
+use Rattle.device.specs.Disk.{first}
+use Rattle.device.specs.Record.{done}
+use Rattle.device.specs.Past.{writes_of}
+use Rattle.device.specs.declared.past.Past.{Past}
+use Rattle.device.proofs.Noting.{AreDone, sync_trace, synced_done, since_inside}
 use Rattle.device.proofs.memory.MemDeviceDevice.sync.Goals as goal
 
-pub invariant_of-self-in-Ok : goal.invariant_of-self-in-Ok
-invariant_of-self-in-Ok c =
-    let s = c.args.self.now in
-    let calls = c.sync_noted.new.calls.items in
-    let same = sym (ap (λ (t : Trace). t.now.seen) (sync_trace (first s.start.items) s.calls.items calls c.in-Ok.ensures.noted)) in
-    record {
-      replayed = s.replayed ∙ same;
-      inside = sync_inside _ s.calls.items calls c.in-Ok.ensures.noted s.inside;
-      sized = s.sized;
-      small = subst (λ l. length l < 2 ^ 63) same s.small;
-    }
+pub settle-requires : goal.settle-requires
+settle-requires c =
+    let m = c.args.self.now in
+    since_inside m.past.start m.past.calls m.inside m.firm.items (writes_of m.since.items) m.firm_is m.since_is
+
+pub invariant_of-self-2 : goal.invariant_of-self-2
+invariant_of-self-2 c =
+    let m = c.args.self.now in
+    subst (λ (p : Past). AreDone p.start p.calls c.settle.new.firm.items m.bytes.items (writes_of c.settle.new.since.items)) (sym c.sync.ensures)
+    (synced_done m.past.start m.past.calls m.firm.items m.bytes.items c.settle.new.firm.items (writes_of m.since.items) (writes_of c.settle.new.since.items) c.settle.ensures.firm (ap writes_of c.settle.ensures.since)
+    (record { replayed = m.replayed; inside = m.inside; sized = m.sized; small = m.small; firm_is = m.firm_is; since_is = m.since_is }))
 
 pub returns-clause-trace : goal.returns-clause-trace
-returns-clause-trace c = sync_trace _ c.args.self.now.calls.items c.sync_noted.new.calls.items c.in-Ok.ensures.noted
+returns-clause-trace c = ap (λ (p : Past). done (first p.start) p.calls) c.sync.ensures ∙ sync_trace (first c.args.self.now.past.start) c.args.self.now.past.calls

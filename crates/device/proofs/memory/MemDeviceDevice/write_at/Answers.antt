@@ -1,26 +1,34 @@
-use Rattle.std.proofs.Common.{ap, inl, inr, refl, length, arith}
-use Rattle.device.proofs.Noting.{AreDone, note_trace, written_done}
+use Rattle.std.proofs.Common.{ap, subst, inl, inr, refl, length, ◌++◌, ◌∷◌, [], sym, ◌∙◌, arith}
+use Rattle.device.specs.Disk.{first}
+use Rattle.device.specs.Record.{Write, done}
+use Rattle.device.specs.declared.past.Past.{Past}
+use Rattle.device.specs.Past.{writes_of}
+use Rattle.device.proofs.Noting.{AreDone, write_trace, written_done}
 use Rattle.device.proofs.memory.MemDeviceDevice.write_at.Goals.{In-Ok}
 use Rattle.device.proofs.memory.MemDeviceDevice.write_at.Goals as goal
 
--- what was written is recorded
-recorded : (c : In-Ok) → AreDone c.args.self.now.start.items c.write_noted.new.bytes.items c.write_noted.new.calls.items
-recorded c =
+-- what was written is noted
+noted : (c : In-Ok) → AreDone c.args.self.now.past.start (c.args.self.now.past.calls ++ Write c.args.at c.args.bytes.now ∷ []) c.args.self.now.firm.items c.write_noted.new.bytes.items (writes_of c.write_noted.new.since.items)
+noted c =
     let s = c.args.self.now in
-    written_done s.start.items s.bytes.items _ c.args.bytes.now c.args.at s.calls.items _ c.in-Ok.ensures.noted (omega (arith, ap length s.replayed, c.requires.range)) c.in-Ok.ensures.bytes
-    (record { replayed = s.replayed; inside = s.inside; sized = s.sized; small = s.small })
+    written_done s.past.start s.past.calls s.firm.items s.bytes.items _ _ c.args.at (writes_of s.since.items) _ c.in-Ok.ensures.noted (omega (arith, ap length s.replayed, c.requires.range)) c.in-Ok.ensures.bytes
+    (record { replayed = s.replayed; inside = s.inside; sized = s.sized; small = s.small; firm_is = s.firm_is; since_is = s.since_is })
 
 pub invariant_of-self-then-eq-2 : goal.invariant_of-self-then-eq-2
-invariant_of-self-then-eq-2 c = recorded (goal.at.invariant_of-self-then-eq-2 c).In-Ok
+invariant_of-self-then-eq-2 c =
+    subst (λ (p : Past). AreDone p.start p.calls c.args.self.now.firm.items c.write_noted.new.bytes.items (writes_of c.write_noted.new.since.items)) (sym c.write.ensures)
+    (noted (goal.at.invariant_of-self-then-eq-2 c).In-Ok)
 
 pub invariant_of-self-else-eq-2 : goal.invariant_of-self-else-eq-2
-invariant_of-self-else-eq-2 c = recorded (goal.at.invariant_of-self-else-eq-2 c).In-Ok
+invariant_of-self-else-eq-2 c =
+    subst (λ (p : Past). AreDone p.start p.calls c.args.self.now.firm.items c.write_noted.new.bytes.items (writes_of c.write_noted.new.since.items)) (sym c.write.ensures)
+    (noted (goal.at.invariant_of-self-else-eq-2 c).In-Ok)
 
 pub returns-then-eq-2-clause-trace : goal.returns-then-eq-2-clause-trace
-returns-then-eq-2-clause-trace c = inr (c.args.bytes.now, refl, note_trace 0 _ c.args.at _ _ c.in-Ok.ensures.noted _)
+returns-then-eq-2-clause-trace c = inr (c.args.bytes.now, refl, ap (λ (p : Past). done (first p.start) p.calls) c.write.ensures ∙ write_trace (first c.args.self.now.past.start) c.args.self.now.past.calls c.args.at c.args.bytes.now)
 
 pub returns-then-eq-2-clause-kept : goal.returns-then-eq-2-clause-kept
-returns-then-eq-2-clause-kept c = inl (note_trace 0 _ c.args.at _ _ c.in-Ok.ensures.noted _)
+returns-then-eq-2-clause-kept c = inl (ap (λ (p : Past). done (first p.start) p.calls) c.write.ensures ∙ write_trace (first c.args.self.now.past.start) c.args.self.now.past.calls c.args.at c.args.bytes.now)
 
 pub returns-clause-trace : goal.returns-clause-trace
-returns-clause-trace c = note_trace 0 _ c.args.at _ _ c.in-Ok.ensures.noted _
+returns-clause-trace c = ap (λ (p : Past). done (first p.start) p.calls) c.write.ensures ∙ write_trace (first c.args.self.now.past.start) c.args.self.now.past.calls c.args.at c.args.bytes.now
