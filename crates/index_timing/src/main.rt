@@ -1,18 +1,24 @@
 //! How many entries a second an index takes, gives and deletes on one core, and how long an open takes over a full log:
-//! `index_timing time` prints it to standard error, and `index_timing file` what the calls cost over a file. Without an
-//! argument it fills two small indexes, scans them and deletes half.
+//! `index_timing time` prints it to standard error, `index_timing file` what the calls cost over a file, `index_timing plain`
+//! what they cost without a device, and `index_timing bytes` how many bytes are written for a commit. Without an argument it
+//! fills two small indexes, scans them and deletes half.
 #![tactic(auto)]
 
+mod counting;
 mod filing;
 mod opening;
+mod plain;
 mod reuse;
+mod writing;
 
 use access_method::Index;
 use device::{Device, MemDevice};
 use filing::time_files;
 use index_model::{DeadRows, Entry, Fault, Key, Limits, Range, RowAddr};
 use opening::time_open;
+use page_action::PageStore;
 use page_store::Store;
+use plain::time_without_device;
 use recovery::create;
 use reuse::time_reuse;
 use std::alloc::Global;
@@ -20,6 +26,7 @@ use std::io::Eprint;
 use std::rt::Clock;
 use std::time::Instant;
 use std::{env, io};
+use writing::count_bytes;
 
 const LIMITS: Limits = Limits {
     items: 50,
@@ -93,7 +100,7 @@ fn empty_index(alloc: Global, frames: u32) -> Result<Index<Store<MemDevice>>, Fa
     made_on(alloc, MemDevice::new(alloc, LEN)?, frames)
 }
 
-fn fill<D: Device + Drop>(index: &mut Index<Store<D>>, load: Load) -> Result<(), Fault> {
+fn fill<S: PageStore>(index: &mut Index<S>, load: Load) -> Result<(), Fault> {
     for i in 0..load.count {
         let at = i.wrapping_mul(load.stride) % load.count.max(1);
         index.aminsert(entry(at, load.keys))?;
@@ -106,7 +113,7 @@ fn fill<D: Device + Drop>(index: &mut Index<Store<D>>, load: Load) -> Result<(),
 }
 
 // How many entries a scan of the whole index gives; it stops behind one more than there may be.
-fn scan<D: Device + Drop>(index: &mut Index<Store<D>>, most: u32) -> Result<u32, Fault> {
+fn scan<S: PageStore>(index: &mut Index<S>, most: u32) -> Result<u32, Fault> {
     let token = index.ambeginscan(ALL)?;
     let mut given = 0u32;
     for _ in 0..most {
@@ -133,7 +140,7 @@ impl DeadRows for EverySecond {
 }
 
 // Deletes every second entry: how many were deleted, and how many were left.
-fn delete<D: Device + Drop>(index: &mut Index<Store<D>>) -> Result<(u64, u64), Fault> {
+fn delete<S: PageStore>(index: &mut Index<S>) -> Result<(u64, u64), Fault> {
     let stats = index.ambulkdelete(&EverySecond {})?;
     Ok((stats.tuples_removed, stats.num_index_tuples))
 }
@@ -150,11 +157,30 @@ fn a_second(count: u32, nanos: u128) -> u128 {
     1_000_000_000 * u128::from(count) / nanos.max(1)
 }
 
-// The entries a second that an index takes, and those that it gives, each once.
-fn time(rt: &(impl Clock + Eprint), alloc: Global, name: &str, load: Load) -> io::Result<()> {
-    let Ok(mut index) = empty_index(alloc, load.frames) else {
-        return eprintln!(rt; "{name}: no index was made");
+/// So many entries with keys of four bytes, in ascending and in shuffled order.
+fn both_orders(count: u32, commit_every: u32, frames: u32) -> [(&'static str, Load); 2] {
+    let ascending = Load {
+        count,
+        keys: Keys::Four,
+        stride: 1,
+        commit_every,
+        frames,
     };
+    let shuffled = Load {
+        stride: SHUFFLED,
+        ..ascending
+    };
+    [("ascending", ascending), ("shuffled", shuffled)]
+}
+
+// The entries a second that an empty index takes, those that it gives, each once, and those that a bulk delete looks at.
+fn time_index<R: Clock + Eprint, S: PageStore + Drop>(
+    rt: &R,
+    name: &str,
+    index: Index<S>,
+    load: Load,
+) -> io::Result<()> {
+    let mut index = index;
     let count = load.count;
     let every = load.commit_every;
     let frames = load.frames;
@@ -176,34 +202,29 @@ fn time(rt: &(impl Clock + Eprint), alloc: Global, name: &str, load: Load) -> io
     }
 }
 
-fn time_all(rt: &(impl Clock + Eprint), alloc: Global, count: u32, frames: u32) -> io::Result<()> {
-    for commit_every in [0, 100] {
-        time(
-            rt,
-            alloc,
-            "ascending",
-            Load {
-                count,
-                keys: Keys::Four,
-                stride: 1,
-                commit_every,
-                frames,
-            },
-        )?;
-        time(
-            rt,
-            alloc,
-            "shuffled",
-            Load {
-                count,
-                keys: Keys::Four,
-                stride: SHUFFLED,
-                commit_every,
-                frames,
-            },
-        )?;
+fn time(rt: &(impl Clock + Eprint), alloc: Global, name: &str, load: Load) -> io::Result<()> {
+    match empty_index(alloc, load.frames) {
+        Ok(index) => time_index(rt, name, index, load),
+        Err(fault) => eprintln!(rt; "{name}: no index was made, {fault}"),
+    }
+}
+
+fn time_both(
+    rt: &(impl Clock + Eprint),
+    alloc: Global,
+    count: u32,
+    commit_every: u32,
+    frames: u32,
+) -> io::Result<()> {
+    for (name, load) in both_orders(count, commit_every, frames) {
+        time(rt, alloc, name, load)?;
     }
     Ok(())
+}
+
+fn time_all(rt: &(impl Clock + Eprint), alloc: Global, count: u32, frames: u32) -> io::Result<()> {
+    time_both(rt, alloc, count, 0, frames)?;
+    time_both(rt, alloc, count, 100, frames)
 }
 
 fn time_in_memory(rt: &(impl Clock + Eprint), alloc: Global) -> io::Result<()> {
@@ -221,14 +242,7 @@ fn time_in_memory(rt: &(impl Clock + Eprint), alloc: Global) -> io::Result<()> {
 
 fn main(rt: HostRuntime) -> io::Result<()> {
     let alloc = rt.alloc();
-    for stride in [1, SHUFFLED] {
-        let load = Load {
-            count: 1_000,
-            keys: Keys::Four,
-            stride,
-            commit_every: 100,
-            frames: FRAMES,
-        };
+    for (_, load) in both_orders(1_000, 100, FRAMES) {
         if is_filled_scanned_and_halved(alloc, load).unwrap_or(false) {
             println!(rt; "1000 entries inserted and scanned, and half of them deleted")?;
         }
@@ -237,6 +251,8 @@ fn main(rt: HostRuntime) -> io::Result<()> {
     match words.get(1) {
         None => Ok(()),
         Some(word) if word.as_str() == "file" => time_files(&rt, alloc),
+        Some(word) if word.as_str() == "plain" => time_without_device(&rt, alloc),
+        Some(word) if word.as_str() == "bytes" => count_bytes(&rt, alloc),
         Some(_) => time_in_memory(&rt, alloc),
     }
 }

@@ -1,5 +1,5 @@
 -- The order in which changed pages wait, while some are written.
-use Rattle.std.proofs.Common.{◌≡◌, inl, inr, ℕ, zero, suc, List, [], ◌∷◌, drop, refl, sym, subst, ◌∙◌}
+use Rattle.std.proofs.Common.{◌≡◌, inl, inr, ℕ, zero, suc, List, [], ◌∷◌, refl, subst, ◌∙◌}
 use Rattle.std.specs.Prelude.{remove}
 use Rattle.page_action.specs.Order.{IsPartOf}
 
@@ -21,11 +21,6 @@ part_both (x ∷ xs) (y ∷ ys) [] a b = absurd b
 part_both (x ∷ xs) (y ∷ ys) (z ∷ zs) a (inr b) = inr (part_both (x ∷ xs) (y ∷ ys) zs a b)
 part_both (x ∷ xs) (y ∷ ys) (z ∷ zs) (inl a) (inl b) = inl (a.0 ∙ b.0, part_both xs ys zs a.1 b.1)
 part_both (x ∷ xs) (y ∷ ys) (z ∷ zs) (inr a) (inl b) = inr (part_both (x ∷ xs) ys zs a b.1)
-
-pub part_drop : (n : ℕ) (xs : List ℕ) → IsPartOf (drop n xs) xs
-part_drop zero xs = part_same xs
-part_drop (suc n) [] = tt
-part_drop (suc n) (x ∷ xs) = part_more x (drop n xs) xs (part_drop n xs)
 
 pub part_remove : (xs : List ℕ) (k : ℕ) → IsPartOf (remove xs k) xs
 part_remove [] zero = tt

@@ -1,7 +1,6 @@
 -- What an act leaves in the pool.
-use Rattle.std.specs.Prelude.{◌≡◌, ℕ, suc, max, true, if◌then◌else◌, Some, None, List, [], ◌∷◌, ◌++◌}
+use Rattle.std.specs.Prelude.{◌≡◌, ℕ, suc, max, true, Some, None, List, [], ◌∷◌}
 use Rattle.std.specs.Prelude.{is_some}
-use Rattle.buffer_pool.specs.Frames.{has_block}
 use Rattle.buffer_pool.specs.Pools.{most_of, reach_of, count_of, frame_of, held_page, act_of, changed_of}
 use Rattle.buffer_pool.specs.declared.pool.Pool.{Pool}
 use Rattle.page_action.specs.Order.{with_changed}

@@ -5,7 +5,7 @@ ghost use Rattle.buffer_pool.specs.Pools.{act_of, changed_of, held_page, IsWritt
 ghost use Rattle.device.specs.Disk.{CountsFailures};
 ghost use Rattle.device.specs.Places.{Has, OnDisk, ChangesOnly};
 ghost use Rattle.device_layout.specs.Layout.{place};
-ghost use Rattle.page_action.specs.Order.{IsPartOf};
+ghost use Rattle.page_action.specs.Order.{IsRestOf};
 ghost use Rattle.page_action.specs.Room.{HasWholeRoom};
 ghost use Rattle.page_codec.specs.Spelling.{page_bytes};
 ghost use Rattle.page_codec.specs.declared.page.Page.{Page};
@@ -210,8 +210,8 @@ impl<D: Device> LoggedPages<D> {
         self.device.sync()
     }
 
-    // Writes all changed pages to their places, and syncs them. Those that were written are clean, also where a later one
-    // can't be. Refused with `Io`.
+    // Writes all changed pages to their places, in order, and syncs them. Those that were written are clean, also where a
+    // later one can't be. Refused with `Io`.
     fn write_all(&mut self) -> Result<(), Fault>
         requires alive { is_stopped self.old.log ≡ false }
         requires durable { self.old.durable ≡ self.old.acts }
@@ -222,7 +222,7 @@ impl<D: Device> LoggedPages<D> {
         ensures log { self.new.log ≡ self.old.log }
         ensures durable { self.new.durable ≡ self.old.durable }
         ensures clean { OnOk result (IsClean self.new.pool) }
-        ensures order { IsPartOf (changed_of self.new.pool) (changed_of self.old.pool) }
+        ensures rest { IsRestOf (changed_of self.new.pool) (changed_of self.old.pool) }
         ensures none { OnOk result (changed_of self.new.pool ≡ []) }
         ensures firm { OnOk result (IsFirm (D.trace self.new.device).now) }
         ensures failures { CountsFailures result
@@ -268,7 +268,7 @@ impl<D: Device> LoggedPages<D> {
         ensures durable { OnOk result (self.new.durable ≡ self.old.acts) }
         ensures room { OnOk result
             (HasWholeRoom self.old.limits (backing_of (held_of D.Device self.new))) }
-        ensures order { IsPartOf (changed_of self.new.pool) (changed_of self.old.pool) }
+        ensures rest { IsRestOf (changed_of self.new.pool) (changed_of self.old.pool) }
         ensures clean { OnOk result (changed_of self.new.pool ≡ []) }
         ensures stopped { is_stopped self.old.log ≡ true → result ≡ Err Fault.Stopped }
         ensures failed { OnErr result

@@ -148,6 +148,27 @@ fn each_call_of_a_checkpoint_fails(rt: HostRuntime) -> Result<(), Fail> {
     Ok(())
 }
 
+// Three pages are written and synced, and the log is closed: what was not written waits in its order.
+#[test]
+fn flushes_go_on_behind_a_failed_checkpoint(rt: HostRuntime) -> Result<(), Fail> {
+    let order = [2, 3, 1];
+    for written in 0..4usize {
+        let mut store = store(rt.alloc())?;
+        for block in [2, 3, 1, 2] {
+            assert!(rt; act(&mut store, leaf(block, 7)).is_ok());
+        }
+        store.force()?;
+        store.fail_at(written as u64 + 1);
+        assert_eq!(rt; store.checkpoint(), Err(Fault::Io));
+        for block in &order[written..] {
+            assert_eq!(rt; store.flush(), Ok(Some(*block)));
+        }
+        assert_eq!(rt; store.flush(), Ok(None));
+        assert_eq!(rt; store.checkpoint(), Ok(4));
+    }
+    Ok(())
+}
+
 #[test]
 fn a_full_log_is_refused(rt: HostRuntime) -> Result<(), Fail> {
     let mut store = store(rt.alloc())?;

@@ -1,9 +1,10 @@
-use Rattle.std.proofs.Common.{ap}
+use Rattle.std.proofs.Common.{sym, ap, subst}
 use Rattle.buffer_pool.specs.Pools.{changed_of}
+use Rattle.buffer_pool.specs.declared.pool.Pool.{Pool}
+use Rattle.page_action.specs.Order.{IsRestOf}
 use Rattle.page_store.specs.Following.{Follows}
 use Rattle.page_store.specs.Logged.{held_of}
 use Rattle.page_store.proofs.FollowLaws.{follows_both}
-use Rattle.page_store.proofs.Ordering.{part_is}
 use Rattle.page_store.proofs.logged_pages.LoggedPages.checkpoint.Given.{Over}
 use Rattle.page_store.proofs.logged_pages.LoggedPages.checkpoint.Goals.{After-write_all, After-close}
 use Rattle.page_store.proofs.logged_pages.LoggedPages.checkpoint.Goals as goal
@@ -26,5 +27,22 @@ returns-in_err-close-clause-steps g c = close_steps g (goal.at.returns-in_err-cl
 pub returns-clause-steps : goal.returns-clause-steps
 returns-clause-steps g c = close_steps g (goal.at.returns-clause-steps g c).After-close
 
-pub returns-in_err-acts-clause-order : goal.returns-in_err-acts-clause-order
-returns-in_err-acts-clause-order g c = part_is (changed_of c.force.new.self.pool) (changed_of c.args.self.now.pool) (ap changed_of c.force.ensures.pool)
+-- no page was written, or some first ones
+home_rest : (g : Over) (c : After-write_all g) → IsRestOf (changed_of c.write_all.new.self.pool) (changed_of c.args.self.now.pool)
+home_rest g c = subst (λ (p : Pool). IsRestOf (changed_of c.write_all.new.self.pool) (changed_of p)) c.force.ensures.pool c.write_all.ensures.rest
+
+close_rest : (g : Over) (c : After-close g) → IsRestOf (changed_of c.close.new.self.pool) (changed_of c.args.self.now.pool)
+close_rest g c =
+    subst (λ (p : Pool). IsRestOf (changed_of p) (changed_of c.args.self.now.pool)) (sym c.close.ensures.pool) (home_rest g (goal.at.After-close g c).After-write_all)
+
+pub returns-in_err-acts-clause-rest : goal.returns-in_err-acts-clause-rest
+returns-in_err-acts-clause-rest g c = record { written = 0; is = ap changed_of c.force.ensures.pool }
+
+pub returns-in_err-write_all-clause-rest : goal.returns-in_err-write_all-clause-rest
+returns-in_err-write_all-clause-rest g c = home_rest g (goal.at.returns-in_err-write_all-clause-rest g c).After-write_all
+
+pub returns-in_err-close-clause-rest : goal.returns-in_err-close-clause-rest
+returns-in_err-close-clause-rest g c = close_rest g (goal.at.returns-in_err-close-clause-rest g c).After-close
+
+pub returns-clause-rest : goal.returns-clause-rest
+returns-clause-rest g c = close_rest g (goal.at.returns-clause-rest g c).After-close
