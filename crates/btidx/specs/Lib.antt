@@ -7,3 +7,4 @@ pub mod Settings
 pub mod Files
 pub mod Reporting
 pub mod Dumping
+pub mod Listing

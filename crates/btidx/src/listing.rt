@@ -1,10 +1,12 @@
 //! All pages of a store, printed.
 
-ghost use Rattle.std.specs.Prelude.{◌≡◌};
+ghost use Rattle.std.specs.Prelude.{◌≡◌, Ok, IfOk};
 ghost use Rattle.page_action.specs.States.{Continues};
+ghost use Rattle.btidx.specs.Listing.{Lists, ListsFirst, IsDoneOrRefused};
 
 use crate::dump::print_page;
 use crate::end::End;
+use index_model::Fault;
 use page_action::PageStore;
 use std::io::{self, Write};
 
@@ -12,6 +14,12 @@ use std::io::{self, Write};
 pub fn list_pages<S: PageStore, W: Write>(store: &mut S, out: &mut W) -> io::Result<End>
     ensures steps { Continues S.follows store.old store.new }
     ensures state { S.state store.new ≡ S.state store.old }
+    ensures ends { IfOk result IsDoneOrRefused }
+    ensures listed { result ≡ Ok End.Done → Lists (S.backing store.new).honest
+        (S.state store.old).pages (W.contents out.old) (W.contents out.new) }
+    ensures refused { (fault : Fault) → result ≡ Ok (End.Refused fault)
+        → ListsFirst (S.backing store.new).honest
+        (S.state store.old).pages (W.contents out.old) (W.contents out.new) }
 {
     for block in 0..store.used() {
         match store.fetch(block) {

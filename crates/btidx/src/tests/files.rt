@@ -63,23 +63,28 @@ fn fill(
     }
 }
 
-/// A check of the file, with parents and without, prints this line and ends with this status.
+/// A check of the file, with parents or without, prints this line and ends with this status.
+fn check_ends(
+    rt: &(impl Abort + AllocGlobal + Print + Eprint + Files<File = File>),
+    path: &str,
+    parents: bool,
+    printed: &str,
+    status: u8,
+) -> Result<(), Fail> {
+    let words = ["btidx", "check", path, "--parents"];
+    let count = if parents { 4 } else { 3 };
+    runs(rt, &words[..count], "", printed, "", status)
+}
+
+/// So does a check with parents and one without.
 fn checks(
     rt: &(impl Abort + AllocGlobal + Print + Eprint + Files<File = File>),
     path: &str,
     printed: &str,
     status: u8,
 ) -> Result<(), Fail> {
-    runs(
-        rt,
-        ["btidx", "check", path].as_slice(),
-        "",
-        printed,
-        "",
-        status,
-    )?;
-    let parents = ["btidx", "check", path, "--parents"];
-    runs(rt, parents.as_slice(), "", printed, "", status)
+    check_ends(rt, path, false, printed, status)?;
+    check_ends(rt, path, true, printed, status)
 }
 
 /// Whether these bytes stand there.
@@ -242,6 +247,26 @@ fn two_levels(rt: HostRuntime) -> Result<(), Fail> {
     )?;
     patch(&rt, path, 77_836, &[3, 0, 0, 0])?;
     checks(&rt, path, "damage 2 block 2\n", 1)?;
+    fs::remove_file(&rt, path)?;
+    Ok(())
+}
+
+/// Damages of parents and children, which a check finds with `--parents` alone.
+#[test]
+fn parents_and_children(rt: HostRuntime) -> Result<(), Fail> {
+    let path = "btidx_parents.idx";
+    create(&rt, path)?;
+    assert_eq!(rt; fill(&rt, path, &[0x61, 0x62, 0x63, 0x64, 0x65]), Ok(6));
+    let sound = "ok levels=2 pages=4 entries=5 halfdead=0 deleted=0 unfinished=0\n";
+    // The bound of the root's second item is 62 (0,3), and the low of its child 63 (0,3).
+    patch(&rt, path, 82_103, &[0x62])?;
+    check_ends(&rt, path, false, sound, 0)?;
+    check_ends(&rt, path, true, "damage 7 block 3\n", 1)?;
+    // The root has its first item alone: none leads to page 2.
+    patch(&rt, path, 81_952, &[1, 0])?;
+    patch(&rt, path, 82_102, &[0; 75])?;
+    check_ends(&rt, path, false, sound, 0)?;
+    check_ends(&rt, path, true, "damage 8 block 2\n", 1)?;
     fs::remove_file(&rt, path)?;
     Ok(())
 }
