@@ -15,6 +15,7 @@ use Rattle.tree_acts.specs.Acts.{MayAct, TreeLasts, ContentsStay, ContentsGain}
 use Rattle.tree_acts.specs.Leaves.{LeavesStay}
 use Rattle.tree_acts.specs.Trees.{HasTree, HasPlace, HasTrail, PlacesLast, TrailsLast}
 use Rattle.tree_acts.proofs.Leaving.{leaves_same}
+use Rattle.tree_acts.proofs.Lows.{lows_same}
 use Rattle.tree_acts.proofs.Overlays.{pages_other}
 use Rattle.descent.specs.Steps.{HoldsAlone, AreApart}
 use Rattle.descent.specs.Shared.{IsRaised, IsInOrder, NumbersStay, OthersRely, SplitsALeaf, FinishesASplit, Does, DeletesALeaf, CleansUp, IsOneStep}
@@ -52,6 +53,7 @@ others_rely st session changed may lasts free other differ = record {
   number = refl;
   pages = λ block alone. pages_other st.limits (length st.pages) st.pages changed block may (omega arith) (apart_from_held st session other block changed differ alone free);
   numbers = λ start runs. numbers_stay st (after_act changed st) other start runs lasts.places lasts.trails;
+  lows = lasts.lows;
 }
 
 in_order_after : (st : State) (changed : List Page) → IsInOrder st → TreeLasts st (after_act changed st) → IsInOrder (after_act changed st)
@@ -102,6 +104,7 @@ others_rely_else st session changed table may lasts apart kept other differ = re
         places = λ level aim clear block aims place. place_held_else (after_act changed st) table start level aim clear block (stay.places level aim clear block aims place);
         trails = λ level block moves trail. trail_held_else (after_act changed st) table start level block moves (stay.trails level block moves trail);
       };
+  lows = lasts.lows;
 }
 
 raised_else : (old new : State) (table : Table) (level : ℕ) (raised : Option ℕ) → IsRaised old new level raised → IsRaised old (with_table new table) level raised
@@ -109,7 +112,7 @@ raised_else old new table level None h = tt
 raised_else old new table level (Some b) h = h
 
 tree_held_else : (st : State) (table : Table) → HasTree st → HasTree (with_table st table)
-tree_held_else st table tree = record { tree = tree.tree; stored = tree.stored; counted = tree.counted }
+tree_held_else st table tree = record { tree = tree.tree; stored = tree.stored; counted = tree.counted; within = tree.within; lead = tree.lead }
 
 -- an act that puts an entry which wasn't there, by a session that may let go what it held
 pub does_add : (st : State) (session : ℕ) (e : Entry) (changed : List Page) (table : Table) → IsInOrder st → MayAct st changed → TreeLasts st (after_act changed st)
@@ -144,7 +147,7 @@ holds_else session old new table is order apart many kept = subst (λ (st : Stat
   frames = refl;
   begun = refl;
   running = refl;
-  order = record { tree = record { tree = order.tree.tree; stored = order.tree.stored; counted = order.tree.counted }; apart = apart; holdings = many; calls = order.calls };
+  order = record { tree = tree_held_else old table order.tree; apart = apart; holdings = many; calls = order.calls };
   others = λ other differ. record {
     held = kept other differ;
     number = refl;
@@ -153,6 +156,7 @@ holds_else session old new table is order apart many kept = subst (λ (st : Stat
       places = λ level aim clear block aims place. record { tree = place.tree; in_tree = place.in_tree; place = place.place };
       trails = λ level block moves trail. record { tree = trail.tree; in_tree = trail.in_tree; passed = trail.passed; count = trail.count; distinct = trail.distinct; steps = trail.steps; trail = trail.trail };
     };
+    lows = lows_same old.pages;
   };
 })
 

@@ -10,10 +10,11 @@ use Rattle.page_action.specs.Reuse.{is_reusable}
 use Rattle.page_action.specs.States.{State, Backing, with_table}
 use Rattle.tree_shape.specs.Nodes.{nodes_of}
 use Rattle.tree_shape.specs.Walks.{IsAim}
-use Rattle.tree_acts.specs.Deletions.{CountsAreWithin, OneLeafDies, OneLeafGoes, LeavesFlags, LinksLast}
+use Rattle.tree_acts.specs.Deletions.{OneLeafDies, OneLeafGoes, LeavesFlags, LinksLast}
 use Rattle.tree_acts.specs.Flags.{FlagsMove}
 use Rattle.tree_acts.specs.Leaves.{LeavesStay}
-use Rattle.tree_acts.specs.Trees.{HasTree, HasPlace, HasTrail}
+use Rattle.tree_acts.specs.Lows.{NoLowRises}
+use Rattle.tree_acts.specs.Trees.{CountsAreWithin, HasTree, HasPlace, HasTrail}
 use Rattle.tree_acts.specs.Weights.{weight}
 use Rattle.descent.specs.Steps.{HoldsAlone, AreApart, Changes}
 use Rattle.descent.specs.Ways.{root_level}
@@ -33,8 +34,8 @@ pub record NumbersStay (start : ℕ) (old new : State) : Type 0 where
   pub trails : (level block moves : ℕ) → HasTrail old start level block moves
       → HasTrail new start level block moves
 
--- what a session may rely on while others act: its latches and pins, its start number, the pages that it holds alone, and
--- the page numbers that its call keeps
+-- what a session may rely on while others act: its latches and pins, its start number, the pages that it holds alone, the
+-- page numbers that its call keeps, and that no low rises
 pub record MayRely (session : ℕ) (old new : State) : Type 0 where
   pub held : holding_of new.table session ≡ holding_of old.table session
   pub number : slice_get new.running session ≡ slice_get old.running session
@@ -42,8 +43,9 @@ pub record MayRely (session : ℕ) (old new : State) : Type 0 where
       → slice_get new.pages block ≡ slice_get old.pages block
   pub numbers : (start : ℕ) → slice_get old.running session ≡ Some (Some start)
       → NumbersStay start old new
+  pub lows : NoLowRises old.pages new.pages
 
--- every session but this one may rely
+-- every session but this one may rely; so no low rises
 abbrev pub OthersRely : ℕ → State → State → Type 0
 OthersRely session old new = (other : ℕ) → other ≢ session → MayRely other old new
 

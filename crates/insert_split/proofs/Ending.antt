@@ -1,25 +1,27 @@
 -- An insert that finishes splits.
-use Rattle.std.proofs.Common.{◌≡◌, ℕ, ◌<◌, Bool, true, false, Option, Some, None, Result, Ok, Err, List, slice_get, refl, sym, ap, subst, inl, inr, ◌∙◌, arith}
+use Rattle.std.proofs.Common.{◌≡◌, ℕ, ◌<◌, ◌||◌, Bool, true, false, Option, Some, None, Result, Ok, Err, List, slice_get, refl, sym, ap, subst, inl, inr, ◌∙◌, arith}
 use Rattle.index_model.specs.Actions.{Effect}
 use Rattle.index_model.specs.Faults.{HasCause}
 use Rattle.index_model.specs.declared.entry.Entry.{Entry}
 use Rattle.index_model.specs.declared.fault.Fault.{Fault}
+use Rattle.index_model.specs.declared.fault.Fault.TheVariants.{Stopped}
 use Rattle.latch_table.specs.Holdings.{Table, holding_of, nothing_held}
 use Rattle.index_model.specs.declared.limits.Limits.{Limits}
+use Rattle.page_action.specs.Causes.{is_at_end}
 use Rattle.page_action.specs.States.{State, Backing}
 use Rattle.page_action.specs.declared.page_store.PageStore.{Ghosts}
 use Rattle.descent.specs.Shared.{IsInOrder, Does, is_flagged}
-use Rattle.descent.proofs.Acting.{nothing_else}
+use Rattle.descent.proofs.Acting.{nothing_else, one_nothing}
 use Rattle.split_finish.specs.Finishes.{FinishSteps, OnlyShapes, images_of, frames_of, takes_block_of, where_finishing}
 use Rattle.split_finish.specs.Targets.{OnlyTargetsAreFlagged, FinishFits, finish_left}
 use Rattle.split_finish.specs.Turns.{splits_root_of}
 use Rattle.split_finish.specs.declared.finish.FinishOp.{FinishOp}
 use Rattle.split_finish.specs.declared.finish.FinishStep.TheVariants.{Going as FinishGoing, Done}
-use Rattle.insert_split.specs.Inserts.{InsertFits, InsertStands, InsertSteps, IsNoted, insert_left, targets_at, where_inserting, where_left}
+use Rattle.insert_split.specs.Inserts.{InsertFits, InsertStands, InsertSteps, IsNoted, IsToCome, AnswersStopped, insert_left, targets_at, where_inserting, where_left}
 use Rattle.insert_split.specs.Straight.{IsStraight}
 use Rattle.insert_split.specs.Turns.{GoesOn, GoesOnFrom, Leaves, LeavesBy, IsRefusedRightly, is_blocked}
 use Rattle.insert_split.specs.declared.insert.InsertAt.{InsertAt}
-use Rattle.insert_split.specs.declared.insert.InsertAt.TheVariants.{Start, Finishing}
+use Rattle.insert_split.specs.declared.insert.InsertAt.TheVariants.{Start, At, Holding as Holds, Finishing}
 use Rattle.insert_split.specs.declared.insert.InsertOp.{InsertOp}
 use Rattle.insert_split.specs.declared.insert.InsertStep.{InsertStep}
 use Rattle.insert_split.specs.declared.insert.InsertStep.TheVariants.{Going, Added}
@@ -197,3 +199,46 @@ refused_rightly (Some action) fault result leaves = by (is_blocked fault) refl l
     by : (blocked : Bool) → is_blocked fault ≡ blocked → LeavesBy blocked (Some action) fault result → IsRefusedRightly (Some action) result
     by true is h = subst (λ (r : Result InsertStep Fault). IsRefusedRightly (Some action) r) (sym h) is
     by false is h = subst (λ (r : Result InsertStep Fault). IsRefusedRightly (Some action) r) (sym h) tt
+
+-- an insert whose entry is logged isn't on its straight way any more
+past_adding : (st : State) (e : Entry) (at : InsertAt) (action : ℕ) → IsToCome at (Some action) → IsStraight st e at → ⊥
+past_adding st e Start action to_come on = absurd cc
+past_adding st e (At way) action to_come on = absurd cc
+past_adding st e (Holds block) action to_come on = absurd cc
+past_adding st e (Finishing op) action to_come on = on
+
+-- a step on a stopped log
+pub stops : {S : Type 0} (g : Ghosts S) (op : InsertOp) (store : S) (result : Result InsertStep Fault) → (g.backing store).stopped ≡ true → AnswersStopped op.added result → InsertSteps g op op store store result
+stops g op store result halted told = by op.added refl told
+  where
+    stopped_cause : (b : Bool) → (g.backing store).stopped || b ≡ true
+    stopped_cause b = rw halted refl
+
+    by : (added : Option ℕ) → op.added ≡ added → AnswersStopped added result → InsertSteps g op op store store result
+    by None is answer = subst (λ (r : Result InsertStep Fault). InsertSteps g op op store store r) (sym answer) (record {
+      steps = λ first h. h;
+      session = refl;
+      entry = refl;
+      kept = one_nothing (g.state store) (g.state store) refl;
+      refused = record { state = refl; op = refl };
+      stopped = λ h. subst (λ (a : Option ℕ). AnswersStopped a (Err Stopped)) (sym is) refl;
+      less = λ honest going. absurd cc;
+      stepped = λ honest order fits. stopped_cause (is_at_end (g.state store).acts);
+      straight = λ honest order fits whole on room. tt;
+    })
+    by (Some action) is answer = subst (λ (r : Result InsertStep Fault). InsertSteps g op op store store r) (sym answer) (record {
+      steps = λ first h. h;
+      session = refl;
+      entry = refl;
+      kept = one_nothing (g.state store) (g.state store) refl;
+      refused = tt;
+      stopped = λ h. subst (λ (a : Option ℕ). AnswersStopped a (Ok (Added action (Some Stopped)))) (sym is) refl;
+      less = λ honest going. absurd cc;
+      stepped = λ honest order fits. record {
+        effect = None;
+        does = nothing_else op.session (g.state store) (g.state store) refl order;
+        noted = sym is;
+        left = (refl, stopped_cause (is_at_end (g.state store).acts));
+      };
+      straight = λ honest order fits whole on room. absurd (past_adding (g.state store) op.entry op.at action (subst (λ (a : Option ℕ). IsToCome op.at a) is fits.to_come) on);
+    })

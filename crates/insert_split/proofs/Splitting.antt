@@ -189,7 +189,7 @@ splits g before after old mid new block page (Ok Going) steps same alive at_is b
           stands = (
             h.finishes.session,
             one_target_fits gone fits.start before.session (entry_aim before.entry) (record { block = page.block; level = 0; moves = 0 }) h.left h.target h.finishes.op
-                (record { tree = lasts.0.has.tree; stored = lasts.0.has.stored; counted = lasts.0.has.counted }) fits.session free fits.running
+                (record { tree = lasts.0.has.tree; stored = lasts.0.has.stored; counted = lasts.0.has.counted; within = lasts.0.has.within; lead = lasts.0.has.lead }) fits.session free fits.running
                 left_there h.left_block (record { tree = place.tree; in_tree = place.in_tree; place = place.place }) left_live h.block_is (h.level_is ∙ left_ground) h.high_is
                 h.finishes.session h.finishes.target_is h.finishes.below h.finishes.at,
           );

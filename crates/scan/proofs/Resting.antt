@@ -6,6 +6,7 @@ use Rattle.page_action.specs.States.{State, with_table}
 use Rattle.tree_acts.specs.Trees.{HasPlace, HasTrail}
 use Rattle.descent.specs.Onward.{IsOnWay}
 use Rattle.tree_acts.proofs.Leaving.{leaves_same}
+use Rattle.tree_acts.proofs.Lows.{lows_same}
 use Rattle.descent.specs.Shared.{IsInOrder, Does, IsOneStep, NumbersStay}
 use Rattle.descent.specs.Steps.{AreApart}
 use Rattle.descent.specs.declared.way.Way.{Way}
@@ -44,7 +45,7 @@ does_hold session old new table is order apart many kept = subst (λ (st : State
   begun = refl;
   running = refl;
   order = record {
-    tree = record { tree = order.tree.tree; stored = order.tree.stored; counted = order.tree.counted };
+    tree = record { tree = order.tree.tree; stored = order.tree.stored; counted = order.tree.counted; within = order.tree.within; lead = order.tree.lead };
     apart = apart;
     holdings = many;
     calls = order.calls;
@@ -54,6 +55,7 @@ does_hold session old new table is order apart many kept = subst (λ (st : State
     number = refl;
     pages = λ block alone. refl;
     numbers = λ start runs. numbers_with old table start;
+    lows = lows_same old.pages;
   };
 })
 

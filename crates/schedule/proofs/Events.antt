@@ -35,7 +35,7 @@ use Rattle.schedule.specs.Events.{Move, Steps, Takes, GivesUp, Upkeep, Forces, F
 use Rattle.schedule.specs.Runs.{EventRuns}
 use Rattle.schedule.proofs.Frames.{began_within, slot_is, goes_fits}
 use Rattle.schedule.proofs.Keeping.{no_growth}
-use Rattle.schedule.proofs.Leaves.{leaf_same}
+use Rattle.schedule.proofs.Leaves.{leaf_same, lows_relied, lows_still}
 use Rattle.schedule.proofs.Lists.{get_set_same, get_set_other, length_set, get_within, get_append_some, get_append_new, get_append_cases, same_some}
 use Rattle.schedule.proofs.Owners.{told_durable, acts_few}
 use Rattle.schedule.proofs.Vacuums.{before_vacuum, before_sweep, calm_request, none_runs, vacuums_still, sweep_begins, cleanup_begins}
@@ -179,6 +179,7 @@ module _ {S : Type 0} (g : Ghosts S) (start : Entry → Bool) (old : Snapshot S)
     entries = at_slots old.slots session (Some op) slot (λ x y. CountsOnEntries (MovesCall session move) old.sets answer (g.state old.store) (g.state store) x y) found entries;
     spares = at_slots old.slots session (Some op) slot (λ x y. SparesOn (MovesCall session move) answer (g.state old.store) (g.state store) x y) found spares;
     leaves = λ other block page apart there pinned. one.pinned other block page (λ e. apart (sym (e ∙ runs.is.session_is))) there pinned;
+    lows = lows_relied session (g.state old.store) (g.state store) others;
     quiet = leaves_be g (MovesCall session move) old new one.limits one.frames (λ same. one.pages (no_effect one.effect same)) (others_stay_set old.slots session slot);
     durable = told_durable answer (g.backing store).durable (length old.history) one.effect runs.call one.after one.told;
     sets = refl;
@@ -251,6 +252,7 @@ module _ {S : Type 0} (g : Ghosts S) (start : Entry → Bool) (old : Snapshot S)
     entries = entries_stay kind (slot_of old.slots (session_at kind)) idle;
     spares = spares_stay kind (slot_of old.slots (session_at kind)) idle;
     leaves = λ other block page apart there pinned. leaf_same (g.state old.store) (g.state store) (ap (λ (st : State). st.pages) same) block page there;
+    lows = lows_still (g.state old.store) (g.state store) (ap (λ (st : State). st.pages) same);
     quiet = stays_be g kind old then_now same refl;
     durable = tt;
     sets = refl;
@@ -311,6 +313,7 @@ module _ {S : Type 0} (g : Ghosts S) (start : Entry → Bool) (old : Snapshot S)
           entries = tt;
           spares = tt;
           leaves = λ other block page apart there pinned. leaf_same (g.state old.store) (g.state store) (ap (λ (st : State). st.pages) same) block page there;
+          lows = lows_still (g.state old.store) (g.state store) (ap (λ (st : State). st.pages) same);
           quiet = stays_be g (KeepsStore upkeep) old then same refl;
           durable = kept_durable upkeep count (g.backing store).durable answer told (let n : count ≡ (g.state old.store).acts = number in let d : (g.backing store).durable ≡ (g.state old.store).acts = durable in omega arith);
           sets = refl;
@@ -341,6 +344,7 @@ flushes_on_store {S} g start old store fits same follows later block first alway
         entries = tt;
         spares = tt;
         leaves = λ other block page apart there pinned. leaf_same (g.state old.store) (g.state store) (ap (λ (st : State). st.pages) same) block page there;
+        lows = lows_still (g.state old.store) (g.state store) (ap (λ (st : State). st.pages) same);
         quiet = stays_be g (KeepsStore Flushes) old then same refl;
         durable = tt;
         sets = refl;
@@ -502,6 +506,7 @@ module _ {S : Type 0} (g : Ghosts S) (start : Entry → Bool) (old : Snapshot S)
       entries = tt;
       spares = tt;
       leaves = λ other block page apart there pinned. leaf_same (g.state old.store) (g.state store) (ap (λ (st : State). st.pages) state ∙ request_pages (asks_sweep request) session (g.state old.store)) block page there;
+      lows = lows_still (g.state old.store) (g.state store) (ap (λ (st : State). st.pages) state ∙ request_pages (asks_sweep request) session (g.state old.store));
       quiet = leaves_be g (BeginsCall session request) old begun (ap (λ (st : State). st.limits) state ∙ request_limits (asks_sweep request) session (g.state old.store)) (ap (λ (st : State). st.frames) state ∙ request_frames (asks_sweep request) session (g.state old.store))
           (λ same. ap (λ (st : State). st.pages) state ∙ request_pages (asks_sweep request) session (g.state old.store)) (others_stay_set old.slots session (Some op));
       durable = tt;

@@ -1,9 +1,19 @@
--- Live leaves stay behind an event that changes no page.
-use Rattle.std.proofs.Common.{◌≡◌, ℕ, List, sym, subst}
+-- Live leaves stay behind an event that changes no page, and lows don't rise behind any.
+use Rattle.std.proofs.Common.{◌≡◌, ℕ, suc, List, sym, subst, arith}
 use Rattle.page_codec.specs.declared.page.Page.{Page}
 use Rattle.page_action.specs.States.{State}
 use Rattle.tree_acts.specs.Leaves.{IsLeafAt, WasLeaf}
+use Rattle.tree_acts.specs.Lows.{NoLowRises}
+use Rattle.tree_acts.proofs.Lows.{lows_same}
+use Rattle.descent.specs.Shared.{OthersRely}
 
 -- where the pages are as they were
 pub leaf_same : (old new : State) → new.pages ≡ old.pages → (block : ℕ) (page : Page) → IsLeafAt old.pages block page → WasLeaf new.pages block
 leaf_same old new same block page at = record { page = page; was = subst (λ (ps : List Page). IsLeafAt ps block page) (sym same) at }
+
+pub lows_still : (old new : State) → new.pages ≡ old.pages → NoLowRises old.pages new.pages
+lows_still old new same = subst (NoLowRises old.pages) (sym same) (lows_same old.pages)
+
+-- where others may rely, no low rises: there is another session
+pub lows_relied : (session : ℕ) (old new : State) → OthersRely session old new → NoLowRises old.pages new.pages
+lows_relied session old new others = (others (suc session) (λ same. omega arith)).lows

@@ -7,6 +7,7 @@ pub mod Frames
 pub mod Keeping
 pub mod Events
 pub mod Making
+pub mod Idling
 pub mod Running
 pub mod Joining
 pub mod Bounds

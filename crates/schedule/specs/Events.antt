@@ -12,6 +12,7 @@ use Rattle.page_action.specs.declared.page_store.PageStore.{Ghosts}
 use Rattle.latch_table.specs.Holdings.{has_pin, holding_of}
 use Rattle.page_codec.specs.declared.page.Page.{Page}
 use Rattle.tree_acts.specs.Leaves.{IsLeafAt, WasLeaf}
+use Rattle.tree_acts.specs.Lows.{NoLowRises}
 use Rattle.descent.specs.Shared.{OthersRely}
 use Rattle.session_calls.specs.Due.{IsDueIn, CountsDown, HasSteps}
 use Rattle.session_calls.specs.Ops.{DeadSets, asked_by, op_before, asks_vacuum, asked_of, where_stepped, where_asked_next, where_beginning, RunsOn, IsCaused, AnswersStopped}
@@ -403,8 +404,8 @@ pub record GrowsByOne (old new : List Action) : Type 0 where
 
 -- One event of this kind, of what is fitted: what happens, why it is refused, how many steps its call takes, which pages it
 -- leaves flagged, which pins a bulk delete waits for and what it or a cleanup counts, which empty leaves a cleanup spares, that
--- pinned leaves stay, what it leaves as it was, the sets among it, and what fits then. The store follows the one before, so no count goes back, and each crash in between is told
--- of.
+-- pinned leaves stay, that no low rises, what it leaves as it was, the sets among it, and what fits then. The store follows the
+-- one before, so no count goes back, and each crash in between is told of.
 pub record EventDoes {S : Type 0} (g : Ghosts S) (start : Entry → Bool) (kind : Kind) (answer : Answer) (old new : Snapshot S) : Type 0 where
   pub always : EventAlways g kind answer (here_at old) (here_at new)
   pub happens : Happens g start kind answer old new
@@ -416,6 +417,7 @@ pub record EventDoes {S : Type 0} (g : Ghosts S) (start : Entry → Bool) (kind 
   pub entries : CountsOnEntries kind old.sets answer (g.state old.store) (g.state new.store) (slot_of old.slots (session_at kind)) (slot_of new.slots (session_at kind))
   pub spares : SparesOn kind answer (g.state old.store) (g.state new.store) (slot_of old.slots (session_at kind)) (slot_of new.slots (session_at kind))
   pub leaves : KeepsPinnedLeaves kind (g.state old.store) (g.state new.store)
+  pub lows : NoLowRises (g.state old.store).pages (g.state new.store).pages
   pub quiet : LeavesBe g kind old new
   pub durable : IsDurable (g.backing new.store).durable answer
   pub sets : new.sets ≡ old.sets

@@ -94,7 +94,7 @@ pub record OneVacuums (st : State) (slots : List (Option Op)) : Type 0 where
 -- the history and the calls fit the moment
 pub record Fits {S : Type 0} (g : Ghosts S) (start : Entry → Bool) (now : Snapshot S) : Type 0 where
   -- the contents of the pages are those after the history, the acts are as many as its actions, and the pages are a
-  -- B-link tree
+  -- B-link tree, whose deleted pages lead on
   pub matches : Matches (g.state now.store) start now.history
   -- the calls without an end are the running ones
   pub running : (session : ℕ) (slot : Option Op) → slice_get now.slots session ≡ Some slot → SlotMatches g start now session slot

@@ -10,6 +10,7 @@ use Rattle.index_model.specs.declared.range.Range.{Range}
 use Rattle.index_model.proofs.Order.{from_key}
 use Rattle.page_action.specs.States.{State, after_begin, after_start_cycle, next_cycle}
 use Rattle.tree_acts.proofs.Leaving.{leaves_same}
+use Rattle.tree_acts.proofs.Lows.{lows_same}
 use Rattle.vacuum.proofs.Lasting.{all_to_come}
 use Rattle.page_codec.specs.declared.page.Page.{Page}
 use Rattle.descent.specs.Shared.{NumbersStay, IsInOrder, OthersRely}
@@ -21,7 +22,7 @@ use Rattle.session_calls.proofs.Counting.{due_still}
 use Rattle.session_calls.specs.Ops.{DeadSets, asked_by, op_before, IsOfSets, asks_sweep, set_at}
 use Rattle.session_calls.specs.Sweeps.{IsSweepSoFar, SlotSweeps}
 use Rattle.session_calls.proofs.Bounds.{bulk_few, cleanup_few}
-use Rattle.session_calls.proofs.Starting.{starts_kept, starts_begun}
+use Rattle.session_calls.proofs.Starting.{starts_kept, starts_begun, tree_begun}
 use Rattle.session_calls.specs.Sessions.{Matches, IsIdle, OpRuns, begun_call, work_left, work_in, after_request, SessionBegins}
 use Rattle.session_calls.specs.declared.request.Request.{Request}
 use Rattle.session_calls.specs.declared.request.Request.TheVariants.{Insert as ToInsert, Scan as ToScan, Bulk as ToBulk, Cleanup as ToCleanup}
@@ -32,9 +33,9 @@ use Rattle.std.proofs.lemmas.List.{drop_all}
 use Rattle.index_model.specs.Calls.{removed_by}
 use Rattle.std.specs.Prelude.{◌==◌, suc, nat_lt, if◌then◌else◌}
 
-begun_order : (st : State) (session : ℕ) → IsInOrder st → IsInOrder (after_begin session st)
-begun_order st session order = record {
-  tree = record { tree = order.tree.tree; stored = order.tree.stored; counted = order.tree.counted };
+begun_order : (st : State) (session : ℕ) → session < 64 → IsInOrder st → IsInOrder (after_begin session st)
+begun_order st session low order = record {
+  tree = (let many : length st.running ≡ 64 = order.calls in tree_begun st session (omega arith) order.tree);
   apart = order.apart;
   holdings = order.holdings;
   calls = length-set {A = Option ℕ} st.running session (Some st.begun) ∙ order.calls;
@@ -44,7 +45,7 @@ begun_matches : (st : State) (session : ℕ) (start : Entry → Bool) (history :
 begun_matches st session start history low m = record {
   contents = m.contents;
   count = m.count;
-  order = begun_order st session m.order;
+  order = begun_order st session low m.order;
   starts = (let many : length st.running ≡ 64 = m.order.calls in starts_begun st session (omega arith) m.starts);
 }
 
@@ -60,12 +61,13 @@ begun_others st session other differ = record {
   number = get_set_other st.running session other (Some st.begun) differ;
   pages = λ block alone. refl;
   numbers = λ start runs. begun_numbers st session start;
+  lows = lows_same st.pages;
 }
 
 -- a cycle number is of the store alone
 cycled_order : (st : State) → IsInOrder st → IsInOrder (after_start_cycle st)
 cycled_order st order = record {
-  tree = record { tree = order.tree.tree; stored = order.tree.stored; counted = order.tree.counted };
+  tree = record { tree = order.tree.tree; stored = order.tree.stored; counted = order.tree.counted; within = order.tree.within; lead = order.tree.lead };
   apart = order.apart;
   holdings = order.holdings;
   calls = order.calls;
@@ -95,6 +97,7 @@ requested_others true st session other differ = record {
   number = get_set_other st.running session other (Some st.begun) differ;
   pages = λ block alone. refl;
   numbers = λ start runs. cycled_numbers st session start;
+  lows = lows_same st.pages;
 }
 
 requested_pages : (v : Bool) (st : State) (session : ℕ) → (after_request v session st).pages ≡ st.pages
@@ -177,7 +180,7 @@ module _ (old : State) (sets : DeadSets) (start : Entry → Bool) (history : Lis
   begun_sweep : (set : ℕ) → IsSweepSoFar (after_start_cycle (after_begin session old)) (set_at sets set) start history number (length history) (record { session = session; cursor = 1; back = None; left = 0; removed = 0 })
   begun_sweep set = record {
     runs = cycle_runs old.counter;
-    to_come = λ due are. all_to_come due (after_start_cycle (after_begin session old)) session (cycled_order (after_begin session old) (begun_order old session m.order));
+    to_come = λ due are. all_to_come due (after_start_cycle (after_begin session old)) session (cycled_order (after_begin session old) (begun_order old session low m.order));
     removed = sym (ap (λ (l : List Action). removed_by number l) (drop_all (length history) history (omega arith)));
   }
 

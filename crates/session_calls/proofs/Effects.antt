@@ -13,6 +13,8 @@ use Rattle.page_codec.specs.declared.page.Page.{Page}
 use Rattle.page_codec.specs.declared.page.PageState.{PageState}
 use Rattle.tree_acts.specs.Deletions.{OneStateMoves, OneLeafDies, OneLeafGoes}
 use Rattle.tree_acts.specs.Leaves.{IsLeafAt, WasLeaf, LeavesStay}
+use Rattle.tree_acts.specs.Lows.{NoLowRises}
+use Rattle.tree_acts.proofs.Lows.{lows_same}
 use Rattle.descent.specs.Shared.{IsRaised, NumbersStay, IsInOrder, MayRely, OthersRely, MovesFlags, level_in, Does, DeletesLeaves, CleansUp}
 use Rattle.descent.proofs.Acting.{nothing_else}
 use Rattle.descent.proofs.Tables.{apart_nothing}
@@ -23,7 +25,7 @@ use Rattle.session_calls.specs.Sessions.{Matches, IsIdle, HasStarted, acts_of, l
 use Rattle.session_calls.specs.declared.op.Op.{Op}
 use Rattle.session_calls.specs.declared.op.Op.TheVariants.{Insert, Scan, Bulk, Cleanup}
 use Rattle.session_calls.proofs.Lists.{get_set_same, get_set_other}
-use Rattle.session_calls.proofs.Starting.{starts_kept, starts_ended}
+use Rattle.session_calls.proofs.Starting.{starts_kept, starts_ended, tree_ended}
 
 -- with no effect no flag moves, and no leaf is deleted
 shape_none : (ask : Ask) (old new : State) → MovesShape ask None old new
@@ -118,8 +120,9 @@ matches_after session ask (Some effect) old new start history number m does = re
 pub started_after : (session of : ℕ) (ask : Ask) (effect : Option Effect) (old new : State) → Works session ask effect old new → HasStarted old of → HasStarted new of
 started_after session of ask effect old new does h = record { number = h.number; is = rw does.running h.is }
 
-pub rely_trans : (session : ℕ) (a b c : State) → MayRely session a b → MayRely session b c → MayRely session a c
-rely_trans session a b c one two = record {
+-- what may be relied on over a step, and over what changes no page behind it
+pub rely_trans : (session : ℕ) (a b c : State) → c.pages ≡ b.pages → MayRely session a b → MayRely session b c → MayRely session a c
+rely_trans session a b c same one two = record {
   held = two.held ∙ one.held;
   number = two.number ∙ one.number;
   pages = λ block alone. two.pages block (ap (λ (h : Holding). latches_exclude h.latches block Shared) one.held ∙ alone) ∙ one.pages block alone;
@@ -130,6 +133,7 @@ rely_trans session a b c one two = record {
         places = λ level aim clear block aims place. then.places level aim clear block aims (first.places level aim clear block aims place);
         trails = λ level block moves trail. then.trails level block moves (first.trails level block moves trail);
       };
+  lows = subst (NoLowRises a.pages) (sym same) one.lows;
 }
 
 -- a step with no effect leaves the pages
@@ -160,7 +164,7 @@ ended_order st session low order =
     let many : length st.table ≡ 64 = order.holdings in
     let calls : length st.running ≡ 64 = order.calls in
     record {
-      tree = record { tree = order.tree.tree; stored = order.tree.stored; counted = order.tree.counted };
+      tree = tree_ended st session (omega arith) order.tree;
       apart = apart_nothing st.table session (omega arith) order.apart;
       holdings = length-with_holding st.table session nothing_held ∙ many;
       calls = length-set {A = Option ℕ} st.running session None ∙ calls;
@@ -175,11 +179,12 @@ ended_matches st session start history low m = record {
 }
 
 pub ended_others : (old st : State) (session : ℕ) → OthersRely session old st → OthersRely session old (after_end session st)
-ended_others old st session rely other differ = rely_trans other old st (after_end session st) (rely other differ) (record {
+ended_others old st session rely other differ = rely_trans other old st (after_end session st) refl (rely other differ) (record {
   held = holding_of-with_holding_other st.table session other nothing_held differ;
   number = get_set_other st.running session other None differ;
   pages = λ block alone. refl;
   numbers = λ start runs. ended_numbers st session start;
+  lows = lows_same st.pages;
 })
 
 -- a session whose call has ended is idle
@@ -195,7 +200,7 @@ ended_idle session st low order =
 -- that no bulk delete runs any more, is of the cycle number alone
 stopped_order : (st : State) → IsInOrder st → IsInOrder (after_stop_cycle st)
 stopped_order st order = record {
-  tree = record { tree = order.tree.tree; stored = order.tree.stored; counted = order.tree.counted };
+  tree = record { tree = order.tree.tree; stored = order.tree.stored; counted = order.tree.counted; within = order.tree.within; lead = order.tree.lead };
   apart = order.apart;
   holdings = order.holdings;
   calls = order.calls;
@@ -264,11 +269,12 @@ go_pinned true old new session h = h
 
 pub go_others : (v : Bool) (old st : State) (session : ℕ) → OthersRely session old st → OthersRely session old (let_go v session st)
 go_others false old st session rely other differ = ended_others old st session rely other differ
-go_others true old st session rely other differ = rely_trans other old (after_end session st) (after_stop_cycle (after_end session st)) (ended_others old st session rely other differ) (record {
+go_others true old st session rely other differ = rely_trans other old (after_end session st) (after_stop_cycle (after_end session st)) refl (ended_others old st session rely other differ) (record {
   held = refl;
   number = refl;
   pages = λ block alone. refl;
   numbers = λ start runs. stopped_numbers (after_end session st) start;
+  lows = lows_same st.pages;
 })
 
 pub go_idle : (v : Bool) (session : ℕ) (st : State) → session < 64 → IsInOrder st → IsIdle (let_go v session st) session

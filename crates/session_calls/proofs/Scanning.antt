@@ -10,6 +10,7 @@ use Rattle.index_model.specs.Order.{bound_of, same_entry, is_among, is_past, IsP
 use Rattle.index_model.specs.Range.{matches}
 use Rattle.index_model.specs.declared.bound.Bound.{Bound}
 use Rattle.index_model.specs.declared.entry.Entry.{Entry}
+use Rattle.index_model.specs.declared.fault.Fault.TheVariants.{NoSession}
 use Rattle.index_model.specs.declared.range.Range.{Range}
 use Rattle.index_model.proofs.Ascending.{is_past-falls, same_entry-is, same_entry-self, three_ways, IsPast-trans, is_among-append, is_among-past, AscendsPast-append, AscendsPast-front, AscendsPast-back, AscendsPast-from, last_or-append}
 use Rattle.index_model.proofs.Histories.{there_now}
@@ -20,10 +21,11 @@ use Rattle.scan.specs.Scans.{waiting, gone_to, ScanFits, IsNext, IsBehind, LeafI
 use Rattle.scan.specs.declared.steps.ScanAt.{ScanAt}
 use Rattle.scan.specs.declared.steps.ScanAt.TheVariants.{Start, At, Last}
 use Rattle.scan.specs.declared.steps.ScanOp.{ScanOp}
-use Rattle.session_calls.specs.Ops.{DeadSets, IsScanSoFar}
+use Rattle.session_calls.specs.Ops.{DeadSets, IsScanSoFar, asked_of, where_asked_next}
 use Rattle.session_calls.specs.Sessions.{Matches, OpRuns, CallFits, ended, given_one, SessionGoes, OpGoes}
-use Rattle.session_calls.specs.declared.answer.Answer.TheVariants.{Going, Ready, Done, Gave}
-use Rattle.session_calls.specs.declared.op.Op.TheVariants.{Scan}
+use Rattle.session_calls.specs.declared.answer.Answer.TheVariants.{Going, Ready, Done, Gave, Refused}
+use Rattle.session_calls.specs.declared.op.Op.{Op}
+use Rattle.session_calls.specs.declared.op.Op.TheVariants.{Insert, Scan, Bulk, Cleanup}
 use Rattle.session_calls.proofs.Effects.{works_on, works_nothing}
 use Rattle.session_calls.proofs.Going.{event_of_nothing, step_goes_on, step_is_ready}
 use Rattle.session_calls.proofs.Meeting.{began_before, there_at_present}
@@ -277,3 +279,16 @@ module _ {sets : DeadSets} (at : Circumstances) (old new : State) (start : Entry
   moving_goes step = step_goes_on at old new start history number call (Scan before) (Scan after) fits session (ap AskScan range) None (works_on before.session (AskScan before.range) None old new refl step.does) tt refl step.fits
       (subst (λ (l : List Action). IsScanSoFar start l call.began call.given after) (sym (append-nil history))
       (subst (λ (op : ScanOp). IsScanSoFar start history call.began call.given op) (sym step.op) (goes_to start history call.began call.given before step.way step.from fits.runs.knows))) tt
+
+-- a call that is no scan has no next entry
+no_scan_next : (sets : DeadSets) (op : Op) → ((scan : ScanOp) → op ≡ Scan scan → ⊥) → (where_asked_next (asked_of sets op)).no_such_session ≡ true
+no_scan_next sets (Insert op) none = refl
+no_scan_next sets (Scan op) none = absurd (none op refl)
+no_scan_next sets (Bulk set op) none = refl
+no_scan_next sets (Cleanup op) none = refl
+
+pub next_refused : {sets : DeadSets} (st : State) (start : Entry → Bool) (history : List Action) (number : ℕ) (call : Call) (op : Op) → ((scan : ScanOp) → op ≡ Scan scan → ⊥)
+    → CallFits st sets start history number call op → SessionGoes (where_asked_next call.ask) st st sets start history number call (Some op) (Refused NoSession)
+next_refused {sets} st start history number call op none fits =
+    event_of_nothing (where_asked_next call.ask) st st start history number call call op (Refused NoSession) fits.world refl (refl, refl)
+    (ap (λ (a : Ask). (where_asked_next a).no_such_session) fits.runs.ask ∙ no_scan_next sets op none) fits.meets fits.running fits.runs fits.sweeps

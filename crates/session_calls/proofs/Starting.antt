@@ -3,7 +3,7 @@ use Rattle.std.proofs.Common.{◌≡◌, ℕ, ◌<◌, Option, Some, None, List,
 use Rattle.std.proofs.lemmas.Bool.{cases_eq}
 use Rattle.page_action.specs.States.{State, after_begin, after_end}
 use Rattle.tree_acts.specs.Deletions.{StartsAreBelow}
-use Rattle.tree_acts.specs.Trees.{IsStart}
+use Rattle.tree_acts.specs.Trees.{HasTree, IsStart}
 use Rattle.session_calls.proofs.Lists.{get_set_same, get_set_other}
 
 pub starts_kept : (old new : State) → new.running ≡ old.running → new.begun ≡ old.begun → StartsAreBelow old → StartsAreBelow new
@@ -34,3 +34,40 @@ starts_ended st session within below start is = elim (cases_eq is.session sessio
       absurd cc)
   | inr n ↦ below start (record { session = is.session; is = sym (get_set_other {A = Option ℕ} st.running session is.session None n) ∙ is.is })
 ]
+
+-- the tree of a store is a tree still when a call begins: no deletion number is above its start number
+pub tree_begun : (st : State) (session : ℕ) → session < length st.running → HasTree st → HasTree (after_begin session st)
+tree_begun st session within has = record {
+  tree = has.tree;
+  stored = has.stored;
+  counted = has.counted;
+  within = λ block. (let few = has.within block in omega arith);
+  lead = λ start is. elim (cases_eq is.session session) [
+    | inl e ↦ (λ b r kept right.
+        let now : slice_get (slice_set st.running session (Some st.begun)) session ≡ Some (Some start) =
+        subst (λ (s : ℕ). slice_get (slice_set st.running session (Some st.begun)) s ≡ Some (Some start)) e is.is in
+        let own : Some (Some st.begun) ≡ Some (Some start) = sym (get_set_same {A = Option ℕ} st.running session (Some st.begun) within) ∙ now in
+        let same : st.begun ≡ start = cc in
+        let few = has.within b in
+        let late = kept.late in
+        absurd (omega arith))
+    | inr n ↦ has.lead start (record { session = is.session; is = sym (get_set_other {A = Option ℕ} st.running session is.session (Some st.begun) n) ∙ is.is })
+  ];
+}
+
+-- ... and when one ends
+pub tree_ended : (st : State) (session : ℕ) → session < length st.running → HasTree st → HasTree (after_end session st)
+tree_ended st session within has = record {
+  tree = has.tree;
+  stored = has.stored;
+  counted = has.counted;
+  within = has.within;
+  lead = λ start is. elim (cases_eq is.session session) [
+    | inl e ↦ (
+        let now : slice_get (slice_set st.running session None) session ≡ Some (Some start) =
+        subst (λ (s : ℕ). slice_get (slice_set st.running session None) s ≡ Some (Some start)) e is.is in
+        let own : (let n : Option (Option ℕ) = Some None in n) ≡ Some (Some start) = sym (get_set_same {A = Option ℕ} st.running session None within) ∙ now in
+        absurd cc)
+    | inr n ↦ has.lead start (record { session = is.session; is = sym (get_set_other {A = Option ℕ} st.running session is.session None n) ∙ is.is })
+  ];
+}

@@ -3,7 +3,7 @@ use Rattle.std.proofs.Common.{◌≡◌, ◌≢◌, ◌↔◌, ℕ, suc, ◌<◌
 use Rattle.index_model.specs.declared.bound.Bound.{Bound}
 use Rattle.index_model.specs.declared.entry.Entry.{Entry}
 use Rattle.page_codec.specs.Edits.{entries_of}
-use Rattle.page_codec.specs.Grammar.{IsPage, IsOfKind, IsLeafIn}
+use Rattle.page_codec.specs.Grammar.{IsPage, IsOfKind, IsMeta, IsLeafIn}
 use Rattle.page_codec.specs.declared.page.Items.{Items}
 use Rattle.page_codec.specs.declared.page.Items.TheVariants.{Meta, Entries, Downlinks}
 use Rattle.page_codec.specs.declared.page.Page.{Page}
@@ -23,11 +23,12 @@ use Rattle.tree_shape.proofs.Members.{in_append_right}
 use Rattle.tree_shape.proofs.Places.{cover_at}
 use Rattle.tree_shape.proofs.Told.{only_the_root_is_clear}
 use Rattle.tree_acts.specs.Trees.{IsTree, HasTree, HasCover}
-use Rattle.tree_acts.specs.Acts.{IsUnfinished, SplitIsFinished, ParentIsSplit, RootIsSplit, TreeLasts, ContentsStay, FinishLasts, ParentSplitLasts, RootSplitLasts}
+use Rattle.tree_acts.specs.Acts.{IsUnfinished, IsClear, SplitIsFinished, ParentIsSplit, RootIsSplit, TreeLasts, ContentsStay, FinishLasts, ParentSplitLasts, RootSplitLasts}
 use Rattle.tree_acts.proofs.Overlays.{pages_length, pages_other, pages_first, pages_second, pages_third, counts_other, node_there, node_same, inside}
-use Rattle.tree_acts.proofs.Mending.{mended_apart, mended_first, mended_used, last_there, apart_last, used_last}
+use Rattle.tree_acts.proofs.Gone.{AreInUse, in_use_append, live_in_use}
+use Rattle.tree_acts.proofs.Mending.{mended_apart, mended_first, mended_used, mended_in_use, last_there, apart_last, used_last}
 use Rattle.tree_acts.proofs.Words.{cover_in, contents_same}
-use Rattle.tree_acts.proofs.Lasting.{lasts, fresh_free, fresh_reusable, meta_lives, Stands, stands, right_on_chain, on_level, MetaIs}
+use Rattle.tree_acts.proofs.Lasting.{lasts, fresh_free, fresh_reusable, meta_lives, Stands, stands, right_on_chain, right_in_use, on_level, MetaIs}
 
 -- a flagged page is live, by the format
 flagged_lives : (page : Page) → IsPage page → page.split ≡ true → page.state ≡ Live
@@ -68,6 +69,10 @@ module _ (st : State) (start level : ℕ) (s : Bound) (p : Page) (new : ℕ) (ha
 
   pub p_lives : (nodes_of st.pages p.block).state ≡ Live
   p_lives = ap (λ (n : Node). n.state) p_here ∙ flagged_lives p (stored_page st.limits p.block st.pages p has.stored u.found).storable.admitted u.flagged
+
+  -- ... and when its split is finished
+  pub p_stays : (after : Page) → IsClear p after → after.state ≢ Deleted
+  p_stays after clear = live_in_use after.state (ap (λ (a : Page). a.state) clear.only ∙ sym (ap (λ (n : Node). n.state) p_here) ∙ p_lives)
 
   pub p_on : Stands st has.tree level (is_fit (bound_aim s) true) p.block
   p_on = stands st has.tree start level (bound_aim s) true p.block u.place p_lives
@@ -112,6 +117,12 @@ module _ (st : State) (start level : ℕ) (s : Bound) (p q p_after q_after : Pag
   finish_used = pages_length st.limits (length st.pages) st.pages (q_after ∷ p_after ∷ []) h.may (omega arith)
       ∙ (let a = inside st.pages q.block q h.found in let b = finish_p.inside in let c = h.block_is in let d = h.clear.block_is in omega arith)
 
+  finish_in_use : AreInUse (q_after ∷ p_after ∷ [])
+  finish_in_use = (
+    live_in_use q_after.state (ap (λ (n : Node). n.state) h.after_is ∙ ap (λ (n : Node). n.state) (sym q_here) ∙ finish_q.2),
+    (p_stays st start level s p new has h.unfinished p_after h.clear, tt),
+  )
+
   finish_meta : MetaIs (with_pages st.pages (q_after ∷ p_after ∷ [])) has.tree.root has.tree.meta.level
   finish_meta = record {
     meta = has.tree.meta;
@@ -132,7 +143,7 @@ module _ (st : State) (start level : ℕ) (s : Bound) (p q p_after q_after : Pag
 
   pub finishing : TreeLasts st (after_act (q_after ∷ p_after ∷ []) st) × ContentsStay st (after_act (q_after ∷ p_after ∷ []) st)
   finishing = (
-    lasts st (q_after ∷ p_after ∷ []) has h.may (λ n. Unit {0}) 0 tt (λ n is. tt) has.tree.root has.tree.meta.level (omega arith) finish_meta (λ least ok. finish_goes least),
+    lasts st (q_after ∷ p_after ∷ []) has h.may finish_in_use (λ n. Unit {0}) 0 tt (λ n is. tt) has.tree.root has.tree.meta.level (omega arith) finish_meta (λ least ok. finish_goes least),
     λ x. contents_same st.pages (with_pages st.pages (q_after ∷ p_after ∷ [])) x
         (subst (λ (n : ℕ). IsHeld (nodes_of (with_pages st.pages (q_after ∷ p_after ∷ []))) n x ↔ IsHeld (nodes_of st.pages) (length st.pages) x) (sym finish_used)
         (finish_holds (nodes_of st.pages) (nodes_of (with_pages st.pages (q_after ∷ p_after ∷ []))) (length st.pages) p.block q.block finish_edit x)),
@@ -214,6 +225,18 @@ module _ (st : State) (start level : ℕ) (s : Bound) (p q p_after left right : 
           let r = right_on_chain st has.tree (suc level) q.block 0 parent_q.in_tree parent_q.on_chain same in
           (let a = (has.tree.is.in_use (suc level) 0 parent_q.in_tree r).0 in omega arith)
 
+  parent_in_use : AreInUse (left ∷ right ∷ mended ++ p_after ∷ [])
+  parent_in_use = (
+    live_in_use left.state (ap (λ (n : Node). n.state) h.halves.left_is),
+    (
+      live_in_use right.state (ap (λ (n : Node). n.state) h.halves.right_is),
+      in_use_append mended (p_after ∷ [])
+          (mended_in_use st right.block q.right mended h.mends
+          (λ r is. right_in_use st has.tree (suc level) q.block r parent_q.in_tree parent_q.on_chain (ap (λ (n : Node). n.right) parent_here ∙ is)))
+          (p_stays st start level s p new has h.unfinished p_after h.clear, tt),
+    ),
+  )
+
   parent_goes : (least : ℕ) → IsReusable (nodes_of st.pages) (slice_index st.counted) least right.block
       → TreeGoesOn (nodes_of st.pages) (nodes_of (with_pages st.pages (left ∷ right ∷ mended ++ p_after ∷ []))) (slice_index st.counted) (slice_index (after_act (left ∷ right ∷ mended ++ p_after ∷ []) st).counted)
       (length (with_pages st.pages (left ∷ right ∷ mended ++ p_after ∷ []))) has.tree.root has.tree.meta.level has.tree.meta.level has.tree.chain least
@@ -226,7 +249,7 @@ module _ (st : State) (start level : ℕ) (s : Bound) (p q p_after left right : 
 
   pub parent_splitting : TreeLasts st (after_act (left ∷ right ∷ mended ++ p_after ∷ []) st) × ContentsStay st (after_act (left ∷ right ∷ mended ++ p_after ∷ []) st)
   parent_splitting = (
-    lasts st (left ∷ right ∷ mended ++ p_after ∷ []) has h.may (λ n. IsReusable (nodes_of st.pages) (slice_index st.counted) n right.block) (slice_index st.counted right.block) (λ gone. omega arith)
+    lasts st (left ∷ right ∷ mended ++ p_after ∷ []) has h.may parent_in_use (λ n. IsReusable (nodes_of st.pages) (slice_index st.counted) n right.block) (slice_index st.counted right.block) (λ gone. omega arith)
         (λ n is. fresh_reusable st right.block n h.fresh is) has.tree.root has.tree.meta.level (omega arith) parent_meta parent_goes,
     λ x. contents_same st.pages (with_pages st.pages (left ∷ right ∷ mended ++ p_after ∷ [])) x
         (subst (λ (n : ℕ). IsHeld (nodes_of (with_pages st.pages (left ∷ right ∷ mended ++ p_after ∷ []))) n x ↔ IsHeld (nodes_of st.pages) (length st.pages) x) (sym parent_used)
@@ -297,6 +320,15 @@ module _ (st : State) (start : ℕ) (s : Bound) (meta meta_after p p_after root 
   clash : Live ≡ Deleted → ⊥
   clash e = cc
 
+  root_in_use : AreInUse (root ∷ meta_after ∷ p_after ∷ [])
+  root_in_use = (
+    live_in_use root.state (ap (λ (n : Node). n.state) h.root_is),
+    (
+      live_in_use meta_after.state (let kind : IsMeta meta_after = subst (IsOfKind meta_after) h.meta_is.kind h.may.3.0.admitted.kind in kind.state),
+      (p_stays st start meta.level s p new has h.unfinished p_after h.clear, tt),
+    ),
+  )
+
   root_goes : (least : ℕ) → IsReusable (nodes_of st.pages) (slice_index st.counted) least root.block
       → TreeGoesOn (nodes_of st.pages) (nodes_of (with_pages st.pages (root ∷ meta_after ∷ p_after ∷ []))) (slice_index st.counted) (slice_index (after_act (root ∷ meta_after ∷ p_after ∷ []) st).counted)
       (length (with_pages st.pages (root ∷ meta_after ∷ p_after ∷ []))) root.block has.tree.meta.level (suc has.tree.meta.level) has.tree.chain least
@@ -308,7 +340,7 @@ module _ (st : State) (start : ℕ) (s : Bound) (meta meta_after p p_after root 
 
   pub root_splitting : TreeLasts st (after_act (root ∷ meta_after ∷ p_after ∷ []) st) × ContentsStay st (after_act (root ∷ meta_after ∷ p_after ∷ []) st)
   root_splitting = (
-    lasts st (root ∷ meta_after ∷ p_after ∷ []) has h.may (λ n. IsReusable (nodes_of st.pages) (slice_index st.counted) n root.block) (slice_index st.counted root.block) (λ gone. omega arith)
+    lasts st (root ∷ meta_after ∷ p_after ∷ []) has h.may root_in_use (λ n. IsReusable (nodes_of st.pages) (slice_index st.counted) n root.block) (slice_index st.counted root.block) (λ gone. omega arith)
         (λ n is. fresh_reusable st root.block n h.fresh is) root.block (suc has.tree.meta.level) (omega arith) root_meta root_goes,
     λ x. contents_same st.pages (with_pages st.pages (root ∷ meta_after ∷ p_after ∷ [])) x
         (subst (λ (n : ℕ). IsHeld (nodes_of (with_pages st.pages (root ∷ meta_after ∷ p_after ∷ []))) n x ↔ IsHeld (nodes_of st.pages) (length st.pages) x) (sym root_used)

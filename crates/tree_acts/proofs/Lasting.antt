@@ -1,5 +1,5 @@
 -- What an act leaves, from what the tree's law says of it.
-use Rattle.std.proofs.Common.{◌≡◌, ◌⊎◌, ℕ, zero, suc, ◌<◌, ◌≤◌, ◌&&◌, inl, inr, Bool, true, false, List, [], ◌∷◌, length, slice_get, slice_index, nat_le, Option, Some, None, refl, sym, ap, subst, ◌∙◌, arith}
+use Rattle.std.proofs.Common.{◌≡◌, ◌≢◌, ◌⊎◌, ℕ, zero, suc, ◌<◌, ◌≤◌, ◌&&◌, inl, inr, Bool, true, false, List, [], ◌∷◌, length, slice_get, slice_index, nat_le, Option, Some, None, refl, sym, ap, subst, ◌∙◌, arith}
 use Rattle.std.proofs.lemmas.Bool.{cases_lt, lt-leb}
 use Rattle.index_model.specs.declared.bound.Bound.{Bound}
 use Rattle.index_model.specs.declared.limits.Limits.{Limits}
@@ -13,7 +13,7 @@ use Rattle.page_action.specs.Stored.{AreStored, AreActable}
 use Rattle.page_action.proofs.StoredPages.{stored-with_page, stored_page, length-with_counts}
 use Rattle.tree_shape.specs.Tree.{IsMetaOf}
 use Rattle.tree_shape.specs.Nodes.{node_from, nodes_of}
-use Rattle.tree_shape.specs.Chains.{Spot, IsIn, IsRunOf, first_spot}
+use Rattle.tree_shape.specs.Chains.{Spot, IsIn, IsRunOf, IsTreeOf, first_spot}
 use Rattle.tree_shape.specs.Edits.{IsFree}
 use Rattle.tree_shape.specs.Laws.{TreeGoesOn, TreeGoesOnWithout, IsReusable}
 use Rattle.tree_shape.specs.Walks.{is_fit, IsFitOn}
@@ -22,8 +22,10 @@ use Rattle.tree_shape.proofs.Members.{in_append_right, member}
 use Rattle.tree_shape.proofs.Runs.{run_back, split_at}
 use Rattle.tree_shape.proofs.Trails.{trail_stays}
 use Rattle.tree_shape.proofs.Told.{places_stay, live_places_stand, places_keep_their_level}
-use Rattle.tree_acts.specs.Trees.{IsTree, HasTree, HasPlace, IsStart}
+use Rattle.tree_acts.specs.Trees.{IsTree, HasTree, HasPlace, IsStart, GoneLeadOn}
 use Rattle.tree_acts.specs.Acts.{TreeLasts}
+use Rattle.tree_acts.proofs.Gone.{AreInUse, CountUpTo, in_use_count, gone_lead_on, counts_within}
+use Rattle.tree_acts.proofs.Lows.{lows_of}
 use Rattle.tree_acts.proofs.Overlays.{page_length}
 use Rattle.tree_acts.proofs.Words.{place_in, trail_in}
 
@@ -170,6 +172,11 @@ right_on_chain st tree level b r in_top i right =
     let here = run_back (nodes_of st.pages) level first_spot w.front (b ∷ w.back) None run in
     subst (IsIn r) (sym w.is) (in_append_right r w.front (b ∷ w.back) (inr (first_in r w.back (sym here.0.right_is ∙ right))))
 
+-- ... and that page isn't deleted
+pub right_in_use : (st : State) (tree : IsTree st.pages) (level b r : ℕ) → level ≤ tree.meta.level → IsIn b (tree.chain level) → (nodes_of st.pages b).right ≡ Some r → (nodes_of st.pages r).state ≢ Deleted
+right_in_use st tree level b r in_top i right =
+    (member (nodes_of st.pages) level first_spot (tree.chain level) None r (tree.is.runs level in_top) (right_on_chain st tree level b r in_top i right)).1
+
 -- a page of a chain says its level
 pub on_level : (st : State) (tree : IsTree st.pages) (level b : ℕ) → level ≤ tree.meta.level → IsIn b (tree.chain level) → (nodes_of st.pages b).level ≡ level
 on_level st tree level b in_top i = (member (nodes_of st.pages) level first_spot (tree.chain level) None b (tree.is.runs level in_top) i).0
@@ -181,17 +188,21 @@ pub record MetaIs (pages : List Page) (root top : ℕ) : Type 0 where
   pub names : IsMetaOf meta root meta.level
   pub level_is : meta.level ≡ top
 
-pub lasts : (st : State) (changed : List Page) (h : HasTree st) → AreActable st.limits (length st.pages) changed → (Ok : ℕ → Type 0) (one : ℕ) → Ok one → ((start : ℕ) → IsStart st.running start → Ok start)
+pub lasts : (st : State) (changed : List Page) (h : HasTree st) → AreActable st.limits (length st.pages) changed → AreInUse changed → (Ok : ℕ → Type 0) (one : ℕ) → Ok one → ((start : ℕ) → IsStart st.running start → Ok start)
     → (root' top' : ℕ) → h.tree.meta.level ≤ top' → MetaIs (with_pages st.pages changed) root' top'
     → ((least : ℕ) → Ok least → TreeGoesOn (nodes_of st.pages) (nodes_of (with_pages st.pages changed)) (slice_index st.counted) (slice_index (after_act changed st).counted)
     (length (with_pages st.pages changed)) root' h.tree.meta.level top' h.tree.chain least)
     → TreeLasts st (after_act changed st)
-lasts st changed h may Ok one ok running root' top' taller meta goes = record {
+lasts st changed h may live Ok one ok running root' top' taller meta goes = record {
   has = record {
     tree = tree_of one ok;
     stored = stored_after st.limits (length st.pages) st.pages changed may (omega arith) h.stored;
     counted = length-with_counts st.counted st.pages changed h.counted;
+    within = counts_within st changed h.counted may (in_use_count st.begun changed live) h.within;
+    lead = gone_lead_on st changed h.counted may live h.lead;
   };
+  lows = lows_of st.pages (with_pages st.pages changed) h.tree (tree_of one ok) (slice_index st.counted) (slice_index (after_act changed st).counted) one (rw (meta.level_is) taller)
+      (λ level in_top. (goes one ok).places one (omega arith) level in_top);
   places = λ start level aim clear block is falls place.
       let p = place_in st h.tree start level aim clear block place in
       let good = running start is in
@@ -226,18 +237,25 @@ lasts st changed h may Ok one ok running root' top' taller meta goes = record {
       is = rw (meta.level_is) ((goes least good).tree);
     }
 
--- ... also where a page of a chain is deleted, later than each running call began
-pub lasts_without : (st : State) (changed : List Page) (h : HasTree st) → AreActable st.limits (length st.pages) changed → (late : ℕ) → ((start : ℕ) → IsStart st.running start → start < late)
+-- ... also where a page of a chain is deleted, later than each running call began; lows are as they are whichever numbers count
+pub lasts_without : (st : State) (changed : List Page) (h : HasTree st) → AreActable st.limits (length st.pages) changed → CountUpTo st.begun changed → GoneLeadOn (after_act changed st)
+    → (late : ℕ) → ((start : ℕ) → IsStart st.running start → start < late)
     → MetaIs (with_pages st.pages changed) h.tree.root h.tree.meta.level
     → TreeGoesOnWithout (nodes_of st.pages) (nodes_of (with_pages st.pages changed)) (slice_index st.counted) (slice_index (after_act changed st).counted)
     (length (with_pages st.pages changed)) h.tree.root h.tree.meta.level h.tree.chain late
+    → TreeGoesOnWithout (nodes_of st.pages) (nodes_of (with_pages st.pages changed)) (λ c. 1) (λ c. 1)
+    (length (with_pages st.pages changed)) h.tree.root h.tree.meta.level h.tree.chain 1
     → TreeLasts st (after_act changed st)
-lasts_without st changed h may late running meta goes = record {
+lasts_without st changed h may few leads late running meta goes lower = record {
   has = record {
     tree = tree';
     stored = stored_after st.limits (length st.pages) st.pages changed may (omega arith) h.stored;
     counted = length-with_counts st.counted st.pages changed h.counted;
+    within = counts_within st changed h.counted may few h.within;
+    lead = leads;
   };
+  lows = lows_of st.pages (with_pages st.pages changed) h.tree (tree_by lower.chain' lower.tree) (λ c. 1) (λ c. 1) 0 (rw (meta.level_is) (omega arith))
+      (λ level in_top. lower.places 0 (omega arith) level in_top);
   places = λ start level aim clear block is falls place.
       let p = place_in st h.tree start level aim clear block place in
       record {
@@ -260,12 +278,15 @@ lasts_without st changed h may late running meta goes = record {
       };
 }
   where
-    tree' : IsTree (with_pages st.pages changed)
-    tree' = record {
+    tree_by : (chain : ℕ → List ℕ) → IsTreeOf (nodes_of (with_pages st.pages changed)) (length (with_pages st.pages changed)) h.tree.root h.tree.meta.level chain → IsTree (with_pages st.pages changed)
+    tree_by chain is = record {
       meta = meta.meta;
       meta_at = meta.at;
       root = h.tree.root;
       names_root = meta.names;
-      chain = goes.chain';
-      is = rw (meta.level_is) (goes.tree);
+      chain = chain;
+      is = rw (meta.level_is) is;
     }
+
+    tree' : IsTree (with_pages st.pages changed)
+    tree' = tree_by goes.chain' goes.tree

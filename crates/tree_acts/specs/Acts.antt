@@ -16,6 +16,7 @@ use Rattle.tree_shape.specs.Tree.{IsMetaOf}
 use Rattle.tree_shape.specs.Nodes.{node_of, links_of}
 use Rattle.tree_shape.specs.Edits.{IsPutIn, removed_from, LeafHalves, IsLinkAdded, LinkHalves, with_leaf, with_links, cleared, new_root}
 use Rattle.tree_shape.specs.Walks.{entry_aim, bound_aim, is_within}
+use Rattle.tree_acts.specs.Lows.{NoLowRises}
 use Rattle.tree_acts.specs.Trees.{HasTree, HasPlace, HasCover, PlacesLast, TrailsLast}
 
 -- the act may be done with these pages
@@ -126,9 +127,10 @@ pub record RootIsSplit (st : State) (start : ℕ) (s : Bound) (meta meta_after p
   pub clear : IsClear p p_after
   pub may : MayAct st (root ∷ meta_after ∷ p_after ∷ [])
 
--- the pages are a tree again, and what is a place for a running call stays one
+-- the pages are a tree again, no low rises, and what is a place for a running call stays one
 pub record TreeLasts (old new : State) : Type 0 where
   pub has : HasTree new
+  pub lows : NoLowRises old.pages new.pages
   pub places : PlacesLast old new
   pub trails : TrailsLast old new
 

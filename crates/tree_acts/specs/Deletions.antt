@@ -1,5 +1,5 @@
 -- The acts of a page deletion: an empty leaf becomes half-dead, and a half-dead one is unlinked; and what they leave.
-use Rattle.std.specs.Prelude.{◌≡◌, ◌≢◌, ℕ, ◌<◌, ◌≤◌, false, Option, Some, None, List, [], ◌∷◌, ◌++◌, length, slice_get, slice_index}
+use Rattle.std.specs.Prelude.{◌≡◌, ◌≢◌, ℕ, ◌<◌, false, Option, Some, None, List, [], ◌∷◌, ◌++◌, length, slice_get, slice_index}
 use Rattle.page_codec.specs.declared.page.Page.{Page}
 use Rattle.page_codec.specs.declared.page.PageState.{PageState}
 use Rattle.page_codec.specs.declared.page.PageState.TheVariants.{Live, HalfDead, Deleted}
@@ -11,7 +11,7 @@ use Rattle.tree_shape.specs.Nodes.{node_of, nodes_of, links_of}
 use Rattle.tree_shape.specs.Walks.{DeletedLeadOn}
 use Rattle.tree_acts.specs.Acts.{MayAct, TreeLasts, ContentsStay}
 use Rattle.tree_acts.specs.Flags.{FlagsMove}
-use Rattle.tree_acts.specs.Trees.{HasTree, IsStart}
+use Rattle.tree_acts.specs.Trees.{HasTree, IsStart, CountsAreWithin}
 use Rattle.tree_acts.specs.Weights.{weight}
 
 -- the page of the block, if there is one, isn't flagged
@@ -62,10 +62,6 @@ pub record PageIsUnlinked (st : State) (page right after right_after : Page) (me
 -- each running call began before so many calls had begun
 abbrev pub StartsAreBelow : State → Type 0
 StartsAreBelow st = (start : ℕ) → IsStart st.running start → start < st.begun
-
--- no deletion number that counts is above the count of calls begun
-abbrev pub CountsAreWithin : State → Type 0
-CountsAreWithin st = (block : ℕ) → slice_index st.counted block ≤ st.begun
 
 -- the state of the page of a block
 abbrev pub state_in : State → ℕ → PageState

@@ -1,13 +1,13 @@
 -- A store as it is opened.
-use Rattle.std.specs.Prelude.{◌≡◌, ℕ, zero, suc, ◌<◌, unwrap_or, Some, None, List, [], ◌∷◌, length, replicate, slice_get}
-use Rattle.std.proofs.Common.{refl, sym, ap, subst, arith}
+use Rattle.std.specs.Prelude.{◌≡◌, ℕ, zero, suc, ◌<◌, unwrap_or, Option, Some, None, List, [], ◌∷◌, length, replicate, slice_get, slice_index}
+use Rattle.std.proofs.Common.{refl, sym, ap, subst, ◌∙◌, arith}
 use Rattle.std.proofs.lemmas.List.{length-replicate}
 use Rattle.index_model.specs.declared.limits.Limits.{Limits}
 use Rattle.latch_table.specs.Holdings.{Holding, nothing_held, holding_of, latches_exclude}
 use Rattle.latch_table.specs.declared.mode.Mode.TheVariants.{Exclusive}
 use Rattle.page_codec.specs.declared.page.Page.{Page}
 use Rattle.page_store.specs.Stores.{opened_state}
-use Rattle.tree_acts.specs.Trees.{IsTree}
+use Rattle.tree_acts.specs.Trees.{IsTree, IsStart}
 use Rattle.page_action.specs.Contents.{entry_on_live_leaf}
 use Rattle.page_action.specs.States.{State}
 use Rattle.page_action.specs.Stored.{AreStored}
@@ -27,11 +27,22 @@ all_same (suc n) (suc i) a = all_same n i a
 held_by_none : (session : ℕ) → holding_of (replicate 64 nothing_held) session ≡ nothing_held
 held_by_none session = all_same 64 session nothing_held
 
+-- no number counts
+none_counts : (n block : ℕ) → slice_index (replicate n 0) block ≡ 0
+none_counts zero block = refl
+none_counts (suc n) zero = refl
+none_counts (suc n) (suc block) = none_counts n block
+
+-- no call runs
+none_runs : (start : ℕ) → IsStart (replicate 64 None) start → ⊥
+none_runs start is = (let none : Some start ≡ None = sym (ap (λ (o : Option (Option ℕ)). unwrap_or o None) is.is) ∙ all_same 64 is.session None in cc)
+
 -- pages that are a tree, each stored and counted, are in order as they are opened
-opened_unused : (limits : Limits) (frames : ℕ) (pages : List Page) (counted : List ℕ) (counter : ℕ) → IsTree pages → AreStored limits 0 pages → length counted ≡ length pages → IsUnused (opened_state limits frames pages counted counter)
-opened_unused limits frames pages counted counter tree stored count = record {
+opened_unused : (limits : Limits) (frames : ℕ) (pages : List Page) (counted : List ℕ) (counter : ℕ) → IsTree pages → AreStored limits 0 pages → length counted ≡ length pages
+    → ((block : ℕ) → slice_index counted block ≡ 0) → IsUnused (opened_state limits frames pages counted counter)
+opened_unused limits frames pages counted counter tree stored count none = record {
   order = record {
-    tree = record { tree = tree; stored = stored; counted = count };
+    tree = record { tree = tree; stored = stored; counted = count; within = λ block. (let zero_is = none block in omega arith); lead = λ start is. absurd (none_runs start is) };
     apart = λ session other block ne holds. ap (λ (h : Holding). latches_exclude h.latches block Exclusive) (held_by_none other);
     holdings = refl;
     calls = refl;
@@ -43,7 +54,8 @@ opened_unused limits frames pages counted counter tree stored count = record {
 
 -- a state as it is opened is unused, where its pages are a tree
 pub freshly_unused : (frames : ℕ) (st : State) → IsFreshlyOpened frames st → IsTree st.pages → IsUnused st
-freshly_unused frames st opened tree = subst IsUnused (sym opened.is) (opened_unused st.limits frames st.pages _ _ tree opened.stored (length-replicate (length st.pages) 0))
+freshly_unused frames st opened tree =
+    subst IsUnused (sym opened.is) (opened_unused st.limits frames st.pages _ _ tree opened.stored (length-replicate (length st.pages) 0) (none_counts (length st.pages)))
 
 -- a tree has pages
 pub tree_has_pages : (pages : List Page) → IsTree pages → 0 < length pages

@@ -1,7 +1,11 @@
 use Rattle.std.specs.Prelude.{map}
-use Rattle.std.proofs.Common.{sym, ◌∙◌}
+use Rattle.std.proofs.Common.{ap, sym, ◌∙◌}
 use Rattle.schedule.proofs.Events.{slot_of_call, slot_read}
+use Rattle.schedule.proofs.Idling.{idle_steps}
+use Rattle.schedule.proofs.Idling.{idle_makes}
 use Rattle.schedule.proofs.Making.{step_makes}
+use Rattle.session_calls.specs.Sessions.{no_call}
+use Rattle.schedule.specs.Events.{Steps}
 use Rattle.schedule.proofs.happening.step.Goals as goal
 
 pub returns-clause-makes : goal.returns-clause-makes
@@ -13,3 +17,13 @@ returns-clause-makes g c =
     step_makes g.S.PageStore laws c.args.store.now c.step.new.store (c.step.ensures.steps _ (laws.follows_same _)) slots (map g.T.DeadRows.is_in c.args.sets.now) c.args.session _ c.step.new.slot at.0 c.step.result at.1
     (slot_read slots c.args.session c.index-slots-session.result within c.index-slots-session.is)
     c.step.ensures.kind c.step.ensures.refused c.step.ensures.stopped c.step.ensures.less c.step.ensures.kept c.step.ensures.calm c.step.ensures.no_more c.step.ensures.goes c.step.ensures.due c.step.ensures.flagged c.step.ensures.pins c.step.ensures.entries c.step.ensures.spares c.step.ensures.runs_on
+
+pub returns-then-not-is_running-clause-makes : goal.returns-then-not-is_running-clause-makes
+returns-then-not-is_running-clause-makes g c =
+    idle_makes g.S.PageStore g.met.S.PageStore.laws c.args.store.now c.args.slots.now (map g.T.DeadRows.is_in c.args.sets.now) c.args.session (sym c.is_running.ensures.value ∙ c.if-not-is_running.true) Steps c.refuse_idle.result
+    (c.refuse_idle.ensures ∙ ap no_call c.is_stopped.ensures)
+
+pub returns-then-not-is_running-clause-makes : goal.returns-then-not-is_running-clause-makes
+returns-then-not-is_running-clause-makes g c =
+    idle_steps g.S.PageStore g.met.S.PageStore.laws c.args.store.now c.args.slots.now (map g.T.DeadRows.is_in c.args.sets.now) c.args.session (sym c.is_running.ensures.value ∙ c.if-not-is_running.true)
+    c.is_stopped.result c.refuse_idle.result c.refuse_idle.ensures c.is_stopped.ensures

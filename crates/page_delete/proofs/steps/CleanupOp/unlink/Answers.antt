@@ -1,6 +1,6 @@
 use Rattle.std.proofs.Common.{Bool, Ok, sym, subst}
 use Rattle.page_delete.specs.Parts.{IsInUse, PageGoes, IsNotDead, IsTried}
-use Rattle.page_delete.proofs.Stepping.{page_goes, unlink_in_use, try_refused}
+use Rattle.page_delete.proofs.Stepping.{page_goes, page_stays, unlink_in_use, try_refused}
 use Rattle.page_delete.specs.Cleanups.{CleanupSteps}
 use Rattle.page_delete.specs.declared.steps.CleanupOp.{CleanupOp}
 use Rattle.page_delete.specs.declared.steps.CleanupStep.TheVariants.{Going}
@@ -17,3 +17,10 @@ returns-in-Ok-true g c =
     (page_goes g.S.PageStore c.args.self.now c.args.store.now c.try_unlink.new.store c.requires.at c.requires.alive
     (subst (λ (b : Bool). IsTried g.S.PageStore c.args.self.now.session (IsInUse c.args.self.now.cursor) (PageGoes c.args.self.now.cursor) (IsNotDead c.args.self.now.cursor) c.args.store.now c.try_unlink.new.store (Ok b))
     c.in-Ok-true.field-0-test c.in-Ok-true.ensures))
+
+pub returns-in-Ok-false : goal.returns-in-Ok-false
+returns-in-Ok-false g c =
+    subst (λ (op : CleanupOp). CleanupSteps g.S.PageStore c.args.self.now op c.args.store.now c.try_unlink.new.store (Ok Going)) (sym c.pass.ensures)
+    (page_stays g.S.PageStore c.args.self.now c.args.store.now c.try_unlink.new.store c.requires.at c.requires.alive
+    (subst (λ (b : Bool). IsTried g.S.PageStore c.args.self.now.session (IsInUse c.args.self.now.cursor) (PageGoes c.args.self.now.cursor) (IsNotDead c.args.self.now.cursor) c.args.store.now c.try_unlink.new.store (Ok b))
+    c.in-Ok-false.field-0-test c.in-Ok-false.ensures))

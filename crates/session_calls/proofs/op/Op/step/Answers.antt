@@ -17,7 +17,7 @@ use Rattle.scan.specs.declared.steps.ScanOp.{ScanOp}
 use Rattle.session_calls.specs.declared.op.Op.TheVariants.{Scan}
 use Rattle.session_calls.proofs.Going.{step_is_refused}
 use Rattle.vacuum.specs.Counts.{IsCounted}
-use Rattle.session_calls.proofs.Deleting.{counted_on, set_found, bulk_goes_on, bulk_finishes}
+use Rattle.session_calls.proofs.Deleting.{counted_on, set_found, bulk_goes_on, bulk_finishes, bulk_is_refused}
 use Rattle.session_calls.proofs.Cleaning.{cleanup_goes_on, cleanup_finishes, cleanup_is_refused}
 use Rattle.session_calls.proofs.op.Op.step.Goals as goal
 
@@ -197,3 +197,11 @@ pub returns-in-Ok-Finished-step-clause-spares : goal.returns-in-Ok-Finished-step
 returns-in-Ok-Finished-step-clause-spares g c honest =
     let spares = c.in-Ok-Finished-step.ensures.spares honest in
     rw c.in-Cleanup.is (λ order below fits alone sparing. (tt, rw c.in-Ok-Finished-step.field-0-is at (spares order below fits alone sparing)))
+
+pub returns-in-Err-step-2-clause-goes : goal.returns-in-Err-step-2-clause-goes
+returns-in-Err-step-2-clause-goes g c honest start history number call fits =
+    let old = g.S.PageStore.state c.args.store.now in
+    let mine = subst (λ (op : Op). CallFits old (map g.T.DeadRows.is_in c.args.sets.now) start history number call op) c.in-Bulk.is fits in
+    rw c.in-Bulk.is (bulk_is_refused old (g.S.PageStore.state c.step-in-Some.new.store) (g.S.PageStore.backing c.args.store.now) (g.S.PageStore.backing c.step-in-Some.new.store)
+    start history number call c.in-Bulk.set c.in-Bulk.op c.step-in-Some.new.self mine
+    c.step-in-Some.ensures.session c.in-Err-step-2.fault c.in-Err-step-2.ensures.refused (c.in-Err-step-2.ensures.stepped honest mine.world.order mine.runs.fits))

@@ -1,0 +1,139 @@
+-- What an event of a session that has no call makes: it is refused.
+use Rattle.std.proofs.Common.{◌≡◌, ℕ, Bool, true, false, Option, Some, None, List, slice_get, refl, sym, ap, subst, inl, ◌∙◌}
+use Rattle.std.specs.Prelude.{unwrap_or}
+use Rattle.index_model.specs.Faults.{HasCause}
+use Rattle.index_model.specs.declared.fault.Fault.{Fault}
+use Rattle.index_model.specs.declared.fault.Fault.TheVariants.{Stopped, NoSession}
+use Rattle.page_action.specs.States.{State}
+use Rattle.page_action.specs.declared.page_store.PageStore.{Ghosts}
+use Rattle.session_calls.specs.Ops.{DeadSets, RunsOn, AnswersStopped}
+use Rattle.session_calls.specs.Sessions.{no_call, slot_add, GivesLess, AnswersStep, AnswersNext, AnswersEnd, RefusalChangesNothing, OnlyWritersAct}
+use Rattle.session_calls.specs.declared.answer.Answer.{Answer}
+use Rattle.session_calls.specs.declared.answer.Answer.TheVariants.{Refused}
+use Rattle.session_calls.specs.declared.op.Op.{Op}
+use Rattle.schedule.specs.Snapshots.{here_with, snapshot_of, slot_of, slot_has_call, has_call}
+use Rattle.schedule.specs.Events.{Move, Steps, Takes, GivesUp, MovesCall, MovesOn, where_moving, EventAlways, DoesOneAct}
+use Rattle.schedule.specs.Runs.{Makes}
+use Rattle.schedule.proofs.Events.{stays_on, refused_stay}
+use Rattle.schedule.proofs.Keeping.{Laws}
+
+-- a session without a call runs nothing
+runs_none : (o : Option (Option Op)) → slot_has_call o ≡ false → unwrap_or o None ≡ None
+runs_none None h = refl
+runs_none (Some None) h = refl
+runs_none (Some (Some op)) h = absurd cc
+
+-- nothing is changed
+nothing_done : (st : State) → DoesOneAct st st
+nothing_done st = record { acts = inl refl; quiet = λ same. refl; limits = refl; frames = refl }
+
+module _ {S : Type 0} (g : Ghosts S) (laws : Laws g) (store : S) (slots : List (Option Op)) (sets : DeadSets) (session : ℕ) (idle : has_call slots session ≡ false) where
+  none : slot_of slots session ≡ None
+  none = runs_none (slice_get slots session) idle
+
+  -- a move with its cause changes nothing
+  stays : (move : Move) (fault : Fault) → EventAlways g (MovesCall session move) (Refused fault) (here_with store slots sets) (here_with store slots sets)
+      → HasCause (where_moving g sets store store move (slice_get slots session)) fault
+      → Makes g (MovesCall session move) (Refused fault) (here_with store slots sets) (here_with store slots sets)
+  stays move fault always cause = record {
+    sessions = refl;
+    always = always;
+    does = λ honest start history calls fits.
+        (let snap = snapshot_of (here_with store slots sets) history calls in
+        let follows = laws.follows_same store in
+        let later = laws.follows_later store store follows in
+        stays_on g start snap store fault fits refl follows later (MovesCall session move)
+        (subst (λ (b : Bool). MovesOn g start b session (Refused fault) snap snap) (sym idle) (refused_stay g start snap store fault fits refl follows later))
+        always cause (λ s e. none));
+  }
+
+  no_step : (o : Option (Option Op)) → slot_has_call o ≡ false → (g.backing store).stopped ≡ false → HasCause (where_moving g sets store store Steps o) NoSession
+  no_step None h alive = refl
+  no_step (Some None) h alive = refl
+  no_step (Some (Some op)) h alive = absurd cc
+
+  stopped_step : (o : Option (Option Op)) → slot_has_call o ≡ false → (g.backing store).stopped ≡ true → HasCause (where_moving g sets store store Steps o) Stopped
+  stopped_step None h is = is
+  stopped_step (Some None) h is = is
+  stopped_step (Some (Some op)) h is = absurd cc
+
+  no_next : (o : Option (Option Op)) → slot_has_call o ≡ false → HasCause (where_moving g sets store store Takes o) NoSession
+  no_next None h = refl
+  no_next (Some None) h = refl
+  no_next (Some (Some op)) h = absurd cc
+
+  no_end : (o : Option (Option Op)) → slot_has_call o ≡ false → HasCause (where_moving g sets store store GivesUp o) NoSession
+  no_end None h = refl
+  no_end (Some None) h = refl
+  no_end (Some (Some op)) h = absurd cc
+
+  step_always : (fault : Fault) → ((g.backing store).stopped ≡ true → Refused fault ≡ Refused Stopped)
+      → EventAlways g (MovesCall session Steps) (Refused fault) (here_with store slots sets) (here_with store slots sets)
+  step_always fault stopped = record {
+    answers = subst (λ (x : Option Op). AnswersStep x x (Refused fault)) (sym none) tt;
+    refused = subst (λ (x : Option Op). RefusalChangesNothing (g.state store) (g.state store) x x (Refused fault)) (sym none) (refl, refl);
+    stopped = λ h. subst (λ (x : Option Op). AnswersStopped (slot_add x) (Refused fault)) (sym none) (stopped h);
+    less = λ honest. tt;
+    kept = nothing_done (g.state store);
+    calm = subst (λ (x : Option Op). OnlyWritersAct x (g.state store) (g.state store)) (sym none) refl;
+    others = λ s of other apart. refl;
+    left = tt;
+    causes = tt;
+    order = tt;
+    fresh = tt;
+    runs_on = subst (λ (x : Option Op). RunsOn x x) (sym none) tt;
+  }
+
+  -- a step is refused with `Stopped` on a stopped log, and with `NoSession` else
+  pub idle_steps : (is_stopped : Bool) (answer : Answer) → answer ≡ no_call is_stopped → is_stopped ≡ (g.backing store).stopped
+      → Makes g (MovesCall session Steps) answer (here_with store slots sets) (here_with store slots sets)
+  idle_steps true answer is same =
+      subst (λ (a : Answer). Makes g (MovesCall session Steps) a (here_with store slots sets) (here_with store slots sets)) (sym is)
+      (stays Steps Stopped (step_always Stopped (λ h. refl)) (stopped_step (slice_get slots session) idle (sym same)))
+  idle_steps false answer is same =
+      subst (λ (a : Answer). Makes g (MovesCall session Steps) a (here_with store slots sets) (here_with store slots sets)) (sym is)
+      (stays Steps NoSession (step_always NoSession (λ h. absurd (let both : false ≡ true = same ∙ h in cc))) (no_step (slice_get slots session) idle (sym same)))
+
+  -- nothing is given
+  pub idle_takes : (answer : Answer) → answer ≡ Refused NoSession → Makes g (MovesCall session Takes) answer (here_with store slots sets) (here_with store slots sets)
+  idle_takes answer is =
+      subst (λ (a : Answer). Makes g (MovesCall session Takes) a (here_with store slots sets) (here_with store slots sets)) (sym is)
+      (stays Takes NoSession always (no_next (slice_get slots session) idle))
+    where
+      always : EventAlways g (MovesCall session Takes) (Refused NoSession) (here_with store slots sets) (here_with store slots sets)
+      always = record {
+        answers = subst (λ (x : Option Op). AnswersNext x (Refused NoSession)) (sym none) tt;
+        refused = λ fault h. record { state_is = refl; slots_is = refl };
+        stopped = tt;
+        less = subst (λ (x : Option Op). GivesLess x x (Refused NoSession)) (sym none) (refl, refl);
+        kept = nothing_done (g.state store);
+        calm = refl;
+        others = λ s of other apart. refl;
+        left = refl;
+        causes = tt;
+        order = tt;
+        fresh = tt;
+        runs_on = subst (λ (x : Option Op). RunsOn x x) (sym none) tt;
+      }
+
+  -- nothing is given up
+  pub idle_gives_up : (answer : Answer) → answer ≡ Refused NoSession → Makes g (MovesCall session GivesUp) answer (here_with store slots sets) (here_with store slots sets)
+  idle_gives_up answer is =
+      subst (λ (a : Answer). Makes g (MovesCall session GivesUp) a (here_with store slots sets) (here_with store slots sets)) (sym is)
+      (stays GivesUp NoSession always (no_end (slice_get slots session) idle))
+    where
+      always : EventAlways g (MovesCall session GivesUp) (Refused NoSession) (here_with store slots sets) (here_with store slots sets)
+      always = record {
+        answers = subst (λ (x : Option Op). AnswersEnd x (Refused NoSession)) (sym none) refl;
+        refused = λ fault h. record { state_is = refl; slots_is = refl };
+        stopped = tt;
+        less = tt;
+        kept = nothing_done (g.state store);
+        calm = refl;
+        others = λ s of other apart. refl;
+        left = record { over = none; backing = refl; begun = refl };
+        causes = tt;
+        order = tt;
+        fresh = tt;
+        runs_on = subst (λ (x : Option Op). RunsOn x x) (sym none) tt;
+      }
