@@ -80,7 +80,7 @@ returns-clause-cause g c honest start history calls fits =
     let e = c.give_up.ensures.goes honest start t.then_history t.then_calls t.ran.fits in
     let z = snapshot_of here t.then_history t.then_calls in
     let free = begun_free session request x y z b g.S.PageStore start r.ran.fits in
-    let next = begun_next session request x y z b came (t.tells (length calls) call is) in
+    let next = begun_next session request x y z b came t.tells in
     let apart : (action : ℕ) → added ≡ Some action → came ≢ Ok (Refused Exists) = λ action some same. not_there g.S.PageStore start session entry x z _ free t.ran.fits e.tells action (sym c.added-added.ensures ∙ some)
     (subst (λ (r : Result Answer Fault). NextTold session request r x z) same next) in
     let wider = ask_wider g.S.PageStore session least old begun c.finish-came.new.store first mid.failures (others_before c.args.slots.now c.begin.new.slots session c.begin.ensures.others) false false (AskInsert entry) (λ counts h. h) came caused in
