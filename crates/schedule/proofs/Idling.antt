@@ -85,7 +85,7 @@ module _ {S : Type 0} (g : Ghosts S) (laws : Laws g) (store : S) (slots : List (
   }
 
   -- a step is refused with `Stopped` on a stopped log, and with `NoSession` else
-  pub idle_steps : (is_stopped : Bool) (answer : Answer) → answer ≡ no_call is_stopped → is_stopped ≡ (g.backing store).stopped
+  idle_steps : (is_stopped : Bool) (answer : Answer) → answer ≡ no_call is_stopped → is_stopped ≡ (g.backing store).stopped
       → Makes g (MovesCall session Steps) answer (here_with store slots sets) (here_with store slots sets)
   idle_steps true answer is same =
       subst (λ (a : Answer). Makes g (MovesCall session Steps) a (here_with store slots sets) (here_with store slots sets)) (sym is)
@@ -95,7 +95,7 @@ module _ {S : Type 0} (g : Ghosts S) (laws : Laws g) (store : S) (slots : List (
       (stays Steps NoSession (step_always NoSession (λ h. absurd (let both : false ≡ true = same ∙ h in cc))) (no_step (slice_get slots session) idle (sym same)))
 
   -- nothing is given
-  pub idle_takes : (answer : Answer) → answer ≡ Refused NoSession → Makes g (MovesCall session Takes) answer (here_with store slots sets) (here_with store slots sets)
+  idle_takes : (answer : Answer) → answer ≡ Refused NoSession → Makes g (MovesCall session Takes) answer (here_with store slots sets) (here_with store slots sets)
   idle_takes answer is =
       subst (λ (a : Answer). Makes g (MovesCall session Takes) a (here_with store slots sets) (here_with store slots sets)) (sym is)
       (stays Takes NoSession always (no_next (slice_get slots session) idle))
@@ -105,7 +105,7 @@ module _ {S : Type 0} (g : Ghosts S) (laws : Laws g) (store : S) (slots : List (
         answers = subst (λ (x : Option Op). AnswersNext x (Refused NoSession)) (sym none) tt;
         refused = λ fault h. record { state_is = refl; slots_is = refl };
         stopped = tt;
-        less = subst (λ (x : Option Op). GivesLess x x (Refused NoSession)) (sym none) (refl, refl);
+        less = subst (λ (x : Option Op). GivesLess x x (Refused NoSession)) (sym none) (refl, tt);
         kept = nothing_done (g.state store);
         calm = refl;
         others = λ s of other apart. refl;
@@ -117,7 +117,7 @@ module _ {S : Type 0} (g : Ghosts S) (laws : Laws g) (store : S) (slots : List (
       }
 
   -- nothing is given up
-  pub idle_gives_up : (answer : Answer) → answer ≡ Refused NoSession → Makes g (MovesCall session GivesUp) answer (here_with store slots sets) (here_with store slots sets)
+  idle_gives_up : (answer : Answer) → answer ≡ Refused NoSession → Makes g (MovesCall session GivesUp) answer (here_with store slots sets) (here_with store slots sets)
   idle_gives_up answer is =
       subst (λ (a : Answer). Makes g (MovesCall session GivesUp) a (here_with store slots sets) (here_with store slots sets)) (sym is)
       (stays GivesUp NoSession always (no_end (slice_get slots session) idle))
@@ -137,3 +137,15 @@ module _ {S : Type 0} (g : Ghosts S) (laws : Laws g) (store : S) (slots : List (
         fresh = tt;
         runs_on = subst (λ (x : Option Op). RunsOn x x) (sym none) tt;
       }
+
+  -- whether a move of a session without a call is refused for a stopped log
+  abbrev stops : Move → Bool
+  stops Steps = (g.backing store).stopped
+  stops Takes = false
+  stops GivesUp = false
+
+  -- a move of a session without a call is refused: a step with `Stopped` on a stopped log, all else with `NoSession`
+  pub idle_makes : (move : Move) (answer : Answer) → answer ≡ no_call (stops move) → Makes g (MovesCall session move) answer (here_with store slots sets) (here_with store slots sets)
+  idle_makes Steps answer is = idle_steps (g.backing store).stopped answer is refl
+  idle_makes Takes answer is = idle_takes answer is
+  idle_makes GivesUp answer is = idle_gives_up answer is

@@ -1,6 +1,5 @@
 use Rattle.std.proofs.Common.{sym, ◌∙◌}
 use Rattle.schedule.proofs.Events.{slot_of_call, slot_read}
-use Rattle.schedule.proofs.Idling.{idle_gives_up}
 use Rattle.schedule.proofs.Idling.{idle_makes}
 use Rattle.schedule.proofs.Making.{end_makes}
 use Rattle.schedule.specs.Events.{GivesUp}
@@ -19,8 +18,3 @@ returns-clause-makes g c sets =
 pub returns-then-not-is_running-clause-makes : goal.returns-then-not-is_running-clause-makes
 returns-then-not-is_running-clause-makes g c sets =
     idle_makes g.S.PageStore g.met.S.PageStore.laws c.args.store.now c.args.slots.now sets c.args.session (sym c.is_running.ensures.value ∙ c.if-not-is_running.true) GivesUp c.refuse_idle.result c.refuse_idle.ensures
-
-pub returns-then-not-is_running-clause-makes : goal.returns-then-not-is_running-clause-makes
-returns-then-not-is_running-clause-makes g c sets =
-    idle_gives_up g.S.PageStore g.met.S.PageStore.laws c.args.store.now c.args.slots.now sets c.args.session (sym c.is_running.ensures.value ∙ c.if-not-is_running.true)
-    c.refuse_idle.result c.refuse_idle.ensures

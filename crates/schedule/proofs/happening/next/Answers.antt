@@ -1,6 +1,5 @@
 use Rattle.std.proofs.Common.{sym, ◌∙◌}
 use Rattle.schedule.proofs.Events.{slot_of_call, slot_read}
-use Rattle.schedule.proofs.Idling.{idle_takes}
 use Rattle.schedule.proofs.Idling.{idle_makes}
 use Rattle.schedule.proofs.Making.{next_makes}
 use Rattle.schedule.specs.Events.{Takes}
@@ -21,10 +20,3 @@ pub returns-then-not-is_running : goal.returns-then-not-is_running
 returns-then-not-is_running g c = record {
   makes = λ sets. idle_makes g.S.PageStore g.met.S.PageStore.laws c.args.store.now c.args.slots.now sets c.args.session (sym c.is_running.ensures.value ∙ c.if-not-is_running.true) Takes c.refuse_idle.result c.refuse_idle.ensures;
 }
-
-pub returns-then-not-is_running : goal.returns-then-not-is_running
-returns-then-not-is_running g c =
-    record {
-      makes = λ sets. idle_takes g.S.PageStore g.met.S.PageStore.laws c.args.store.now c.args.slots.now sets c.args.session (sym c.is_running.ensures.value ∙ c.if-not-is_running.true)
-          c.refuse_idle.result c.refuse_idle.ensures;
-    }

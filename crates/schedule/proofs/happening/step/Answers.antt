@@ -1,7 +1,6 @@
 use Rattle.std.specs.Prelude.{map}
 use Rattle.std.proofs.Common.{ap, sym, ◌∙◌}
 use Rattle.schedule.proofs.Events.{slot_of_call, slot_read}
-use Rattle.schedule.proofs.Idling.{idle_steps}
 use Rattle.schedule.proofs.Idling.{idle_makes}
 use Rattle.schedule.proofs.Making.{step_makes}
 use Rattle.session_calls.specs.Sessions.{no_call}
@@ -22,8 +21,3 @@ pub returns-then-not-is_running-clause-makes : goal.returns-then-not-is_running-
 returns-then-not-is_running-clause-makes g c =
     idle_makes g.S.PageStore g.met.S.PageStore.laws c.args.store.now c.args.slots.now (map g.T.DeadRows.is_in c.args.sets.now) c.args.session (sym c.is_running.ensures.value ∙ c.if-not-is_running.true) Steps c.refuse_idle.result
     (c.refuse_idle.ensures ∙ ap no_call c.is_stopped.ensures)
-
-pub returns-then-not-is_running-clause-makes : goal.returns-then-not-is_running-clause-makes
-returns-then-not-is_running-clause-makes g c =
-    idle_steps g.S.PageStore g.met.S.PageStore.laws c.args.store.now c.args.slots.now (map g.T.DeadRows.is_in c.args.sets.now) c.args.session (sym c.is_running.ensures.value ∙ c.if-not-is_running.true)
-    c.is_stopped.result c.refuse_idle.result c.refuse_idle.ensures c.is_stopped.ensures
