@@ -52,8 +52,10 @@ fn reuse(
         .elapsed(rt)
         .map(|passed| passed.as_nanos())
         .unwrap_or(0);
+    // In no order, as they came first.
     for i in 0..half {
-        index.aminsert(entry(i, Keys::Four))?;
+        let at = i.wrapping_mul(SHUFFLED) % half.max(1);
+        index.aminsert(entry(at, Keys::Four))?;
     }
     let again = index.amvacuumcleanup()?;
     Ok(Some(Pages {
