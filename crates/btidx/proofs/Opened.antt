@@ -1,5 +1,5 @@
 -- Why an open is refused.
-use Rattle.std.specs.Prelude.{◌≡◌, ℕ, Bool, List}
+use Rattle.std.specs.Prelude.{ℕ, Bool, List}
 use Rattle.std.proofs.Common.{inl, inr, sym, subst}
 use Rattle.device.specs.Disk.{Trace}
 use Rattle.index_model.specs.declared.fault.Fault.{Fault}

@@ -8,3 +8,5 @@ pub mod Files
 pub mod Reporting
 pub mod Dumping
 pub mod Listing
+pub mod Ends
+pub mod CommandLine

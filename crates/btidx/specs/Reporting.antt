@@ -1,9 +1,12 @@
 -- What a check prints, and what that means.
-use Rattle.std.specs.Prelude.{◌≡◌, true, Bool, ℕ, Option, List, [], ◌∷◌, ◌++◌, codes}
+use Rattle.std.specs.Prelude.{◌≡◌, true, false, Bool, ℕ, Option, List, [], ◌∷◌, ◌++◌, codes, ⊤}
 use Rattle.std.specs.Io.KnownBytes.{Appends}
+use Rattle.amcheck.specs.Levels.{HasLevels}
 use Rattle.amcheck.specs.Reports.{IsReport}
 use Rattle.amcheck.specs.declared.report.Report.{Report}
 use Rattle.btidx.specs.Printing.{numbered}
+use Rattle.btidx.specs.declared.end.End.{End}
+use Rattle.btidx.specs.declared.end.End.TheVariants.{Done, Damaged, Said, Refused}
 use Rattle.page_codec.specs.declared.page.Page.{Page}
 use Rattle.tree_acts.specs.Trees.{IsTree}
 
@@ -28,3 +31,26 @@ pub record TellsDamage (honest : Bool) (pages : List Page) (old new : Option (Li
   pub block : ℕ
   pub printed : Appends old new (damage_text number block ++ 10 ∷ [])
   pub unsound : honest ≡ true → IsTree pages → ⊥
+
+-- what was printed is a report
+pub record PrintsReport (old new : Option (List ℕ)) : Type 0 where
+  pub report : Report
+  pub printed : Appends old new (report_text report ++ 10 ∷ [])
+
+-- what was printed is a damage: its number and its block
+pub record PrintsDamage (old new : Option (List ℕ)) : Type 0 where
+  pub number : ℕ
+  pub block : ℕ
+  pub printed : Appends old new (damage_text number block ++ 10 ∷ [])
+
+-- pages are sound: with parents and children a B-link tree, without them an index of levels
+abbrev pub AreSound : Bool → List Page → Type 0
+AreSound true pages = IsTree pages
+AreSound false pages = HasLevels pages
+
+-- a check finds no damage, finds one, or is refused
+abbrev pub IsCheckEnd : End → Type 0
+IsCheckEnd Done = ⊤
+IsCheckEnd Damaged = ⊤
+IsCheckEnd Said = ⊥
+IsCheckEnd (Refused fault) = ⊤

@@ -1,13 +1,11 @@
 //! What the verifier answers, printed.
 
-ghost use Rattle.std.specs.Prelude.{◌≡◌, true, false, Ok};
+ghost use Rattle.std.specs.Prelude.{◌≡◌, true, Ok, IfOk};
 ghost use Rattle.index_model.specs.Faults.{HasCause};
 ghost use Rattle.page_action.specs.States.{Continues};
-ghost use Rattle.tree_acts.specs.Trees.{IsTree};
 ghost use Rattle.amcheck.specs.Checks.{where_checked};
-ghost use Rattle.amcheck.specs.Levels.{HasLevels};
 ghost use Rattle.btidx.specs.Printing.{PrintsLine};
-ghost use Rattle.btidx.specs.Reporting.{TellsReport, TellsDamage, report_text, damage_text};
+ghost use Rattle.btidx.specs.Reporting.{TellsReport, TellsDamage, AreSound, IsCheckEnd, report_text, damage_text};
 
 use crate::end::End;
 use amcheck::{CheckFault, Report, check, check_parents};
@@ -29,16 +27,16 @@ pub fn check_pages<S: PageStore, W: Write>(
 ) -> io::Result<End>
     ensures steps { Continues S.follows store.old store.new }
     ensures state { S.state store.new ≡ S.state store.old }
+    ensures ends { IfOk result IsCheckEnd }
     ensures report { result ≡ Ok End.Done → TellsReport (S.backing store.new).honest
         (S.state store.old).pages (W.contents out.old) (W.contents out.new) }
-    ensures levels { parents ≡ false → result ≡ Ok End.Done
-        → (S.backing store.new).honest ≡ true → HasLevels (S.state store.old).pages }
-    ensures tree { parents ≡ true → result ≡ Ok End.Done → (S.backing store.new).honest ≡ true
-        → IsTree (S.state store.old).pages }
+    ensures sound { result ≡ Ok End.Done → (S.backing store.new).honest ≡ true
+        → AreSound parents (S.state store.old).pages }
     ensures damage { result ≡ Ok End.Damaged → TellsDamage (S.backing store.new).honest
         (S.state store.old).pages (W.contents out.old) (W.contents out.new) }
     ensures refused { (fault : Fault) → result ≡ Ok (End.Refused fault)
-        → HasCause (where_checked (S.state store.old) (S.backing store.old) (S.backing store.new)) fault }
+        → HasCause (where_checked (S.state store.old) (S.backing store.old)
+        (S.backing store.new)) fault }
     ensures silent { (fault : Fault) → result ≡ Ok (End.Refused fault)
         → W.contents out.new ≡ W.contents out.old }
 {

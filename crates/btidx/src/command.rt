@@ -1,5 +1,9 @@
 //! The command line.
 
+ghost use Rattle.std.specs.Prelude.{◌≡◌, [], codes, unwrap_or};
+ghost use Rattle.clap.specs.Matches.{found_of, first_value};
+ghost use Rattle.btidx.specs.CommandLine.{HasFlag};
+
 use crate::engine::Setting;
 use clap::{Arg, ArgAction, ArgMatches, Command, value_parser};
 use index_model::Limits;
@@ -147,12 +151,16 @@ pub fn limits(matches: &ArgMatches<'_>) -> Limits {
 }
 
 /// The file on a command line of `create`, `check` or `dump`.
-pub fn path<'a>(matches: &ArgMatches<'a>) -> &'a str {
+pub fn path<'a>(matches: &ArgMatches<'a>) -> &'a str
+    ensures { result.now ≡ unwrap_or (first_value (found_of matches.now) (codes "path")) [] }
+{
     matches.get_str("path").unwrap_or("")
 }
 
 /// Whether a command line of `check` asks for parents and children too.
-pub fn has_parents(matches: &ArgMatches<'_>) -> bool {
+pub fn has_parents(matches: &ArgMatches<'_>) -> bool
+    ensures { HasFlag (found_of matches.now) (codes "parents") result }
+{
     matches.get_flag("parents")
 }
 

@@ -13,7 +13,8 @@ pub struct DeadList {
 impl DeadRows for DeadList {
     ghost use Rattle.std.specs.List.{list_any};
 
-    ghost is_in = { λ list row. list_any (λ dead. ⟦<RowAddr as PartialEq>⟧.eq dead row) list.rows.items };
+    ghost is_in = { λ list row.
+        list_any (λ dead. ⟦<RowAddr as PartialEq>⟧.eq dead row) list.rows.items };
 
     fn is_dead(&self, row: RowAddr) -> bool {
         self.rows.contains(&row)

@@ -133,7 +133,8 @@ fn print_internal<W: Write>(out: &mut W, page: &Page, count: usize) -> io::Resul
 
 /// Prints the links of a page, its high key and whether its split is incomplete.
 fn print_links<W: Write>(out: &mut W, page: &Page) -> io::Result<()>
-    ensures { OnOk result (Appends (W.contents out.old) (W.contents out.new) (links_text page.now)) }
+    ensures { OnOk result (Appends (W.contents out.old) (W.contents out.new)
+        (links_text page.now)) }
 {
     let left = ShownLink { link: page.left };
     let right = ShownLink { link: page.right };

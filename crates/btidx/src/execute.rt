@@ -1,6 +1,7 @@
 //! The program over any streams.
 
-ghost use Rattle.std.specs.Prelude.{◌≡◌, ◌≤◌};
+ghost use Rattle.std.specs.Prelude.{◌≡◌, ◌≤◌, IfOk, OnErr};
+ghost use Rattle.btidx.specs.Ends.{status_of};
 
 use crate::command::{has_parents, limits, path, program, setting};
 use crate::end::End;
@@ -27,7 +28,16 @@ pub fn execute<'a, F: Files<File = File>, S: AsStr, R: Read, W: Write, E: Write>
 ) -> u8
     ensures { result ≤ 2 }
 {
-    match buffered(rt, alloc, words, input, out, err) {
+    let ended = buffered(rt, alloc, words, input, out, err);
+    status(ended, err)
+}
+
+/// The status of what ended so. A refusal is printed.
+fn status<E: Write>(ended: io::Result<End>, err: &mut E) -> u8
+    ensures ended { IfOk ended (λ end. result ≡ status_of end) }
+    ensures failed { OnErr ended (result ≡ 2) }
+{
+    match ended {
         Ok(End::Done) => 0,
         Ok(End::Damaged) => 1,
         Ok(End::Said) => 2,

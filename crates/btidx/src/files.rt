@@ -64,7 +64,8 @@ pub fn open_index<R: Files<File = File>, S: Start>(
     ensures read { IfOk result (λ store.
         let g = ⟦<FileDevice<S> as Device>⟧ in
         IsTrue (g.is_honest (device_of g store))
-        → StandsOnDevice (state_of g store) (bytes_before S.Start.bytes (g.trace (device_of g store)))
+        → StandsOnDevice (state_of g store)
+        (bytes_before S.Start.bytes (g.trace (device_of g store)))
         (g.trace (device_of g store)).now.seen) }
     // An index is opened with its pages.
     ensures same { IfOk result (λ store.

@@ -30,7 +30,8 @@ pub struct Rows<'a> {
 impl<'a> Rows<'a> {
     /// The next row, or None behind the last.
     pub fn next(&mut self) -> Option<RowAddr>
-        ensures { (row : Row) → result ≡ Some row → self.old.words ≡ row_text row ∷ self.new.words }
+        ensures { (row : Row) → result ≡ Some row
+            → self.old.words ≡ row_text row ∷ self.new.words }
     {
         let word = self.words.next()?;
         match row(word)? {

@@ -1,4 +1,4 @@
-use Rattle.std.proofs.Common.{◌≡◌, ◌<◌, ◌∷◌, ℕ, List, length, suc, ap, arith}
+use Rattle.std.proofs.Common.{◌≡◌, ◌∷◌, ℕ, List, length, suc, ap, arith}
 use Rattle.btidx.specs.Spelling.{row_text}
 use Rattle.btidx.proofs.dead.listed.Goals as goal
 

@@ -1,5 +1,5 @@
 use Rattle.std.specs.Prelude.{ℕ, List, length, flat_map, OnOk}
-use Rattle.std.proofs.Common.{ap, sym, subst}
+use Rattle.std.proofs.Common.{sym, subst}
 use Rattle.std.specs.Io.KnownBytes.{Appends}
 use Rattle.btidx.specs.Dumping.{downlink_line, internal_line, lines_of}
 use Rattle.btidx.proofs.Printed.{then_printed}
