@@ -23,6 +23,6 @@ returns-in_default-clause-goes c st sets start history number call fits = elim c
       subst (λ (slot : Option Op). SessionGoes (where_asked_next call.ask) st st sets start history number call slot (Refused NoSession)) (sym (same ∙ w.in_default.is))
       (next_refused st start history number call w.in_default.field-0 other
       (subst (λ (slot : Option Op). SlotFits st sets start history number call slot) w.in_default.is fits))
-    )
+      )
   | in_default-via-in_default w ↦ absurd (subst (λ (slot : Option Op). SlotFits st sets start history number call slot) w.in_default.is fits)
 ]
