@@ -20,7 +20,7 @@ use std::alloc::Global;
 /// a stopped log refuses first; that a step that goes on leaves less to do, over a device that keeps its model, unless it
 /// does an act; that an event does one act at most, and only a step does one; that no other session is touched; what an end
 /// leaves; and why a beginning is refused); `runs`, the continuation, in which each event also says this, how many steps
-/// its call takes, which pages it leaves flagged, and what it leaves as it was.
+/// its call takes, which pages it leaves flagged, that no low of a page rises, and what it leaves as it was.
 #[derive(Drop)]
 pub struct World<S, T> {
     pub(crate) store: S,
