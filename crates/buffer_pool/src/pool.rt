@@ -122,14 +122,14 @@ impl Pool {
         &self.pages[at]
     }
 
-    /// Takes a frame, the next unused one or one whose page is clean, for a page whose block isn't held. That page is
+    /// Takes a frame, the next unused one or one whose page is clean, for a copy of a page whose block isn't held, which is
     /// clean then. What the frame held is held no more; all else is held as before.
     #[tactic(auto, unfolding(crate::specs::Pools::count_of, crate::specs::Pools::most_of))]
-    pub fn put(&mut self, at: usize, page: Page)
+    pub fn put(&mut self, at: usize, page: &Page)
         requires taken { CanBeTaken self.old at }
-        requires reach { page.block < reach_of self.old }
-        requires absent { frame_of self.old page.block ≡ None }
-        ensures { IsPut self.old self.new at page }
+        requires reach { page.now.block < reach_of self.old }
+        requires absent { frame_of self.old page.now.block ≡ None }
+        ensures { IsPut self.old self.new at page.now }
     {
         if at < self.pages.len() {
             self.replace(at, page);
@@ -138,32 +138,32 @@ impl Pool {
         }
     }
 
-    // Puts the page into a frame in use.
+    // Copies the page into a frame in use.
     #[tactic(auto, unfolding(crate::specs::Pools::count_of, crate::specs::Pools::reach_of, crate::specs::Pools::most_of))]
-    fn replace(&mut self, at: usize, page: Page)
+    fn replace(&mut self, at: usize, page: &Page)
         requires taken { CanBeTaken self.old at }
         requires used { at < count_of self.old }
-        requires reach { page.block < reach_of self.old }
-        requires absent { frame_of self.old page.block ≡ None }
-        ensures { IsPut self.old self.new at page }
+        requires reach { page.now.block < reach_of self.old }
+        requires absent { frame_of self.old page.now.block ≡ None }
+        ensures { IsPut self.old self.new at page.now }
     {
         let block = page.block as usize;
         let old = self.pages[at].block as usize;
         self.places[old] = 0;
         self.places[block] = at as u32 + 1;
-        self.pages[at] = page;
+        page.copy_to(&mut self.pages[at]);
     }
 
-    // Puts the page into the next unused frame.
+    // Copies the page into the next unused frame.
     #[tactic(auto, unfolding(crate::specs::Pools::count_of, crate::specs::Pools::reach_of, crate::specs::Pools::most_of))]
-    fn add(&mut self, page: Page)
+    fn add(&mut self, page: &Page)
         requires room { count_of self.old < most_of self.old }
-        requires reach { page.block < reach_of self.old }
-        requires absent { frame_of self.old page.block ≡ None }
-        ensures { IsPut self.old self.new (count_of self.old) page }
+        requires reach { page.now.block < reach_of self.old }
+        requires absent { frame_of self.old page.now.block ≡ None }
+        ensures { IsPut self.old self.new (count_of self.old) page.now }
     {
         self.places[page.block as usize] = self.pages.len() as u32 + 1;
-        self.pages.push_reserved(page);
+        self.pages.push_reserved(page.copy());
         self.acts.push_reserved(0);
     }
 }

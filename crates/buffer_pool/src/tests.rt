@@ -27,7 +27,7 @@ fn leaf(block: u32, cycle: u32) -> Page
 fn bring(pool: &mut Pool, pinned: &[u32], block: u32) -> bool {
     match pool.choose(pinned) {
         Choice::Free(at) if (block as usize) < pool.reach() && pool.find(block).is_none() => {
-            pool.put(at, leaf(block, 0));
+            pool.put(at, &leaf(block, 0));
             true
         }
         _ => false,

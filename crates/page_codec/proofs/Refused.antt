@@ -1,6 +1,6 @@
 -- Which bytes are those of no page.
-use Rattle.std.proofs.Common.{◌≡◌, ◌≢◌, ◌↔◌, ◌∙◌, refl, sym, ap, subst, List, ℕ, Some, None}
-use Rattle.std.specs.Prelude.{IsNone}
+use Rattle.std.proofs.Common.{◌≡◌, ◌≢◌, ◌↔◌, ◌∙◌, refl, sym, ap, subst, List, ℕ, Some, None, false}
+use Rattle.std.specs.Prelude.{IsTrue}
 use Rattle.std.proofs.lemmas.Option.{same_Some}
 use Rattle.page_codec.specs.Grammar.{IsPage}
 use Rattle.page_codec.specs.Spelling.{page_bytes}
@@ -23,6 +23,6 @@ refused_unlike bytes read some never p h e =
     never (subst (λ (q : Page). IsPage q) same h) (e ∙ ap page_bytes same)
 
 -- what is answered of bytes of no page
-pub refused : (bytes : List ℕ) → AreNoPage bytes
-    → record { found : Unit {0}; only : (p : Page) → IsPage p → bytes ≡ page_bytes p → None ≡ Some p; none : IsNone {T = Page} None ↔ AreNoPage bytes }
-refused bytes none = record { found = tt; only = λ p h e. absurd (none p h e); none = (λ _. none, λ _. refl) }
+pub refused : (bytes : List ℕ) (read : Page) → AreNoPage bytes
+    → record { found : IsTrue false → IsPage read × (bytes ≡ page_bytes read); only : (p : Page) → IsPage p → bytes ≡ page_bytes p → IsTrue false × (read ≡ p) }
+refused bytes read none = record { found = λ h. absurd cc; only = λ p h e. absurd (none p h e) }

@@ -13,7 +13,7 @@ mod written;
 pub use edits::{add_entry, cut_entries};
 pub use grammar::is_page;
 pub use page::{Downlink, Items, Page, PageState};
-pub use reading::{decode, is_unused};
+pub use reading::{decode, decode_into, is_unused};
 pub use writing::encode;
 
 #[cfg(test)]

@@ -60,3 +60,21 @@ pub struct Page {
     /// Its kind and its items, at most 50.
     pub items: Items,
 }
+
+impl Page {
+    /// A page to decode another into. It is none that the format admits.
+    pub fn blank() -> Page {
+        Page {
+            block: 0,
+            level: 0,
+            state: PageState::Live,
+            split: false,
+            left: None,
+            right: None,
+            high: None,
+            cycle: 0,
+            deletion: 0,
+            items: Items::Meta,
+        }
+    }
+}

@@ -93,6 +93,7 @@ fn downlink(bytes: &[u8]) -> Option<Downlink>
     Some(Downlink { bound, child })
 }
 
+// Reads so many entries behind none.
 fn entries(count: usize, bytes: &[u8], into: &mut ArrayVec<Entry, 50>) -> bool
     requires count { count ≤ 50 }
     requires room { 71 * count ≤ length bytes.now }
@@ -125,6 +126,17 @@ fn downlinks(count: usize, bytes: &[u8]) -> Option<ArrayVec<Downlink, 50>>
     Some(links)
 }
 
+// Takes all entries out, or makes room for some where there were others.
+fn clear_entries(items: &mut Items)
+    ensures { items.new ≡ Items.Entries (record { items = [] }) }
+{
+    match items {
+        Items::Entries(list) => list.clear(),
+        _ => *items = Items::Entries(ArrayVec::new()),
+    }
+}
+
+// Reads the items. Leaves are read most: their entries take the place of those that were there.
 #[tactic(auto, unfolding(crate::specs::Reading::items_of))]
 fn items(kind: u8, count: usize, bytes: &[u8], into: &mut Items) -> bool
     requires { 3750 ≤ length bytes.now }
@@ -139,7 +151,7 @@ fn items(kind: u8, count: usize, bytes: &[u8], into: &mut Items) -> bool
             true
         }
         2 => {
-            *into = Items::Entries(ArrayVec::new());
+            clear_entries(into);
             match into {
                 Items::Entries(list) => entries(count, bytes, list),
                 _ => false,
@@ -212,6 +224,23 @@ pub fn is_unused(bytes: &[u8; 4096]) -> bool
     *bytes == [0; 4096]
 }
 
+/// Reads the page of these bytes into the place of another: true exactly if they are the bytes that [`encode`] writes for a
+/// page that the format admits, and `page` is that page then. False exactly if they are those of no such page, and what
+/// `page` holds then has no meaning. It takes no memory.
+pub fn decode_into(bytes: &[u8; 4096], page: &mut Page) -> bool
+    ensures found { IsTrue result → IsPage page.new × (bytes.now ≡ page_bytes page.new) }
+    ensures only { (p : Page) → IsPage p → bytes.now ≡ page_bytes p
+        → IsTrue result × (page.new ≡ p) }
+{
+    if !read(bytes, page) {
+        return false;
+    }
+    if !is_page(page) {
+        return false;
+    }
+    is_written(page, bytes)
+}
+
 /// The page of these bytes: `Some(page)` exactly if they are the bytes that [`encode`] writes for a
 /// page that the format admits, and `None` exactly if they are those of no such page. It takes no
 /// memory beside the page that it answers, and fails for no other reason.
@@ -220,26 +249,10 @@ pub fn decode(bytes: &[u8; 4096]) -> Option<Page>
     ensures only { (p : Page) → IsPage p → bytes.now ≡ page_bytes p → result ≡ Some p }
     ensures none { IsNone result ↔ ((p : Page) → IsPage p → bytes.now ≢ page_bytes p) }
 {
-    let mut page = Page {
-        block: 0,
-        level: 0,
-        state: PageState::Live,
-        split: false,
-        left: None,
-        right: None,
-        high: None,
-        cycle: 0,
-        deletion: 0,
-        items: Items::Meta,
-    };
-    if !read(bytes, &mut page) {
-        return None;
+    let mut page = Page::blank();
+    if decode_into(bytes, &mut page) {
+        Some(page)
+    } else {
+        None
     }
-    if !is_page(&page) {
-        return None;
-    }
-    if !is_written(&page, bytes) {
-        return None;
-    }
-    Some(page)
 }

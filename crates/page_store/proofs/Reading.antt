@@ -1,6 +1,6 @@
 -- What a read page is, where the device kept its model.
 use Rattle.std.proofs.Common.{◌≡◌, inl, inr, ℕ, ◌<◌, ◌≤◌, Bool, true, Some, List, length, slice_get, Result, Ok, Err, sym, ap, ◌∙◌, arith}
-use Rattle.std.specs.Prelude.{IfOk, OnErr}
+use Rattle.std.specs.Prelude.{OnOk, OnErr}
 use Rattle.std.proofs.lemmas.Option.{slice_get_cases}
 use Rattle.device.specs.Disk.{Moment}
 use Rattle.device.specs.Places.{Has}
@@ -31,9 +31,9 @@ reading_rises block (Err e) old new (inr damaged) = omega (arith, damaged.1)
 
 module _ (limits : Limits) (pages : List Page) (acts : ℕ) (pool : Pool) (honest : Bool) (m : Moment) (holds : HoldsPages limits pages acts pool honest m) (stored : AreStored limits 0 pages) where
   -- a read of a page that isn't held gives it, or the device failed
-  pub read_gives : (block : ℕ) (page : Page) (r : Result Page Fault) → slice_get pages block ≡ Some page → act_of pool block ≡ 0 → honest ≡ true
-      → ((there : Page) → IsStored limits block there → Has (place limits block) (page_bytes there) m.seen → GivesPage there r) → GivesPage page r
-  read_gives block page r found clean h gives = gives page (stored_page limits block pages page stored found) (holds.seen h block page found clean)
+  pub read_gives : {T : Type 0} (block : ℕ) (page given : Page) (r : Result T Fault) → slice_get pages block ≡ Some page → act_of pool block ≡ 0 → honest ≡ true
+      → ((there : Page) → IsStored limits block there → Has (place limits block) (page_bytes there) m.seen → GivesPage there given r) → GivesPage page given r
+  read_gives block page given r found clean h gives = gives page (stored_page limits block pages page stored found) (holds.seen h block page found clean)
 
   -- a held page is the one in use
   pub held_is : (block : ℕ) (held : Page) → block < length pages → held_page pool block ≡ Some held → honest ≡ true → slice_get pages block ≡ Some held
@@ -41,10 +41,11 @@ module _ (limits : Limits) (pages : List Page) (acts : ℕ) (pool : Pool) (hones
       let there = page_in_use pages block used in
       there.1 ∙ ap Some (one_page there.0 held (stored_page limits block pages there.0 stored there.1).storable.admitted (holds.stored block held used found).storable.admitted (sym (holds.held h block held there.0 found there.1)))
 
-pub given_right : (pages : List Page) (block : ℕ) (page : Page) (honest : Bool) (r : Result Page Fault) → slice_get pages block ≡ Some page → (honest ≡ true → GivesPage page r) → IfOk r (λ p. honest ≡ true → slice_get pages block ≡ Some p)
-given_right pages block page honest (Ok p) found gives = λ h. found ∙ ap Some (sym (gives h))
-given_right pages block page honest (Err e) found gives = tt
+pub given_right : {T : Type 0} (pages : List Page) (block : ℕ) (page given : Page) (honest : Bool) (r : Result T Fault) → slice_get pages block ≡ Some page → (honest ≡ true → GivesPage page given r)
+    → OnOk r (honest ≡ true → slice_get pages block ≡ Some given)
+given_right pages block page given honest (Ok x) found gives = λ h. found ∙ ap Some (sym (gives h))
+given_right pages block page given honest (Err e) found gives = tt
 
-pub given_fails : (page : Page) (r : Result Page Fault) → GivesPage page r → OnErr r (r ≡ Err Io)
-given_fails page (Ok p) gives = tt
-given_fails page (Err e) gives = ap Err gives
+pub given_fails : {T : Type 0} (page given : Page) (r : Result T Fault) → GivesPage page given r → OnErr r (r ≡ Err Io)
+given_fails page given (Ok x) gives = tt
+given_fails page given (Err e) gives = ap Err gives

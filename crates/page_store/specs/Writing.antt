@@ -41,8 +41,8 @@ AreWrittenUpTo limits pool count m = (block : ℕ) (page : Page)
     → Has (place limits block) (page_bytes page) m.seen
 
 -- a read gave this page, or the device failed
-abbrev pub GivesPage : Page → Result Page Fault → Type 0
-GivesPage page result = MatchResult result (λ p. p ≡ page) (λ e. e ≡ Io)
+abbrev pub GivesPage : {T : Type 0} → Page → Page → Result T Fault → Type 0
+GivesPage page given result = MatchResult result (λ _. given ≡ page) (λ e. e ≡ Io)
 
 -- a page isn't read: the device has failed, or no page stands there
 abbrev pub ReadingFails : {T : Type 0} → ℕ → Result T Fault → ℕ → ℕ → Type 0

@@ -37,6 +37,8 @@ pub(crate) struct LoggedPages<D: Device> {
     /// The greatest room since the last act or checkpoint.
     pub(crate) promised: u32,
     pub(crate) history: History,
+    /// Where a page is decoded before a frame gets it. Between calls it has no meaning.
+    pub(crate) decoded: Page,
     ghost allowed: { AreLimits limits },
     ghost log_limits: { limits_of log ≡ limits } by { Coded-set limits-code (limits_of log) limits },
     ghost sized: { place limits limits.pages ≤ length (D.trace device).now.seen },
@@ -119,6 +121,7 @@ impl<D: Device> LoggedPages<D> {
             room,
             promised: room,
             history,
+            decoded: Page::blank(),
         }
     }
 

@@ -75,42 +75,43 @@ impl<D: Device> LoggedPages<D> {
         }
     }
 
-    // Puts a page into a frame that can be taken. It is one that a device that keeps its model gave, or of a block that is
-    // not in use.
-    fn put(&mut self, at: usize, page: Page)
+    // Puts the page that was decoded into a frame that can be taken. It is one that a device that keeps its model gave, or
+    // of a block that is not in use.
+    fn put(&mut self, at: usize)
         requires free { CanBeTaken self.old.pool at }
-        requires stored { IsStored self.old.limits page.block page }
-        requires below { page.block < self.old.limits.pages }
-        requires absent { frame_of self.old.pool page.block ≡ None }
+        requires stored { IsStored self.old.limits self.old.decoded.block self.old.decoded }
+        requires below { self.old.decoded.block < self.old.limits.pages }
+        requires absent { frame_of self.old.pool self.old.decoded.block ≡ None }
         requires right { D.is_honest self.old.device ≡ true → (there : Page)
-            → slice_get (pages_now self.old.history) page.block ≡ Some there → page ≡ there }
+            → slice_get (pages_now self.old.history) self.old.decoded.block ≡ Some there
+            → self.old.decoded ≡ there }
         ensures quiet { IsQuiet D.Device self.old self.new }
-        ensures pool { IsPut self.old.pool self.new.pool at page }
+        ensures pool { IsPut self.old.pool self.new.pool at self.old.decoded }
         ensures log { self.new.log ≡ self.old.log }
         ensures device { self.new.device ≡ self.old.device }
     {
         self.pool.law();
-        self.pool.put(at, page);
+        self.pool.put(at, &self.decoded);
     }
 
-    // Reads the page of a block in use that is not in memory. Refused with `Io`, and with `PageDamaged` where the device
+    // Decodes the page of a block in use that is not in memory. Refused with `Io`, and with `PageDamaged` where the device
     // breaks its model.
-    fn read(&mut self, block: u32) -> Result<Page, Fault>
+    fn read(&mut self, block: u32) -> Result<(), Fault>
         requires used { block < self.old.used }
         requires absent { frame_of self.old.pool block ≡ None }
         ensures quiet { IsQuiet D.Device self.old self.new }
         ensures pool { self.new.pool ≡ self.old.pool }
         ensures log { self.new.log ≡ self.old.log }
-        ensures stored { IfOk result (IsStored self.old.limits block) }
-        ensures right { IfOk result (λ page. D.is_honest self.new.device ≡ true
-            → slice_get (pages_now self.old.history) block ≡ Some page) }
+        ensures stored { OnOk result (IsStored self.old.limits block self.new.decoded) }
+        ensures right { OnOk result (D.is_honest self.new.device ≡ true
+            → slice_get (pages_now self.old.history) block ≡ Some self.new.decoded) }
         ensures honest { D.is_honest self.new.device ≡ true
             → OnErr result (result ≡ Err Fault.Io) }
         ensures cause { ReadingFails block result
             (D.failures self.old.device) (D.failures self.new.device) }
     {
         self.pool.law();
-        read_page(&mut self.device, self.limits, block)
+        read_page(&mut self.device, self.limits, block, &mut self.decoded)
     }
 
     /// Brings the page of a block in use into memory, where the pages of these blocks are pinned. Refused with `NoFrame`,
@@ -132,8 +133,8 @@ impl<D: Device> LoggedPages<D> {
             return Ok(());
         }
         let at = self.free_frame(pinned)?;
-        let page = self.read(block)?;
-        self.put(at, page);
+        self.read(block)?;
+        self.put(at);
         Ok(())
     }
 
@@ -156,7 +157,8 @@ impl<D: Device> LoggedPages<D> {
             return Ok(());
         }
         let at = self.free_frame(pinned)?;
-        self.put(at, page.copy());
+        page.copy_to(&mut self.decoded);
+        self.put(at);
         Ok(())
     }
 

@@ -1,6 +1,6 @@
 //! A page is written to its place, and read from there.
 
-ghost use Rattle.std.specs.Prelude.{◌≡◌, ◌⊎◌, ◌+◌, ◌<◌, ◌≤◌, IsTrue, true, length, IfOk, IfSome, IfNone, OnOk};
+ghost use Rattle.std.specs.Prelude.{◌≡◌, ◌⊎◌, ◌+◌, ◌<◌, ◌≤◌, IsTrue, true, length, OnOk};
 ghost use Rattle.device.specs.Disk.{CountsFailures, Writes};
 ghost use Rattle.device.specs.Moments.{Goes};
 ghost use Rattle.device.specs.Places.{Has, ChangesOnly};
@@ -13,7 +13,7 @@ use device::Device;
 use device_layout::page_place;
 use index_model::{Fault, Limits};
 use page_action::is_storable;
-use page_codec::{Page, decode, encode};
+use page_codec::{Page, decode_into, encode};
 
 /// Writes the bytes of the page.
 fn put_page<D: Device>(device: &mut D, at: u64, page: &Page) -> Result<(), Fault>
@@ -50,41 +50,38 @@ pub(crate) fn write_page<D: Device>(
     put_page(device, page_place(&limits, block), page)
 }
 
-/// The page of these bytes, if they are those of one that may be stored at this block.
-fn page_of(bytes: &[u8; 4096], limits: Limits, block: u32) -> Option<Page>
-    ensures stored { IfSome result (IsStored limits block) }
-    ensures found { IfSome result (λ page. bytes.now ≡ page_bytes page) }
-    ensures none { IfNone result ((page : Page) → IsStored limits block page
-        → bytes.now ≡ page_bytes page → ⊥) }
+/// Reads the page of these bytes into the place of another: whether it is one that may be stored at this block.
+fn decode_stored(bytes: &[u8; 4096], limits: Limits, block: u32, page: &mut Page) -> bool
+    ensures stored { IsTrue result → IsStored limits block page.new }
+    ensures found { IsTrue result → bytes.now ≡ page_bytes page.new }
+    ensures only { (p : Page) → IsStored limits block p → bytes.now ≡ page_bytes p → IsTrue result }
 {
-    let page = decode(bytes)?;
-    if page.block != block || !is_storable(&page, limits) {
-        return None;
-    }
-    Some(page)
+    decode_into(bytes, page) && page.block == block && is_storable(page, limits)
 }
 
-/// Reads the page of this block. Refused with `Io`, and with `PageDamaged` where no page stands there that may be stored
-/// at this block.
+/// Reads the page of this block into the place of another. Refused with `Io`, and with `PageDamaged` where no page stands
+/// there that may be stored at this block; what `page` holds has no meaning then.
 pub(crate) fn read_page<D: Device>(
     device: &mut D,
     limits: Limits,
     block: u32,
-) -> Result<Page, Fault>
+    page: &mut Page,
+) -> Result<(), Fault>
     requires block { block < limits.pages }
     requires inside { place limits limits.pages ≤ length (D.trace device.old).now.seen }
-    ensures stored { IfOk result (IsStored limits block) }
-    ensures read { D.is_honest device.new ≡ true → (page : Page) → IsStored limits block page
-        → Has (place limits block) (page_bytes page) (D.trace device.old).now.seen
-        → GivesPage page result }
+    ensures stored { OnOk result (IsStored limits block page.new) }
+    ensures read { D.is_honest device.new ≡ true → (p : Page) → IsStored limits block p
+        → Has (place limits block) (page_bytes p) (D.trace device.old).now.seen
+        → GivesPage p page.new result }
     ensures trace { D.trace device.new ≡ D.trace device.old }
     ensures honest { D.is_honest device.new ≡ true → D.is_honest device.old ≡ true }
     ensures cause { ReadingFails block result (D.failures device.old) (D.failures device.new) }
 {
     let mut bytes = [0; 4096];
     device.read_at(page_place(&limits, block), &mut bytes)?;
-    match page_of(&bytes, limits, block) {
-        Some(page) => Ok(page),
-        None => Err(Fault::PageDamaged(block)),
+    if decode_stored(&bytes, limits, block, page) {
+        Ok(())
+    } else {
+        Err(Fault::PageDamaged(block))
     }
 }

@@ -1,4 +1,4 @@
-use Rattle.std.proofs.Common.{◌+◌, ◌++◌, ◌∷◌, [], ℕ, List, set, refl, sym, subst, arith}
+use Rattle.std.proofs.Common.{◌+◌, ◌++◌, ◌∷◌, ◌∙◌, ap, [], ℕ, List, set, refl, sym, subst, arith}
 use Rattle.page_codec.specs.declared.page.Page.{Page}
 use Rattle.buffer_pool.specs.Frames.{blocks_in, ArePlaces, AreChanged}
 use Rattle.buffer_pool.specs.Pools.{count_of, reach_of}
@@ -10,19 +10,21 @@ unfolding reach_of
 invariant_of-self-clause-placed c =
     let pool = c.args.self.now in
     let next = c.len.result + 1 in
-    subst (λ (pages : List Page). ArePlaces (set pool.places.items c.args.page.block next) (blocks_in pages)) (sym c.push_reserved.ensures.items)
-    (pushed_placed pool c.args.page next (omega arith) c.requires.absent c.requires.reach)
+    let came = c.push_reserved.ensures.items ∙ ap (λ (p : Page). pool.pages.items ++ p ∷ []) c.copy.ensures in
+    subst (λ (pages : List Page). ArePlaces (set pool.places.items c.args.page.now.block next) (blocks_in pages)) (sym came)
+    (pushed_placed pool c.args.page.now next (omega arith) c.requires.absent c.requires.reach)
 
 pub invariant_of-self-clause-ordered : goal.invariant_of-self-clause-ordered
 unfolding reach_of
 invariant_of-self-clause-ordered c =
     let pool = c.args.self.now in
-    subst (λ (pages : List Page). AreChanged pool.changed.items (blocks_in pages) c.push_reserved-2.new.self.items) (sym c.push_reserved.ensures.items)
-    (subst (λ (acts : List ℕ). AreChanged pool.changed.items (blocks_in (pool.pages.items ++ c.args.page ∷ [])) acts) (sym c.push_reserved-2.ensures.items)
-    (pushed_changed pool c.args.page (c.len.result + 1) (omega arith) c.requires.absent c.requires.reach))
+    let came = c.push_reserved.ensures.items ∙ ap (λ (p : Page). pool.pages.items ++ p ∷ []) c.copy.ensures in
+    subst (λ (pages : List Page). AreChanged pool.changed.items (blocks_in pages) c.push_reserved-2.new.self.items) (sym came)
+    (subst (λ (acts : List ℕ). AreChanged pool.changed.items (blocks_in (pool.pages.items ++ c.args.page.now ∷ [])) acts) (sym c.push_reserved-2.ensures.items)
+    (pushed_changed pool c.args.page.now (c.len.result + 1) (omega arith) c.requires.absent c.requires.reach))
 
 pub returns : goal.returns
 unfolding count_of reach_of
 returns c =
-    pushed_put c.args.self.now c.args.page (c.len.result + 1) (omega arith) c.requires.absent c.requires.reach
-    _ refl c.push_reserved.ensures.items c.push_reserved-2.ensures.items refl refl
+    pushed_put c.args.self.now c.args.page.now (c.len.result + 1) (omega arith) c.requires.absent c.requires.reach
+    _ refl (c.push_reserved.ensures.items ∙ ap (λ (p : Page). c.args.self.now.pages.items ++ p ∷ []) c.copy.ensures) c.push_reserved-2.ensures.items refl refl

@@ -1,4 +1,5 @@
-use Rattle.std.proofs.Common.{◌+◌, ◌∙◌, refl, sym, length-set, add-one, arith}
+use Rattle.std.proofs.Common.{◌+◌, ◌∙◌, refl, sym, ap, set, length-set, add-one, arith}
+use Rattle.page_codec.specs.declared.page.Page.{Page}
 use Rattle.buffer_pool.specs.Pools.{count_of, reach_of, most_of}
 use Rattle.buffer_pool.proofs.Placing.{placed_within}
 use Rattle.buffer_pool.proofs.Putting.{place_of_page, replaced_placed, replaced_changed, replaced_put}
@@ -20,22 +21,23 @@ unfolding most_of
 overflow_add-at c = omega (arith, c.requires.taken.within)
 
 pub invariant_of-self-clause-many_acts : goal.invariant_of-self-clause-many_acts
-invariant_of-self-clause-many_acts c = c.args.self.now.many_acts ∙ sym (length-set c.args.self.now.pages.items c.args.at c.args.page)
+invariant_of-self-clause-many_acts c = c.args.self.now.many_acts ∙ sym (length-set c.args.self.now.pages.items c.args.at c.copy_to.new.target)
 
 pub invariant_of-self-clause-placed : goal.invariant_of-self-clause-placed
 unfolding count_of reach_of
 invariant_of-self-clause-placed c =
-    replaced_placed c.args.self.now c.args.at c.index.result.now c.args.page (c.args.at + 1) c.requires.used c.index.ensures (add-one c.args.at)
-    c.requires.taken c.requires.absent c.requires.reach
+    rw (c.copy_to.ensures) (replaced_placed c.args.self.now c.args.at c.index.result.now c.args.page.now (c.args.at + 1) c.requires.used c.index.ensures (add-one c.args.at)
+    c.requires.taken c.requires.absent c.requires.reach)
 
 pub invariant_of-self-clause-ordered : goal.invariant_of-self-clause-ordered
 unfolding count_of reach_of
 invariant_of-self-clause-ordered c =
-    replaced_changed c.args.self.now c.args.at c.index.result.now c.args.page (c.args.at + 1) c.requires.used c.index.ensures (add-one c.args.at)
-    c.requires.taken c.requires.absent c.requires.reach
+    rw (c.copy_to.ensures) (replaced_changed c.args.self.now c.args.at c.index.result.now c.args.page.now (c.args.at + 1) c.requires.used c.index.ensures (add-one c.args.at)
+    c.requires.taken c.requires.absent c.requires.reach)
 
 pub returns : goal.returns
 unfolding count_of reach_of
 returns c =
-    replaced_put c.args.self.now c.args.at c.index.result.now c.args.page (c.args.at + 1) c.requires.used c.index.ensures (add-one c.args.at)
-    c.requires.taken c.requires.absent c.requires.reach _ refl refl refl refl refl
+    replaced_put c.args.self.now c.args.at c.index.result.now c.args.page.now (c.args.at + 1) c.requires.used c.index.ensures (add-one c.args.at)
+    c.requires.taken c.requires.absent c.requires.reach
+    _ refl (ap (λ (p : Page). set c.args.self.now.pages.items c.args.at p) c.copy_to.ensures) refl refl refl

@@ -12,8 +12,8 @@ use Rattle.page_store.proofs.logged_pages.LoggedPages.fetch.Goals as goal
 read : (g : Over) (c : After-read g) → IsQuiet g.D.Device c.args.self.now c.read.new.self
 read g c = quiet_both g.D.Device c.args.self.now c.free_frame.new.self c.read.new.self c.free_frame.ensures.quiet c.read.ensures.quiet
 
-pub returns-in_err-page-clause-quiet : goal.returns-in_err-page-clause-quiet
-returns-in_err-page-clause-quiet g c = read g (goal.at.returns-in_err-page-clause-quiet g c).After-read
+pub returns-in_err-read-clause-quiet : goal.returns-in_err-read-clause-quiet
+returns-in_err-read-clause-quiet g c = read g (goal.at.returns-in_err-read-clause-quiet g c).After-read
 
 pub returns-clause-quiet : goal.returns-clause-quiet
 returns-clause-quiet g c =
@@ -21,8 +21,8 @@ returns-clause-quiet g c =
 
 pub returns-clause-kept : goal.returns-clause-kept
 returns-clause-kept g c =
-    kept_put c.args.self.now.pool c.free_frame.new.self.pool c.put.new.self.pool c.args.pinned.now c.in_ok-at.at c.in_ok-page.page c.free_frame.ensures.same c.in_ok-at.ensures.unpinned
-    (subst (λ (p : Pool). IsPut p c.put.new.self.pool c.in_ok-at.at c.in_ok-page.page) c.read.ensures.pool c.put.ensures.pool)
+    kept_put c.args.self.now.pool c.free_frame.new.self.pool c.put.new.self.pool c.args.pinned.now c.in_ok-at.at c.read.new.self.decoded c.free_frame.ensures.same c.in_ok-at.ensures.unpinned
+    (subst (λ (p : Pool). IsPut p c.put.new.self.pool c.in_ok-at.at c.read.new.self.decoded) c.read.ensures.pool c.put.ensures.pool)
 
 pub returns-then-holds-clause-quiet : goal.returns-then-holds-clause-quiet
 returns-then-holds-clause-quiet g c = quiet_same g.D.Device c.args.self.now
