@@ -1,14 +1,13 @@
 //! What the calls of an index cost over a file.
 
+use crate::checking::time_checks;
 use crate::{
     FRAMES, Keys, LEN, Load, SHUFFLED, a_second, delete, empty_index, fill, made_on, scan,
 };
 use access_method::Index;
-use amcheck::{Report, check, check_parents};
 use device::{Device, FileDevice, Unknown};
 use index_model::Fault;
 use page_store::Store;
-use recovery::open;
 use std::alloc::Global;
 use std::fs::{self, File};
 use std::io;
@@ -80,49 +79,6 @@ fn time_scan_and_delete<R: Clock + Eprint, D: Device + Drop>(
     }
 }
 
-/// Prints how many entries a second a check looks at.
-fn time_check<R: Clock + Eprint, D: Device + Drop>(
-    rt: &R,
-    alloc: Global,
-    store: &mut Store<D>,
-    parents: bool,
-) -> io::Result<()> {
-    let start = Instant::now(rt)?;
-    let checked = if parents {
-        check_parents(alloc, store)
-    } else {
-        check(alloc, store)
-    };
-    let nanos = start.elapsed(rt)?.as_nanos();
-    let name = if parents { "check_parents" } else { "check" };
-    match checked {
-        Ok(Report { entries, pages, .. }) => {
-            let rate = a_second(entries, nanos);
-            eprintln!(rt; "{name}, {entries} entries on {pages} pages: {rate} entries a second")
-        }
-        Err(fault) => eprintln!(rt; "{name}: {fault}"),
-    }
-}
-
-/// Opens the index again, and prints what checks of it cost, of levels and links, and of parents and children too.
-fn time_checks<R: Clock + Eprint, D: Device + Drop>(
-    rt: &R,
-    alloc: Global,
-    device: D,
-) -> io::Result<()> {
-    let len = device.len();
-    let start = Instant::now(rt)?;
-    match open(alloc, device, FRAMES) {
-        Ok(mut store) => {
-            let micros = start.elapsed(rt)?.as_nanos() / 1_000;
-            eprintln!(rt; "{len} bytes, opened in {micros} microseconds")?;
-            time_check(rt, alloc, &mut store, false)?;
-            time_check(rt, alloc, &mut store, true)
-        }
-        Err(_) => eprintln!(rt; "the index was not opened"),
-    }
-}
-
 /// Fills an index, scans it, deletes half, and checks it.
 fn time_all<R: Clock + Eprint, D: Device + Drop>(
     rt: &R,
@@ -141,7 +97,7 @@ fn time_all<R: Clock + Eprint, D: Device + Drop>(
 }
 
 /// Prints what the calls cost over a file: so many inserts a second with a commit each, every 100 and every 10,000; a scan, a
-/// bulk delete of half, a checkpoint, an open and both checks. Then the last over a device in memory.
+/// bulk delete of half, a checkpoint, an open and the checks. Then the last over a device in memory.
 pub fn time_files<R: Clock + Eprint + Files<File = File>>(rt: &R, alloc: Global) -> io::Result<()> {
     for (count, commit_every) in [(3_000, 1), (100_000, 100)] {
         match in_a_file(rt, alloc) {

@@ -1,9 +1,10 @@
 //! How many entries a second an index takes, gives and deletes on one core, and how long an open takes over a full log:
 //! `index_timing time` prints it to standard error, `index_timing file` what the calls cost over a file, `index_timing plain`
-//! what they cost without a device, and `index_timing bytes` how many bytes are written for a commit. Without an argument it
-//! fills two small indexes, scans them and deletes half.
+//! what they cost without a device, `index_timing bytes` how many bytes are written for a commit, and `index_timing check` how
+//! many entries a second the verifier looks at. Without an argument it fills two small indexes, scans them and deletes half.
 #![tactic(auto)]
 
+mod checking;
 mod counting;
 mod filing;
 mod opening;
@@ -12,6 +13,7 @@ mod reuse;
 mod writing;
 
 use access_method::Index;
+use checking::time_checks_in_memory;
 use device::{Device, MemDevice};
 use filing::time_files;
 use index_model::{DeadRows, Entry, Fault, Key, Limits, Range, RowAddr};
@@ -253,6 +255,7 @@ fn main(rt: HostRuntime) -> io::Result<()> {
         Some(word) if word.as_str() == "file" => time_files(&rt, alloc),
         Some(word) if word.as_str() == "plain" => time_without_device(&rt, alloc),
         Some(word) if word.as_str() == "bytes" => count_bytes(&rt, alloc),
+        Some(word) if word.as_str() == "check" => time_checks_in_memory(&rt, alloc),
         Some(_) => time_in_memory(&rt, alloc),
     }
 }
