@@ -140,6 +140,22 @@ fn fresh_pages(rt: HostRuntime) {
     assert!(rt; decode(&[0; 4096]).is_none());
 }
 
+/// A page of each kind is decoded into the place of one of each kind.
+#[test]
+fn decoded_in_place(rt: HostRuntime) {
+    let pages = [meta(), full_leaf(), full_internal(), leaf(1)];
+    let mut place = Page::blank();
+    for before in &pages {
+        for page in &pages {
+            before.copy_to(&mut place);
+            let bytes = bytes_of(page);
+            assert!(rt; decode_into(&bytes, &mut place));
+            assert_eq!(rt; &bytes_of(&place)[..], &bytes[..]);
+        }
+        assert!(rt; !decode_into(&[0; 4096], &mut place));
+    }
+}
+
 /// The high key stands at 36, entry i at 107 + 71 i: its key from 1 on, its block at 65, its offset
 /// at 69.
 #[test]

@@ -4,7 +4,7 @@
 
 use arrayvec::ArrayVec;
 use index_model::{Entry, Key, RowAddr};
-use page_codec::{Downlink, Items, Page, PageState, decode, encode};
+use page_codec::{Downlink, Items, Page, PageState, decode, decode_into, encode};
 use std::io::Eprint;
 use std::rt::Clock;
 use std::time::Instant;
@@ -85,6 +85,22 @@ fn nanos_to_decode(rt: &impl Clock, bytes: &mut [u8; 4096], good: &mut u32) -> i
     Ok(start.elapsed(rt)?.as_nanos())
 }
 
+fn nanos_to_decode_into(
+    rt: &impl Clock,
+    bytes: &mut [u8; 4096],
+    page: &mut Page,
+    good: &mut u32,
+) -> io::Result<u128> {
+    let start = Instant::now(rt)?;
+    for i in 0..ROUNDS {
+        bytes[4] = 1 + (i % 200) as u8;
+        if decode_into(bytes, page) {
+            *good = good.wrapping_add(1);
+        }
+    }
+    Ok(start.elapsed(rt)?.as_nanos())
+}
+
 fn nanos_to_copy(rt: &impl Clock, page: &mut Page, other: &mut Page) -> io::Result<u128> {
     let start = Instant::now(rt)?;
     for i in 0..ROUNDS {
@@ -115,11 +131,14 @@ fn time(rt: &(impl Clock + Eprint), name: &str, page: &mut Page) -> io::Result<(
     let encoded = a_second(wrote);
     let decoded = a_second(read);
     let mut other = leaf(20);
+    let mut again = 0;
+    let decoded_into = a_second(nanos_to_decode_into(rt, &mut bytes, &mut other, &mut again)?);
     let copied = a_second(nanos_to_copy(rt, page, &mut other)?);
     let copied_to = a_second(nanos_to_copy_to(rt, page, &mut other)?);
     eprintln!(rt;
         "{name}: {encoded} encoded, {decoded} decoded a second ({good} of {ROUNDS} good)"
     )?;
+    eprintln!(rt; "{name}: {decoded_into} decoded in place ({again} of {ROUNDS} good)")?;
     eprintln!(rt; "{name}: {copied} copied, {copied_to} copied in place")
 }
 
