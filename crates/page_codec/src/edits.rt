@@ -1,37 +1,11 @@
 //! Copies and edits of pages.
 
-ghost use Rattle.std.specs.Prelude.{◌≡◌, ◌<◌, ◌≤◌, ◌+◌, length, insert, take, drop};
+ghost use Rattle.std.specs.Prelude.{◌≡◌, ◌<◌, ◌≤◌, ◌+◌, [], length, insert, take, drop};
 ghost use Rattle.page_codec.specs.Edits.{entries_of, HasEntries, with_entries};
 
 use crate::page::{Downlink, Items, Page, PageState};
 use arrayvec::ArrayVec;
 use index_model::{Bound, Entry, Key, RowAddr};
-
-fn same_list<T: Copy + Default + Drop>(list: &ArrayVec<T, 50>) -> ArrayVec<T, 50>
-    ensures { result ≡ list.now }
-{
-    let mut copy = ArrayVec::new();
-    let _ = copy.try_extend_from_slice(list.as_slice());
-    copy
-}
-
-// Leaves are copied most: they are spared the room for downlinks.
-#[inline(never)]
-fn same_links(links: &ArrayVec<Downlink, 50>) -> Items
-    ensures { result ≡ Items.Downlinks links.now }
-{
-    Items::Downlinks(same_list(links))
-}
-
-fn same_items(items: &Items) -> Items
-    ensures { result ≡ items.now }
-{
-    match items {
-        Items::Meta => Items::Meta,
-        Items::Entries(entries) => Items::Entries(same_list(entries)),
-        Items::Downlinks(links) => same_links(links),
-    }
-}
 
 // Makes the list in place that of another page.
 fn copy_list<T: Copy + Default + Drop>(list: &ArrayVec<T, 50>, target: &mut ArrayVec<T, 50>)
@@ -44,12 +18,44 @@ fn copy_list<T: Copy + Default + Drop>(list: &ArrayVec<T, 50>, target: &mut Arra
     let _ = target.try_extend_from_slice(&source[kept..]);
 }
 
-// Makes the items those of another page. Few pages change their kind: those that don't are spared the room for a copy.
+// Takes all entries out, or makes room for some where there were none.
 #[inline(never)]
+pub(crate) fn clear_entries(items: &mut Items)
+    ensures { items.new ≡ Items.Entries (record { items = [] }) }
+{
+    match items {
+        Items::Entries(list) => list.clear(),
+        _ => *items = Items::Entries(ArrayVec::new()),
+    }
+}
+
+// Makes room for downlinks where there were none.
+#[inline(never)]
+fn clear_links(items: &mut Items)
+    ensures { items.new ≡ Items.Downlinks (record { items = [] }) }
+{
+    *items = Items::Downlinks(ArrayVec::new());
+}
+
+// Makes the items those of a page of another kind.
 fn replace_items(items: &Items, target: &mut Items)
     ensures { target.new ≡ items.now }
 {
-    *target = same_items(items);
+    match items {
+        Items::Meta => *target = Items::Meta,
+        Items::Entries(entries) => {
+            clear_entries(target);
+            if let Items::Entries(list) = target {
+                copy_list(entries, list);
+            }
+        }
+        Items::Downlinks(links) => {
+            clear_links(target);
+            if let Items::Downlinks(list) = target {
+                copy_list(links, list);
+            }
+        }
+    }
 }
 
 // Makes the items those of another page, in place where both are of one kind.
@@ -68,18 +74,9 @@ impl Page {
     pub fn copy(&self) -> Page
         ensures { result ≡ self.now }
     {
-        Page {
-            block: self.block,
-            level: self.level,
-            state: self.state,
-            split: self.split,
-            left: self.left,
-            right: self.right,
-            high: self.high,
-            cycle: self.cycle,
-            deletion: self.deletion,
-            items: same_items(&self.items),
-        }
+        let mut page = Page::blank();
+        self.copy_to(&mut page);
+        page
     }
 
     /// Makes another page the same as this one, in its place: quicker than a copy where both are of one kind.

@@ -8,6 +8,7 @@ ghost use Rattle.page_codec.specs.Spelling.{page_bytes};
 ghost use Rattle.page_codec.specs.Grammar.{IsPage};
 ghost use Rattle.page_codec.specs.declared.page.Page.{Page};
 
+use crate::edits::clear_entries;
 use crate::grammar::is_page;
 use crate::page::{Downlink, Items, Page, PageState};
 use crate::written::is_written;
@@ -124,16 +125,6 @@ fn downlinks(count: usize, bytes: &[u8]) -> Option<ArrayVec<Downlink, 50>>
         rest = tail(rest, 75);
     }
     Some(links)
-}
-
-// Takes all entries out, or makes room for some where there were others.
-fn clear_entries(items: &mut Items)
-    ensures { items.new ≡ Items.Entries (record { items = [] }) }
-{
-    match items {
-        Items::Entries(list) => list.clear(),
-        _ => *items = Items::Entries(ArrayVec::new()),
-    }
 }
 
 // Reads the items. Leaves are read most: their entries take the place of those that were there.
