@@ -1,28 +1,17 @@
 //! Pages that may be stored, and where they are put.
 
 ghost use Rattle.std.specs.Prelude.{◌≡◌, ◌≤◌, ◌<◌, [], ◌∷◌, ◌++◌, vec_len, vec_capacity, IsTrue, ◌↔◌, IfNone, IfSome};
-ghost use Rattle.page_codec.specs.Spelling.{count_of};
 ghost use Rattle.page_action.specs.Stored.{AreStored, IsStorable, IsApartFrom, IsPlaceable, AreActable};
 ghost use Rattle.page_action.specs.States.{with_page, with_pages};
 
 use index_model::Limits;
-use page_codec::{Items, Page, is_page};
+use page_codec::{Page, is_page};
 
 /// Whether the page may be stored under these limits.
 pub fn is_storable(page: &Page, limits: Limits) -> bool
     ensures { IsTrue result ↔ IsStorable limits page.now }
 {
-    is_page(page) && count(&page.items) <= limits.items as usize
-}
-
-fn count(items: &Items) -> usize
-    ensures { result ≡ count_of items.now }
-{
-    match items {
-        Items::Meta => 0,
-        Items::Entries(entries) => entries.len(),
-        Items::Downlinks(links) => links.len(),
-    }
+    is_page(page) && page.items.len() <= limits.items as usize
 }
 
 // Whether none of these pages is of this block.

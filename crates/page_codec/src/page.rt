@@ -36,6 +36,23 @@ pub enum Items {
     Downlinks(ArrayVec<Downlink, 50>),
 }
 
+impl Items {
+    ghost use Rattle.std.specs.Prelude.{◌≤◌};
+    ghost use Rattle.page_codec.specs.Spelling.{count_of};
+
+    /// How many items there are, 0 to 50.
+    pub fn len(&self) -> usize
+        ensures value { result ≡ count_of self.now }
+        ensures fits { result ≤ 50 }
+    {
+        match self {
+            Items::Meta => 0,
+            Items::Entries(entries) => entries.len(),
+            Items::Downlinks(links) => links.len(),
+        }
+    }
+}
+
 /// A page. Not every value is one that the format admits: [`is_page`](crate::is_page) tells.
 #[derive(Drop)]
 pub struct Page {

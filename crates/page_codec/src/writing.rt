@@ -101,17 +101,6 @@ fn kind_of(items: &Items) -> u8
     }
 }
 
-fn count(items: &Items) -> u16
-    ensures value { result ≡ count_of items.now }
-    ensures fits { count_of items.now ≤ 50 }
-{
-    match items {
-        Items::Meta => 0,
-        Items::Entries(entries) => entries.len() as u16,
-        Items::Downlinks(links) => links.len() as u16,
-    }
-}
-
 fn state_of(state: PageState) -> u8
     ensures { result ≡ state_byte state }
 {
@@ -158,7 +147,7 @@ pub fn put_head(out: &mut [u8], page: &Page) -> usize
     let at = put_u32(out, at, link_of(page.right));
     let at = put_u32(out, at, page.cycle);
     let at = put_u64(out, at, page.deletion);
-    let at = put_u16(out, at, count(&page.items));
+    let at = put_u16(out, at, page.items.len() as u16);
     put(out, at, &[0, 0])
 }
 

@@ -12,7 +12,6 @@ ghost use Rattle.page_store.specs.Writing.{ReadingFails, GivesPage};
 use device::Device;
 use device_layout::page_place;
 use index_model::{Fault, Limits};
-use page_action::is_storable;
 use page_codec::{Page, decode_into, encode};
 
 /// Writes the bytes of the page.
@@ -56,7 +55,9 @@ fn decode_stored(bytes: &[u8; 4096], limits: Limits, block: u32, page: &mut Page
     ensures found { IsTrue result → bytes.now ≡ page_bytes page.new }
     ensures only { (p : Page) → IsStored limits block p → bytes.now ≡ page_bytes p → IsTrue result }
 {
-    decode_into(bytes, page) && page.block == block && is_storable(page, limits)
+    decode_into(bytes, page)
+        && page.block == block
+        && page.items.len() <= limits.items as usize
 }
 
 /// Reads the page of this block into the place of another. Refused with `Io`, and with `PageDamaged` where no page stands

@@ -1,28 +1,16 @@
 //! Which pages are images.
 
 ghost use Rattle.std.specs.Prelude.{◌≡◌, ◌↔◌, ◌<◌, ◌≤◌, IsTrue};
-ghost use Rattle.page_codec.specs.Spelling.{count_of};
 ghost use Rattle.redo_log.specs.Groups.{IsWithin, IsImage, AreImages};
 
 use index_model::Limits;
-use page_codec::{Items, Page, is_page};
-
-/// How many items there are.
-fn count(items: &Items) -> usize
-    ensures { result ≡ count_of items.now }
-{
-    match items {
-        Items::Meta => 0,
-        Items::Entries(entries) => entries.len(),
-        Items::Downlinks(links) => links.len(),
-    }
-}
+use page_codec::{Page, is_page};
 
 /// Whether its block and the number of its items are within these limits.
 pub(crate) fn is_within(limits: &Limits, page: &Page) -> bool
     ensures { IsTrue result ↔ IsWithin limits.now page.now }
 {
-    page.block < limits.pages && count(&page.items) <= limits.items as usize
+    page.block < limits.pages && page.items.len() <= limits.items as usize
 }
 
 /// Whether the page is one that an index of these limits may have.
