@@ -55,9 +55,7 @@ fn decode_stored(bytes: &[u8; 4096], limits: Limits, block: u32, page: &mut Page
     ensures found { IsTrue result → bytes.now ≡ page_bytes page.new }
     ensures only { (p : Page) → IsStored limits block p → bytes.now ≡ page_bytes p → IsTrue result }
 {
-    decode_into(bytes, page)
-        && page.block == block
-        && page.items.len() <= limits.items as usize
+    decode_into(bytes, page) && page.block == block && page.items.len() <= limits.items as usize
 }
 
 /// Reads the page of this block into the place of another. Refused with `Io`, and with `PageDamaged` where no page stands
