@@ -1,6 +1,6 @@
 //! What checks of an index cost.
 
-use crate::{FRAMES, Load, both_orders, empty_index, fill};
+use crate::{FRAMES, Load, a_second, both_orders, empty_index, fill};
 use amcheck::{Report, check, check_parents};
 use device::{Device, MemDevice};
 use index_model::Fault;
