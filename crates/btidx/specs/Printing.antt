@@ -56,3 +56,7 @@ answer_text (Forced action) = numbered (codes "forced ") action
 answer_text (Flushed block) = flushed_text block
 answer_text (Checkpointed action) = numbered (codes "checkpointed ") action
 answer_text (Refused fault) = refused_text fault
+
+-- what is said of a line of a script, counted from 1, that is no event
+abbrev pub no_event_text : ℕ → List ℕ
+no_event_text line = codes "btidx: line " ++ (decimal line ++ codes ": not an event")

@@ -1,14 +1,15 @@
 //! What the lines of a script are done with: the only file of the program that knows an index.
 
 ghost use Rattle.std.specs.Prelude.{◌≡◌, ◌≢◌, ◌∷◌, [], true, Bool, List, Ok, IfOk, OnOk, OnErr};
-ghost use Rattle.device.specs.Memory.{trace_of};
+ghost use Rattle.device.specs.Memory.{trace_of, plan_of};
+ghost use Rattle.device.specs.Plans.{failing_at, stopping_at};
 ghost use Rattle.index_model.specs.Actions.{Action};
 ghost use Rattle.index_model.specs.Calls.{Call};
 ghost use Rattle.index_model.specs.declared.entry.Entry.{Entry as IndexEntry};
 ghost use Rattle.index_model.specs.declared.limits.Limits.{Limits};
 ghost use Rattle.page_codec.specs.declared.page.Page.{Page};
 ghost use Rattle.page_store.specs.Logged.{backing_of};
-ghost use Rattle.page_store.specs.Stores.{state_of, held_by};
+ghost use Rattle.page_store.specs.Stores.{state_of, held_by, device_of};
 ghost use Rattle.recovery.specs.Index.{HasIndex};
 ghost use Rattle.tree_acts.specs.Trees.{IsTree};
 ghost use Rattle.session_calls.specs.declared.request.Request.TheVariants.{Insert as ToInsert};
@@ -162,12 +163,18 @@ impl Engine {
     }
 
     /// The nth device call from now on fails, once.
-    pub fn fail_at(&mut self, n: u64) {
+    pub fn fail_at(&mut self, n: u64)
+        ensures plan { plan_of (device_of ⟦<MemDevice as Device>⟧ self.new.world.store)
+            ≡ failing_at n (plan_of (device_of ⟦<MemDevice as Device>⟧ self.old.world.store)) }
+    {
         self.world.fail_at(n);
     }
 
     /// The nth device call from now on fails, and each later one.
-    pub fn stop_at(&mut self, n: u64) {
+    pub fn stop_at(&mut self, n: u64)
+        ensures plan { plan_of (device_of ⟦<MemDevice as Device>⟧ self.new.world.store)
+            ≡ stopping_at n (plan_of (device_of ⟦<MemDevice as Device>⟧ self.old.world.store)) }
+    {
         self.world.stop_at(n);
     }
 

@@ -1,5 +1,7 @@
 //! What a command that fails prints.
 
+ghost use Rattle.btidx.specs.Printing.{PrintsLine, no_event_text};
+
 use index_model::Fault;
 use std::io::{self, Write};
 
@@ -13,6 +15,8 @@ pub fn print_refusal<W: Write>(err: &mut W, fault: Fault) -> io::Result<()> {
 }
 
 /// Prints that this line of a script, counted from 1, is no event.
-pub fn print_no_event<W: Write>(err: &mut W, line: u64) -> io::Result<()> {
+pub fn print_no_event<W: Write>(err: &mut W, line: u64) -> io::Result<()>
+    ensures { PrintsLine (W.contents err.old) (W.contents err.new) result (no_event_text line) }
+{
     writeln!(err, "btidx: line {line}: not an event")
 }
