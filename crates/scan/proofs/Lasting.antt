@@ -1,8 +1,10 @@
 -- What a scan knows lasts while others act, and what it has to do has a bound.
-use Rattle.std.proofs.Common.{ℕ, ◌+◌, ◌≤◌, false, Option, List, length, ◌∙◌, arith, length-drop}
+use Rattle.std.proofs.Common.{◌≡◌, ℕ, ◌+◌, ◌≤◌, ◌||◌, Bool, false, Option, Some, None, List, length, refl, ap, ◌∙◌, arith, length-drop}
+use Rattle.std.proofs.lemmas.Bool.{eq-eqb}
 use Rattle.std.proofs.lemmas.Nat.{mul-le}
 use Rattle.index_model.specs.Range.{start_of}
 use Rattle.index_model.specs.declared.bound.Bound.{Bound}
+use Rattle.latch_table.specs.Holdings.{Holding, has_pin, holding_of}
 use Rattle.page_codec.specs.declared.page.Page.{Page}
 use Rattle.page_action.specs.States.{State}
 use Rattle.tree_shape.specs.Walks.{frontier_aim}
@@ -10,9 +12,9 @@ use Rattle.tree_shape.proofs.Fits.{frontier_falls}
 use Rattle.tree_acts.specs.Trees.{HasTree}
 use Rattle.tree_acts.proofs.Sizes.{low_level, pages_few}
 use Rattle.descent.specs.Shared.{NumbersStay}
-use Rattle.scan.specs.Scans.{ScanStands}
+use Rattle.scan.specs.Scans.{LeafIsLive, leaf_pinned, ScanStands}
 use Rattle.scan.specs.Work.{count_ahead, leaves_left, walk_left, walk_length}
-use Rattle.scan.specs.Laws.{ScansAreUndisturbed, FreshScansAreBounded, ScansAreBounded}
+use Rattle.scan.specs.Laws.{PinnedLeavesLast, ScansAreUndisturbed, FreshScansAreBounded, ScansAreBounded}
 use Rattle.scan.specs.declared.steps.ScanAt.{ScanAt}
 use Rattle.scan.specs.declared.steps.ScanAt.TheVariants.{Start, At, Last}
 use Rattle.scan.proofs.Counting.{count_few, first_way}
@@ -26,12 +28,20 @@ stands_still old new start leaf f (At way) stay on = record {
 }
 stands_still old new start leaf f Last stay h = h
 
+-- the leaf that it stands on is pinned
+live_still : (old new : State) (session : ℕ) (leaf : Option ℕ) → holding_of old.table session ≡ leaf_pinned leaf → PinnedLeavesLast session old new → LeafIsLive old.pages leaf
+    → LeafIsLive new.pages leaf
+live_still old new session None held last live = tt
+live_still old new session (Some block) held last live =
+    last block (ap (λ (h : Holding). has_pin h.pins block) held ∙ ap (λ (b : Bool). b || false) (eq-eqb block block refl)) live
+
 pub undisturbed : ScansAreUndisturbed
-undisturbed old new op rely fits = record {
+undisturbed old new op rely last fits = record {
   session = fits.session;
   start = fits.start;
   running = rely.number ∙ fits.running;
   held = rely.held ∙ fits.held;
+  live = live_still old new op.session op.leaf fits.held last fits.live;
   stands = stands_still old new fits.start op.leaf op.frontier op.at (rely.numbers fits.start fits.running) fits.stands;
   started = fits.started;
   few = fits.few;

@@ -9,6 +9,7 @@ use Rattle.page_action.specs.States.{State, with_table}
 use Rattle.tree_shape.specs.Nodes.{node_of}
 use Rattle.tree_shape.specs.Laws.{IsPassedBy}
 use Rattle.tree_shape.specs.Walks.{frontier_aim, is_within}
+use Rattle.tree_acts.specs.Leaves.{WasLeaf}
 use Rattle.tree_acts.specs.Trees.{HasTree, HasPlace}
 use Rattle.tree_acts.specs.Ways.{RightIsThere}
 use Rattle.tree_acts.proofs.Telling.{passed_tells, places_widen, trail_begins_here, trail_goes_right}
@@ -40,6 +41,7 @@ module _ (old new : State) (before : ScanOp) (order : IsInOrder old) (fits : Sca
     start = fits.start;
     running = fits.running;
     held = without_held old.table before.session before.leaf below fits.held;
+    live = tt;
     stands = way_with old (without_leaf old.table before.session before.leaf) fits.start (frontier_aim before.frontier) false 0 way on;
     started = fits.started;
     few = fits.few;
@@ -102,12 +104,13 @@ module _ (old new : State) (before : ScanOp) (block : ℕ) (order : IsInOrder ol
       (stood_many old.table before.session before.leaf block low ∙ order.holdings) (λ other differ. stood_other old.table before.session before.leaf block low other differ)
 
   pub reading_fits : (page : Page) (es : List Entry) → slice_get old.pages page.block ≡ Some page → HasPlace old fits.start 0 (frontier_aim before.frontier) false page.block
-      → length es ≤ 50 → ScanFits new (behind (record before { leaf = Some block }) page.high page.right es)
-  reading_fits page es found place few = subst (λ (st : State). ScanFits st (behind (record before { leaf = Some block }) page.high page.right es)) (sym is) (record {
+      → WasLeaf old.pages block → length es ≤ 50 → ScanFits new (behind (record before { leaf = Some block }) page.high page.right es)
+  reading_fits page es found place live few = subst (λ (st : State). ScanFits st (behind (record before { leaf = Some block }) page.high page.right es)) (sym is) (record {
     session = fits.session;
     start = fits.start;
     running = fits.running;
     held = stood_held old.table before.session before.leaf block low fits.held;
+    live = live;
     stands = stands_with old (pinned (without_leaf old.table before.session before.leaf) before.session block) fits.start (Some block) (frontier_past before.frontier page.high)
         (behind_leaf page.high page.right before.range.below)
         (stands_behind old fits.start (Some block) before.frontier page before.range.below order.tree found place);

@@ -1,18 +1,26 @@
 -- What holds of scans beside their steps.
-use Rattle.std.specs.Prelude.{ℕ, ◌<◌, ◌≤◌, List, length}
+use Rattle.std.specs.Prelude.{◌≡◌, ℕ, ◌<◌, ◌≤◌, true, List, length}
 use Rattle.index_model.specs.declared.range.Range.{Range}
+use Rattle.latch_table.specs.Holdings.{has_pin, holding_of}
 use Rattle.page_codec.specs.declared.page.Page.{Page}
 use Rattle.page_action.specs.States.{State}
+use Rattle.tree_acts.specs.Leaves.{WasLeaf}
 use Rattle.descent.specs.Shared.{IsInOrder, MayRely}
 use Rattle.scan.specs.Scans.{ScanFits, fresh_scan}
 use Rattle.scan.specs.Work.{scan_left}
 use Rattle.scan.specs.declared.steps.ScanOp.{ScanOp}
 
+-- each live leaf that the session has pinned stays one
+abbrev pub PinnedLeavesLast : ℕ → State → State → Type 0
+PinnedLeavesLast session old new =
+    (block : ℕ) → has_pin (holding_of old.table session).pins block ≡ true
+    → WasLeaf old.pages block → WasLeaf new.pages block
+
 -- what a scan knows it still knows after others have acted
 abbrev pub ScansAreUndisturbed : Type 0
 ScansAreUndisturbed =
-    (old new : State) (op : ScanOp) → MayRely op.session old new → ScanFits old op
-    → ScanFits new op
+    (old new : State) (op : ScanOp) → MayRely op.session old new
+    → PinnedLeavesLast op.session old new → ScanFits old op → ScanFits new op
 
 -- what is left to do for a scan that hasn't begun, within the limits
 abbrev pub FreshScansAreBounded : Type 0

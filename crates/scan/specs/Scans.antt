@@ -15,7 +15,9 @@ use Rattle.page_action.specs.Causes.{nothing_wrong, has_failed, pinned_blocks, c
 use Rattle.page_action.specs.Contents.{entry_on_live_leaf}
 use Rattle.page_action.specs.States.{State, Backing, Continues, with_table}
 use Rattle.page_action.specs.declared.page_store.PageStore.{Ghosts}
+use Rattle.page_codec.specs.declared.page.Page.{Page}
 use Rattle.tree_shape.specs.Walks.{frontier_aim}
+use Rattle.tree_acts.specs.Leaves.{WasLeaf}
 use Rattle.tree_acts.specs.Ways.{AreWhole}
 use Rattle.descent.specs.Onward.{IsOnWay}
 use Rattle.descent.specs.Shared.{IsInOrder, Does, IsOneStep}
@@ -93,6 +95,11 @@ pins_of (Some leaf) = leaf ∷ []
 abbrev pub leaf_pinned : Option ℕ → Holding
 leaf_pinned leaf = record { latches = []; pins = pins_of leaf }
 
+-- the page that the scan stands on is a live leaf
+abbrev pub LeafIsLive : List Page → Option ℕ → Type 0
+LeafIsLive pages None = Unit {0}
+LeafIsLive pages (Some block) = WasLeaf pages block
+
 -- it stands on no leaf before its first step, and is on its way to what lies behind the frontier
 abbrev pub ScanStands : State → ℕ → Option ℕ → Bound → ScanAt → Type 0
 ScanStands st start leaf frontier Start = leaf ≡ None
@@ -106,6 +113,7 @@ pub record ScanFits (st : State) (op : ScanOp) : Type 0 where
   pub start : ℕ
   pub running : slice_get st.running op.session ≡ Some (Some start)
   pub held : holding_of st.table op.session ≡ leaf_pinned op.leaf
+  pub live : LeafIsLive st.pages op.leaf
   pub stands : ScanStands st start op.leaf op.frontier op.at
   -- what lies beyond the frontier isn't before the range
   pub started : (e : Entry) → is_past op.frontier e ≡ true → from_admits op.range.from e.key ≡ true

@@ -14,6 +14,7 @@ use Rattle.page_action.specs.Causes.{where_forced}
 use Rattle.page_action.specs.States.{State, IsLater}
 use Rattle.page_action.specs.declared.page_store.PageStore.{Ghosts}
 use Rattle.descent.specs.Shared.{OthersRely}
+use Rattle.page_delete.specs.Parts.{PinnedLeavesStay}
 use Rattle.session_calls.specs.Due.{IsDueIn, HasSteps}
 use Rattle.session_calls.specs.Ops.{DeadSets, asked_by, op_before, asks_vacuum, asks_sweep, is_vacuum, is_sweep, is_sweeping, IsOfSets, IsCaused}
 use Rattle.session_calls.specs.Sessions.{Matches, OpRuns, CallFits, SlotFits, IsIdle, acts_of, begun_call, after_request, SessionGoes, SessionBegins, OnlyOwnAreFlagged}
@@ -35,7 +36,7 @@ use Rattle.schedule.specs.Events.{Move, Steps, Takes, GivesUp, Upkeep, Forces, F
 use Rattle.schedule.specs.Runs.{EventRuns}
 use Rattle.schedule.proofs.Frames.{began_within, slot_is, goes_fits}
 use Rattle.schedule.proofs.Keeping.{no_growth}
-use Rattle.schedule.proofs.Leaves.{leaf_same, lows_relied, lows_still}
+use Rattle.schedule.proofs.Leaves.{leaf_same, leaves_same, lows_relied, lows_still}
 use Rattle.schedule.proofs.Lists.{get_set_same, get_set_other, length_set, get_within, get_append_some, get_append_new, get_append_cases, same_some}
 use Rattle.schedule.proofs.Owners.{told_durable, acts_few}
 use Rattle.schedule.proofs.Vacuums.{before_vacuum, before_sweep, calm_request, none_runs, vacuums_still, sweep_begins, cleanup_begins}
@@ -141,6 +142,9 @@ module _ {S : Type 0} (g : Ghosts S) (start : Entry → Bool) (old : Snapshot S)
   others : OthersRely session (g.state old.store) (g.state store)
   others = subst (λ (t : ℕ). OthersRely t (g.state old.store) (g.state store)) runs.is.session_is one.others
 
+  pinned : PinnedLeavesStay session (g.state old.store) (g.state store)
+  pinned = subst (λ (t : ℕ). PinnedLeavesStay t (g.state old.store) (g.state store)) runs.is.session_is one.pinned
+
   new : Snapshot S
   new = record { store = store; slots = slice_set old.slots session slot; sets = old.sets; history = old.history ++ acts_of runs.number one.effect; calls = slice_set old.calls runs.number one.after }
 
@@ -148,7 +152,7 @@ module _ {S : Type 0} (g : Ghosts S) (start : Entry → Bool) (old : Snapshot S)
   unfolding new
   new_fits = goes_fits g start old store session one.after one.effect op slot fits found runs
       (told_same (old.history ++ acts_of runs.number one.effect) (length old.history) one.effect runs.call one.after runs.is.running (grown old.history runs.number one.effect) answer one.told)
-      one.asked others one.world one.meets one.holds one.cycle one.leaves one.sweeps
+      one.asked others pinned one.world one.meets one.holds one.cycle one.leaves one.sweeps
 
   no_effect : (effect : Option Effect) → old.history ++ acts_of runs.number effect ≡ old.history → effect ≡ None
   no_effect None same = refl
@@ -178,7 +182,7 @@ module _ {S : Type 0} (g : Ghosts S) (start : Entry → Bool) (old : Snapshot S)
     waits = at_slots old.slots session (Some op) slot (λ x y. WaitsForPins (MovesCall session move) answer (g.state old.store) x y) found waits;
     entries = at_slots old.slots session (Some op) slot (λ x y. CountsOnEntries (MovesCall session move) old.sets answer (g.state old.store) (g.state store) x y) found entries;
     spares = at_slots old.slots session (Some op) slot (λ x y. SparesOn (MovesCall session move) answer (g.state old.store) (g.state store) x y) found spares;
-    leaves = λ other block page apart there pinned. one.pinned other block page (λ e. apart (sym (e ∙ runs.is.session_is))) there pinned;
+    leaves = λ other block page apart there held. pinned other block page (λ e. apart (sym e)) there held;
     lows = lows_relied session (g.state old.store) (g.state store) others;
     quiet = leaves_be g (MovesCall session move) old new one.limits one.frames (λ same. one.pages (no_effect one.effect same)) (others_stay_set old.slots session slot);
     durable = told_durable answer (g.backing store).durable (length old.history) one.effect runs.call one.after one.told;
@@ -374,7 +378,8 @@ request_acts false session st = refl
 -- a call is begun
 module _ {S : Type 0} (g : Ghosts S) (start : Entry → Bool) (old : Snapshot S) (store : S) (session : ℕ) (request : Request) (op : Op)
     (fits : Fits g start old) (free : slice_get old.slots session ≡ Some None) (begins : SessionBegins (g.state old.store) (g.state store) old.sets start old.history (length old.calls) session request (Some op))
-    (named : IsOfSets old.sets request) (alone : asks_vacuum request ≡ true → one_vacuums old.slots ≡ false) (fresh : op ≡ op_before session request) where
+    (named : IsOfSets old.sets request) (alone : asks_vacuum request ≡ true → one_vacuums old.slots ≡ false) (fresh : op ≡ op_before session request)
+    (state : g.state store ≡ after_request (asks_sweep request) session (g.state old.store)) where
   abbrev call : Call
   call = begun_call session (asked_by old.sets request) (length old.history)
 
@@ -390,6 +395,9 @@ module _ {S : Type 0} (g : Ghosts S) (start : Entry → Bool) (old : Snapshot S)
 
   within_slots : session < length old.slots
   within_slots = get_within old.slots session None free
+
+  same_pages : (g.state store).pages ≡ (g.state old.store).pages
+  same_pages = ap (λ (st : State). st.pages) state ∙ request_pages (asks_sweep request) session (g.state old.store)
 
   -- it is a bulk delete or a cleanup exactly where one was asked for
   vacuum_is : is_vacuum op ≡ asks_vacuum request
@@ -446,7 +454,8 @@ module _ {S : Type 0} (g : Ghosts S) (start : Entry → Bool) (old : Snapshot S)
     is = record { found = get_append_some old.calls (call ∷ []) h.number h.call h.is.found; session_is = h.is.session_is; running = h.is.running };
     only = λ j c r. elim (old_or_new u j c r) [ inl a ↦ h.only j c a | inr b ↦ absurd (ne b.1) ];
     runs = subst (λ (l : List Action). OpRuns (g.state store) old.sets start l h.call other) (append-nil old.history)
-        (undisturbed (g.state old.store) (g.state store) old.sets start old.history [] h.call other (begins.others h.call.session (λ e. ne (sym h.is.session_is ∙ e))) h.runs);
+        (undisturbed (g.state old.store) (g.state store) old.sets start old.history [] h.call other (begins.others h.call.session (λ e. ne (sym h.is.session_is ∙ e)))
+        (leaves_same (g.state old.store) (g.state store) same_pages h.call.session) h.runs);
     sweeps = sweep_theirs u other h.number h.call.began (slot_is old.slots u (Some other) in_slot) (began_within g start old u h.number h.call fits h.is) h.sweeps;
   }
 
@@ -488,10 +497,10 @@ module _ {S : Type 0} (g : Ghosts S) (start : Entry → Bool) (old : Snapshot S)
             record { call = was.call; found = get_append_some old.calls (call ∷ []) a.by was.call was.found; since = was.since; until = was.until; may = was.may });
       }
 
-  pub begins_on : g.state store ≡ after_request (asks_sweep request) session (g.state old.store) → g.follows old.store store → IsLater (g.backing old.store) (g.backing store) → HasSteps (g.state old.store) (g.state store) request (Some op)
+  pub begins_on : g.follows old.store store → IsLater (g.backing old.store) (g.backing store) → HasSteps (g.state old.store) (g.state store) request (Some op)
       → EventAlways g (BeginsCall session request) Begun (here_at old) (record { store = store; slots = slice_set old.slots session (Some op); sets = old.sets })
       → EventRuns g (here_at old) (record { store = store; slots = slice_set old.slots session (Some op); sets = old.sets }) (BeginsCall session request) Begun start old.history old.calls
-  begins_on state follows later counts always = record {
+  begins_on follows later counts always = record {
     then_history = old.history;
     then_calls = old.calls ++ call ∷ [];
     does = record {
@@ -505,10 +514,10 @@ module _ {S : Type 0} (g : Ghosts S) (start : Entry → Bool) (old : Snapshot S)
       waits = tt;
       entries = tt;
       spares = tt;
-      leaves = λ other block page apart there pinned. leaf_same (g.state old.store) (g.state store) (ap (λ (st : State). st.pages) state ∙ request_pages (asks_sweep request) session (g.state old.store)) block page there;
-      lows = lows_still (g.state old.store) (g.state store) (ap (λ (st : State). st.pages) state ∙ request_pages (asks_sweep request) session (g.state old.store));
+      leaves = λ other block page apart there pinned. leaf_same (g.state old.store) (g.state store) same_pages block page there;
+      lows = lows_still (g.state old.store) (g.state store) same_pages;
       quiet = leaves_be g (BeginsCall session request) old begun (ap (λ (st : State). st.limits) state ∙ request_limits (asks_sweep request) session (g.state old.store)) (ap (λ (st : State). st.frames) state ∙ request_frames (asks_sweep request) session (g.state old.store))
-          (λ same. ap (λ (st : State). st.pages) state ∙ request_pages (asks_sweep request) session (g.state old.store)) (others_stay_set old.slots session (Some op));
+          (λ same. same_pages) (others_stay_set old.slots session (Some op));
       durable = tt;
       sets = refl;
       follows = follows;

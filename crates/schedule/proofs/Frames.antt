@@ -8,6 +8,7 @@ use Rattle.index_model.specs.declared.entry.Entry.{Entry}
 use Rattle.index_model.proofs.Histories.{there_before, meets_later}
 use Rattle.page_action.specs.declared.page_store.PageStore.{Ghosts}
 use Rattle.descent.specs.Shared.{OthersRely}
+use Rattle.page_delete.specs.Parts.{PinnedLeavesStay}
 use Rattle.tree_acts.specs.Leaves.{LeavesStay}
 use Rattle.session_calls.specs.Ops.{asked_of, is_vacuum}
 use Rattle.session_calls.specs.Sessions.{Matches, IsIdle, SlotIs, IsAsked, acts_of, cycle_behind, asks_cleanup}
@@ -18,6 +19,7 @@ use Rattle.session_calls.proofs.Sweeping.{sweeps_undisturbed}
 use Rattle.session_calls.proofs.Telling.{IsSameCall}
 use Rattle.session_calls.proofs.Undisturbed.{undisturbed, idle_undisturbed}
 use Rattle.schedule.specs.Snapshots.{Snapshot, slot_of, IsRunningCall, SlotRuns, SlotMatches, slot_vacuums, Fits}
+use Rattle.schedule.proofs.Leaves.{leaves_last}
 use Rattle.schedule.proofs.Lists.{get_set_same, get_set_other, length_set, get_within, get_append, get_append_right, same_some}
 use Rattle.schedule.proofs.Owners.{add_stays, own_action}
 use Rattle.schedule.proofs.Vacuums.{vacuums_go, cycle_kept, calm_sweep, calm_cleanup}
@@ -78,7 +80,7 @@ module _ {S : Type 0} (g : Ghosts S) (start : Entry → Bool) (old : Snapshot S)
     (fits : Fits g start old) (at : slice_get old.slots session ≡ Some (Some op)) (runs : SlotRuns g start old session op)
     (same : IsSameCall (old.history ++ acts_of runs.number effect) (length old.history) effect runs.call after)
     (asked : IsAsked (contents_after start old.history) runs.call.ask runs.call.added effect)
-    (others : OthersRely session (g.state old.store) (g.state store)) (world : Matches (g.state store) start (old.history ++ acts_of runs.number effect)) (meets : Meets start (old.history ++ acts_of runs.number effect) runs.number after)
+    (others : OthersRely session (g.state old.store) (g.state store)) (pinned : PinnedLeavesStay session (g.state old.store) (g.state store)) (world : Matches (g.state store) start (old.history ++ acts_of runs.number effect)) (meets : Meets start (old.history ++ acts_of runs.number effect) runs.number after)
     (holds : SlotIs (g.state store) old.sets start (old.history ++ acts_of runs.number effect) after slot)
     (cycle : (g.state store).cycle ≡ cycle_behind runs.call.ask slot (g.state old.store).cycle) (leaves : asks_cleanup runs.call.ask ≡ false → (g.state store).cycle ≡ (g.state old.store).cycle → LeavesStay effect (g.state old.store) (g.state store))
     (sweeps : SlotSweeps (g.state store) old.sets start (old.history ++ acts_of runs.number effect) runs.number after.began slot) where
@@ -159,7 +161,8 @@ module _ {S : Type 0} (g : Ghosts S) (start : Entry → Bool) (old : Snapshot S)
         call = h.call;
         is = record { found = elsewhere h.number apart ∙ h.is.found; session_is = h.is.session_is; running = h.is.running };
         only = λ j c r. h.only j c (theirs u j c ne r);
-        runs = undisturbed (g.state old.store) (g.state store) old.sets start old.history acts h.call other (others h.call.session (λ e. ne (sym h.is.session_is ∙ e))) h.runs;
+        runs = undisturbed (g.state old.store) (g.state store) old.sets start old.history acts h.call other (others h.call.session (λ e. ne (sym h.is.session_is ∙ e)))
+            (leaves_last session h.call.session (g.state old.store) (g.state store) (λ e. ne (sym h.is.session_is ∙ e)) pinned) h.runs;
         sweeps = sweep_theirs u other h.number h.call.began ne (slot_is old.slots u (Some other) in_slot) apart (began_within g start old u h.number h.call fits h.is) h.sweeps;
       }
 

@@ -1,15 +1,24 @@
--- Live leaves stay behind an event that changes no page, and lows don't rise behind any.
-use Rattle.std.proofs.Common.{◌≡◌, ℕ, suc, List, sym, subst, arith}
+-- Live leaves stay behind an event that changes no page, pinned ones behind any, and lows don't rise.
+use Rattle.std.proofs.Common.{◌≡◌, ◌≢◌, ℕ, suc, List, sym, subst, arith}
 use Rattle.page_codec.specs.declared.page.Page.{Page}
 use Rattle.page_action.specs.States.{State}
 use Rattle.tree_acts.specs.Leaves.{IsLeafAt, WasLeaf}
 use Rattle.tree_acts.specs.Lows.{NoLowRises}
 use Rattle.tree_acts.proofs.Lows.{lows_same}
 use Rattle.descent.specs.Shared.{OthersRely}
+use Rattle.page_delete.specs.Parts.{PinnedLeavesStay}
+use Rattle.scan.specs.Laws.{PinnedLeavesLast}
 
 -- where the pages are as they were
 pub leaf_same : (old new : State) → new.pages ≡ old.pages → (block : ℕ) (page : Page) → IsLeafAt old.pages block page → WasLeaf new.pages block
 leaf_same old new same block page at = record { page = page; was = subst (λ (ps : List Page). IsLeafAt ps block page) (sym same) at }
+
+pub leaves_same : (old new : State) → new.pages ≡ old.pages → (session : ℕ) → PinnedLeavesLast session old new
+leaves_same old new same session block pinned leaf = leaf_same old new same block leaf.page leaf.was
+
+-- what one session leaves of pinned leaves is what another may rely on
+pub leaves_last : (session other : ℕ) (old new : State) → other ≢ session → PinnedLeavesStay session old new → PinnedLeavesLast other old new
+leaves_last session other old new apart stay block pinned leaf = stay other block leaf.page apart leaf.was pinned
 
 pub lows_still : (old new : State) → new.pages ≡ old.pages → NoLowRises old.pages new.pages
 lows_still old new same = subst (NoLowRises old.pages) (sym same) (lows_same old.pages)

@@ -12,7 +12,7 @@ use Rattle.page_action.specs.declared.page_store.PageStore.{Ghosts}
 use Rattle.tree_acts.specs.Leaves.{IsLeafAt}
 use Rattle.tree_acts.proofs.Removing.{leaf_is}
 use Rattle.descent.specs.Shared.{IsInOrder}
-use Rattle.scan.specs.Scans.{leaf_pinned}
+use Rattle.scan.specs.Scans.{LeafIsLive, leaf_pinned}
 use Rattle.session_calls.specs.Ops.{DeadSets, op_before, asked_of}
 use Rattle.session_calls.specs.Sessions.{AnswersNext, IsStillBefore, KeepsBeforePins, OnlyWritersAct, acts_of}
 use Rattle.session_calls.specs.declared.answer.Answer.{Answer}
@@ -26,7 +26,9 @@ use Rattle.session_calls.proofs.Telling.{IsSameCall, told_same}
 use Rattle.schedule.specs.Snapshots.{Snapshot, slot_of, SlotRuns, slot_vacuums, slot_sweeps, slot_has_call, Fits}
 use Rattle.vacuum.specs.declared.steps.BulkDeleteOp.{BulkDeleteOp}
 use Rattle.schedule.specs.Events.{Move, Steps, Takes, GivesUp, Upkeep, Kind, BeginsCall, MovesCall, KeepsStore, kind_of, CallGoesOn, Stays, MovesOn, AnswersBeginning, EventDoes}
-use Rattle.schedule.specs.Stands.{StandsOn, HasLeaf, DoesNotFinish, HasNotCome, NoneHasCome, BulkDeletesWait, BegunBulkDeletesWait}
+use Rattle.schedule.specs.Runs.{IsRun}
+use Rattle.schedule.specs.Stands.{StandsOn, HasLeaf, BeforeEach, DoesNotFinish, NoneFinishes, HasNotCome, NoneHasCome, ScansStandOnLeaves, BulkDeletesWait, BegunBulkDeletesWait}
+use Rattle.schedule.specs.declared.event.Event.{Event}
 use Rattle.schedule.proofs.Frames.{slot_is}
 use Rattle.schedule.proofs.Leaves.{leaf_same}
 use Rattle.schedule.proofs.Lists.{get_set_same, get_set_other, get_within, same_some}
@@ -96,6 +98,12 @@ module _ {S : Type 0} (g : Ghosts S) (start : Entry → Bool) where
       let held : holding_of (g.state now.store).table session ≡ leaf_pinned (Some block) =
       subst (λ (s : ℕ). holding_of (g.state now.store).table s ≡ leaf_pinned (Some block)) is (runs.runs.fits.held ∙ ap leaf_pinned stands.leaf) in
       ap (λ (h : Holding). has_pin h.pins block) held ∙ ap (λ (b : Bool). b || false) (eq-eqb block block refl)
+
+  -- ... and it is a live leaf
+  stands_leaf : (session block : ℕ) (now : Snapshot S) → Fits g start now → StandsOn session block now → HasLeaf g block now
+  stands_leaf session block now fits stands =
+      let runs : SlotRuns g start now session (Scan stands.op) = fits.running session (Some (Scan stands.op)) (slot_found now.slots session (Scan stands.op) stands.runs) in
+      subst (LeafIsLive (g.state now.store).pages) stands.leaf runs.runs.fits.live
 
   -- behind an event of a session's running call, what it runs was asked the same
   moved_asks : (session : ℕ) (move : Move) (answer : Answer) (old new : Snapshot S) → Fits g start old → EventDoes g start (MovesCall session move) answer old new
@@ -267,19 +275,28 @@ module _ {S : Type 0} (g : Ghosts S) (start : Entry → Bool) where
     leaf_behind (MovesCall session GivesUp) answer does = leaf_quiet (MovesCall session GivesUp) answer does does.always.calm
     leaf_behind (KeepsStore upkeep) answer does = leaf_quiet (KeepsStore upkeep) answer does does.always.calm
 
-pub bulk_deletes_wait : {S : Type 0} (g : Ghosts S) → BulkDeletesWait g
-bulk_deletes_wait {S} g start told [] [] first last fits run session block stands leaf none = (tt, subst (λ (m : Snapshot S). NoneHasCome block m) run none, subst (λ (m : Snapshot S). HasLeaf g block m) run leaf)
-bulk_deletes_wait g start told (event ∷ events) (answer ∷ answers) first last fits run session block stands leaf none =
+waits_on_leaf : {S : Type 0} (g : Ghosts S) (start : Entry → Bool) (told : List Answer) (events : List Event) (answers : List Answer) (first last : Snapshot S) → Fits g start first
+    → (run : IsRun g start told events answers first last) → (session block : ℕ) → BeforeEach g start (StandsOn session block) told events answers first last run
+    → HasLeaf g block first → NoneHasCome block first → NoneFinishes g start told events answers first last run × NoneHasCome block last × HasLeaf g block last
+waits_on_leaf {S} g start told [] [] first last fits run session block stands leaf none = (tt, subst (λ (m : Snapshot S). NoneHasCome block m) run none, subst (λ (m : Snapshot S). HasLeaf g block m) run leaf)
+waits_on_leaf g start told (event ∷ events) (answer ∷ answers) first last fits run session block stands leaf none =
     let one = event_keeps g start session block first run.1.0 fits stands.0 leaf none (kind_of event) answer run.1.1.does in
     let still = leaf_behind g start session block first run.1.0 fits stands.0 leaf none (kind_of event) answer run.1.1.does in
-    let rest = bulk_deletes_wait g start (told ++ answer ∷ []) events answers run.1.0 last run.1.1.does.fits run.1.2 session block stands.1 still one.1 in
+    let rest = waits_on_leaf g start (told ++ answer ∷ []) events answers run.1.0 last run.1.1.does.fits run.1.2 session block stands.1 still one.1 in
     ((one.0, rest.0), rest.1, rest.2)
-bulk_deletes_wait g start told [] (answer ∷ answers) first last fits run session block stands leaf none = absurd run
-bulk_deletes_wait g start told (event ∷ events) [] first last fits run session block stands leaf none = absurd run
+waits_on_leaf g start told [] (answer ∷ answers) first last fits run session block stands leaf none = absurd run
+waits_on_leaf g start told (event ∷ events) [] first last fits run session block stands leaf none = absurd run
+
+pub scans_stand : {S : Type 0} (g : Ghosts S) → ScansStandOnLeaves g
+scans_stand g start now session block fits stands = stands_leaf g start session block now fits stands
+
+pub bulk_deletes_wait : {S : Type 0} (g : Ghosts S) → BulkDeletesWait g
+bulk_deletes_wait g start told events answers first last fits run session block each stands none =
+    waits_on_leaf g start told events answers first last fits run session block each (stands_leaf g start session block first fits stands) none
 
 pub begun_bulk_deletes_wait : {S : Type 0} (g : Ghosts S) → BegunBulkDeletesWait g
-begun_bulk_deletes_wait {S} g start told vacuumer set events answers first last fits run session block stands leaf =
-    let rest = bulk_deletes_wait g start (told ++ Begun ∷ []) events answers next last does.fits run.1.2 session block stands.1 still none in
+begun_bulk_deletes_wait {S} g start told vacuumer set events answers first last fits run session block stands =
+    let rest = waits_on_leaf g start (told ++ Begun ∷ []) events answers next last does.fits run.1.2 session block stands.1 still none in
     ((tt, rest.0), rest.1, rest.2)
   where
     next : Snapshot S
@@ -287,6 +304,9 @@ begun_bulk_deletes_wait {S} g start told vacuumer set events answers first last 
 
     does : EventDoes g start (BeginsCall vacuumer (ToBulk set)) Begun first next
     does = run.1.1.does
+
+    leaf : HasLeaf g block first
+    leaf = stands_leaf g start session block first fits stands.0
 
     above : 1 ≤ block
     above = leaf_above (g.state first.store) block leaf.page fits.matches.order leaf.was

@@ -60,13 +60,18 @@ HasNotCome block (Some (Bulk set op)) = op.cursor ≤ block
 abbrev pub NoneHasCome : {S : Type 0} → ℕ → Snapshot S → Type 0
 NoneHasCome block now = (session : ℕ) → HasNotCome block (slot_of now.slots session)
 
--- In a run before each event of which a scan stands on a page that is a live leaf at first: where no bulk delete has come to it
--- at first, none has at last, none finishes, and it is a live leaf still.
+-- the page that a scan stands on is a live leaf, at each moment that fits
+abbrev pub ScansStandOnLeaves : {S : Type 0} → Ghosts S → Type 0
+ScansStandOnLeaves {S} g =
+    (start : Entry → Bool) (now : Snapshot S) (session block : ℕ) → Fits g start now → StandsOn session block now → HasLeaf g block now
+
+-- In a run at whose beginning and before each event of which a scan stands on a leaf: where no bulk delete has come to it at
+-- first, none has at last, none finishes, and it is a live leaf still.
 abbrev pub BulkDeletesWait : {S : Type 0} → Ghosts S → Type 0
 BulkDeletesWait {S} g =
     (start : Entry → Bool) (told : List Answer) (events : List Event) (answers : List Answer) (first last : Snapshot S) → Fits g start first
     → (run : IsRun g start told events answers first last) → (session block : ℕ) → BeforeEach g start (StandsOn session block) told events answers first last run
-    → HasLeaf g block first → NoneHasCome block first → NoneFinishes g start told events answers first last run × NoneHasCome block last × HasLeaf g block last
+    → StandsOn session block first → NoneHasCome block first → NoneFinishes g start told events answers first last run × NoneHasCome block last × HasLeaf g block last
 
 -- A bulk delete that begins while another session's scan stands on a leaf doesn't finish while it stands there: in a run that
 -- begins with this beginning, and before each event of which the scan stands on the leaf, no bulk delete finishes, none has
@@ -76,5 +81,4 @@ BegunBulkDeletesWait {S} g =
     (start : Entry → Bool) (told : List Answer) (vacuumer set : ℕ) (events : List Event) (answers : List Answer) (first last : Snapshot S) → Fits g start first
     → (run : IsRun g start told (BulkEvent vacuumer set ∷ events) (Begun ∷ answers) first last) → (session block : ℕ)
     → BeforeEach g start (StandsOn session block) told (BulkEvent vacuumer set ∷ events) (Begun ∷ answers) first last run
-    → HasLeaf g block first
     → NoneFinishes g start told (BulkEvent vacuumer set ∷ events) (Begun ∷ answers) first last run × NoneHasCome block last × HasLeaf g block last

@@ -1,7 +1,7 @@
 //! The laws.
 
 ghost use Rattle.schedule.specs.Bounds.{WorkIsBounded};
-ghost use Rattle.schedule.specs.Stands.{BulkDeletesWait, BegunBulkDeletesWait};
+ghost use Rattle.schedule.specs.Stands.{ScansStandOnLeaves, BulkDeletesWait, BegunBulkDeletesWait};
 
 use page_action::PageStore;
 
@@ -9,6 +9,11 @@ use page_action::PageStore;
 /// stay as they are.
 pub fn work_is_bounded<S: PageStore>()
     ensures { WorkIsBounded S.PageStore }
+{}
+
+/// Does nothing: its clause says that the page that a scan stands on is a live leaf, at each moment that fits.
+pub fn scans_stand_on_leaves<S: PageStore>()
+    ensures { ScansStandOnLeaves S.PageStore }
 {}
 
 /// Does nothing: its clauses say that a bulk delete that began while another session's scan stood on a leaf doesn't finish

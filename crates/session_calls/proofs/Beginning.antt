@@ -164,7 +164,7 @@ module _ (old : State) (sets : DeadSets) (start : Entry → Bool) (history : Lis
     session = refl;
     added = refl;
     started = record { number = old.begun; is = started_is };
-    fits = record { session = low; start = old.begun; running = starts; held = idle.holds; stands = refl; started = λ e past. sym (past_start range e) ∙ past; few = omega arith };
+    fits = record { session = low; start = old.begun; running = starts; held = idle.holds; live = tt; stands = refl; started = λ e past. sym (past_start range e) ∙ past; few = omega arith };
     knows = record {
       ascending = tt;
       matched = λ e h. absurd cc;

@@ -165,7 +165,7 @@ module _ (start : Entry → Bool) (history : List Action) (began : ℕ) (given r
 
 -- a scan that has given an entry knows the same of the pages
 given_fits : (st : State) (op : ScanOp) → ScanFits st op → ScanFits st (record op { given = suc op.given })
-given_fits st op f = record { session = f.session; start = f.start; running = f.running; held = f.held; stands = f.stands; started = f.started; few = f.few }
+given_fits st op f = record { session = f.session; start = f.start; running = f.running; held = f.held; live = f.live; stands = f.stands; started = f.started; few = f.few }
 
 -- an entry is given
 pub gave_goes : {sets : DeadSets} (at : Circumstances) (st : State) (start : Entry → Bool) (history : List Action) (number : ℕ) (call : Call) (before after : ScanOp) (e : Entry)

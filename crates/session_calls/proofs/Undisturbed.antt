@@ -7,6 +7,7 @@ use Rattle.index_model.proofs.Histories.{at_some_moment_later, gives_all_later}
 use Rattle.page_action.specs.States.{State}
 use Rattle.descent.specs.Shared.{MayRely}
 use Rattle.insert_split.proofs.Lasting.{undisturbed as insert_undisturbed}
+use Rattle.scan.specs.Laws.{PinnedLeavesLast}
 use Rattle.scan.specs.Scans.{IsBehind, waiting}
 use Rattle.scan.specs.declared.steps.ScanOp.{ScanOp}
 use Rattle.scan.proofs.Lasting.{undisturbed as scan_undisturbed}
@@ -32,11 +33,12 @@ so_far_later start history acts began given op h =
     }
 
 -- a call goes on standing on what it stood on, whatever other sessions do
-fits_still : (old new : State) (session : ℕ) (op : Op) → session_of op ≡ session → MayRely session old new → OpFits old op → OpFits new op
-fits_still old new session (Insert op) is rely h = insert_undisturbed old new op (subst (λ (t : ℕ). MayRely t old new) (sym is) rely) h
-fits_still old new session (Scan op) is rely h = scan_undisturbed old new op (subst (λ (t : ℕ). MayRely t old new) (sym is) rely) h
-fits_still old new session (Bulk set op) is rely h = bulk_undisturbed old new op (subst (λ (t : ℕ). MayRely t old new) (sym is) rely) h
-fits_still old new session (Cleanup op) is rely h = cleanup_undisturbed old new op (subst (λ (t : ℕ). MayRely t old new) (sym is) rely) h
+fits_still : (old new : State) (session : ℕ) (op : Op) → session_of op ≡ session → MayRely session old new → PinnedLeavesLast session old new → OpFits old op → OpFits new op
+fits_still old new session (Insert op) is rely last h = insert_undisturbed old new op (subst (λ (t : ℕ). MayRely t old new) (sym is) rely) h
+fits_still old new session (Scan op) is rely last h =
+    scan_undisturbed old new op (subst (λ (t : ℕ). MayRely t old new) (sym is) rely) (subst (λ (t : ℕ). PinnedLeavesLast t old new) (sym is) last) h
+fits_still old new session (Bulk set op) is rely last h = bulk_undisturbed old new op (subst (λ (t : ℕ). MayRely t old new) (sym is) rely) h
+fits_still old new session (Cleanup op) is rely last h = cleanup_undisturbed old new op (subst (λ (t : ℕ). MayRely t old new) (sym is) rely) h
 
 knows_still : (start : Entry → Bool) (history acts : List Action) (began : ℕ) (given : List Entry) (op : Op) → OpKnows start history began given op → OpKnows start (history ++ acts) began given op
 knows_still start history acts began given (Insert op) h = tt
@@ -48,12 +50,12 @@ pub number_stays : (old new : State) (session : ℕ) → MayRely session old new
 number_stays old new session rely = ap (λ (o : Option (Option ℕ)). unwrap_or o None) rely.number
 
 pub undisturbed : CallsAreUndisturbed
-undisturbed old new sets start history acts call op rely h = record {
+undisturbed old new sets start history acts call op rely last h = record {
   ask = h.ask;
   session = h.session;
   added = h.added;
   started = record { number = h.started.number; is = number_stays old new call.session rely ∙ h.started.is };
-  fits = fits_still old new call.session op h.session rely h.fits;
+  fits = fits_still old new call.session op h.session rely last h.fits;
   knows = knows_still start history acts call.began call.given op h.knows;
 }
 

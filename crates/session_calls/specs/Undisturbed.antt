@@ -5,6 +5,7 @@ use Rattle.index_model.specs.Calls.{Call}
 use Rattle.index_model.specs.declared.entry.Entry.{Entry}
 use Rattle.page_action.specs.States.{State}
 use Rattle.descent.specs.Shared.{MayRely}
+use Rattle.scan.specs.Laws.{PinnedLeavesLast}
 use Rattle.session_calls.specs.Ops.{DeadSets}
 use Rattle.tree_acts.specs.Leaves.{LeavesStay}
 use Rattle.session_calls.specs.Sessions.{OpRuns, acts_of}
@@ -15,7 +16,7 @@ use Rattle.session_calls.specs.declared.op.Op.{Op}
 abbrev pub CallsAreUndisturbed : Type 0
 CallsAreUndisturbed =
     (old new : State) (sets : DeadSets) (start : Entry → Bool) (history acts : List Action) (call : Call) (op : Op)
-    → MayRely call.session old new → OpRuns old sets start history call op → OpRuns new sets start (history ++ acts) call op
+    → MayRely call.session old new → PinnedLeavesLast call.session old new → OpRuns old sets start history call op → OpRuns new sets start (history ++ acts) call op
 
 -- what a running bulk delete is to remove is to come still after others have acted, whose acts leave its leaves
 abbrev pub SweepsAreUndisturbed : Type 0

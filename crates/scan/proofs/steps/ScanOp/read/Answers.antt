@@ -11,6 +11,7 @@ use Rattle.page_action.specs.States.{State, IsLater, with_table}
 use Rattle.page_action.specs.Stored.{IsStored}
 use Rattle.tree_shape.specs.Leaf.{IsCopiedFrom}
 use Rattle.tree_shape.specs.Walks.{frontier_aim}
+use Rattle.tree_acts.specs.Leaves.{WasLeaf}
 use Rattle.tree_acts.specs.Trees.{HasPlace, HasCover}
 use Rattle.descent.proofs.Looking.{if_err}
 use Rattle.descent.specs.Onward.{IsOnWay, LeadsOnward, LeadsStraight, LeavesLess, IsShorter, IsArrived}
@@ -190,6 +191,7 @@ returns-in-Entries g c =
           let cover : HasCover old 0 (frontier_aim before.frontier) page.block = subst (HasCover old 0 (frontier_aim before.frontier)) (sym block_is) here.1 in
           let has = leaf_has_entries old (frontier_aim before.frontier) page order.tree there admitted cover in
           let live = live_leaf page has arrived.alive admitted in
+          let here_now : WasLeaf old.pages way.block = record { page = page; was = record { found = found; alive = arrived.alive; leaf = has } } in
           let place : HasPlace old fits.start 0 (frontier_aim before.frontier) false page.block =
           subst (λ (b : ℕ). HasPlace old fits.start 0 (frontier_aim before.frontier) false b) (sym block_is)
           (subst (λ (k : ℕ). HasPlace old fits.start k (frontier_aim before.frontier) false way.block) here.0 on_way.place) in
@@ -199,7 +201,7 @@ returns-in-Entries g c =
           subst (λ (xs : List Entry). IsCopiedFrom xs before.frontier before.range.below es) entries copied_by in
           inr (record {
             does = reading_does old new before way.block order fits is;
-            fits = subst (ScanFits new) (sym op_is) (reading_fits old new before way.block order fits is page es there place many);
+            fits = subst (ScanFits new) (sym op_is) (reading_fits old new before way.block order fits is page es there place here_now many);
             none = c.requires.none;
             way = way;
             from = c.requires.at;
