@@ -1,12 +1,14 @@
 //! What was asked of an index and what it answered, kept plainly.
 
+ghost use Rattle.std.specs.Prelude.{◌≤◌, ◌<◌};
+
 use crate::dead::rows_of;
 use crate::dice::Space;
 use crate::pages::{contents, flagged, is_on, lost, root_level};
 use crate::runs::fault_of;
 use crate::tally::Tally;
 use crate::waiting::Waiting;
-use index_model::{Entry, Fault};
+use index_model::{Entry, Fault, Range, RowAddr};
 use page_codec::Page;
 use plain_histories::{
     PlainAction, PlainAsk, PlainCall, PlainEffect, PlainEnding, actions_are_owned, contents_has,
@@ -475,52 +477,67 @@ impl Judge {
             return false;
         }
         match &call.ask {
-            PlainAsk::Inserts(entry) => is_insert_answer(
+            PlainAsk::Inserts(entry) => self.is_insert_right(number, call, entry, until),
+            PlainAsk::Scans(range) => self.is_scan_right(call, range, until),
+            PlainAsk::Deletes(rows) => self.is_delete_right(number, call, rows, until),
+            PlainAsk::Cleans => !matches!(
+                &call.ending,
+                PlainEnding::HasAdded(_, _) | PlainEnding::HasFinished
+            ),
+        }
+    }
+
+    /// Whether an insert, up to this length of the history, has answered what is right.
+    fn is_insert_right(&self, number: usize, call: &PlainCall, entry: &Entry, until: usize) -> bool
+        requires short { until < 1_000_000 }
+    {
+        is_insert_answer(
+            &self.start,
+            &self.history,
+            number,
+            call.began,
+            until,
+            entry,
+            call.added,
+            &call.ending,
+        )
+    }
+
+    /// Whether a scan, up to this length of the history, has given what is right.
+    fn is_scan_right(&self, call: &PlainCall, range: &Range, until: usize) -> bool
+        requires interval { call.now.began ≤ until }
+        requires short { until < 1_000_000 }
+    {
+        let (start, history) = (&self.start, &self.history);
+        match &call.ending {
+            PlainEnding::HasFinished => {
+                is_scan_answer(start, history, range, call.began, until, &call.given)
+            }
+            PlainEnding::HasAdded(_, _) | PlainEnding::HasVacuumed(_) => false,
+            _ => is_scan_answer_so_far(start, history, range, call.began, until, &call.given),
+        }
+    }
+
+    /// Whether a bulk delete, up to this length of the history, has answered what is right.
+    fn is_delete_right(
+        &self,
+        number: usize,
+        call: &PlainCall,
+        rows: &[RowAddr],
+        until: usize,
+    ) -> bool {
+        match &call.ending {
+            PlainEnding::HasVacuumed(stats) => is_bulk_delete_answer(
                 &self.start,
                 &self.history,
                 number,
                 call.began,
                 until,
-                entry,
-                call.added,
-                &call.ending,
+                rows,
+                stats,
             ),
-            PlainAsk::Scans(range) => match &call.ending {
-                PlainEnding::HasFinished => is_scan_answer(
-                    &self.start,
-                    &self.history,
-                    range,
-                    call.began,
-                    until,
-                    &call.given,
-                ),
-                PlainEnding::HasAdded(_, _) | PlainEnding::HasVacuumed(_) => false,
-                _ => is_scan_answer_so_far(
-                    &self.start,
-                    &self.history,
-                    range,
-                    call.began,
-                    until,
-                    &call.given,
-                ),
-            },
-            PlainAsk::Deletes(rows) => match &call.ending {
-                PlainEnding::HasVacuumed(stats) => is_bulk_delete_answer(
-                    &self.start,
-                    &self.history,
-                    number,
-                    call.began,
-                    until,
-                    rows,
-                    stats,
-                ),
-                PlainEnding::HasAdded(_, _) | PlainEnding::HasFinished => false,
-                _ => true,
-            },
-            PlainAsk::Cleans => !matches!(
-                &call.ending,
-                PlainEnding::HasAdded(_, _) | PlainEnding::HasFinished
-            ),
+            PlainEnding::HasAdded(_, _) | PlainEnding::HasFinished => false,
+            _ => true,
         }
     }
 
