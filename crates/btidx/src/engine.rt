@@ -1,7 +1,7 @@
 //! What the lines of a script are done with: the only file of the program that knows an index.
 
 ghost use Rattle.std.specs.Prelude.{◌≡◌, ◌≢◌, ◌∷◌, [], true, Bool, List, Ok, IfOk, OnOk, OnErr};
-ghost use Rattle.device.specs.Memory.{trace_of, plan_of};
+ghost use Rattle.device.specs.Memory.{trace_of, plan_of, left_by};
 ghost use Rattle.device.specs.Plans.{failing_at, stopping_at};
 ghost use Rattle.index_model.specs.Actions.{Action};
 ghost use Rattle.index_model.specs.Calls.{Call};
@@ -182,6 +182,12 @@ impl Engine {
     /// and with `NoMemory`; the index is as it was then.
     pub fn crash(&mut self, image: CrashImage, sets: Vec<DeadList>) -> Result<(), Fault>
         ensures sets { OnOk result (self.new.world.sets ≡ sets) }
+        // What is opened is the index that this image of the device holds.
+        ensures image { OnOk result ((limits : Limits) (pages : List Page)
+            → HasIndex limits pages
+            (left_by image (device_of ⟦<MemDevice as Device>⟧ self.old.world.store)) → IsTree pages
+            → BeginsWith ⟦<MemDevice as Device>⟧ ⟦<Store<MemDevice> as PageStore>⟧
+            ⟦<DeadList as DeadRows>⟧ limits pages self.new.world) }
         ensures reopened { OnOk result ((start : IndexEntry → Bool) (history : List Action)
             (calls : List Call)
             → WorldFits ⟦<Store<MemDevice> as PageStore>⟧ ⟦<DeadList as DeadRows>⟧ self.old.world

@@ -3,6 +3,11 @@ use Rattle.device.specs.Disk.{Trace}
 use Rattle.recovery.specs.Index.{HasIndex}
 use Rattle.btidx.proofs.engine.Engine.crash.Goals as goal
 
+pub returns-clause-image : goal.returns-clause-image
+returns-clause-image c limits pages index tree =
+    c.in_ok-self.ensures.begins c.args.self.now.allowed limits pages
+    (subst (λ (t : Trace). HasIndex limits pages t.now.seen) (sym c.in_ok-device.ensures.bytes) index) tree
+
 pub returns-clause-reopened : goal.returns-clause-reopened
 returns-clause-reopened c start history calls fits keeps =
     let left = c.crash_law.ensures.now start history calls _ fits keeps c.crash.ensures.left in
