@@ -79,7 +79,7 @@ pub struct Page {
 }
 
 impl Page {
-    /// A page to decode another into. It is none that the format admits.
+    /// A page to decode another into. What it holds has no meaning.
     pub fn blank() -> Page {
         Page {
             block: 0,

@@ -53,7 +53,8 @@ pub(crate) fn write_page<D: Device>(
 fn decode_stored(bytes: &[u8; 4096], limits: Limits, block: u32, page: &mut Page) -> bool
     ensures stored { IsTrue result → IsStored limits block page.new }
     ensures found { IsTrue result → bytes.now ≡ page_bytes page.new }
-    ensures only { (p : Page) → IsStored limits block p → bytes.now ≡ page_bytes p → IsTrue result }
+    ensures only { (p : Page) → IsStored limits block p → bytes.now ≡ page_bytes p
+        → IsTrue result }
 {
     decode_into(bytes, page) && page.block == block && page.items.len() <= limits.items as usize
 }
