@@ -7,6 +7,3 @@ mod token;
 pub use index::Index;
 pub use token::ScanToken;
 pub use whole_calls::Inserted;
-
-#[cfg(test)]
-mod tests;

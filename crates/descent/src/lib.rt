@@ -9,6 +9,3 @@ mod way;
 pub use reading::{ask_for, look, look_at_both, look_to_change};
 pub use splitting::{act_on, read_right, take_block};
 pub use way::{Onward, Way, lead, way_down};
-
-#[cfg(test)]
-mod tests;

@@ -7,6 +7,3 @@ mod room;
 
 pub use insert::{InsertAt, InsertOp, InsertStep};
 pub use laws::{fresh_inserts_are_bounded, inserts_are_bounded, inserts_are_undisturbed};
-
-#[cfg(test)]
-mod tests;

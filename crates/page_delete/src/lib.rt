@@ -11,6 +11,3 @@ mod unlinking;
 
 pub use laws::{cleanups_are_bounded, cleanups_are_undisturbed, nothing_is_cleaned};
 pub use steps::{CleanupAt, CleanupOp, CleanupStep};
-
-#[cfg(test)]
-mod tests;

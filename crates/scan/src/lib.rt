@@ -7,6 +7,3 @@ mod steps;
 
 pub use laws::{fresh_scans_are_bounded, scans_are_bounded, scans_are_undisturbed};
 pub use steps::{ScanAt, ScanOp, ScanStep};
-
-#[cfg(test)]
-mod tests;

@@ -8,6 +8,3 @@ mod laws;
 pub use event::Event;
 pub use happening::{checkpoint, force, is_running, one, run};
 pub use laws::{bulk_deletes_wait_for_scans, scans_stand_on_leaves, work_is_bounded};
-
-#[cfg(test)]
-mod tests;

@@ -16,6 +16,3 @@ pub use moves::{end, next, step};
 pub use op::Op;
 pub use request::Request;
 pub use stable::{calls_are_undisturbed, sweeps_are_undisturbed};
-
-#[cfg(test)]
-mod tests;

@@ -9,6 +9,3 @@ mod turns;
 
 pub use finish::{FinishAt, FinishOp, FinishStep, Target};
 pub use parent::half_to_finish;
-
-#[cfg(test)]
-mod tests;

@@ -13,6 +13,3 @@ pub use laws::{
     nothing_is_counted,
 };
 pub use steps::{Back, BulkDeleteOp, BulkDeleteStep};
-
-#[cfg(test)]
-mod tests;

@@ -10,6 +10,3 @@ pub use giving::{give, open};
 pub use inserted::Inserted;
 pub use running::{finish, give_up, insert, put};
 pub use sweeping::{bulk_delete, clean_up};
-
-#[cfg(test)]
-mod tests;

@@ -9,6 +9,3 @@ mod world;
 
 pub use opening::NotOpened;
 pub use world::{NotMade, World};
-
-#[cfg(test)]
-mod tests;

@@ -1,87 +1,51 @@
-use super::*;
+//! Cleanups, which delete pages.
+
+use crate::trees::{self, change, entry, limits, meta, parent};
 use arrayvec::ArrayVec;
-use index_model::{Entry, Fault, Key, Limits, RowAddr, Session, VacuumStats};
+use index_model::{Bound, Entry, Fault, Session, VacuumStats};
 use latch_table::Mode;
-use page_action::{MapStore, PageStore, find_misplaced};
-use page_codec::{Downlink, Items, Page, PageState};
+use page_action::{MapStore, PageStore};
+use page_codec::{Items, Page, PageState};
+use page_delete::{CleanupOp, CleanupStep};
 use std::alloc::Global;
 use std::test::*;
 
-const LIMITS: Limits = Limits {
-    items: 4,
-    pages: 8,
-    log_bytes: 65_536,
-};
-
-fn entry(key: u8) -> Entry {
-    Entry {
-        key: Key::new(&[key]).unwrap_or(Key::EMPTY),
-        row: RowAddr::new(0, u16::from(key)).unwrap_or_default(),
-    }
+fn nth(key: u8) -> Entry {
+    entry(key, 0, u16::from(key))
 }
 
-fn page(block: u32, level: u8, left: Option<u32>, right: Option<u32>, items: Items) -> Page {
-    Page {
-        block,
-        level,
-        state: PageState::Live,
-        split: false,
-        left,
-        right,
-        high: None,
-        cycle: 0,
-        deletion: 0,
-        items,
-    }
+fn bound(key: u8) -> Bound {
+    nth(key).bound()
 }
 
 // A leaf with entries of these keys, up to that one.
 fn leaf(block: u32, left: Option<u32>, right: Option<u32>, keys: &[u8], high: Option<u8>) -> Page {
-    let mut entries = ArrayVec::new();
+    let mut entries: ArrayVec<Entry, 4> = ArrayVec::new();
     for key in keys {
-        let _ = entries.try_push(entry(*key));
+        let _ = entries.try_push(nth(*key));
     }
-    let mut page = page(block, 0, left, right, Items::Entries(entries));
-    page.high = high.map(|key| entry(key).bound());
-    page
-}
-
-fn root(block: u32, children: &[(Option<u8>, u32)]) -> Page {
-    let mut links = ArrayVec::new();
-    for (low, child) in children {
-        let _ = links.try_push(Downlink {
-            bound: low.map(|key| entry(key).bound()),
-            child: *child,
-        });
-    }
-    page(block, 1, None, None, Items::Downlinks(links))
+    trees::leaf(block, left, right, entries.as_slice(), high.map(bound))
 }
 
 // Leaves 1, 2 and 4 under root 3; leaf 2 is empty, and in this state.
 fn tree(alloc: Global, state: PageState) -> Result<MapStore, Fault> {
-    let mut store = MapStore::new(alloc, LIMITS)?;
     let mut middle = leaf(2, Some(1), Some(4), &[], Some(0x66));
-    let mut children: &[(Option<u8>, u32)] = &[(None, 1), (Some(0x63), 2), (Some(0x66), 4)];
-    if matches!(state, PageState::HalfDead) {
-        children = &[(None, 1), (Some(0x63), 4)];
+    let root = if matches!(state, PageState::HalfDead) {
         middle.state = state;
-    }
-    store.add(page(0, 1, None, Some(3), Items::Meta))?;
+        parent(3, &[(None, 1), (Some(bound(0x63)), 4)])
+    } else {
+        parent(
+            3,
+            &[(None, 1), (Some(bound(0x63)), 2), (Some(bound(0x66)), 4)],
+        )
+    };
+    let mut store = MapStore::new(alloc, limits(8))?;
+    store.add(meta(3, 1))?;
     store.add(leaf(1, None, Some(2), &[0x61, 0x62, 0x63], Some(0x63)))?;
     store.add(middle)?;
-    store.add(root(3, children))?;
+    store.add(root)?;
     store.add(leaf(4, Some(2), None, &[0x67, 0x68], None))?;
     Ok(store)
-}
-
-fn change(store: &mut MapStore, pages: &[Page]) -> Result<u64, Fault> {
-    if pages.is_empty()
-        || pages.len() > 4
-        || find_misplaced(pages, store.used(), store.limits()).is_some()
-    {
-        return Err(Fault::NoMemory);
-    }
-    store.act(pages)
 }
 
 fn goes_on(op: &mut CleanupOp, store: &mut MapStore) -> bool {
@@ -230,14 +194,15 @@ fn leaf_is_tested_again(rt: HostRuntime) {
 // A sibling that doesn't link back, and a last child, which stays.
 #[test]
 fn siblings_and_last_child(rt: HostRuntime) {
-    let (Ok(mut store), Ok(session)) = (MapStore::new(rt.alloc(), LIMITS), Session::new(2)) else {
+    let (Ok(mut store), Ok(session)) = (MapStore::new(rt.alloc(), limits(8)), Session::new(2))
+    else {
         assert!(rt; false);
         return;
     };
-    assert!(rt; store.add(page(0, 1, None, Some(3), Items::Meta)) == Ok(()));
+    assert!(rt; store.add(meta(3, 1)) == Ok(()));
     assert!(rt; store.add(leaf(1, None, Some(2), &[], Some(0x63))) == Ok(()));
     assert!(rt; store.add(leaf(2, Some(4), None, &[], None)) == Ok(()));
-    assert!(rt; store.add(root(3, &[(None, 1), (Some(0x63), 2)])) == Ok(()));
+    assert!(rt; store.add(parent(3, &[(None, 1), (Some(bound(0x63)), 2)])) == Ok(()));
     let _ = store.begin(session);
     let mut op = CleanupOp::new(session);
     assert!(rt; finish(&mut op, &mut store) == Err(Fault::PageDamaged(2)));

@@ -1,81 +1,37 @@
-use super::*;
+//! Scans.
+
+use crate::trees::{self, change, entry, limits, meta, parent};
 use arrayvec::ArrayVec;
-use index_model::{Bound, Entry, Fault, Key, Limits, Range, RowAddr, Session};
+use index_model::{Bound, Entry, Fault, Key, Range, Session};
 use latch_table::Mode;
-use page_action::{MapStore, PageStore, find_misplaced};
-use page_codec::{Downlink, Items, Page, PageState};
+use page_action::{MapStore, PageStore};
+use page_codec::Page;
+use scan::{ScanOp, ScanStep};
 use std::alloc::Global;
 use std::test::*;
 
-const LIMITS: Limits = Limits {
-    items: 4,
-    pages: 8,
-    log_bytes: 65_536,
-};
-
-fn entry(key: u8, block: u32) -> Entry {
-    Entry {
-        key: Key::new(&[key]).unwrap_or(Key::EMPTY),
-        row: RowAddr::new(block, 1).unwrap_or_default(),
-    }
-}
-
 fn bound(key: u8) -> Bound {
-    entry(key, 1).bound()
-}
-
-fn page(block: u32, level: u8, left: Option<u32>, right: Option<u32>, items: Items) -> Page {
-    Page {
-        block,
-        level,
-        state: PageState::Live,
-        split: false,
-        left,
-        right,
-        high: None,
-        cycle: 0,
-        deletion: 0,
-        items,
-    }
+    entry(key, 1, 1).bound()
 }
 
 // A leaf with entries of these keys, up to that one.
 fn leaf(block: u32, left: Option<u32>, right: Option<u32>, keys: &[u8], high: Option<u8>) -> Page {
-    let mut entries = ArrayVec::new();
+    let mut entries: ArrayVec<Entry, 4> = ArrayVec::new();
     for key in keys {
-        let _ = entries.try_push(entry(*key, 1));
+        let _ = entries.try_push(entry(*key, 1, 1));
     }
-    let mut page = page(block, 0, left, right, Items::Entries(entries));
-    page.high = high.map(bound);
-    page
+    trees::leaf(block, left, right, entries.as_slice(), high.map(bound))
 }
 
 // Three leaves under a root.
 fn tree(alloc: Global) -> Result<MapStore, Fault> {
-    let mut links = ArrayVec::new();
-    for (low, child) in [(None, 1), (Some(20), 2), (Some(40), 3)] {
-        let _ = links.try_push(Downlink {
-            bound: low.map(bound),
-            child,
-        });
-    }
-    let mut store = MapStore::new(alloc, LIMITS)?;
-    store.add(page(0, 1, None, Some(4), Items::Meta))?;
+    let mut store = MapStore::new(alloc, limits(8))?;
+    store.add(meta(4, 1))?;
     store.add(leaf(1, None, Some(2), &[10, 20], Some(20)))?;
     store.add(leaf(2, Some(1), Some(3), &[30, 40], Some(40)))?;
     store.add(leaf(3, Some(2), None, &[50, 60], None))?;
-    store.add(page(4, 1, None, None, Items::Downlinks(links)))?;
+    store.add(parent(4, &[(None, 1), (Some(bound(20)), 2), (Some(bound(40)), 3)]))?;
     Ok(store)
-}
-
-fn change(store: &mut MapStore, pages: &[Page]) -> Result<u64, Fault> {
-    if pages.is_empty()
-        || pages.len() > 4
-        || find_misplaced(pages, store.used(), store.limits()).is_some()
-    {
-        return Err(Fault::NoMemory);
-    }
-    store.act(pages)
 }
 
 fn range(from: Option<u8>, below: Option<u8>) -> Range {

@@ -1,65 +1,27 @@
-use super::*;
-use arrayvec::ArrayVec;
+//! Each call of an index of one user.
+
+use crate::dead::{EachRow, OddRows};
+use crate::small::{ALL, LEN, LIMITS, entry, made, pages};
+use access_method::{Index, ScanToken};
 use device::{Device, MemDevice};
-use index_model::{DeadRows, Entry, Fault, Key, Limits, Range, RowAddr};
+use index_model::{Entry, Fault, Key, Limits, Range, RowAddr};
 use page_action::{MapStore, PageStore};
-use page_codec::{Items, Page, PageState};
 use page_store::Store;
 use recovery::create;
 use std::alloc::Global;
 use std::test::{Fail, *};
 
-const LIMITS: Limits = Limits {
-    items: 4,
-    pages: 8,
-    log_bytes: 65_536,
-};
-
-const LEN: u64 = 4096 + 65_536 + 4096 * 8;
-
-const ALL: Range = Range {
-    from: None,
-    below: None,
-};
-
-fn entry(key: u8, offset: u16) -> Entry {
-    Entry {
-        key: Key::new(&[key]).unwrap_or(Key::EMPTY),
-        row: RowAddr::new(0, offset).unwrap_or_default(),
-    }
-}
-
 // An empty index, made on a device in memory and opened.
 fn index(alloc: Global) -> Result<Index<Store<MemDevice>>, Fault> {
-    let mut device = MemDevice::new(alloc, LEN)?;
-    create(&mut device, &LIMITS)?;
-    match Index::open(alloc, device, 16) {
+    match Index::open(alloc, made(alloc)?, 16) {
         Ok(index) => Ok(index),
         Err(refused) => Err(refused.fault),
     }
 }
 
-fn page(block: u32, right: Option<u32>, items: Items) -> Page {
-    Page {
-        block,
-        level: 0,
-        state: PageState::Live,
-        split: false,
-        left: None,
-        right,
-        high: None,
-        cycle: 0,
-        deletion: 0,
-        items,
-    }
-}
-
 // An empty index without a device.
 fn in_memory(alloc: Global) -> Result<Index<MapStore>, Fault> {
-    let mut store = MapStore::new(alloc, LIMITS)?;
-    store.add(page(0, Some(1), Items::Meta))?;
-    store.add(page(1, None, Items::Entries(ArrayVec::new())))?;
-    Ok(Index::new(store))
+    Ok(Index::new(pages(alloc, LIMITS)?))
 }
 
 // The number of the row that a scan gives, or 0 where it has given all; behind 100 the number of a refusal.
@@ -167,8 +129,7 @@ fn at_most_63_scans(rt: HostRuntime) -> Result<(), Fail> {
 
 #[test]
 fn a_failed_device_stops_the_index(rt: HostRuntime) -> Result<(), Fail> {
-    let mut device = MemDevice::new(rt.alloc(), LEN)?;
-    create(&mut device, &LIMITS)?;
+    let mut device = made(rt.alloc())?;
     // To open makes 7 calls of the device, the first insert reads two pages, the first commit makes 4: the next is the first
     // of the second commit.
     device.fail_at(14);
@@ -187,19 +148,6 @@ fn a_failed_device_stops_the_index(rt: HostRuntime) -> Result<(), Fail> {
     assert_eq!(rt; index.ambeginscan(ALL), Err(Fault::Stopped));
     assert!(rt; index.amendscan(token).is_ok());
     Ok(())
-}
-
-// Every row is dead.
-struct EachRow {}
-
-impl DeadRows for EachRow {
-    ghost use Rattle.std.specs.Prelude.{true};
-
-    ghost is_in = { λ rows row. true };
-
-    fn is_dead(&self, _row: RowAddr) -> bool {
-        true
-    }
 }
 
 // Inserts 9 entries into an index that has none of them.
@@ -294,19 +242,6 @@ fn few_frames_answer_as_many_do(rt: HostRuntime) -> Result<(), Fail> {
     }
     assert!(rt; gives_all(&mut few)? && gives_all(&mut many)?);
     Ok(())
-}
-
-// The odd rows.
-struct OddRows {}
-
-impl DeadRows for OddRows {
-    ghost use Rattle.std.specs.Prelude.{◌==◌, ◌%◌};
-
-    ghost is_in = { λ rows row. row.offset % 2 == 1 };
-
-    fn is_dead(&self, row: RowAddr) -> bool {
-        row.offset() % 2 == 1
-    }
 }
 
 #[test]

@@ -1,79 +1,22 @@
-use super::*;
-use arrayvec::ArrayVec;
+//! Each call of a world: of many sessions over pages in memory and on a device.
+
+use crate::dead::{NO_SETS, NoRows};
+use crate::small::{ALL, LEN, LIMITS, entry, made, pages};
 use device::{CrashImage, Device, MemDevice};
-use index_model::{DeadRows, Entry, Fault, Key, Limits, Range, RowAddr};
+use index_model::{Entry, Fault};
 use page_action::{MapStore, PageStore};
-use page_codec::{Items, Page, PageState};
+use page_codec::Items;
 use page_store::Store;
-use recovery::create;
 use schedule::{Event, is_running, one, run};
 use session_calls::Answer;
 use std::alloc::Global;
 use std::test::{Fail, *};
-
-/// A set without rows.
-#[derive(Drop)]
-struct NoRows {}
-
-impl DeadRows for NoRows {
-    ghost use Rattle.std.specs.Prelude.{false};
-
-    ghost is_in = { λ rows row. false };
-
-    fn is_dead(&self, _row: RowAddr) -> bool {
-        false
-    }
-}
-
-const NO_SETS: [NoRows; 0] = [];
-
-const LIMITS: Limits = Limits {
-    items: 4,
-    pages: 8,
-    log_bytes: 65_536,
-};
-
-const LEN: u64 = 4096 + 65_536 + 4096 * 8;
-
-const ALL: Range = Range {
-    from: None,
-    below: None,
-};
-
-fn page(block: u32, right: Option<u32>, items: Items) -> Page {
-    Page {
-        block,
-        level: 0,
-        state: PageState::Live,
-        split: false,
-        left: None,
-        right,
-        high: None,
-        cycle: 0,
-        deletion: 0,
-        items,
-    }
-}
-
-// The metapage, and an empty leaf as the root.
-fn store(alloc: Global) -> Result<MapStore, Fault> {
-    let mut store = MapStore::new(alloc, LIMITS)?;
-    store.add(page(0, Some(1), Items::Meta))?;
-    store.add(page(1, None, Items::Entries(ArrayVec::new())))?;
-    Ok(store)
-}
+use world::World;
 
 fn world(alloc: Global, sessions: u32) -> Result<World<MapStore, NoRows>, Fault> {
-    match World::new(alloc, store(alloc)?, sessions, Vec::new(alloc)) {
+    match World::new(alloc, pages(alloc, LIMITS)?, sessions, Vec::new(alloc)) {
         Ok(world) => Ok(world),
         Err(not_made) => Err(not_made.fault),
-    }
-}
-
-fn entry(key: u8, offset: u16) -> Entry {
-    Entry {
-        key: Key::new(&[key]).unwrap_or(Key::EMPTY),
-        row: RowAddr::new(0, offset).unwrap_or_default(),
     }
 }
 
@@ -235,7 +178,7 @@ fn readers_and_abandon(rt: HostRuntime) {
 #[test]
 fn one_to_64_sessions(rt: HostRuntime) {
     for sessions in [0, 65] {
-        let Ok(store) = store(rt.alloc()) else {
+        let Ok(store) = pages(rt.alloc(), LIMITS) else {
             assert!(rt; false);
             return;
         };
@@ -259,9 +202,7 @@ fn opened(alloc: Global, device: MemDevice) -> Result<World<Store<MemDevice>, No
 
 #[test]
 fn forced_actions_are_left(rt: HostRuntime) -> Result<(), Fail> {
-    let mut device = MemDevice::new(rt.alloc(), LEN)?;
-    create(&mut device, &LIMITS)?;
-    let mut world = opened(rt.alloc(), device)?;
+    let mut world = opened(rt.alloc(), made(rt.alloc())?)?;
     let mut answers = Vec::new(rt.alloc());
     let events = [
         Event::Insert(0, entry(0x61, 1)),
@@ -337,9 +278,7 @@ fn counted(world: &mut World<Store<MemDevice>, NoRows>) -> Option<u8> {
 
 #[test]
 fn split_leaf_is_opened_again(rt: HostRuntime) -> Result<(), Fail> {
-    let mut device = MemDevice::new(rt.alloc(), LEN)?;
-    create(&mut device, &LIMITS)?;
-    let mut world = opened(rt.alloc(), device)?;
+    let mut world = opened(rt.alloc(), made(rt.alloc())?)?;
     // A leaf has room for 4 entries. The fifth splits it, and the split is finished by a new root.
     for key in 1..6u8 {
         let put = called(&mut world, Event::Insert(0, entry(key, u16::from(key))));
@@ -384,7 +323,7 @@ fn split_leaf_is_opened_again(rt: HostRuntime) -> Result<(), Fail> {
 
 #[test]
 fn slots_of_another_owner(rt: HostRuntime) -> Result<(), Fail> {
-    let mut store = store(rt.alloc())?;
+    let mut store = pages(rt.alloc(), LIMITS)?;
     let mut slots = [None, None];
     let mut answers = Vec::new(rt.alloc());
     let begun = one(&mut store, &mut slots, &NO_SETS, Event::Scan(1, ALL));
@@ -407,9 +346,7 @@ fn slots_of_another_owner(rt: HostRuntime) -> Result<(), Fail> {
 
 #[test]
 fn calls_run_to_their_ends(rt: HostRuntime) -> Result<(), Fail> {
-    let mut device = MemDevice::new(rt.alloc(), LEN)?;
-    create(&mut device, &LIMITS)?;
-    let mut world = opened(rt.alloc(), device)?;
+    let mut world = opened(rt.alloc(), made(rt.alloc())?)?;
     let put = world.put(0, entry(0x61, 1), 5);
     assert!(rt;
         matches!(

@@ -1,20 +1,16 @@
 //! What is done with each altered index.
 
-use crate::base::{FRAMES, entry};
+use super::base::{FRAMES, entry};
+use crate::small::ALL;
 use access_method::{Index, Inserted};
 use amcheck::{CheckFault, Report, check, check_parents};
 use device::MemDevice;
-use index_model::{DeadRows, Entry, Fault, Range, RowAddr, VacuumStats};
+use index_model::{DeadRows, Entry, Fault, RowAddr, VacuumStats};
 use page_action::PageStore;
 use page_store::Store;
 use recovery::open;
 use std::alloc::Global;
 use std::cmp::Ordering;
-
-const ALL: Range = Range {
-    from: None,
-    below: None,
-};
 
 /// The rows with a block below this one: about half of the entries, so that leaves are left empty.
 const DEAD_BELOW: u32 = 16;

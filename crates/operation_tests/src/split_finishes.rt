@@ -1,86 +1,25 @@
-use super::*;
-use arrayvec::ArrayVec;
-use index_model::{Bound, Entry, Fault, Key, Limits, RowAddr, Session};
+//! Splits that are finished.
+
+use crate::trees::{self, entry, limits, meta, parent};
+use index_model::{Bound, Fault, Session};
 use latch_table::Mode;
 use page_action::{MapStore, PageStore};
-use page_codec::{Downlink, Items, Page, PageState};
+use page_codec::Page;
+use split_finish::{FinishOp, FinishStep, Target};
 use std::alloc::Global;
 use std::test::*;
 use tree_shape::links_on;
 
-const LIMITS: Limits = Limits {
-    items: 4,
-    pages: 12,
-    log_bytes: 65_536,
-};
-
-fn entry(key: u8) -> Entry {
-    Entry {
-        key: Key::new(&[key]).unwrap_or(Key::EMPTY),
-        row: RowAddr::new(1, 1).unwrap_or_default(),
-    }
-}
-
 fn bound(key: u8) -> Bound {
-    entry(key).bound()
+    entry(key, 1, 1).bound()
 }
 
-// A live page of this level, with these neighbours and this high key.
-fn page(block: u32, level: u8, sides: (Option<u32>, Option<u32>), high: Option<Bound>) -> Page {
-    Page {
-        block,
-        level,
-        state: PageState::Live,
-        split: false,
-        left: sides.0,
-        right: sides.1,
-        high,
-        cycle: 0,
-        deletion: 0,
-        items: Items::Meta,
-    }
-}
-
-fn meta(root: u32, level: u8) -> Page {
-    page(0, level, (None, Some(root)), None)
-}
-
-// A leaf with one entry, its high key.
+// A leaf with one entry, its high key; 0 for no neighbour.
 fn leaf(block: u32, left: u32, right: u32, key: u8) -> Page {
-    let mut page = page(
-        block,
-        0,
-        (
-            Some(left).filter(|b| *b > 0),
-            Some(right).filter(|b| *b > 0),
-        ),
-        None,
-    );
-    if right > 0 {
-        page.high = Some(bound(key));
-    }
-    let mut entries = ArrayVec::new();
-    let _ = entries.try_push(entry(key));
-    page.items = Items::Entries(entries);
-    page
-}
-
-// An internal page of level 1 whose first child is the first of these, and each other's bound its key.
-fn parent(block: u32, first: u32, others: &[(u8, u32)]) -> Page {
-    let mut page = page(block, 1, (None, None), None);
-    let mut links = ArrayVec::new();
-    let _ = links.try_push(Downlink {
-        bound: None,
-        child: first,
-    });
-    for (key, child) in others {
-        let _ = links.try_push(Downlink {
-            bound: Some(bound(*key)),
-            child: *child,
-        });
-    }
-    page.items = Items::Downlinks(links);
-    page
+    let right = Some(right).filter(|b| *b > 0);
+    let high = right.map(|_| bound(key));
+    let left = Some(left).filter(|b| *b > 0);
+    trees::leaf(block, left, right, &[entry(key, 1, 1)], high)
 }
 
 fn flagged(page: Page) -> Page {
@@ -91,7 +30,7 @@ fn flagged(page: Page) -> Page {
 
 // A leaf as the root, split into pages 1 and 2.
 fn split_root(alloc: Global) -> Result<MapStore, Fault> {
-    let mut store = MapStore::new(alloc, LIMITS)?;
+    let mut store = MapStore::new(alloc, limits(12))?;
     store.add(meta(1, 0))?;
     store.add(flagged(leaf(1, 0, 2, 3)))?;
     store.add(leaf(2, 1, 0, 5))?;
@@ -100,12 +39,20 @@ fn split_root(alloc: Global) -> Result<MapStore, Fault> {
 
 // A root on page 1 over so many leaves from page 2 on, of which the first one's split is unfinished.
 fn split_leaf(alloc: Global, full: bool) -> Result<MapStore, Fault> {
-    let mut store = MapStore::new(alloc, LIMITS)?;
+    let mut store = MapStore::new(alloc, limits(12))?;
     store.add(meta(1, 1))?;
     if full {
-        store.add(parent(1, 2, &[(5, 4), (7, 5), (9, 6)]))?;
+        store.add(parent(
+            1,
+            &[
+                (None, 2),
+                (Some(bound(5)), 4),
+                (Some(bound(7)), 5),
+                (Some(bound(9)), 6),
+            ],
+        ))?;
     } else {
-        store.add(parent(1, 2, &[(5, 4), (7, 5)]))?;
+        store.add(parent(1, &[(None, 2), (Some(bound(5)), 4), (Some(bound(7)), 5)]))?;
     }
     store.add(flagged(leaf(2, 0, 3, 3)))?;
     store.add(leaf(3, 2, 4, 5))?;
@@ -231,14 +178,22 @@ fn separator_is_read_again_and_latches_block(rt: HostRuntime) {
 // Three levels: on the way from the root, page 1, to leaf 4, whose split is unfinished, stands page 2, full, whose split is
 // unfinished too.
 fn two_splits(alloc: Global) -> Result<MapStore, Fault> {
-    let mut root = parent(1, 2, &[]);
+    let mut root = parent(1, &[(None, 2)]);
     root.level = 2;
-    let mut left = flagged(parent(2, 4, &[(5, 6), (6, 7), (7, 8)]));
+    let mut left = flagged(parent(
+        2,
+        &[
+            (None, 4),
+            (Some(bound(5)), 6),
+            (Some(bound(6)), 7),
+            (Some(bound(7)), 8),
+        ],
+    ));
     left.right = Some(3);
     left.high = Some(bound(9));
-    let mut right = parent(3, 9, &[]);
+    let mut right = parent(3, &[(None, 9)]);
     right.left = Some(2);
-    let mut store = MapStore::new(alloc, LIMITS)?;
+    let mut store = MapStore::new(alloc, limits(12))?;
     store.add(meta(1, 2))?;
     store.add(root)?;
     store.add(left)?;

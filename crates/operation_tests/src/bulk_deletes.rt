@@ -1,19 +1,16 @@
+//! Bulk deletes.
+
 ghost use Rattle.std.specs.Prelude.{nat_le, ◌&&◌};
 
-use super::*;
+use crate::trees::{self, change, entry, limits, meta, parent};
 use arrayvec::ArrayVec;
-use index_model::{Bound, DeadRows, Entry, Fault, Key, Limits, RowAddr, Session, VacuumStats};
+use index_model::{Bound, DeadRows, Entry, Fault, RowAddr, Session, VacuumStats};
 use latch_table::Mode;
-use page_action::{MapStore, PageStore, find_misplaced};
-use page_codec::{Downlink, Items, Page, PageState};
+use page_action::{MapStore, PageStore};
+use page_codec::{Items, Page, PageState};
 use std::alloc::Global;
 use std::test::*;
-
-const LIMITS: Limits = Limits {
-    items: 4,
-    pages: 8,
-    log_bytes: 65_536,
-};
+use vacuum::{BulkDeleteOp, BulkDeleteStep};
 
 // The rows of block 0 with these offsets.
 #[derive(Clone, Copy)]
@@ -31,68 +28,31 @@ impl DeadRows for Offsets {
 }
 
 // The key is this byte, and the offset of the row its lower half.
-fn entry(key: u8) -> Entry {
-    Entry {
-        key: Key::new(&[key]).unwrap_or(Key::EMPTY),
-        row: RowAddr::new(0, u16::from(key % 16)).unwrap_or_default(),
-    }
+fn entry_of(key: u8) -> Entry {
+    entry(key, 0, u16::from(key % 16))
 }
 
-fn page(block: u32, level: u8, left: Option<u32>, right: Option<u32>, items: Items) -> Page {
-    Page {
-        block,
-        level,
-        state: PageState::Live,
-        split: false,
-        left,
-        right,
-        high: None,
-        cycle: 0,
-        deletion: 0,
-        items,
-    }
+fn bound(key: u8) -> Bound {
+    entry_of(key).bound()
 }
 
 // A leaf with entries of these keys, up to that one.
 fn leaf(block: u32, left: Option<u32>, right: Option<u32>, keys: &[u8], high: Option<u8>) -> Page {
-    let mut entries = ArrayVec::new();
+    let mut entries: ArrayVec<Entry, 4> = ArrayVec::new();
     for key in keys {
-        let _ = entries.try_push(entry(*key));
+        let _ = entries.try_push(entry_of(*key));
     }
-    let mut page = page(block, 0, left, right, Items::Entries(entries));
-    page.high = high.map(|key| entry(key).bound());
-    page
-}
-
-fn root(block: u32, children: &[(Option<u8>, u32)]) -> Page {
-    let mut links = ArrayVec::new();
-    for (low, child) in children {
-        let _ = links.try_push(Downlink {
-            bound: low.map(|key| entry(key).bound()),
-            child: *child,
-        });
-    }
-    page(block, 1, None, None, Items::Downlinks(links))
+    trees::leaf(block, left, right, entries.as_slice(), high.map(bound))
 }
 
 // Two leaves under a root.
 fn tree(alloc: Global) -> Result<MapStore, Fault> {
-    let mut store = MapStore::new(alloc, LIMITS)?;
-    store.add(page(0, 1, None, Some(3), Items::Meta))?;
+    let mut store = MapStore::new(alloc, limits(8))?;
+    store.add(meta(3, 1))?;
     store.add(leaf(1, None, Some(2), &[0x61, 0x62, 0x63], Some(0x63)))?;
     store.add(leaf(2, Some(1), None, &[0x64, 0x65], None))?;
-    store.add(root(3, &[(None, 1), (Some(0x63), 2)]))?;
+    store.add(parent(3, &[(None, 1), (Some(bound(0x63)), 2)]))?;
     Ok(store)
-}
-
-fn change(store: &mut MapStore, pages: &[Page]) -> Result<u64, Fault> {
-    if pages.is_empty()
-        || pages.len() > 4
-        || find_misplaced(pages, store.used(), store.limits()).is_some()
-    {
-        return Err(Fault::NoMemory);
-    }
-    store.act(pages)
 }
 
 // Steps until it has finished; NoMemory where it goes on after twenty steps.
@@ -194,17 +154,18 @@ fn blocked_by_a_pin(rt: HostRuntime) {
 // Leaf 4 is split behind the cursor's back, into the deleted page 1: it goes back there, and doesn't count what it finds.
 #[test]
 fn going_back(rt: HostRuntime) {
-    let (Ok(mut store), Ok(session)) = (MapStore::new(rt.alloc(), LIMITS), Session::new(2)) else {
+    let (Ok(mut store), Ok(session)) = (MapStore::new(rt.alloc(), limits(8)), Session::new(2))
+    else {
         assert!(rt; false);
         return;
     };
     let mut gone = leaf(1, None, Some(2), &[], None);
     gone.state = PageState::Deleted;
     let keys = [0x67, 0x68, 0x69, 0x6a];
-    assert!(rt; store.add(page(0, 1, None, Some(3), Items::Meta)) == Ok(()));
+    assert!(rt; store.add(meta(3, 1)) == Ok(()));
     assert!(rt; store.add(gone) == Ok(()));
     assert!(rt; store.add(leaf(2, None, Some(4), &[0x64, 0x65, 0x66], Some(0x66))) == Ok(()));
-    assert!(rt; store.add(root(3, &[(None, 2), (Some(0x66), 4)])) == Ok(()));
+    assert!(rt; store.add(parent(3, &[(None, 2), (Some(bound(0x66)), 4)])) == Ok(()));
     assert!(rt; store.add(leaf(4, Some(2), None, &keys, None)) == Ok(()));
     let _ = store.begin(session);
     store.start_cycle();
@@ -217,7 +178,10 @@ fn going_back(rt: HostRuntime) {
     left.cycle = store.cycle();
     let mut right = leaf(1, Some(4), None, &[0x6a, 0x6b], None);
     right.cycle = store.cycle();
-    let links = root(3, &[(None, 2), (Some(0x66), 4), (Some(0x69), 1)]);
+    let links = parent(
+        3,
+        &[(None, 2), (Some(bound(0x66)), 4), (Some(bound(0x69)), 1)],
+    );
     assert!(rt; change(&mut store, &[left, right, links]) == Ok(1));
     assert!(rt; finish(&mut op, &mut store, dead) == Ok(stats(5, 5, 2, 0, 0)));
     assert_eq!(rt; count_on(&mut store, 1), 1);
@@ -254,11 +218,12 @@ fn deleted_pages(rt: HostRuntime) {
 // Leaves that lead back in a ring: it is refused when it has gone back as often as there may be pages.
 #[test]
 fn ring_below_the_cursor(rt: HostRuntime) {
-    let (Ok(mut store), Ok(session)) = (MapStore::new(rt.alloc(), LIMITS), Session::new(2)) else {
+    let (Ok(mut store), Ok(session)) = (MapStore::new(rt.alloc(), limits(8)), Session::new(2))
+    else {
         assert!(rt; false);
         return;
     };
-    assert!(rt; store.add(page(0, 0, None, Some(1), Items::Meta)) == Ok(()));
+    assert!(rt; store.add(meta(1, 0)) == Ok(()));
     for (block, right) in [(1, 2), (2, 1), (3, 2)] {
         let mut page = leaf(block, None, Some(right), &[], Some(0x61));
         page.cycle = if block == 3 { 1 } else { 0 };

@@ -1,101 +1,23 @@
-use super::*;
+//! Events of many sessions.
+
+use crate::dead::{Block, NO_SETS};
+use crate::trees::{ALL, entry, tree};
 use arrayvec::ArrayVec;
-use index_model::{DeadRows, Entry, Fault, Key, Limits, Range, RowAddr};
+use index_model::{Entry, Fault};
 use page_action::{MapStore, PageStore};
-use page_codec::{Items, Page, PageState};
+use schedule::{Event, force, is_running, one, run};
 use session_calls::{Answer, Op};
-use std::alloc::Global;
 use std::array;
 use std::test::{Fail, *};
-
-const LIMITS: Limits = Limits {
-    items: 4,
-    pages: 32,
-    log_bytes: 65_536,
-};
-
-const ALL: Range = Range {
-    from: None,
-    below: None,
-};
 
 // So many entries are inserted, of these keys in another order.
 const MOST: u8 = 22;
 
-// A set of dead rows without rows.
-struct NoRows {}
-
-impl DeadRows for NoRows {
-    ghost use Rattle.std.specs.Prelude.{false};
-
-    ghost is_in = { λ rows row. false };
-
-    fn is_dead(&self, _row: RowAddr) -> bool {
-        false
-    }
-}
-
-const NO_SETS: [NoRows; 0] = [];
-
-// The rows of one block.
-#[derive(Drop)]
-struct Block {
-    number: u32,
-}
-
-impl DeadRows for Block {
-    ghost use Rattle.std.specs.Prelude.{◌==◌};
-
-    ghost is_in = { λ rows row. row.block == rows.number };
-
-    fn is_dead(&self, row: RowAddr) -> bool {
-        row.block() == self.number
-    }
-}
-
 const SETS: [Block; 2] = [Block { number: 0 }, Block { number: 1 }];
-
-// An entry whose row is in one of the two sets.
-fn entry_in(key: u8, block: u32) -> Entry {
-    Entry {
-        key: Key::new(&[key]).unwrap_or(Key::EMPTY),
-        row: RowAddr::new(block, 1).unwrap_or_default(),
-    }
-}
-
-fn entry(key: u8) -> Entry {
-    Entry {
-        key: Key::new(&[key]).unwrap_or(Key::EMPTY),
-        row: RowAddr::new(1, 1).unwrap_or_default(),
-    }
-}
-
-fn page(block: u32, right: Option<u32>, items: Items) -> Page {
-    Page {
-        block,
-        level: 0,
-        state: PageState::Live,
-        split: false,
-        left: None,
-        right,
-        high: None,
-        cycle: 0,
-        deletion: 0,
-        items,
-    }
-}
-
-// An empty index without a device.
-fn empty_store(alloc: Global) -> Result<MapStore, Fault> {
-    let mut store = MapStore::new(alloc, LIMITS)?;
-    store.add(page(0, Some(1), Items::Meta))?;
-    store.add(page(1, None, Items::Entries(ArrayVec::new())))?;
-    Ok(store)
-}
 
 // The entry that is inserted at this place of the order.
 fn nth(place: u8) -> Entry {
-    entry(u8::try_from(u32::from(place) * 7 % 23).unwrap_or(0))
+    entry(u8::try_from(u32::from(place) * 7 % 23).unwrap_or(0), 1, 1)
 }
 
 // An event of a session that inserts, where so many inserts have begun: a step of its call, or the next insert.
@@ -210,7 +132,7 @@ fn scan_alone(store: &mut MapStore, slots: &mut [Option<Op>; 3]) -> Option<Array
 
 #[test]
 fn two_split_leaves_while_a_third_scans(rt: HostRuntime) -> Result<(), Fail> {
-    let mut store = empty_store(rt.alloc())?;
+    let mut store = tree(rt.alloc(), 32, &[])?;
     let mut slots: [Option<Op>; 3] = array::from_fn(|_| None);
     let Some((added, scans)) = take_turns(&mut store, &mut slots, 600) else {
         assert!(rt; false);
@@ -227,7 +149,7 @@ fn two_split_leaves_while_a_third_scans(rt: HostRuntime) -> Result<(), Fail> {
     };
     assert_eq!(rt; given.len(), usize::from(MOST));
     for (place, found) in given.iter().enumerate() {
-        assert!(rt; *found == entry(u8::try_from(place + 1).unwrap_or(0)));
+        assert!(rt; *found == entry(u8::try_from(place + 1).unwrap_or(0), 1, 1));
     }
     let acts = store.acts();
     let kept = force(&mut store, &slots);
@@ -237,12 +159,12 @@ fn two_split_leaves_while_a_third_scans(rt: HostRuntime) -> Result<(), Fail> {
 
 #[test]
 fn refused_events_in_a_run(rt: HostRuntime) -> Result<(), Fail> {
-    let mut store = empty_store(rt.alloc())?;
+    let mut store = tree(rt.alloc(), 32, &[])?;
     let mut slots: [Option<Op>; 2] = array::from_fn(|_| None);
     let events = [
         Event::Step(0),
-        Event::Insert(2, entry(1)),
-        Event::Insert(0, entry(1)),
+        Event::Insert(2, entry(1, 1, 1)),
+        Event::Insert(0, entry(1, 1, 1)),
         Event::Scan(0, ALL),
         Event::Next(1),
         Event::End(0),
@@ -274,7 +196,7 @@ fn finish(store: &mut MapStore, slots: &mut [Option<Op>; 3], session: u32) -> An
 
 #[test]
 fn a_bulk_delete_is_refused_in_order(rt: HostRuntime) -> Result<(), Fail> {
-    let mut store = empty_store(rt.alloc())?;
+    let mut store = tree(rt.alloc(), 32, &[])?;
     let mut slots: [Option<Op>; 3] = array::from_fn(|_| None);
     let events = [
         Event::Bulk(3, 0),
@@ -284,7 +206,7 @@ fn a_bulk_delete_is_refused_in_order(rt: HostRuntime) -> Result<(), Fail> {
         Event::Bulk(0, 0),
         Event::Bulk(1, 2),
         Event::Bulk(1, 1),
-        Event::Insert(1, entry_in(1, 1)),
+        Event::Insert(1, entry(1, 1, 1)),
         Event::Bulk(1, 0),
         Event::Next(0),
         Event::End(0),
@@ -310,14 +232,14 @@ fn a_bulk_delete_is_refused_in_order(rt: HostRuntime) -> Result<(), Fail> {
 
 #[test]
 fn a_bulk_delete_waits_for_a_scan(rt: HostRuntime) -> Result<(), Fail> {
-    let mut store = empty_store(rt.alloc())?;
+    let mut store = tree(rt.alloc(), 32, &[])?;
     let mut slots: [Option<Op>; 3] = array::from_fn(|_| None);
     for key in 1..=3 {
         let _begun = one(
             &mut store,
             &mut slots,
             &SETS,
-            Event::Insert(0, entry_in(key, u32::from(key) % 2)),
+            Event::Insert(0, entry(key, u32::from(key) % 2, 1)),
         );
         let added = finish(&mut store, &mut slots, 0);
         assert!(rt; matches!(added, Answer::Added { .. }));
@@ -357,7 +279,7 @@ fn delete_beside(
             Event::Step(session)
         } else {
             let key = u8::try_from(u32::from(begun.saturating_add(1)) * 7 % 23).unwrap_or(0);
-            Event::Insert(session, entry_in(key, u32::from(key) % 2))
+            Event::Insert(session, entry(key, u32::from(key) % 2, 1))
         };
         match one(store, slots, &SETS, event) {
             Answer::Begun if session != 2 => begun = begun.saturating_add(1),
@@ -376,7 +298,7 @@ fn delete_beside(
 
 #[test]
 fn two_insert_while_a_third_deletes(rt: HostRuntime) -> Result<(), Fail> {
-    let mut store = empty_store(rt.alloc())?;
+    let mut store = tree(rt.alloc(), 32, &[])?;
     let mut slots: [Option<Op>; 3] = array::from_fn(|_| None);
     let Some((added, finished)) = delete_beside(&mut store, &mut slots, 900) else {
         assert!(rt; false);
@@ -397,14 +319,14 @@ fn two_insert_while_a_third_deletes(rt: HostRuntime) -> Result<(), Fail> {
     };
     assert_eq!(rt; given.len(), usize::from(MOST / 2));
     for (place, found) in given.iter().enumerate() {
-        assert!(rt; *found == entry_in(u8::try_from(place * 2 + 2).unwrap_or(0), 0));
+        assert!(rt; *found == entry(u8::try_from(place * 2 + 2).unwrap_or(0), 0, 1));
     }
     Ok(())
 }
 
 #[test]
 fn one_vacuum_runs_at_a_time(rt: HostRuntime) -> Result<(), Fail> {
-    let mut store = empty_store(rt.alloc())?;
+    let mut store = tree(rt.alloc(), 32, &[])?;
     let mut slots: [Option<Op>; 3] = array::from_fn(|_| None);
     for first in [Event::Bulk(0, 1), Event::Cleanup(0)] {
         let begun = one(&mut store, &mut slots, &SETS, first);

@@ -1,6 +1,6 @@
-use crate::base::{ENTRIES, LEN, sound};
-use crate::calls::{Outcome, tried};
-use crate::table::{Altered, Table};
+use super::base::{ENTRIES, LEN, sound};
+use super::table::{Altered, Table};
+use super::trial::{Outcome, tried};
 use amcheck::{Report, check_parents};
 use device::{CrashImage, Device, MemDevice};
 use index_model::Fault;

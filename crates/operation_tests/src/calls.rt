@@ -1,90 +1,16 @@
-use super::*;
+//! Calls of one session.
+
+use crate::dead::{Block, NO_SETS};
+use crate::trees::{ALL, entry, tree};
 use arrayvec::ArrayVec;
-use index_model::{DeadRows, Entry, Fault, Key, Limits, Range, RowAddr, Session};
+use index_model::{Entry, Fault, Session};
 use page_action::{MapStore, PageStore};
-use page_codec::{Items, Page, PageState};
-use std::alloc::Global;
+use session_calls::{Answer, Op, Request, begin, end, next, step};
 use std::test::*;
-
-const LIMITS: Limits = Limits {
-    items: 4,
-    pages: 8,
-    log_bytes: 65_536,
-};
-
-fn page(block: u32, right: Option<u32>, items: Items) -> Page {
-    Page {
-        block,
-        level: 0,
-        state: PageState::Live,
-        split: false,
-        left: None,
-        right,
-        high: None,
-        cycle: 0,
-        deletion: 0,
-        items,
-    }
-}
-
-// A set of dead rows without rows.
-struct NoRows {}
-
-impl DeadRows for NoRows {
-    ghost use Rattle.std.specs.Prelude.{false};
-
-    ghost is_in = { λ rows row. false };
-
-    fn is_dead(&self, _row: RowAddr) -> bool {
-        false
-    }
-}
-
-// The rows of one block.
-#[derive(Drop)]
-struct Block {
-    number: u32,
-}
-
-impl DeadRows for Block {
-    ghost use Rattle.std.specs.Prelude.{◌==◌};
-
-    ghost is_in = { λ rows row. row.block == rows.number };
-
-    fn is_dead(&self, row: RowAddr) -> bool {
-        row.block() == self.number
-    }
-}
-
-const NO_SETS: [NoRows; 0] = [];
-
-// The metapage, and a leaf with these entries as the root.
-fn tree(alloc: Global, entries: &[Entry]) -> Result<MapStore, Fault> {
-    let mut leaf = ArrayVec::new();
-    for entry in entries {
-        let _ = leaf.try_push(*entry);
-    }
-    let mut store = MapStore::new(alloc, LIMITS)?;
-    store.add(page(0, Some(1), Items::Meta))?;
-    store.add(page(1, None, Items::Entries(leaf)))?;
-    Ok(store)
-}
-
-fn entry(key: u8, block: u32) -> Entry {
-    Entry {
-        key: Key::new(&[key]).unwrap_or(Key::EMPTY),
-        row: RowAddr::new(block, 1).unwrap_or_default(),
-    }
-}
-
-const ALL: Range = Range {
-    from: None,
-    below: None,
-};
 
 #[test]
 fn an_insert_and_a_scan(rt: HostRuntime) {
-    let (Ok(mut store), Ok(session)) = (tree(rt.alloc(), &[]), Session::new(5)) else {
+    let (Ok(mut store), Ok(session)) = (tree(rt.alloc(), 8, &[]), Session::new(5)) else {
         assert!(rt; false);
         return;
     };
@@ -98,7 +24,7 @@ fn an_insert_and_a_scan(rt: HostRuntime) {
     let begun = begin(
         &mut store,
         session,
-        Request::Insert(entry(1, 7)),
+        Request::Insert(entry(1, 7, 1)),
         false,
         &mut slot,
     );
@@ -128,7 +54,7 @@ fn an_insert_and_a_scan(rt: HostRuntime) {
         assert!(rt; false);
         return;
     };
-    assert!(rt; given == entry(1, 7));
+    assert!(rt; given == entry(1, 7, 1));
     assert!(rt; matches!(next(&mut slot), Answer::Gave(None)));
     assert!(rt; matches!(step(&mut store, &mut slot, &NO_SETS), Answer::Done));
     assert!(rt; slot.is_none());
@@ -136,7 +62,7 @@ fn an_insert_and_a_scan(rt: HostRuntime) {
 
 #[test]
 fn a_call_is_given_up(rt: HostRuntime) {
-    let (Ok(mut store), Ok(session)) = (tree(rt.alloc(), &[]), Session::new(5)) else {
+    let (Ok(mut store), Ok(session)) = (tree(rt.alloc(), 8, &[]), Session::new(5)) else {
         assert!(rt; false);
         return;
     };
@@ -178,8 +104,13 @@ fn give(store: &mut MapStore, slot: &mut Option<Op>) -> Option<Entry> {
 
 #[test]
 fn a_leaf_and_the_root_are_split(rt: HostRuntime) {
-    let full = [entry(1, 7), entry(2, 7), entry(3, 7), entry(4, 7)];
-    let (Ok(mut store), Ok(session)) = (tree(rt.alloc(), &full), Session::new(5)) else {
+    let full = [
+        entry(1, 7, 1),
+        entry(2, 7, 1),
+        entry(3, 7, 1),
+        entry(4, 7, 1),
+    ];
+    let (Ok(mut store), Ok(session)) = (tree(rt.alloc(), 8, &full), Session::new(5)) else {
         assert!(rt; false);
         return;
     };
@@ -187,7 +118,7 @@ fn a_leaf_and_the_root_are_split(rt: HostRuntime) {
     let begun = begin(
         &mut store,
         session,
-        Request::Insert(entry(5, 7)),
+        Request::Insert(entry(5, 7, 1)),
         false,
         &mut slot,
     );
@@ -209,7 +140,7 @@ fn a_leaf_and_the_root_are_split(rt: HostRuntime) {
     let begun = begin(&mut store, session, Request::Scan(ALL), false, &mut slot);
     assert!(rt; matches!(begun, Answer::Begun));
     for number in 1..=5 {
-        assert!(rt; give(&mut store, &mut slot) == Some(entry(number, 7)));
+        assert!(rt; give(&mut store, &mut slot) == Some(entry(number, 7, 1)));
     }
     assert!(rt; matches!(next(&mut slot), Answer::Gave(None)));
     let (done, _) = run(&mut store, &mut slot);
@@ -218,9 +149,14 @@ fn a_leaf_and_the_root_are_split(rt: HostRuntime) {
 
 #[test]
 fn a_bulk_delete_runs_alone(rt: HostRuntime) {
-    let entries = [entry(1, 7), entry(2, 8), entry(3, 9), entry(4, 8)];
+    let entries = [
+        entry(1, 7, 1),
+        entry(2, 8, 1),
+        entry(3, 9, 1),
+        entry(4, 8, 1),
+    ];
     let (Ok(mut store), Ok(session), Ok(other)) = (
-        tree(rt.alloc(), &entries),
+        tree(rt.alloc(), 8, &entries),
         Session::new(5),
         Session::new(6),
     ) else {
@@ -236,7 +172,7 @@ fn a_bulk_delete_runs_alone(rt: HostRuntime) {
     let begun = begin(
         &mut store,
         other,
-        Request::Insert(entry(1, 8)),
+        Request::Insert(entry(1, 8, 1)),
         false,
         &mut second,
     );
@@ -270,8 +206,8 @@ fn a_bulk_delete_runs_alone(rt: HostRuntime) {
 
 #[test]
 fn a_cleanup_counts_the_entries(rt: HostRuntime) {
-    let entries = [entry(1, 7), entry(2, 8), entry(3, 9)];
-    let (Ok(mut store), Ok(session)) = (tree(rt.alloc(), &entries), Session::new(5)) else {
+    let entries = [entry(1, 7, 1), entry(2, 8, 1), entry(3, 9, 1)];
+    let (Ok(mut store), Ok(session)) = (tree(rt.alloc(), 8, &entries), Session::new(5)) else {
         assert!(rt; false);
         return;
     };

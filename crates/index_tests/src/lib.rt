@@ -1,0 +1,14 @@
+//! Tests over a device, and nothing else: each public call of a world and of an index once, and indexes of whose bytes one is
+//! altered. They stand in one crate, because each crate with tests over the stack compiles all of it.
+#![tactic(auto)]
+
+#[cfg(test)]
+mod altered;
+#[cfg(test)]
+mod dead;
+#[cfg(test)]
+mod many_sessions;
+#[cfg(test)]
+mod one_user;
+#[cfg(test)]
+mod small;
