@@ -1,11 +1,12 @@
 //! Calls of one session.
 
 use crate::dead::{Block, NO_SETS};
+use crate::plain::{begin, end, next, step};
 use crate::trees::{ALL, entry, tree};
 use arrayvec::ArrayVec;
 use index_model::{Entry, Fault, Session};
 use page_action::{MapStore, PageStore};
-use session_calls::{Answer, Op, Request, begin, end, next, step};
+use session_calls::{Answer, Op, Request};
 use std::test::*;
 
 #[test]

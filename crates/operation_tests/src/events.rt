@@ -1,11 +1,12 @@
 //! Events of many sessions.
 
 use crate::dead::{Block, NO_SETS};
+use crate::plain::{one, run};
 use crate::trees::{ALL, entry, tree};
 use arrayvec::ArrayVec;
 use index_model::{Entry, Fault};
 use page_action::{MapStore, PageStore};
-use schedule::{Event, force, is_running, one, run};
+use schedule::{Event, force, is_running};
 use session_calls::{Answer, Op};
 use std::array;
 use std::test::{Fail, *};

@@ -10,14 +10,19 @@ fn nth(number: u8) -> Entry {
     entry(number, 0, u16::from(number))
 }
 
+// A step of an insert, without its contract.
+fn step(op: &mut InsertOp, store: &mut MapStore) -> Result<InsertStep, Fault> {
+    op.step(store)
+}
+
 // All steps of an insert, and the action that it answers; 0 if it goes on after forty steps, or leaves a split unfinished.
 fn insert(store: &mut MapStore, session: Session, entry: Entry) -> Result<u64, Fault> {
     store.begin(session)?;
     let mut op = InsertOp::new(session, entry);
-    let mut answer = op.step(store);
+    let mut answer = step(&mut op, store);
     for _ in 0..40 {
         if matches!(answer, Ok(InsertStep::Going)) {
-            answer = op.step(store);
+            answer = step(&mut op, store);
         }
     }
     store.end(session);
@@ -70,7 +75,7 @@ fn another_insert_finishes_a_split(rt: HostRuntime) {
     assert!(rt; store.begin(other).is_ok());
     let mut op = InsertOp::new(other, nth(5));
     for _ in 0..3 {
-        assert!(rt; matches!(op.step(&mut store), Ok(InsertStep::Going)));
+        assert!(rt; matches!(step(&mut op, &mut store), Ok(InsertStep::Going)));
     }
     store.end(other);
     assert_eq!(rt; store.acts(), 5);
@@ -90,13 +95,13 @@ fn a_leaf_is_held_by_one(rt: HostRuntime) {
     let mut first = InsertOp::new(session, nth(1));
     let mut second = InsertOp::new(other, nth(2));
     for _ in 0..2 {
-        assert!(rt; matches!(first.step(&mut store), Ok(InsertStep::Going)));
+        assert!(rt; matches!(step(&mut first, &mut store), Ok(InsertStep::Going)));
     }
-    assert!(rt; matches!(second.step(&mut store), Ok(InsertStep::Going)));
-    assert!(rt; matches!(second.step(&mut store), Err(Fault::Blocked(1))));
+    assert!(rt; matches!(step(&mut second, &mut store), Ok(InsertStep::Going)));
+    assert!(rt; matches!(step(&mut second, &mut store), Err(Fault::Blocked(1))));
     assert!(rt;
         matches!(
-            first.step(&mut store),
+            step(&mut first, &mut store),
             Ok(InsertStep::Added { action: 1, .. })
         )
     );

@@ -15,6 +15,8 @@ mod events;
 #[cfg(test)]
 mod inserts;
 #[cfg(test)]
+mod plain;
+#[cfg(test)]
 mod scans;
 #[cfg(test)]
 mod split_finishes;

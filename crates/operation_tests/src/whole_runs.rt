@@ -1,12 +1,12 @@
 //! Whole calls over any store and slots.
 
 use crate::dead::NO_SETS;
+use crate::plain::{finish, give, give_up, insert, open, put};
 use crate::trees::{ALL, entry, tree};
 use index_model::Fault;
 use session_calls::{Answer, Op};
 use std::array;
 use std::test::{Fail, *};
-use whole_calls::{finish, give, give_up, insert, open, put};
 
 #[test]
 fn calls_run_to_their_ends(rt: HostRuntime) -> Result<(), Fail> {
