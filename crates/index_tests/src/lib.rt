@@ -1,4 +1,4 @@
-//! Tests over a device, and nothing else: each public call of a world and of an index once, and indexes of whose bytes one is
+//! Tests over a device, and nothing else: calls of a world and of an index of one user, and indexes of whose bytes one is
 //! altered. They stand in one crate, because each crate with tests over the stack compiles all of it.
 #![tactic(auto)]
 

@@ -67,7 +67,7 @@ pub fn leaf(
     leaf
 }
 
-/// An internal page of level 1, without neighbours, of these children with what lies below each.
+/// An internal page of level 1, without neighbours, of these children, each behind its bound.
 pub fn parent(block: u32, children: &[(Option<Bound>, u32)]) -> Page {
     let mut links = ArrayVec::new();
     for (bound, child) in children {
