@@ -1,14 +1,12 @@
-//! How many pages a second are encoded, decoded and copied on one core: `page_timing time` prints it to
-//! standard error. Without an argument it encodes and decodes each of its pages once.
-#![tactic(auto)]
+//! How many pages a second are encoded, decoded and copied on one core.
 
 use arrayvec::ArrayVec;
 use index_model::{Entry, Key, RowAddr};
 use page_codec::{Downlink, Items, Page, PageState, decode, decode_into, encode};
+use std::io;
 use std::io::Eprint;
 use std::rt::Clock;
 use std::time::Instant;
-use std::{env, io};
 
 /// How often a page is encoded and decoded.
 const ROUNDS: u32 = 400_000;
@@ -54,14 +52,19 @@ fn internal(count: u8) -> Page {
     page(1, Items::Downlinks(links))
 }
 
+// Encodes without a contract: what it promises of each byte would be carried through each loop.
+fn write(page: &Page, bytes: &mut [u8; 4096]) {
+    encode(page, bytes)
+}
+
 fn is_read_again(page: &Page) -> bool {
     let mut bytes = [0; 4096];
-    encode(page, &mut bytes);
+    write(page, &mut bytes);
     let Some(again) = decode(&bytes) else {
         return false;
     };
     let mut rewritten = [1; 4096];
-    encode(&again, &mut rewritten);
+    write(&again, &mut rewritten);
     rewritten == bytes
 }
 
@@ -69,7 +72,7 @@ fn nanos_to_encode(rt: &impl Clock, page: &mut Page, bytes: &mut [u8; 4096]) -> 
     let start = Instant::now(rt)?;
     for i in 0..ROUNDS {
         page.block = 1 + i % 1_000;
-        encode(page, bytes);
+        write(page, bytes);
     }
     Ok(start.elapsed(rt)?.as_nanos())
 }
@@ -142,17 +145,14 @@ fn time(rt: &(impl Clock + Eprint), name: &str, page: &mut Page) -> io::Result<(
     eprintln!(rt; "{name}: {copied} copied, {copied_to} copied in place")
 }
 
-fn main(rt: HostRuntime) -> io::Result<()> {
-    let mut full_leaf = leaf(50);
-    let mut full_internal = internal(50);
-    let mut empty_leaf = leaf(0);
-    if is_read_again(&full_leaf) && is_read_again(&full_internal) && is_read_again(&empty_leaf) {
-        println!(rt; "three pages written and read again")?;
-    }
-    if env::args(&rt)?.count() > 1 {
-        time(&rt, "full leaf", &mut full_leaf)?;
-        time(&rt, "full internal page", &mut full_internal)?;
-        time(&rt, "empty leaf", &mut empty_leaf)?;
-    }
-    Ok(())
+/// Whether three pages are written and read again.
+pub fn are_read_again() -> bool {
+    is_read_again(&leaf(50)) && is_read_again(&internal(50)) && is_read_again(&leaf(0))
+}
+
+/// Times pages of three kinds.
+pub fn time_pages(rt: &(impl Clock + Eprint)) -> io::Result<()> {
+    time(rt, "full leaf", &mut leaf(50))?;
+    time(rt, "full internal page", &mut internal(50))?;
+    time(rt, "empty leaf", &mut leaf(0))
 }

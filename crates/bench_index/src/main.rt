@@ -1,13 +1,15 @@
 //! How many entries a second an index takes, gives and deletes on one core, and how long an open takes over a full log:
-//! `index_timing time` prints it to standard error, `index_timing file` what the calls cost over a file, `index_timing plain`
-//! what they cost without a device, `index_timing bytes` how many bytes are written for a commit, and `index_timing check` how
-//! many entries a second the verifier looks at. Without an argument it fills two small indexes, scans them and deletes half.
+//! `bench_index time` prints it to standard error, `bench_index file` what the calls cost over a file, `bench_index plain`
+//! what they cost without a device, `bench_index bytes` how many bytes are written for a commit, `bench_index check` how many
+//! entries a second the verifier looks at, and `bench_index pages` how many pages a second are encoded, decoded and copied.
+//! Without an argument it fills two small indexes, scans them and deletes half, and writes three pages and reads them again.
 #![tactic(auto)]
 
 mod checking;
 mod counting;
 mod filing;
 mod opening;
+mod pages;
 mod plain;
 mod reuse;
 mod writing;
@@ -20,6 +22,7 @@ use index_model::{DeadRows, Entry, Fault, Key, Limits, Range, RowAddr};
 use opening::time_open;
 use page_action::PageStore;
 use page_store::Store;
+use pages::{are_read_again, time_pages};
 use plain::time_without_device;
 use recovery::create;
 use reuse::time_reuse;
@@ -249,6 +252,9 @@ fn main(rt: HostRuntime) -> io::Result<()> {
             println!(rt; "1000 entries inserted and scanned, and half of them deleted")?;
         }
     }
+    if are_read_again() {
+        println!(rt; "three pages written and read again")?;
+    }
     let words: Vec<String> = env::args(&rt)?.collect(alloc)?;
     match words.get(1) {
         None => Ok(()),
@@ -256,6 +262,7 @@ fn main(rt: HostRuntime) -> io::Result<()> {
         Some(word) if word.as_str() == "plain" => time_without_device(&rt, alloc),
         Some(word) if word.as_str() == "bytes" => count_bytes(&rt, alloc),
         Some(word) if word.as_str() == "check" => time_checks_in_memory(&rt, alloc),
+        Some(word) if word.as_str() == "pages" => time_pages(&rt),
         Some(_) => time_in_memory(&rt, alloc),
     }
 }

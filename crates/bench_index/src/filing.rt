@@ -16,7 +16,7 @@ use std::rt::{Clock, Files};
 use std::time::Instant;
 
 /// The file, in the folder that the program is run in. It is removed at the end.
-const PATH: &str = "index_timing.idx";
+const PATH: &str = "bench_index.idx";
 
 /// So many entries with keys of 16 bytes, in shuffled order, and a commit behind every so many.
 fn shuffled(count: u32, commit_every: u32) -> Load {
