@@ -245,7 +245,7 @@ pub record IsUnchanged {S : Type 0} (g : Ghosts S) (old new : StoreAndSlots S) :
   pub state_is : g.state new.store ≡ g.state old.store
   pub slots_is : new.slots ≡ old.slots
 
--- a refused event changes nothing, but that a step that wasn't blocked ends its call
+-- a refused event changes nothing, but that a step ends its call, unless it was refused with Blocked or NoSession
 abbrev pub RefusalKeeps : {S : Type 0} → Ghosts S → Kind → Answer → StoreAndSlots S → StoreAndSlots S → Type 0
 RefusalKeeps g (MovesCall session Steps) answer old new =
     RefusalChangesNothing (g.state old.store) (g.state new.store) (slot_of old.slots session) (slot_of new.slots session) answer
@@ -319,7 +319,8 @@ MoveRunsOn kind before after = Unit {0}
 -- What holds of an event whatever the pages are: what it may answer; that a refusal changes nothing; that a stopped log
 -- refuses it first; what is left to do for its call, over a device that keeps its model; that it does one act at most, and
 -- only a step of an insert, of a bulk delete or of a cleanup does one; that no other session's slot is changed; what it leaves; that a
--- beginning that is refused has its cause, the first that there is; what a beginning begins; and that a call stays of its kind.
+-- beginning that is refused has its cause, the first that there is of a log that has failed, no such session or set, and a
+-- session with a call; what a beginning begins; and that a call stays of its kind.
 pub record EventAlways {S : Type 0} (g : Ghosts S) (kind : Kind) (answer : Answer) (old new : StoreAndSlots S) : Type 0 where
   pub answers : AnswersEvent kind answer old.slots new.slots
   pub refused : RefusalKeeps g kind answer old new

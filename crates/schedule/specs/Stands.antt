@@ -15,7 +15,7 @@ use Rattle.schedule.specs.Runs.{IsRun}
 use Rattle.schedule.specs.declared.event.Event.{Event}
 use Rattle.schedule.specs.declared.event.Event.TheVariants.{Bulk as BulkEvent}
 
--- the session's scan stands on the leaf of this block: it is the last page that it has read
+-- the session's scan stands on the leaf of this block, as its record says
 pub record StandsOn {S : Type 0} (session block : ℕ) (now : Snapshot S) : Type 0 where
   pub op : ScanOp
   pub runs : slot_of now.slots session ≡ Some (Scan op)

@@ -17,8 +17,10 @@ use session_calls::{Answer, Op, Request};
 
 /// Does one event on a store, whose session i runs what the slot i has, and answers what the event gave, a refusal among
 /// the answers. Where several refusals apply, the first of `Stopped` (3), `NoSession` (12), `SessionBusy` (13) and
-/// `VacuumRunning` (11) is answered; a bulk delete of a set that isn't there is refused with `NoSession`; a bulk delete or a
-/// cleanup is refused with `VacuumRunning` while a session runs either. There are 64 slots at most. The sets of dead rows are those that calls name by their places, the same at each event.
+/// `VacuumRunning` (11) is answered; a counter at its end, which is refused with `Stopped` too, is tested last. A bulk
+/// delete of a set that isn't there is refused with `NoSession`; a bulk delete or a cleanup is refused with `VacuumRunning`
+/// while a session runs either. There are 64 slots at most. The sets of dead rows are those that calls name by their places,
+/// the same at each event.
 pub fn one<S: PageStore, T: DeadRows>(
     store: &mut S,
     slots: &mut [Option<Op>],

@@ -244,7 +244,7 @@ pub record StepIsRefused (old new : State) (op : Op) (after : Option Op) (fault 
   pub state : new ≡ (if ends_call fault then after_call op old else old)
   pub slot_is : after ≡ (if ends_call fault then None else Some op)
 
--- a refused step changes nothing, but that the call is over where it was not blocked
+-- a refused step changes nothing, but that the call is over, unless it was refused with Blocked or NoSession
 abbrev pub RefusalChangesNothing : State → State → Option Op → Option Op → Answer → Type 0
 RefusalChangesNothing old new (Some op) after (Refused fault) = StepIsRefused old new op after fault
 RefusalChangesNothing old new None after answer = (new ≡ old) × (after ≡ None)

@@ -18,7 +18,7 @@ use page_action::PageStore;
 
 /// Makes one step of a session's call. Where the answer ends the call, the slot is empty afterwards, and what the session
 /// held is let go. A slot with no call is refused with `NoSession` (12), or `Stopped` (3). A refused step changes nothing,
-/// but that the call is over where it wasn't blocked.
+/// but that the call is over, unless it was refused with `Blocked` or `NoSession`.
 ///
 /// A call that was asked for the rows of a set knows it by its place among the sets. These are the same at each of its steps.
 pub fn step<S: PageStore, T: DeadRows>(store: &mut S, slot: &mut Option<Op>, sets: &[T]) -> Answer

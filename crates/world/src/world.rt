@@ -16,7 +16,7 @@ use std::alloc::Global;
 /// device, a crash at any moment leaves the contents after some first part of that history, with all that was durable.
 ///
 /// Of what its clauses name: `steps`, that what its store followed it follows still; `sets` and `sessions`, that these
-/// stay; `always`, what holds of an event whatever the pages are (what it may answer; that a refusal changes nothing; that
+/// stay; `always`, of one event, what holds of it whatever the pages are (what it may answer; that a refusal changes nothing; that
 /// a stopped log refuses first; that a step that goes on leaves less to do, over a device that keeps its model, unless it
 /// does an act; that an event does one act at most, and only a step does one; that no other session is touched; what an end
 /// leaves; and why a beginning is refused); `runs`, the continuation, in which each event also says this, how many steps
@@ -94,7 +94,8 @@ impl<S: PageStore, T: DeadRows + Drop> World<S, T> {
     }
 
     /// Does one event and answers what it gave, a refusal among the answers. Where several refusals apply, the first of
-    /// `Stopped`, `NoSession`, `SessionBusy` is answered.
+    /// `Stopped`, `NoSession`, `SessionBusy`, `VacuumRunning` is answered; a counter at its end, which is refused with
+    /// `Stopped` too, is tested last.
     pub fn one(&mut self, event: Event) -> Answer
         ensures steps { Continues S.follows self.old.store self.new.store }
         ensures sessions { length self.new.slots.items ≡ length self.old.slots.items }
