@@ -1,10 +1,9 @@
 //! Bulk deletes.
 
-ghost use Rattle.std.specs.Prelude.{nat_le, ◌&&◌};
-
+use crate::dead::Blocks;
 use crate::plain::{enter, latch};
 use crate::trees::{change, emptied, leaf_of, meta, parent, stored};
-use index_model::{DeadRows, Fault, RowAddr, Session, VacuumStats};
+use index_model::{Fault, Session, VacuumStats};
 use latch_table::Mode;
 use page_action::{MapStore, PageStore};
 use page_codec::{Items, Page, PageState};
@@ -12,23 +11,8 @@ use std::alloc::Global;
 use std::test::{Fail, *};
 use vacuum::{BulkDeleteOp, BulkDeleteStep};
 
-// The rows of block 0 with these offsets.
-#[derive(Clone, Copy)]
-struct Offsets {
-    from: u16,
-    to: u16,
-}
-
-impl DeadRows for Offsets {
-    ghost is_in = { λ rows row. nat_le rows.from row.offset && nat_le row.offset rows.to };
-
-    fn is_dead(&self, row: RowAddr) -> bool {
-        self.from <= row.offset() && row.offset() <= self.to
-    }
-}
-
 // None that an entry has.
-const NONE: Offsets = Offsets { from: 9, to: 9 };
+const NONE: Blocks = Blocks { from: 9, to: 9 };
 
 // Two leaves under a root.
 fn tree(alloc: Global) -> Result<MapStore, Fault> {
@@ -47,17 +31,13 @@ fn tree(alloc: Global) -> Result<MapStore, Fault> {
 fn step(
     op: &mut BulkDeleteOp,
     store: &mut MapStore,
-    dead: Offsets,
+    dead: Blocks,
 ) -> Result<BulkDeleteStep, Fault> {
     op.step(store, &dead)
 }
 
 // Steps until it has finished; NoMemory where it goes on after twenty steps.
-fn finish(
-    op: &mut BulkDeleteOp,
-    store: &mut MapStore,
-    dead: Offsets,
-) -> Result<VacuumStats, Fault> {
+fn finish(op: &mut BulkDeleteOp, store: &mut MapStore, dead: Blocks) -> Result<VacuumStats, Fault> {
     for _ in 0..20 {
         if let BulkDeleteStep::Finished(stats) = step(op, store, dead)? {
             return Ok(stats);
@@ -66,7 +46,7 @@ fn finish(
     Err(Fault::NoMemory)
 }
 
-fn goes_on(op: &mut BulkDeleteOp, store: &mut MapStore, dead: Offsets) -> bool {
+fn goes_on(op: &mut BulkDeleteOp, store: &mut MapStore, dead: Blocks) -> bool {
     matches!(step(op, store, dead), Ok(BulkDeleteStep::Going))
 }
 
@@ -103,14 +83,14 @@ fn begun(store: &mut MapStore, session: Session) -> BulkDeleteOp {
 fn dead_entries_go(rt: HostRuntime) -> Result<(), Fail> {
     let mut store = tree(rt.alloc())?;
     let mut op = begun(&mut store, Session::new(2)?);
-    let dead = Offsets {
+    let dead = Blocks {
         from: 0x62,
         to: 0x64,
     };
     assert!(rt; finish(&mut op, &mut store, dead) == Ok(stats(4, 2, 3, 0, 0)));
-    assert_eq!(rt; store.acts(), 2);
-    assert_eq!(rt; count_on(&mut store, 1), 1);
-    assert_eq!(rt; count_on(&mut store, 2), 1);
+    assert!(rt; store.acts() == 2);
+    assert!(rt; count_on(&mut store, 1) == 1);
+    assert!(rt; count_on(&mut store, 2) == 1);
     Ok(())
 }
 
@@ -120,7 +100,7 @@ fn nothing_is_dead(rt: HostRuntime) -> Result<(), Fail> {
     let mut store = tree(rt.alloc())?;
     let mut op = begun(&mut store, Session::new(2)?);
     assert!(rt; finish(&mut op, &mut store, NONE) == Ok(stats(4, 5, 0, 0, 0)));
-    assert_eq!(rt; store.acts(), 0);
+    assert!(rt; store.acts() == 0);
     Ok(())
 }
 
@@ -131,7 +111,7 @@ fn blocked_by_a_pin(rt: HostRuntime) -> Result<(), Fail> {
     let other = Session::new(1)?;
     let mut op = begun(&mut store, Session::new(2)?);
     store.pin(other, 1);
-    let dead = Offsets {
+    let dead = Blocks {
         from: 0x61,
         to: 0x61,
     };
@@ -165,7 +145,7 @@ fn tree_behind_a_deleted_page(alloc: Global) -> Result<MapStore, Fault> {
 fn going_back(rt: HostRuntime) -> Result<(), Fail> {
     let mut store = tree_behind_a_deleted_page(rt.alloc())?;
     let mut op = begun(&mut store, Session::new(2)?);
-    let dead = Offsets {
+    let dead = Blocks {
         from: 0x69,
         to: 0x6a,
     };
@@ -179,8 +159,8 @@ fn going_back(rt: HostRuntime) -> Result<(), Fail> {
     let links = parent(3, &[(None, 2), (Some(0x66), 4), (Some(0x69), 1)]);
     assert!(rt; change(&mut store, &[left, right, links]) == Ok(1));
     assert!(rt; finish(&mut op, &mut store, dead) == Ok(stats(5, 5, 2, 0, 0)));
-    assert_eq!(rt; count_on(&mut store, 1), 1);
-    assert_eq!(rt; count_on(&mut store, 4), 2);
+    assert!(rt; count_on(&mut store, 1) == 1);
+    assert!(rt; count_on(&mut store, 4) == 2);
     Ok(())
 }
 
@@ -189,8 +169,8 @@ fn going_back(rt: HostRuntime) -> Result<(), Fail> {
 fn deleted_pages(rt: HostRuntime) -> Result<(), Fail> {
     let mut store = tree(rt.alloc())?;
     let (session, other) = (Session::new(2)?, Session::new(1)?);
-    assert_eq!(rt; enter(&mut store, session), Ok(0));
-    assert_eq!(rt; enter(&mut store, other), Ok(1));
+    assert!(rt; enter(&mut store, session) == Ok(0));
+    assert!(rt; enter(&mut store, other) == Ok(1));
     for (block, deletion) in [(4, 1), (5, 2)] {
         let mut gone = emptied(block, None, 2, None, PageState::Deleted);
         gone.deletion = deletion;

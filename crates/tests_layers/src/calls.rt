@@ -1,6 +1,6 @@
 //! Calls of one session.
 
-use crate::dead::{Block, NO_SETS};
+use crate::dead::{NO_SETS, SEVEN_AND_EIGHT};
 use crate::plain::{begin, end, is_added, is_refused, next, step};
 use crate::trees::{ALL, entry, tree};
 use arrayvec::ArrayVec;
@@ -57,7 +57,7 @@ fn a_call_is_given_up(rt: HostRuntime) -> Result<(), Fail> {
     let session = Session::new(5)?;
     let mut slot = None;
     assert!(rt; begins(&mut store, session, Request::Scan(ALL), &mut slot));
-    assert_eq!(rt; slot.as_ref().map(Op::session), Some(session));
+    assert!(rt; slot.as_ref().map(Op::session) == Some(session));
     assert!(rt; matches!(end(&mut store, &mut slot), Answer::Ended));
     assert!(rt; is_refused(&end(&mut store, &mut slot), Fault::NoSession));
     Ok(())
@@ -102,8 +102,8 @@ fn a_leaf_and_the_root_are_split(rt: HostRuntime) -> Result<(), Fail> {
     assert!(rt; begins(&mut store, session, request, &mut slot));
     let (added, acts) = run(&mut store, &mut slot);
     assert!(rt; is_added(&added, 1));
-    assert_eq!(rt; acts.as_slice(), [0, 0, 1, 1].as_slice());
-    assert_eq!(rt; store.acts(), 2);
+    assert!(rt; acts.as_slice() == [0, 0, 1, 1].as_slice());
+    assert!(rt; store.acts() == 2);
     assert!(rt; slot.is_none());
 
     assert!(rt; begins(&mut store, session, Request::Scan(ALL), &mut slot));
@@ -131,7 +131,6 @@ fn mixed(rt: &HostRuntime) -> Result<MapStore, Fault> {
 fn a_bulk_delete_runs_alone(rt: HostRuntime) -> Result<(), Fail> {
     let mut store = mixed(&rt)?;
     let (session, other) = (Session::new(5)?, Session::new(6)?);
-    let sets = [Block { number: 7 }, Block { number: 8 }];
     let (mut slot, mut second) = (None, None);
     assert!(rt; begins(&mut store, session, Request::Bulk(1), &mut slot));
     let running = begin(&mut store, other, Request::Bulk(0), true, &mut second);
@@ -139,17 +138,17 @@ fn a_bulk_delete_runs_alone(rt: HostRuntime) -> Result<(), Fail> {
     let request = Request::Insert(entry(1, 8, 1));
     assert!(rt; begins(&mut store, other, request, &mut second));
     assert!(rt; matches!(end(&mut store, &mut second), Answer::Ended));
-    assert_eq!(rt; store.cycle(), 1);
+    assert!(rt; store.cycle() == 1);
 
-    assert!(rt; matches!(step(&mut store, &mut slot, &sets), Answer::Going));
+    assert!(rt; matches!(step(&mut store, &mut slot, &SEVEN_AND_EIGHT), Answer::Going));
     assert!(rt; is_refused(&next(&mut slot), Fault::NoSession));
-    let Answer::Finished(stats) = step(&mut store, &mut slot, &sets) else {
+    let Answer::Finished(stats) = step(&mut store, &mut slot, &SEVEN_AND_EIGHT) else {
         assert!(rt; false);
         return Ok(());
     };
-    assert_eq!(rt; (stats.tuples_removed, stats.num_index_tuples), (2, 2));
+    assert!(rt; (stats.tuples_removed, stats.num_index_tuples) == (2, 2));
     assert!(rt; slot.is_none());
-    assert_eq!(rt; (store.cycle(), store.acts()), (0, 1));
+    assert!(rt; (store.cycle(), store.acts()) == (0, 1));
     assert!(rt; begins(&mut store, other, Request::Bulk(0), &mut second));
     Ok(())
 }
@@ -158,14 +157,13 @@ fn a_bulk_delete_runs_alone(rt: HostRuntime) -> Result<(), Fail> {
 fn a_bulk_delete_is_given_up(rt: HostRuntime) -> Result<(), Fail> {
     let mut store = mixed(&rt)?;
     let session = Session::new(6)?;
-    let sets = [Block { number: 7 }, Block { number: 8 }];
     let mut slot = None;
     assert!(rt; begins(&mut store, session, Request::Bulk(0), &mut slot));
     assert!(rt; matches!(end(&mut store, &mut slot), Answer::Ended));
-    assert_eq!(rt; store.cycle(), 0);
+    assert!(rt; store.cycle() == 0);
     // There is no such set.
     assert!(rt; begins(&mut store, session, Request::Bulk(2), &mut slot));
-    let none = step(&mut store, &mut slot, &sets);
+    let none = step(&mut store, &mut slot, &SEVEN_AND_EIGHT);
     assert!(rt; is_refused(&none, Fault::NoSession));
     Ok(())
 }
@@ -179,7 +177,7 @@ fn a_cleanup_counts_the_entries(rt: HostRuntime) -> Result<(), Fail> {
     let running = begin(&mut store, session, Request::Cleanup, true, &mut slot);
     assert!(rt; is_refused(&running, Fault::VacuumRunning));
     assert!(rt; begins(&mut store, session, Request::Cleanup, &mut slot));
-    assert_eq!(rt; store.cycle(), 0);
+    assert!(rt; store.cycle() == 0);
     assert!(rt; slot.as_ref().map(Op::is_vacuum) == Some(true));
 
     assert!(rt; goes_on(&mut store, &mut slot));
@@ -188,9 +186,9 @@ fn a_cleanup_counts_the_entries(rt: HostRuntime) -> Result<(), Fail> {
         assert!(rt; false);
         return Ok(());
     };
-    assert_eq!(rt; (stats.num_pages, stats.num_index_tuples), (2, 3));
-    assert_eq!(rt; (stats.tuples_removed, stats.pages_newly_deleted), (0, 0));
+    assert!(rt; (stats.num_pages, stats.num_index_tuples) == (2, 3));
+    assert!(rt; (stats.tuples_removed, stats.pages_newly_deleted) == (0, 0));
     assert!(rt; slot.is_none());
-    assert_eq!(rt; store.acts(), 0);
+    assert!(rt; store.acts() == 0);
     Ok(())
 }

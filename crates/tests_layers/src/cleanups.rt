@@ -90,15 +90,15 @@ fn empty_leaf_leaves_the_tree(rt: HostRuntime) -> Result<(), Fail> {
     for _ in 0..4 {
         assert!(rt; goes_on(&mut op, &mut store));
     }
-    assert_eq!(rt; store.acts(), 0);
+    assert!(rt; store.acts() == 0);
     assert!(rt; goes_on(&mut op, &mut store));
-    assert_eq!(rt; store.acts(), 1);
-    assert_eq!(rt; children(&mut store, 3), 2);
+    assert!(rt; store.acts() == 1);
+    assert!(rt; children(&mut store, 3) == 2);
     assert!(rt; goes_on(&mut op, &mut store));
-    assert_eq!(rt; store.acts(), 2);
-    assert_eq!(rt; links(&mut store, 1), (None, Some(4)));
-    assert_eq!(rt; links(&mut store, 2), (None, Some(4)));
-    assert_eq!(rt; links(&mut store, 4), (Some(1), None));
+    assert!(rt; store.acts() == 2);
+    assert!(rt; links(&mut store, 1) == (None, Some(4)));
+    assert!(rt; links(&mut store, 2) == (None, Some(4)));
+    assert!(rt; links(&mut store, 4) == (Some(1), None));
     assert!(rt; finish(&mut op, &mut store) == Ok(stats(5, 1, 1, 1)));
     Ok(())
 }
@@ -107,11 +107,11 @@ fn empty_leaf_leaves_the_tree(rt: HostRuntime) -> Result<(), Fail> {
 #[test]
 fn half_dead_page_is_found(rt: HostRuntime) -> Result<(), Fail> {
     let mut store = tree(rt.alloc(), PageState::HalfDead)?;
-    assert_eq!(rt; enter(&mut store, Session::new(1)?), Ok(0));
+    assert!(rt; enter(&mut store, Session::new(1)?) == Ok(0));
     let mut op = begun(&mut store, Session::new(2)?);
     assert!(rt; finish(&mut op, &mut store) == Ok(stats(5, 1, 1, 0)));
-    assert_eq!(rt; store.acts(), 1);
-    assert_eq!(rt; links(&mut store, 4), (Some(1), None));
+    assert!(rt; store.acts() == 1);
+    assert!(rt; links(&mut store, 4) == (Some(1), None));
     Ok(())
 }
 
@@ -122,7 +122,7 @@ fn pinned_leaf_is_passed(rt: HostRuntime) -> Result<(), Fail> {
     store.pin(Session::new(1)?, 2);
     let mut op = begun(&mut store, Session::new(2)?);
     assert!(rt; finish(&mut op, &mut store) == Ok(stats(5, 0, 0, 0)));
-    assert_eq!(rt; store.acts(), 0);
+    assert!(rt; store.acts() == 0);
     Ok(())
 }
 
@@ -139,7 +139,7 @@ fn latched_sibling_blocks(rt: HostRuntime) -> Result<(), Fail> {
     assert!(rt; finish(&mut op, &mut store) == Err(Fault::Blocked(4)));
     store.release(other, 4);
     assert!(rt; goes_on(&mut op, &mut store));
-    assert_eq!(rt; store.acts(), 1);
+    assert!(rt; store.acts() == 1);
     Ok(())
 }
 
@@ -169,6 +169,6 @@ fn siblings_and_last_child(rt: HostRuntime) -> Result<(), Fail> {
     let mut store = stored(rt.alloc(), 8, &pages)?;
     let mut op = begun(&mut store, Session::new(2)?);
     assert!(rt; finish(&mut op, &mut store) == Err(Fault::PageDamaged(2)));
-    assert_eq!(rt; store.acts(), 0);
+    assert!(rt; store.acts() == 0);
     Ok(())
 }

@@ -95,7 +95,7 @@ fn fresh_pages(rt: HostRuntime) {
     let begins = [
         0x42, 0x4c, 0x50, 0x31, 1, 0, 0, 0, 2, 0, 0, 0, 255, 255, 255, 255, 255, 255, 255, 255,
     ];
-    assert_eq!(rt; &first[..20], begins.as_slice());
+    assert!(rt; &first[..20] == begins.as_slice());
     assert!(rt; first[20..].iter().all(|b| *b == 0));
     assert!(rt; is_decoded(&first));
 
@@ -103,7 +103,7 @@ fn fresh_pages(rt: HostRuntime) {
     let begins = [
         0x42, 0x4c, 0x50, 0x31, 0, 0, 0, 0, 1, 0, 0, 0, 255, 255, 255, 255, 1, 0, 0, 0,
     ];
-    assert_eq!(rt; &zeroth[..20], begins.as_slice());
+    assert!(rt; &zeroth[..20] == begins.as_slice());
     assert!(rt; zeroth[20..].iter().all(|b| *b == 0));
     assert!(rt; is_decoded(&zeroth));
 
@@ -127,7 +127,7 @@ fn decoded_in_place(rt: HostRuntime) {
             before.copy_to(&mut place);
             let bytes = bytes_of(page);
             assert!(rt; is_decoded_into(&bytes, &mut place));
-            assert_eq!(rt; &bytes_of(&place)[..], &bytes[..]);
+            assert!(rt; &bytes_of(&place)[..] == &bytes[..]);
         }
         assert!(rt; !is_decoded_into(&[0; 4096], &mut place));
     }
@@ -314,9 +314,9 @@ fn cut(page: &mut Page, at: usize) -> usize {
 fn edits(rt: HostRuntime) {
     let page = full_leaf();
     assert!(rt; is_page(&page));
-    assert_eq!(rt; &bytes_of(&page.copy())[..], &bytes_of(&page)[..]);
+    assert!(rt; &bytes_of(&page.copy())[..] == &bytes_of(&page)[..]);
     let mut short = marked(1, 0);
     assert!(rt; is_added(&mut short, 0, far(&[1])));
     assert!(rt; is_page(&short));
-    assert_eq!(rt; cut(&mut short, 0), 1);
+    assert!(rt; cut(&mut short, 0) == 1);
 }

@@ -48,15 +48,15 @@ fn bytes_of(device: &mut MemDevice) -> [u8; 8] {
 #[test]
 fn a_crash_leaves_each_image(rt: HostRuntime) -> Result<(), Fail> {
     let mut device = fresh(rt.alloc())?;
-    assert_eq!(rt; write_eight(&mut device), [true; 4]);
+    assert!(rt; write_eight(&mut device) == [true; 4]);
     for (image, want) in [
         (CrashImage::Drop, [1, 2, 3, 4, 0, 0, 0, 0]),
         (CrashImage::Keep, [1, 11, 12, 13, 0, 0, 21, 22]),
         (CrashImage::Tear, [1, 11, 0xa5, 0xa5, 0, 0, 21, 0xa5]),
     ] {
         let mut left = left(rt.alloc(), &device, image)?;
-        assert_eq!(rt; left.len(), 8);
-        assert_eq!(rt; bytes_of(&mut left), want);
+        assert!(rt; left.len() == 8);
+        assert!(rt; bytes_of(&mut left) == want);
     }
     Ok(())
 }
@@ -70,9 +70,9 @@ fn each_call_fails_once(rt: HostRuntime) -> Result<(), Fail> {
         if n > 0 && n <= 4 {
             want[n as usize - 1] = false;
         }
-        assert_eq!(rt; write_eight(&mut device), want);
+        assert!(rt; write_eight(&mut device) == want);
         // A failed write is kept as written.
-        assert_eq!(rt; bytes_of(&mut device), [1, 11, 12, 13, 0, 0, 21, 22]);
+        assert!(rt; bytes_of(&mut device) == [1, 11, 12, 13, 0, 0, 21, 22]);
     }
     Ok(())
 }
@@ -89,11 +89,11 @@ fn from_a_call_on_none_runs(rt: HostRuntime) -> Result<(), Fail> {
         device.stop_at(n);
         let answers = write_eight(&mut device);
         for i in 0..4 {
-            assert_eq!(rt; answers[i], (i as u64) + 1 < n);
+            assert!(rt; answers[i] == ((i as u64) + 1 < n));
         }
-        assert_eq!(rt; bytes_of(&mut device), [7; 8]);
+        assert!(rt; bytes_of(&mut device) == [7; 8]);
         device.stop_at(0);
-        assert_eq!(rt; bytes_of(&mut device), want);
+        assert!(rt; bytes_of(&mut device) == want);
     }
     Ok(())
 }
@@ -126,12 +126,12 @@ fn files(rt: HostRuntime) {
         return;
     };
     assert!(rt; FileDevice::<Unknown>::create(&rt, path, 8_192).is_err());
-    assert_eq!(rt; four_at(&mut device, 8_188), Some([0; 4]));
+    assert!(rt; four_at(&mut device, 8_188) == Some([0; 4]));
     assert!(rt; is_kept(&mut device, 8_187, &[1, 2, 3, 4, 5]));
     let Ok(mut again) = FileDevice::<Unknown>::open(&rt, path) else {
         assert!(rt; false);
         return;
     };
-    assert_eq!(rt; four_at(&mut again, 8_188), Some([2, 3, 4, 5]));
+    assert!(rt; four_at(&mut again, 8_188) == Some([2, 3, 4, 5]));
     let _ = fs::remove_file(&rt, path);
 }

@@ -37,16 +37,15 @@ fn four_links() -> [Downlink; 4] {
     [lowest(1), link(3, 2), link(5, 3), link(7, 4)]
 }
 
-fn is_block(block: u32) -> bool {
-    1 <= block && block <= 65_535
-}
-
 // Splits the leaf for an entry that it hasn't; None where it can't be.
 fn leaf_halves(page: &mut Page, entry: Entry, new: u32, cycle: u32) -> Option<Page> {
     let Err(place) = find(entries_on(page), &entry) else {
         return None;
     };
-    if !is_page(page) || !may_hold(page, &entry) || entries_on(page).len() < 2 || !is_block(new) {
+    if !is_page(page) || !may_hold(page, &entry) || entries_on(page).len() < 2 {
+        return None;
+    }
+    if new == 0 || new > 65_535 {
         return None;
     }
     Some(split_leaf(page, place, entry, new, cycle))
@@ -68,11 +67,11 @@ fn leaf_in_two_halves(rt: HostRuntime) {
     assert!(rt; entries_on(&page) == [entry(1, 1, 1), entry(3, 1, 1), entry(4, 1, 1)].as_slice());
     assert!(rt; entries_on(&right) == [entry(5, 1, 1), entry(7, 1, 1)].as_slice());
     assert!(rt; page.split && page.high == Some(at(4)));
-    assert_eq!(rt; page.right, Some(9));
-    assert_eq!(rt; right.left, Some(1));
+    assert!(rt; page.right == Some(9));
+    assert!(rt; right.left == Some(1));
     assert!(rt; !right.split && right.high.is_none());
-    assert_eq!(rt; right.block, 9);
-    assert_eq!(rt; (page.cycle, right.cycle), (6, 6));
+    assert!(rt; right.block == 9);
+    assert!(rt; (page.cycle, right.cycle) == (6, 6));
 }
 
 // Whether a downlink of this key fits behind that place.
@@ -83,8 +82,8 @@ fn fits(links: &[Downlink], place: usize, key: u8, high: Option<u8>) -> bool {
 #[test]
 fn place_of_a_downlink(rt: HostRuntime) {
     let three = [lowest(1), link(3, 2), link(7, 4)];
-    assert_eq!(rt; find_child(&three, 4), Some(2));
-    assert_eq!(rt; find_child(&three, 5), None);
+    assert!(rt; find_child(&three, 4) == Some(2));
+    assert!(rt; find_child(&three, 5) == None);
     assert!(rt; fits(&three, 1, 5, None));
     assert!(rt; !fits(&three, 1, 3, None));
     assert!(rt; !fits(&three, 1, 7, None));
@@ -117,9 +116,10 @@ fn inner_halves(page: &mut Page, place: usize, key: u8, child: u32, new: u32) ->
         || !fits_behind(links, place, &separator, &page.high)
         || !is_page(page)
         || !has_links(page)
-        || !is_block(child)
-        || !is_block(new)
     {
+        return None;
+    }
+    if child == 0 || child > 65_535 || new == 0 || new > 65_535 {
         return None;
     }
     Some(split_links(page, place, separator, child, new))
@@ -135,10 +135,10 @@ fn internal_page_in_two_halves(rt: HostRuntime) {
     assert!(rt; links_on(&page) == [lowest(1), link(3, 2), link(4, 9)].as_slice());
     assert!(rt; links_on(&right) == [lowest(3), link(7, 4)].as_slice());
     assert!(rt; page.split && page.high == Some(at(5)));
-    assert_eq!(rt; page.right, Some(8));
-    assert_eq!(rt; right.left, Some(7));
+    assert!(rt; page.right == Some(8));
+    assert!(rt; right.left == Some(7));
     assert!(rt; !right.split && right.high.is_none());
-    assert_eq!(rt; right.block, 8);
+    assert!(rt; right.block == 8);
 }
 
 #[test]
@@ -150,9 +150,9 @@ fn way_down(rt: HostRuntime) {
         (Aim::UpTo(at(5)), 3),
         (Aim::Below(at(1)), 1),
     ] {
-        assert_eq!(rt; child_toward(&four, &aim), Some(child));
+        assert!(rt; child_toward(&four, &aim) == Some(child));
     }
-    assert_eq!(rt; child_toward(&[], &Aim::Below(at(1))), None);
+    assert!(rt; child_toward(&[], &Aim::Below(at(1))) == None);
     assert!(rt; Aim::Below(at(5)).is_within(&Some(at(5))));
     assert!(rt; !Aim::UpTo(at(5)).is_within(&Some(at(5))));
     assert!(rt; Aim::UpTo(at(5)).is_within(&None));
@@ -166,7 +166,7 @@ fn marks_of_a_split(rt: HostRuntime) {
     assert!(rt; !page.split);
     assert!(rt; may_be_mended(&page));
     mend_left(&mut page, 5);
-    assert_eq!(rt; page.left, Some(5));
+    assert!(rt; page.left == Some(5));
 
     let root = root_over(6, 2, 7, at(5), 8);
     assert!(rt; is_page(&root));
@@ -175,6 +175,6 @@ fn marks_of_a_split(rt: HostRuntime) {
     page.items = Items::Meta;
     assert!(rt; !may_be_mended(&page));
     point_to_root(&mut page, 6, 2);
-    assert_eq!(rt; page.right, Some(6));
-    assert_eq!(rt; page.level, 2);
+    assert!(rt; page.right == Some(6));
+    assert!(rt; page.level == 2);
 }

@@ -47,13 +47,13 @@ fn leaves_and_roots_split(rt: HostRuntime) -> Result<(), Fail> {
     let mut store = tree(rt.alloc(), 8, &[])?;
     let session = Session::new(0)?;
     assert!(rt; insert_up_to(&mut store, session, 5));
-    assert_eq!(rt; store.acts(), 6);
-    assert_eq!(rt; insert(&mut store, session, nth(6)), Ok(7));
-    assert_eq!(rt; insert(&mut store, session, nth(7)), Ok(8));
-    assert_eq!(rt; insert(&mut store, session, nth(8)), Ok(9));
-    assert_eq!(rt; store.acts(), 10);
-    assert_eq!(rt; insert(&mut store, session, nth(2)), Err(Fault::Exists));
-    assert_eq!(rt; store.acts(), 10);
+    assert!(rt; store.acts() == 6);
+    assert!(rt; insert(&mut store, session, nth(6)) == Ok(7));
+    assert!(rt; insert(&mut store, session, nth(7)) == Ok(8));
+    assert!(rt; insert(&mut store, session, nth(8)) == Ok(9));
+    assert!(rt; store.acts() == 10);
+    assert!(rt; insert(&mut store, session, nth(2)) == Err(Fault::Exists));
+    assert!(rt; store.acts() == 10);
     Ok(())
 }
 
@@ -68,8 +68,8 @@ fn another_insert_finishes_a_split(rt: HostRuntime) -> Result<(), Fail> {
         assert!(rt; matches!(step(&mut op, &mut store), Ok(InsertStep::Going)));
     }
     leave(&mut store, other);
-    assert_eq!(rt; store.acts(), 5);
-    assert_eq!(rt; insert(&mut store, session, nth(6)), Ok(7));
+    assert!(rt; store.acts() == 5);
+    assert!(rt; insert(&mut store, session, nth(6)) == Ok(7));
     Ok(())
 }
 

@@ -17,10 +17,11 @@ const LEN: u64 = 4096 + 65_536 + 4096;
 const IMAGES: [CrashImage; 3] = [CrashImage::Drop, CrashImage::Keep, CrashImage::Tear];
 
 fn replay(alloc: Global, device: &mut MemDevice) -> Result<Replayed, Fault> {
-    if device.len() != LEN {
+    let limits = limits(PAGES);
+    if !limits.are_valid() || device.len() < LOG_START + u64::from(limits.log_bytes) {
         return Err(Fault::DeviceTooSmall);
     }
-    Log::replay(alloc, device, limits(PAGES))
+    Log::replay(alloc, device, limits)
 }
 
 fn append(log: &mut Log, pages: &[Page]) -> Result<u64, Fault> {
@@ -217,12 +218,12 @@ fn a_crash_leaves_a_first_part(rt: HostRuntime) -> Result<(), Fail> {
             }
             if run.failed {
                 failed = failed.saturating_add(1);
-                assert_eq!(rt; act(&mut log, 6), Err(Fault::Stopped));
+                assert!(rt; act(&mut log, 6) == Err(Fault::Stopped));
             }
         }
     }
     // Three forces and a reset make fourteen calls.
-    assert_eq!(rt; failed, 28);
+    assert!(rt; failed == 28);
     Ok(())
 }
 
@@ -230,36 +231,33 @@ fn a_crash_leaves_a_first_part(rt: HostRuntime) -> Result<(), Fail> {
 #[test]
 fn a_fresh_log_holds_fifteen_images(rt: HostRuntime) -> Result<(), Fail> {
     let (mut log, mut device) = fresh(rt.alloc())?;
-    assert_eq!(rt; log.room(), 15);
+    assert!(rt; log.room() == 15);
     for k in 0..15 {
-        assert_eq!(rt; append(&mut log, &[marked(k + 1, k)]), Ok(u64::from(k) + 1));
-        assert_eq!(rt; log.room(), 14 - k);
+        assert!(rt; append(&mut log, &[marked(k + 1, k)]) == Ok(u64::from(k) + 1));
+        assert!(rt; log.room() == 14 - k);
     }
-    assert_eq!(rt; append(&mut log, &[marked(16, 15)]), Err(Fault::LogFull));
-    assert_eq!(rt; force(&mut log, &mut device), Ok(15));
-    assert_eq!(rt; count(&replay(rt.alloc(), &mut device)?), 15);
-    assert_eq!(rt; reset(&mut log, &mut device), Ok(()));
-    assert_eq!(rt; log.room(), 15);
+    assert!(rt; append(&mut log, &[marked(16, 15)]) == Err(Fault::LogFull));
+    assert!(rt; force(&mut log, &mut device) == Ok(15));
+    assert!(rt; count(&replay(rt.alloc(), &mut device)?) == 15);
+    assert!(rt; reset(&mut log, &mut device) == Ok(()));
+    assert!(rt; log.room() == 15);
     Ok(())
 }
 
 #[test]
 fn a_second_image_of_a_block_takes_no_room(rt: HostRuntime) -> Result<(), Fail> {
     let (mut log, mut device) = fresh(rt.alloc())?;
-    assert_eq!(rt; log.room(), 15);
-    assert_eq!(rt; append(&mut log, &[marked(1, 1)]), Ok(1));
-    assert_eq!(rt; append(&mut log, &[marked(1, 2)]), Ok(2));
-    assert_eq!(rt; log.room(), 14);
+    assert!(rt; log.room() == 15);
+    assert!(rt; append(&mut log, &[marked(1, 1)]) == Ok(1));
+    assert!(rt; append(&mut log, &[marked(1, 2)]) == Ok(2));
+    assert!(rt; log.room() == 14);
     // Twice in one action, and one of another block.
-    assert_eq!(rt;
-        append(&mut log, &[marked(2, 3), marked(1, 4), marked(2, 5)]),
-        Ok(3)
-    );
-    assert_eq!(rt; log.room(), 13);
-    assert_eq!(rt; force(&mut log, &mut device), Ok(3));
-    assert_eq!(rt; group_count(&mut device, 0), 2);
+    assert!(rt; append(&mut log, &[marked(2, 3), marked(1, 4), marked(2, 5)]) == Ok(3));
+    assert!(rt; log.room() == 13);
+    assert!(rt; force(&mut log, &mut device) == Ok(3));
+    assert!(rt; group_count(&mut device, 0) == 2);
     let replayed = replay(rt.alloc(), &mut device)?;
-    assert_eq!(rt; found(&replayed), [0, 4, 5, 0, 0, 0, 0, 0]);
+    assert!(rt; found(&replayed) == [0, 4, 5, 0, 0, 0, 0, 0]);
     Ok(())
 }
 
@@ -268,18 +266,18 @@ fn a_second_image_of_a_block_takes_no_room(rt: HostRuntime) -> Result<(), Fail> 
 fn forty_images_of_a_block_are_one(rt: HostRuntime) -> Result<(), Fail> {
     let (mut log, mut device) = fresh(rt.alloc())?;
     for k in 1..41 {
-        assert_eq!(rt; append(&mut log, &[marked(7, k)]), Ok(u64::from(k)));
+        assert!(rt; append(&mut log, &[marked(7, k)]) == Ok(u64::from(k)));
     }
-    assert_eq!(rt; force(&mut log, &mut device), Ok(40));
-    assert_eq!(rt; group_count(&mut device, 0), 1);
+    assert!(rt; force(&mut log, &mut device) == Ok(40));
+    assert!(rt; group_count(&mut device, 0) == 1);
     let replayed = replay(rt.alloc(), &mut device)?;
-    assert_eq!(rt; found(&replayed), [0, 0, 0, 0, 0, 0, 0, 40]);
-    assert_eq!(rt; append(&mut log, &[marked(7, 41)]), Ok(41));
-    assert_eq!(rt; force(&mut log, &mut device), Ok(41));
-    assert_eq!(rt; group_count(&mut device, 4_101), 1);
+    assert!(rt; found(&replayed) == [0, 0, 0, 0, 0, 0, 0, 40]);
+    assert!(rt; append(&mut log, &[marked(7, 41)]) == Ok(41));
+    assert!(rt; force(&mut log, &mut device) == Ok(41));
+    assert!(rt; group_count(&mut device, 4_101) == 1);
     let replayed = replay(rt.alloc(), &mut device)?;
-    assert_eq!(rt; count(&replayed), 1);
-    assert_eq!(rt; found(&replayed), [0, 0, 0, 0, 0, 0, 0, 41]);
+    assert!(rt; count(&replayed) == 1);
+    assert!(rt; found(&replayed) == [0, 0, 0, 0, 0, 0, 0, 41]);
     Ok(())
 }
 
@@ -289,18 +287,18 @@ fn forty_images_of_a_block_are_one(rt: HostRuntime) -> Result<(), Fail> {
 fn a_refused_append_replaces_no_image(rt: HostRuntime) -> Result<(), Fail> {
     let (mut log, mut device) = fresh(rt.alloc())?;
     for k in 0..13 {
-        assert_eq!(rt; append(&mut log, &[marked(k + 1, 1)]), Ok(u64::from(k) + 1));
+        assert!(rt; append(&mut log, &[marked(k + 1, 1)]) == Ok(u64::from(k) + 1));
     }
-    assert_eq!(rt; force(&mut log, &mut device), Ok(13));
-    assert_eq!(rt; log.room(), 2);
-    assert_eq!(rt; append(&mut log, &[marked(1, 2)]), Ok(14));
+    assert!(rt; force(&mut log, &mut device) == Ok(13));
+    assert!(rt; log.room() == 2);
+    assert!(rt; append(&mut log, &[marked(1, 2)]) == Ok(14));
     let refused = [marked(1, 3), marked(2, 3), marked(3, 3)];
-    assert_eq!(rt; append(&mut log, &refused), Err(Fault::LogFull));
-    assert_eq!(rt; log.room(), 1);
-    assert_eq!(rt; force(&mut log, &mut device), Ok(14));
+    assert!(rt; append(&mut log, &refused) == Err(Fault::LogFull));
+    assert!(rt; log.room() == 1);
+    assert!(rt; force(&mut log, &mut device) == Ok(14));
     let replayed = replay(rt.alloc(), &mut device)?;
-    assert_eq!(rt; count(&replayed), 13);
-    assert_eq!(rt; found(&replayed), [0, 2, 1, 1, 1, 1, 1, 1]);
+    assert!(rt; count(&replayed) == 13);
+    assert!(rt; found(&replayed) == [0, 2, 1, 1, 1, 1, 1, 1]);
     Ok(())
 }
 
@@ -308,26 +306,26 @@ fn a_refused_append_replaces_no_image(rt: HostRuntime) -> Result<(), Fail> {
 #[test]
 fn a_reset_keeps_what_waits(rt: HostRuntime) -> Result<(), Fail> {
     let (mut log, mut device) = fresh(rt.alloc())?;
-    assert_eq!(rt; act(&mut log, 1), Ok(1));
-    assert_eq!(rt; force(&mut log, &mut device), Ok(1));
-    assert_eq!(rt; act(&mut log, 2), Ok(2));
-    assert_eq!(rt; reset(&mut log, &mut device), Ok(()));
-    assert_eq!(rt; count(&replay(rt.alloc(), &mut device)?), 0);
-    assert_eq!(rt; force(&mut log, &mut device), Ok(2));
+    assert!(rt; act(&mut log, 1) == Ok(1));
+    assert!(rt; force(&mut log, &mut device) == Ok(1));
+    assert!(rt; act(&mut log, 2) == Ok(2));
+    assert!(rt; reset(&mut log, &mut device) == Ok(()));
+    assert!(rt; count(&replay(rt.alloc(), &mut device)?) == 0);
+    assert!(rt; force(&mut log, &mut device) == Ok(2));
     let replayed = replay(rt.alloc(), &mut device)?;
-    assert_eq!(rt; found(&replayed), after(2, 3));
+    assert!(rt; found(&replayed) == after(2, 3));
     Ok(())
 }
 
 #[test]
 fn a_stopped_log_answers_stopped(rt: HostRuntime) -> Result<(), Fail> {
     let (mut log, mut device) = fresh(rt.alloc())?;
-    assert_eq!(rt; act(&mut log, 1), Ok(1));
+    assert!(rt; act(&mut log, 1) == Ok(1));
     device.fail_at(1);
-    assert_eq!(rt; force(&mut log, &mut device), Err(Fault::Io));
-    assert_eq!(rt; act(&mut log, 2), Err(Fault::Stopped));
-    assert_eq!(rt; force(&mut log, &mut device), Err(Fault::Stopped));
-    assert_eq!(rt; reset(&mut log, &mut device), Err(Fault::Stopped));
+    assert!(rt; force(&mut log, &mut device) == Err(Fault::Io));
+    assert!(rt; act(&mut log, 2) == Err(Fault::Stopped));
+    assert!(rt; force(&mut log, &mut device) == Err(Fault::Stopped));
+    assert!(rt; reset(&mut log, &mut device) == Err(Fault::Stopped));
     Ok(())
 }
 
@@ -335,8 +333,8 @@ fn a_stopped_log_answers_stopped(rt: HostRuntime) -> Result<(), Fail> {
 fn nothing_to_write_makes_no_call(rt: HostRuntime) -> Result<(), Fail> {
     let (mut log, mut device) = fresh(rt.alloc())?;
     device.fail_at(1);
-    assert_eq!(rt; force(&mut log, &mut device), Ok(0));
-    assert_eq!(rt; reset(&mut log, &mut device), Ok(()));
+    assert!(rt; force(&mut log, &mut device) == Ok(0));
+    assert!(rt; reset(&mut log, &mut device) == Ok(()));
     assert!(rt; replay(rt.alloc(), &mut device).is_err());
     Ok(())
 }
@@ -346,13 +344,13 @@ fn nothing_to_write_makes_no_call(rt: HostRuntime) -> Result<(), Fail> {
 #[test]
 fn an_open_gate_in_front_of_old_bytes_would_be_replayed(rt: HostRuntime) -> Result<(), Fail> {
     let (mut log, mut device) = fresh(rt.alloc())?;
-    assert_eq!(rt; act(&mut log, 1), Ok(1));
-    assert_eq!(rt; force(&mut log, &mut device), Ok(1));
-    assert_eq!(rt; reset(&mut log, &mut device), Ok(()));
-    assert_eq!(rt; count(&replay(rt.alloc(), &mut device)?), 0);
+    assert!(rt; act(&mut log, 1) == Ok(1));
+    assert!(rt; force(&mut log, &mut device) == Ok(1));
+    assert!(rt; reset(&mut log, &mut device) == Ok(()));
+    assert!(rt; count(&replay(rt.alloc(), &mut device)?) == 0);
     let mut torn = device.crash(rt.alloc(), CrashImage::Keep)?;
-    assert_eq!(rt; put(&mut torn, &[1]), Ok(()));
-    assert_eq!(rt; count(&replay(rt.alloc(), &mut torn)?), 2);
+    assert!(rt; put(&mut torn, &[1]) == Ok(()));
+    assert!(rt; count(&replay(rt.alloc(), &mut torn)?) == 2);
     Ok(())
 }
 
@@ -360,7 +358,7 @@ fn an_open_gate_in_front_of_old_bytes_would_be_replayed(rt: HostRuntime) -> Resu
 fn an_open_group_of_no_image_is_damage(rt: HostRuntime) -> Result<(), Fail> {
     for (gate, is_damage) in [(0, false), (1, true), (2, false)] {
         let (_log, mut device) = fresh(rt.alloc())?;
-        assert_eq!(rt; put(&mut device, &[gate, 0, 0, 0, 0]), Ok(()));
+        assert!(rt; put(&mut device, &[gate, 0, 0, 0, 0]) == Ok(()));
         match replay(rt.alloc(), &mut device) {
             Ok(replayed) => assert!(rt; count(&replayed) == 0 && !is_damage),
             Err(fault) => assert!(rt; fault == Fault::LogDamaged && is_damage),

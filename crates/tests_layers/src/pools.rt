@@ -71,22 +71,22 @@ fn cycle_of(pool: &Pool, block: u32) -> u32 {
 fn pages_are_held_and_changed(rt: HostRuntime) -> Result<(), Fail> {
     let mut pool = pool(rt.alloc(), 3)?;
     pool.law();
-    assert_eq!(rt; pool.frames(), 3);
-    assert_eq!(rt; pool.reach(), 8);
-    assert_eq!(rt; pool.held(), 0);
-    assert_eq!(rt; pool.find(5), None);
-    assert_eq!(rt; oldest(&pool), None);
+    assert!(rt; pool.frames() == 3);
+    assert!(rt; pool.reach() == 8);
+    assert!(rt; pool.held() == 0);
+    assert!(rt; pool.find(5) == None);
+    assert!(rt; oldest(&pool) == None);
     assert!(rt; bring(&mut pool, &[], 5));
     assert!(rt; bring(&mut pool, &[], 0));
-    assert_eq!(rt; pool.held(), 2);
-    assert_eq!(rt; cycle_of(&pool, 5), 0);
-    assert_eq!(rt; cycle_of(&pool, 0), 0);
-    assert_eq!(rt; cycle_of(&pool, 7), 99);
-    assert_eq!(rt; cycle_of(&pool, 4_000_000_000), 99);
+    assert!(rt; pool.held() == 2);
+    assert!(rt; cycle_of(&pool, 5) == 0);
+    assert!(rt; cycle_of(&pool, 0) == 0);
+    assert!(rt; cycle_of(&pool, 7) == 99);
+    assert!(rt; cycle_of(&pool, 4_000_000_000) == 99);
     change(&mut pool, 5, 11, 1);
-    assert_eq!(rt; cycle_of(&pool, 5), 11);
-    assert_eq!(rt; pool.changed(), 1);
-    assert_eq!(rt; oldest(&pool), Some((5, 1)));
+    assert!(rt; cycle_of(&pool, 5) == 11);
+    assert!(rt; pool.changed() == 1);
+    assert!(rt; oldest(&pool) == Some((5, 1)));
     Ok(())
 }
 
@@ -102,19 +102,19 @@ fn order_of_first_change(rt: HostRuntime) -> Result<(), Fail> {
     change(&mut pool, 1, 1, 11);
     change(&mut pool, 3, 1, 12);
     change(&mut pool, 2, 2, 13);
-    assert_eq!(rt; oldest(&pool), Some((2, 13)));
-    assert_eq!(rt; changed_at(&pool, 1), Some((1, 11)));
-    assert_eq!(rt; changed_at(&pool, 2), Some((3, 12)));
-    assert_eq!(rt; changed_at(&pool, 3), None);
+    assert!(rt; oldest(&pool) == Some((2, 13)));
+    assert!(rt; changed_at(&pool, 1) == Some((1, 11)));
+    assert!(rt; changed_at(&pool, 2) == Some((3, 12)));
+    assert!(rt; changed_at(&pool, 3) == None);
     write(&mut pool, 0);
-    assert_eq!(rt; oldest(&pool), Some((1, 11)));
-    assert_eq!(rt; cycle_of(&pool, 2), 2);
+    assert!(rt; oldest(&pool) == Some((1, 11)));
+    assert!(rt; cycle_of(&pool, 2) == 2);
     change(&mut pool, 2, 3, 14);
-    assert_eq!(rt; changed_at(&pool, 2), Some((2, 14)));
+    assert!(rt; changed_at(&pool, 2) == Some((2, 14)));
     write(&mut pool, 1);
-    assert_eq!(rt; changed_at(&pool, 0), Some((1, 11)));
-    assert_eq!(rt; changed_at(&pool, 1), Some((2, 14)));
-    assert_eq!(rt; pool.changed(), 2);
+    assert!(rt; changed_at(&pool, 0) == Some((1, 11)));
+    assert!(rt; changed_at(&pool, 1) == Some((2, 14)));
+    assert!(rt; pool.changed() == 2);
     Ok(())
 }
 
@@ -126,15 +126,15 @@ fn first_two_are_written(rt: HostRuntime) -> Result<(), Fail> {
         assert!(rt; bring(&mut pool, &[], block));
         change(&mut pool, block, block, u64::from(block) + 20);
     }
-    assert_eq!(rt; pool.changed(), 3);
+    assert!(rt; pool.changed() == 3);
     write_first(&mut pool, 2);
-    assert_eq!(rt; pool.changed(), 1);
-    assert_eq!(rt; oldest(&pool), Some((3, 23)));
-    assert_eq!(rt; cycle_of(&pool, 1), 1);
+    assert!(rt; pool.changed() == 1);
+    assert!(rt; oldest(&pool) == Some((3, 23)));
+    assert!(rt; cycle_of(&pool, 1) == 1);
     change(&mut pool, 1, 9, 24);
-    assert_eq!(rt; changed_at(&pool, 1), Some((1, 24)));
+    assert!(rt; changed_at(&pool, 1) == Some((1, 24)));
     write_first(&mut pool, 2);
-    assert_eq!(rt; oldest(&pool), None);
+    assert!(rt; oldest(&pool) == None);
     Ok(())
 }
 
@@ -142,31 +142,31 @@ fn first_two_are_written(rt: HostRuntime) -> Result<(), Fail> {
 #[test]
 fn frames_are_chosen(rt: HostRuntime) -> Result<(), Fail> {
     let mut pool = pool(rt.alloc(), 2)?;
-    assert_eq!(rt; choose(&mut pool, &[]), Choice::Free(0));
+    assert!(rt; choose(&mut pool, &[]) == Choice::Free(0));
     assert!(rt; bring(&mut pool, &[], 1));
-    assert_eq!(rt; choose(&mut pool, &[1]), Choice::Free(1));
+    assert!(rt; choose(&mut pool, &[1]) == Choice::Free(1));
     assert!(rt; bring(&mut pool, &[1], 2));
     // Both are clean: the one that isn't pinned can be taken.
-    assert_eq!(rt; choose(&mut pool, &[1]), Choice::Free(1));
-    assert_eq!(rt; choose(&mut pool, &[2]), Choice::Free(0));
-    assert_eq!(rt; choose(&mut pool, &[2, 1, 2]), Choice::AllPinned);
+    assert!(rt; choose(&mut pool, &[1]) == Choice::Free(1));
+    assert!(rt; choose(&mut pool, &[2]) == Choice::Free(0));
+    assert!(rt; choose(&mut pool, &[2, 1, 2]) == Choice::AllPinned);
     // Block 1 is changed: block 2 goes, and else block 1 is to be written.
     change(&mut pool, 1, 1, 7);
-    assert_eq!(rt; choose(&mut pool, &[]), Choice::Free(1));
-    assert_eq!(rt; choose(&mut pool, &[2]), Choice::Oldest(0, 1, 7));
-    assert_eq!(rt; choose(&mut pool, &[1, 2]), Choice::AllPinned);
+    assert!(rt; choose(&mut pool, &[]) == Choice::Free(1));
+    assert!(rt; choose(&mut pool, &[2]) == Choice::Oldest(0, 1, 7));
+    assert!(rt; choose(&mut pool, &[1, 2]) == Choice::AllPinned);
     // Both are changed, block 1 first.
     change(&mut pool, 2, 1, 8);
-    assert_eq!(rt; choose(&mut pool, &[]), Choice::Oldest(0, 1, 7));
-    assert_eq!(rt; choose(&mut pool, &[1]), Choice::Oldest(1, 2, 8));
+    assert!(rt; choose(&mut pool, &[]) == Choice::Oldest(0, 1, 7));
+    assert!(rt; choose(&mut pool, &[1]) == Choice::Oldest(1, 2, 8));
     // Block 3 comes for block 1 once that is written.
     assert!(rt; !bring(&mut pool, &[], 3));
     write(&mut pool, 0);
     assert!(rt; bring(&mut pool, &[2], 3));
-    assert_eq!(rt; pool.find(1), None);
-    assert_eq!(rt; cycle_of(&pool, 2), 1);
-    assert_eq!(rt; cycle_of(&pool, 3), 0);
-    assert_eq!(rt; pool.held(), 2);
+    assert!(rt; pool.find(1) == None);
+    assert!(rt; cycle_of(&pool, 2) == 1);
+    assert!(rt; cycle_of(&pool, 3) == 0);
+    assert!(rt; pool.held() == 2);
     Ok(())
 }
 
@@ -177,10 +177,10 @@ fn hand_goes_round(rt: HostRuntime) -> Result<(), Fail> {
     for block in 1..4 {
         assert!(rt; bring(&mut pool, &[], block));
     }
-    assert_eq!(rt; choose(&mut pool, &[]), Choice::Free(0));
-    assert_eq!(rt; choose(&mut pool, &[]), Choice::Free(1));
-    assert_eq!(rt; choose(&mut pool, &[]), Choice::Free(2));
-    assert_eq!(rt; choose(&mut pool, &[]), Choice::Free(0));
+    assert!(rt; choose(&mut pool, &[]) == Choice::Free(0));
+    assert!(rt; choose(&mut pool, &[]) == Choice::Free(1));
+    assert!(rt; choose(&mut pool, &[]) == Choice::Free(2));
+    assert!(rt; choose(&mut pool, &[]) == Choice::Free(0));
     Ok(())
 }
 
@@ -188,8 +188,8 @@ fn hand_goes_round(rt: HostRuntime) -> Result<(), Fail> {
 #[test]
 fn refused_room(rt: HostRuntime) -> Result<(), Fail> {
     match pool(rt.alloc(), 2) {
-        Ok(pool) => assert_eq!(rt; pool.held(), 0),
-        Err(fault) => assert_eq!(rt; fault, Fault::NoMemory),
+        Ok(pool) => assert!(rt; pool.held() == 0),
+        Err(fault) => assert!(rt; fault == Fault::NoMemory),
     }
     Ok(())
 }

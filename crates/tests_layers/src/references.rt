@@ -1,6 +1,6 @@
 //! The slow program that computes the words of the promises.
 
-use crate::trees::{self, ALL};
+use crate::trees::{ALL, nth};
 use index_model::{Entry, Fault, Key, Range, RowAddr, VacuumStats};
 use std::alloc::{AllocError, Global};
 use std::test::*;
@@ -10,19 +10,14 @@ use tests_reference::{
     is_there_at_some_moment, is_there_throughout,
 };
 
-/// The entry with this byte as its key and its block.
-fn entry(byte: u8) -> Entry {
-    trees::entry(byte, u32::from(byte), 1)
-}
-
 fn row(block: u8) -> RowAddr {
-    entry(block).row
+    nth(block).row
 }
 
 fn added(by: usize, byte: u8) -> PlainAction {
     PlainAction {
         by,
-        effect: PlainEffect::Adds(entry(byte)),
+        effect: PlainEffect::Adds(nth(byte)),
     }
 }
 
@@ -39,7 +34,7 @@ fn history(alloc: Global) -> Result<Vec<PlainAction>, AllocError> {
     actions.push(added(2, 3))?;
     actions.push(PlainAction {
         by: 3,
-        effect: PlainEffect::Removes(vec![in alloc; entry(2)]?),
+        effect: PlainEffect::Removes(vec![in alloc; nth(2)]?),
     })?;
     actions.push(added(4, 2))?;
     Ok(actions)
@@ -59,7 +54,7 @@ fn stats(removed: u64) -> VacuumStats {
 fn insert(alloc: Global, byte: u8, began: usize, until: usize, action: usize) -> PlainCall {
     PlainCall {
         session: 0,
-        ask: PlainAsk::Inserts(entry(byte)),
+        ask: PlainAsk::Inserts(nth(byte)),
         began,
         given: Vec::new(alloc),
         added: Some(action),
@@ -90,24 +85,23 @@ fn calls(alloc: Global, dead: u8, until: usize) -> Result<Vec<PlainCall>, AllocE
 #[test]
 fn contents(rt: HostRuntime) -> Result<(), AllocError> {
     let history = history(rt.alloc())?;
-    let start = [entry(9)];
+    let start = [nth(9)];
     let there = [false, false, true, true, true, false, true, true];
     for (k, want) in there.iter().enumerate() {
-        assert_eq!(rt;
-            is_there_after(&start, &history, k, &entry(2)),
-            *want,
+        assert!(rt;
+            is_there_after(&start, &history, k, &nth(2)) == *want,
             "after {k}"
         );
-        assert!(rt; is_there_after(&start, &history, k, &entry(9)));
-        assert!(rt; !is_there_after(&start, &history, k, &entry(5)));
+        assert!(rt; is_there_after(&start, &history, k, &nth(9)));
+        assert!(rt; !is_there_after(&start, &history, k, &nth(5)));
     }
-    assert!(rt; contents_has(&start, &history, &entry(3)));
-    assert!(rt; !contents_has(&[], &history, &entry(9)));
-    assert!(rt; is_there_at_some_moment(&start, &history, 1, 2, &entry(2)));
-    assert!(rt; !is_there_at_some_moment(&start, &history, 0, 1, &entry(2)));
-    assert!(rt; !is_there_at_some_moment(&start, &history, 5, 5, &entry(2)));
-    assert!(rt; is_there_throughout(&start, &history, 2, 4, &entry(2)));
-    assert!(rt; !is_there_throughout(&start, &history, 2, 6, &entry(2)));
+    assert!(rt; contents_has(&start, &history, &nth(3)));
+    assert!(rt; !contents_has(&[], &history, &nth(9)));
+    assert!(rt; is_there_at_some_moment(&start, &history, 1, 2, &nth(2)));
+    assert!(rt; !is_there_at_some_moment(&start, &history, 0, 1, &nth(2)));
+    assert!(rt; !is_there_at_some_moment(&start, &history, 5, 5, &nth(2)));
+    assert!(rt; is_there_throughout(&start, &history, 2, 4, &nth(2)));
+    assert!(rt; !is_there_throughout(&start, &history, 2, 6, &nth(2)));
     Ok(())
 }
 
@@ -115,24 +109,24 @@ fn contents(rt: HostRuntime) -> Result<(), AllocError> {
 #[test]
 fn scans(rt: HostRuntime) -> Result<(), AllocError> {
     let history = history(rt.alloc())?;
-    let start = [entry(9)];
+    let start = [nth(9)];
     let right = |given: &[Entry]| is_scan_answer(&start, &history, &ALL, 2, 5, given);
-    assert!(rt; right(&[entry(1), entry(9)]));
-    assert!(rt; right(&[entry(1), entry(2), entry(3), entry(9)]));
-    assert!(rt; !right(&[entry(1)])); // 9 is owed
-    assert!(rt; !right(&[entry(9), entry(1)])); // out of order
-    assert!(rt; !right(&[entry(1), entry(1), entry(9)])); // twice
-    assert!(rt; !right(&[entry(1), entry(4), entry(9)])); // never there
+    assert!(rt; right(&[nth(1), nth(9)]));
+    assert!(rt; right(&[nth(1), nth(2), nth(3), nth(9)]));
+    assert!(rt; !right(&[nth(1)])); // 9 is owed
+    assert!(rt; !right(&[nth(9), nth(1)])); // out of order
+    assert!(rt; !right(&[nth(1), nth(1), nth(9)])); // twice
+    assert!(rt; !right(&[nth(1), nth(4), nth(9)])); // never there
     let middle = Range {
         from: Key::new(&[2]).ok(),
         below: Key::new(&[9]).ok(),
     };
     assert!(rt; is_scan_answer(&start, &history, &middle, 2, 5, &[]));
-    assert!(rt; !is_scan_answer(&start, &history, &middle, 2, 5, &[entry(1)])); // no match
+    assert!(rt; !is_scan_answer(&start, &history, &middle, 2, 5, &[nth(1)])); // no match
     let right_so_far = |given: &[Entry]| is_scan_answer_so_far(&start, &history, &ALL, 2, 5, given);
     assert!(rt; right_so_far(&[]));
-    assert!(rt; right_so_far(&[entry(1), entry(3)]));
-    assert!(rt; !right_so_far(&[entry(2)])); // 1 is owed
+    assert!(rt; right_so_far(&[nth(1), nth(3)]));
+    assert!(rt; !right_so_far(&[nth(2)])); // 1 is owed
     Ok(())
 }
 
@@ -141,12 +135,12 @@ fn adds(history: &[PlainAction], number: usize, ended: usize, action: usize) -> 
     let ending = PlainEnding::HasAdded(action, None);
     ended < 100
         && is_insert_answer(
-            &[entry(9)],
+            &[nth(9)],
             history,
             number,
             5,
             ended,
-            &entry(2),
+            &nth(2),
             Some(action),
             &ending,
         )
@@ -155,7 +149,7 @@ fn adds(history: &[PlainAction], number: usize, ended: usize, action: usize) -> 
 // Whether call 0, in which one action was done, is rightly refused so.
 fn fails(history: &[PlainAction], byte: u8, added: Option<usize>, fault: Fault) -> bool {
     let ending = PlainEnding::HasFailed(fault);
-    is_insert_answer(&[entry(9)], history, 0, 0, 1, &entry(byte), added, &ending)
+    is_insert_answer(&[nth(9)], history, 0, 0, 1, &nth(byte), added, &ending)
 }
 
 #[test]
@@ -175,7 +169,7 @@ fn inserts(rt: HostRuntime) -> Result<(), AllocError> {
 #[test]
 fn bulk_deletes(rt: HostRuntime) -> Result<(), AllocError> {
     let history = history(rt.alloc())?;
-    let start = [entry(9)];
+    let start = [nth(9)];
     let right = |ended: usize, dead: u8, removed: u64| {
         is_bulk_delete_answer(&start, &history, 3, 2, ended, &[row(dead)], &stats(removed))
     };
@@ -191,7 +185,7 @@ fn bulk_deletes(rt: HostRuntime) -> Result<(), AllocError> {
 fn owners(rt: HostRuntime) -> Result<(), AllocError> {
     let alloc = rt.alloc();
     let history = history(alloc)?;
-    let start = [entry(9)];
+    let start = [nth(9)];
     assert!(rt; actions_are_owned(&start, &history, &calls(alloc, 2, 5)?));
     assert!(rt; !actions_are_owned(&start, &history, &calls(alloc, 1, 5)?)); // not of its set
     assert!(rt; !actions_are_owned(&start, &history, &calls(alloc, 2, 4)?)); // behind its end

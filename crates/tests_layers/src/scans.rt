@@ -108,7 +108,7 @@ fn scan_goes_on_by_the_saved_link(rt: HostRuntime) -> Result<(), Fail> {
     left.split = true;
     let right = leaf_of(5, Some(1), Some(2), &[15, 20], Some(20));
     let mended = leaf_of(2, Some(5), Some(3), &[30, 40], Some(40));
-    assert_eq!(rt; change(&mut store, &[left, right, mended]), Ok(1));
+    assert!(rt; change(&mut store, &[left, right, mended]) == Ok(1));
     assert!(rt; gives(&mut op, &mut store, &[30, 40]));
     assert!(rt; gives(&mut op, &mut store, &[50, 60]));
     assert!(rt; is_done(&mut op, &mut store));
@@ -125,22 +125,13 @@ fn leaf_stays_pinned_until_another_page_is_read(rt: HostRuntime) -> Result<(), F
     let (session, other) = (Session::new(0)?, Session::new(1)?);
     let mut op = ScanOp::new(session, range(None, None));
     assert!(rt; gives(&mut op, &mut store, &[10, 20]));
-    assert_eq!(rt;
-        latch(&mut store, other, 1, Mode::Cleanup),
-        Err(Fault::Blocked(1))
-    );
-    assert_eq!(rt; latch(&mut store, other, 2, Mode::Exclusive), Ok(()));
-    assert_eq!(rt; keys_of(&mut op, &mut store).err(), Some(Fault::Blocked(2)));
-    assert_eq!(rt;
-        latch(&mut store, other, 1, Mode::Cleanup),
-        Err(Fault::Blocked(1))
-    );
+    assert!(rt; latch(&mut store, other, 1, Mode::Cleanup) == Err(Fault::Blocked(1)));
+    assert!(rt; latch(&mut store, other, 2, Mode::Exclusive) == Ok(()));
+    assert!(rt; keys_of(&mut op, &mut store).err() == Some(Fault::Blocked(2)));
+    assert!(rt; latch(&mut store, other, 1, Mode::Cleanup) == Err(Fault::Blocked(1)));
     store.release(other, 2);
     assert!(rt; gives(&mut op, &mut store, &[30, 40]));
-    assert_eq!(rt; latch(&mut store, other, 1, Mode::Cleanup), Ok(()));
-    assert_eq!(rt;
-        latch(&mut store, other, 2, Mode::Cleanup),
-        Err(Fault::Blocked(2))
-    );
+    assert!(rt; latch(&mut store, other, 1, Mode::Cleanup) == Ok(()));
+    assert!(rt; latch(&mut store, other, 2, Mode::Cleanup) == Err(Fault::Blocked(2)));
     Ok(())
 }

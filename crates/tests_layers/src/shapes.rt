@@ -15,7 +15,7 @@ fn places_on_a_leaf(rt: HostRuntime) {
         (entry(3, 6, 1), Err(2)),
         (entry(4, 0, 1), Err(3)),
     ] {
-        assert_eq!(rt; find(&entries, &sought), place);
+        assert!(rt; find(&entries, &sought) == place);
     }
 }
 
@@ -66,5 +66,5 @@ fn matches_of_a_leaf(rt: HostRuntime) {
     let between = matches_beyond(&entries, &frontier, &below);
     assert!(rt; between.as_slice() == [entry(3, 5, 1), entry(3, 7, 1)].as_slice());
     let open = matches_beyond(&entries, &frontier, &None);
-    assert_eq!(rt; open.len(), 3);
+    assert!(rt; open.len() == 3);
 }

@@ -111,13 +111,13 @@ fn is_flagged(store: &mut MapStore, block: u32) -> bool {
 fn new_root_over_a_split_leaf(rt: HostRuntime) -> Result<(), Fail> {
     let mut store = split_root(rt.alloc())?;
     let one = Session::new(1)?;
-    assert_eq!(rt; finish(&mut store, one, target(1, 3)), Ok(1));
-    assert_eq!(rt; store.acts(), 1);
-    assert_eq!(rt; copy_of(&mut store, 0).map(|page| page.right), Ok(Some(3)));
-    assert_eq!(rt; copy_of(&mut store, 0).map(|page| page.level), Ok(1));
-    assert_eq!(rt; child_of(&mut store, 3, 0), 1);
-    assert_eq!(rt; child_of(&mut store, 3, 1), 2);
-    assert_eq!(rt; is_flagged(&mut store, 1), false);
+    assert!(rt; finish(&mut store, one, target(1, 3)) == Ok(1));
+    assert!(rt; store.acts() == 1);
+    assert!(rt; copy_of(&mut store, 0).map(|page| page.right) == Ok(Some(3)));
+    assert!(rt; copy_of(&mut store, 0).map(|page| page.level) == Ok(1));
+    assert!(rt; child_of(&mut store, 3, 0) == 1);
+    assert!(rt; child_of(&mut store, 3, 1) == 2);
+    assert!(rt; is_flagged(&mut store, 1) == false);
     Ok(())
 }
 
@@ -125,13 +125,13 @@ fn new_root_over_a_split_leaf(rt: HostRuntime) -> Result<(), Fail> {
 fn downlink_on_a_parent_with_room(rt: HostRuntime) -> Result<(), Fail> {
     let mut store = split_leaf(rt.alloc())?;
     let one = Session::new(1)?;
-    assert_eq!(rt; finish(&mut store, one, target(2, 3)), Ok(2));
-    assert_eq!(rt; count_of(&mut store, 1), 4);
-    assert_eq!(rt; child_of(&mut store, 1, 1), 3);
-    assert_eq!(rt; is_flagged(&mut store, 2), false);
+    assert!(rt; finish(&mut store, one, target(2, 3)) == Ok(2));
+    assert!(rt; count_of(&mut store, 1) == 4);
+    assert!(rt; child_of(&mut store, 1, 1) == 3);
+    assert!(rt; is_flagged(&mut store, 2) == false);
     // Once more: there is nothing to do.
-    assert_eq!(rt; finish(&mut store, one, target(2, 3)), Ok(2));
-    assert_eq!(rt; store.acts(), 1);
+    assert!(rt; finish(&mut store, one, target(2, 3)) == Ok(2));
+    assert!(rt; store.acts() == 1);
     Ok(())
 }
 
@@ -139,14 +139,14 @@ fn downlink_on_a_parent_with_room(rt: HostRuntime) -> Result<(), Fail> {
 fn full_parent_and_the_root_are_split(rt: HostRuntime) -> Result<(), Fail> {
     let mut store = split_leaf_under_a_full_root(rt.alloc())?;
     let one = Session::new(1)?;
-    assert_eq!(rt; finish(&mut store, one, target(2, 3)), Ok(4));
-    assert_eq!(rt; store.acts(), 2);
+    assert!(rt; finish(&mut store, one, target(2, 3)) == Ok(4));
+    assert!(rt; store.acts() == 2);
     // Page 1 keeps three of five downlinks, page 7 has two, and page 8 is the root over them.
-    assert_eq!(rt; count_of(&mut store, 1), 3);
-    assert_eq!(rt; count_of(&mut store, 7), 2);
-    assert_eq!(rt; child_of(&mut store, 8, 1), 7);
+    assert!(rt; count_of(&mut store, 1) == 3);
+    assert!(rt; count_of(&mut store, 7) == 2);
+    assert!(rt; child_of(&mut store, 8, 1) == 7);
     assert!(rt; copy_of(&mut store, 1).is_ok_and(|page| page.high == Some(bound(7))));
-    assert_eq!(rt; is_flagged(&mut store, 1), false);
+    assert!(rt; is_flagged(&mut store, 1) == false);
     Ok(())
 }
 
@@ -154,14 +154,11 @@ fn full_parent_and_the_root_are_split(rt: HostRuntime) -> Result<(), Fail> {
 fn separator_is_read_again_and_latches_block(rt: HostRuntime) -> Result<(), Fail> {
     let mut store = split_leaf(rt.alloc())?;
     let (one, other) = (Session::new(1)?, Session::new(2)?);
-    assert_eq!(rt; latch(&mut store, other, 1, Mode::Exclusive), Ok(()));
-    assert_eq!(rt;
-        finish(&mut store, one, target(2, 2)),
-        Err(Fault::Blocked(1))
-    );
+    assert!(rt; latch(&mut store, other, 1, Mode::Exclusive) == Ok(()));
+    assert!(rt; finish(&mut store, one, target(2, 2)) == Err(Fault::Blocked(1)));
     store.release(other, 1);
-    assert_eq!(rt; finish(&mut store, one, target(2, 2)), Ok(5));
-    assert_eq!(rt; child_of(&mut store, 1, 1), 3);
+    assert!(rt; finish(&mut store, one, target(2, 2)) == Ok(5));
+    assert!(rt; child_of(&mut store, 1, 1) == 3);
     Ok(())
 }
 
@@ -197,15 +194,15 @@ fn two_splits(alloc: Global) -> Result<MapStore, Fault> {
 fn splits_above_are_finished_first(rt: HostRuntime) -> Result<(), Fail> {
     let mut store = two_splits(rt.alloc())?;
     let one = Session::new(1)?;
-    assert_eq!(rt; finish(&mut store, one, target(4, 3)), Ok(12));
-    assert_eq!(rt; store.acts(), 3);
+    assert!(rt; finish(&mut store, one, target(4, 3)) == Ok(12));
+    assert!(rt; store.acts() == 3);
     // Page 3 is linked, then page 2 is split for page 5; its right half is page 10, left of page 3.
-    assert_eq!(rt; child_of(&mut store, 1, 0), 2);
-    assert_eq!(rt; child_of(&mut store, 1, 1), 10);
-    assert_eq!(rt; child_of(&mut store, 1, 2), 3);
-    assert_eq!(rt; child_of(&mut store, 2, 1), 5);
-    assert_eq!(rt; copy_of(&mut store, 3).map(|page| page.left), Ok(Some(10)));
-    assert_eq!(rt; is_flagged(&mut store, 2), false);
-    assert_eq!(rt; is_flagged(&mut store, 4), false);
+    assert!(rt; child_of(&mut store, 1, 0) == 2);
+    assert!(rt; child_of(&mut store, 1, 1) == 10);
+    assert!(rt; child_of(&mut store, 1, 2) == 3);
+    assert!(rt; child_of(&mut store, 2, 1) == 5);
+    assert!(rt; copy_of(&mut store, 3).map(|page| page.left) == Ok(Some(10)));
+    assert!(rt; is_flagged(&mut store, 2) == false);
+    assert!(rt; is_flagged(&mut store, 4) == false);
     Ok(())
 }

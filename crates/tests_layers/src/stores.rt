@@ -34,18 +34,18 @@ fn checkpoint(store: &mut MapStore) -> Result<u64, Fault> {
 #[test]
 fn pages_and_acts(rt: HostRuntime) -> Result<(), Fail> {
     let mut store = stored(rt.alloc(), 8, &[])?;
-    assert_eq!(rt; store.limits(), limits(8));
-    assert_eq!(rt; add(&mut store, meta(1, 0)), Ok(()));
-    assert_eq!(rt; add(&mut store, marked(5, 0)), Err(Fault::PageDamaged(5)));
-    assert_eq!(rt; store.fresh(), Ok(1));
-    assert_eq!(rt; change(&mut store, &[marked(1, 0)]), Ok(1));
-    assert_eq!(rt; block_at(&mut store, 1), Ok(1));
-    assert_eq!(rt; block_at(&mut store, 2), Err(Fault::PageDamaged(2)));
-    assert_eq!(rt; (store.used(), store.durable(), store.acts()), (2, 0, 1));
-    assert_eq!(rt; force(&mut store), Ok(1));
-    assert_eq!(rt; store.durable(), 1);
-    assert_eq!(rt; checkpoint(&mut store), Ok(1));
-    assert_eq!(rt; (store.room(), store.is_stopped()), (15, false));
+    assert!(rt; store.limits() == limits(8));
+    assert!(rt; add(&mut store, meta(1, 0)) == Ok(()));
+    assert!(rt; add(&mut store, marked(5, 0)) == Err(Fault::PageDamaged(5)));
+    assert!(rt; store.fresh() == Ok(1));
+    assert!(rt; change(&mut store, &[marked(1, 0)]) == Ok(1));
+    assert!(rt; block_at(&mut store, 1) == Ok(1));
+    assert!(rt; block_at(&mut store, 2) == Err(Fault::PageDamaged(2)));
+    assert!(rt; (store.used(), store.durable(), store.acts()) == (2, 0, 1));
+    assert!(rt; force(&mut store) == Ok(1));
+    assert!(rt; store.durable() == 1);
+    assert!(rt; checkpoint(&mut store) == Ok(1));
+    assert!(rt; (store.room(), store.is_stopped()) == (15, false));
     Ok(())
 }
 
@@ -55,21 +55,15 @@ fn reuse_waits_for_calls(rt: HostRuntime) -> Result<(), Fail> {
     let mut store = stored(rt.alloc(), 8, &[meta(1, 0)])?;
     let early = Session::new(0)?;
     let late = Session::new(63)?;
-    assert_eq!(rt; begin(&mut store, early), Ok(0));
-    assert_eq!(rt; change(&mut store, &[deleted(1, 1)]), Ok(1));
-    assert_eq!(rt; begin(&mut store, late), Ok(1));
-    assert_eq!(rt; store.begun(), 2);
-    assert_eq!(rt;
-        (store.free_for(early, 1), store.free_for(late, 1)),
-        (Some(true), Some(false))
-    );
-    assert_eq!(rt;
-        (store.free_for(early, 0), store.free_for(early, 8)),
-        (None, None)
-    );
-    assert_eq!(rt; store.fresh(), Ok(2));
+    assert!(rt; begin(&mut store, early) == Ok(0));
+    assert!(rt; change(&mut store, &[deleted(1, 1)]) == Ok(1));
+    assert!(rt; begin(&mut store, late) == Ok(1));
+    assert!(rt; store.begun() == 2);
+    assert!(rt; (store.free_for(early, 1), store.free_for(late, 1)) == (Some(true), Some(false)));
+    assert!(rt; (store.free_for(early, 0), store.free_for(early, 8)) == (None, None));
+    assert!(rt; store.fresh() == Ok(2));
     store.end(early);
-    assert_eq!(rt; store.fresh(), Ok(1));
+    assert!(rt; store.fresh() == Ok(1));
     Ok(())
 }
 
@@ -78,21 +72,18 @@ fn latches_pins_and_cycles(rt: HostRuntime) -> Result<(), Fail> {
     let mut store = stored(rt.alloc(), 8, &[])?;
     let one = Session::new(1)?;
     let other = Session::new(2)?;
-    assert_eq!(rt; store.latch(one, 5, Mode::Exclusive), Ok(()));
-    assert_eq!(rt; store.latch(other, 5, Mode::Shared), Err(Fault::Blocked(5)));
+    assert!(rt; store.latch(one, 5, Mode::Exclusive) == Ok(()));
+    assert!(rt; store.latch(other, 5, Mode::Shared) == Err(Fault::Blocked(5)));
     store.release(one, 5);
     store.pin(one, 5);
-    assert_eq!(rt;
-        store.latch(other, 5, Mode::Cleanup),
-        Err(Fault::Blocked(5))
-    );
+    assert!(rt; store.latch(other, 5, Mode::Cleanup) == Err(Fault::Blocked(5)));
     store.unpin(one, 5);
-    assert_eq!(rt; store.latch(other, 5, Mode::Cleanup), Ok(()));
+    assert!(rt; store.latch(other, 5, Mode::Cleanup) == Ok(()));
     store.start_cycle();
     store.stop_cycle();
-    assert_eq!(rt; store.cycle(), 0);
+    assert!(rt; store.cycle() == 0);
     store.start_cycle();
-    assert_eq!(rt; store.cycle(), 2);
+    assert!(rt; store.cycle() == 2);
     Ok(())
 }
 
@@ -105,9 +96,9 @@ fn blocks_that_are_pinned(rt: HostRuntime) -> Result<(), Fail> {
     calls.pin(one, 5);
     calls.pin(one, 3);
     calls.pin(other, 5);
-    assert_eq!(rt; calls.pinned().as_slice(), [3, 5, 5].as_slice());
+    assert!(rt; calls.pinned().as_slice() == [3, 5, 5].as_slice());
     calls.end(one);
-    assert_eq!(rt; calls.pinned().as_slice(), [5].as_slice());
+    assert!(rt; calls.pinned().as_slice() == [5].as_slice());
     Ok(())
 }
 
@@ -120,11 +111,11 @@ fn calls_that_began_after(rt: HostRuntime) -> Result<(), Fail> {
         assert!(rt; begin(&mut store, session).is_ok());
     }
     store.end(idle);
-    assert_eq!(rt; change(&mut store, &[deleted(1, 3)]), Ok(1));
-    assert_eq!(rt; change(&mut store, &[deleted(2, 4)]), Ok(2));
-    assert_eq!(rt; store.free_for(idle, 1), Some(true));
-    assert_eq!(rt; store.free_for(idle, 2), Some(false));
-    assert_eq!(rt; store.free_for(first, 2), Some(true));
-    assert_eq!(rt; store.fresh(), Ok(1));
+    assert!(rt; change(&mut store, &[deleted(1, 3)]) == Ok(1));
+    assert!(rt; change(&mut store, &[deleted(2, 4)]) == Ok(2));
+    assert!(rt; store.free_for(idle, 1) == Some(true));
+    assert!(rt; store.free_for(idle, 2) == Some(false));
+    assert!(rt; store.free_for(first, 2) == Some(true));
+    assert!(rt; store.fresh() == Ok(1));
     Ok(())
 }

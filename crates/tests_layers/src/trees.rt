@@ -35,9 +35,9 @@ pub fn entry(key: u8, block: u32, offset: u16) -> Entry {
     keyed(&[key], block, offset)
 }
 
-/// The entry of this byte as its key, and as the offset of its row in block 0.
+/// The entry of this byte as its key, and as the block of its row.
 pub fn nth(key: u8) -> Entry {
-    entry(key, 0, u16::from(key))
+    keyed(&[key], u32::from(key), 1)
 }
 
 /// Its bound.

@@ -13,19 +13,15 @@ fn calls_run_to_their_ends(rt: HostRuntime) -> Result<(), Fail> {
     let mut store = tree(rt.alloc(), 8, &[])?;
     let mut slots: [Option<Op>; 3] = array::from_fn(|_| None);
     let first = insert(&mut store, &mut slots, &NO_SETS, 0, entry(0x61, 0, 1), 5)?;
-    assert_eq!(rt; first.action, 1);
+    assert!(rt; first.action == 1);
     assert!(rt; first.unfinished.is_none());
     let second = put(&mut store, &mut slots, &NO_SETS, 1, entry(0x62, 0, 2), 0)?;
     assert!(rt; is_added(&second, 2));
-    assert_eq!(rt;
-        insert(&mut store, &mut slots, &NO_SETS, 1, entry(0x62, 0, 2), 0),
-        Err(Fault::Exists)
+    assert!(rt;
+        insert(&mut store, &mut slots, &NO_SETS, 1, entry(0x62, 0, 2), 0) == Err(Fault::Exists)
     );
     open(&mut store, &mut slots, &NO_SETS, 2, ALL)?;
-    assert_eq!(rt;
-        open(&mut store, &mut slots, &NO_SETS, 2, ALL),
-        Err(Fault::SessionBusy)
-    );
+    assert!(rt; open(&mut store, &mut slots, &NO_SETS, 2, ALL) == Err(Fault::SessionBusy));
     assert!(rt;
         matches!(
             finish(&mut store, &mut slots, &NO_SETS, 2, 5),

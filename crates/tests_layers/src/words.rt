@@ -8,15 +8,15 @@ use std::test::{Fail, *};
 #[test]
 fn keys_rows_and_sessions(rt: HostRuntime) {
     let longest = keyed(&[9; 64], 7, 2);
-    assert_eq!(rt; longest.key.bytes(), &[9; 64][..]);
-    assert_eq!(rt; longest.key.len(), 64);
-    assert_eq!(rt; keyed(&[8, 9], 0, 1).key.cells()[..3], [8, 9, 0][..]);
-    assert_eq!(rt; Key::new(&[9; 65]).err(), Some(Fault::KeyTooLong));
-    assert_eq!(rt; (longest.row.block(), longest.row.offset()), (7, 2));
-    assert_eq!(rt; RowAddr::new(u32::MAX, 1), Err(Fault::BadRow));
-    assert_eq!(rt; RowAddr::new(0, 0), Err(Fault::BadRow));
-    assert_eq!(rt; Session::new(63).map(Session::number), Ok(63));
-    assert_eq!(rt; Session::new(64), Err(Fault::NoSession));
+    assert!(rt; longest.key.bytes() == &[9; 64][..]);
+    assert!(rt; longest.key.len() == 64);
+    assert!(rt; keyed(&[8, 9], 0, 1).key.cells()[..3] == [8, 9, 0][..]);
+    assert!(rt; Key::new(&[9; 65]).err() == Some(Fault::KeyTooLong));
+    assert!(rt; (longest.row.block(), longest.row.offset()) == (7, 2));
+    assert!(rt; RowAddr::new(u32::MAX, 1) == Err(Fault::BadRow));
+    assert!(rt; RowAddr::new(0, 0) == Err(Fault::BadRow));
+    assert!(rt; Session::new(63).map(Session::number) == Ok(63));
+    assert!(rt; Session::new(64) == Err(Fault::NoSession));
 }
 
 #[test]
@@ -30,9 +30,9 @@ fn entries_and_bounds_in_order(rt: HostRuntime) {
         keyed(&[2], 0, 1),
     ];
     for (low, high) in rising.iter().zip(rising.iter().skip(1)) {
-        assert_eq!(rt; low.compare(high), Ordering::Less);
+        assert!(rt; low.compare(high) == Ordering::Less);
         let (lower, upper) = (low.bound(), high.bound());
-        assert_eq!(rt; upper.compare(&lower), Ordering::Greater);
+        assert!(rt; upper.compare(&lower) == Ordering::Greater);
         assert!(rt; lower.is_below(high) && !lower.is_below(low));
         assert!(rt; low.is_same(low) && !low.is_same(high));
         low.seen();
@@ -51,7 +51,7 @@ fn ranges(rt: HostRuntime) {
         (&[1, 255], true),
         (&[2], false),
     ] {
-        assert_eq!(rt; from_1.contains(&keyed(key, 5, 5)), is_in);
+        assert!(rt; from_1.contains(&keyed(key, 5, 5)) == is_in);
     }
     assert!(rt; from_1.start().is_below(&keyed(&[1], 0, 1)));
     assert!(rt; !from_1.start().is_below(&keyed(&[0], 5, 5)));
@@ -71,7 +71,7 @@ fn limits(rt: HostRuntime) {
             pages,
             log_bytes,
         };
-        assert_eq!(rt; limits.are_valid(), are_valid);
+        assert!(rt; limits.are_valid() == are_valid);
     }
 }
 
@@ -83,8 +83,8 @@ fn faults_by_name_and_number(rt: HostRuntime) -> Result<(), Fail> {
         (Fault::PageDamaged(8), "PageDamaged", 17, Some(8)),
         (Fault::DeviceTooSmall, "DeviceTooSmall", 20, None),
     ] {
-        assert_eq!(rt; format!(in rt.alloc(); "{fault}")?.as_str(), name);
-        assert_eq!(rt; (fault.number(), fault.block()), (number, block));
+        assert!(rt; format!(in rt.alloc(); "{fault}")?.as_str() == name);
+        assert!(rt; (fault.number(), fault.block()) == (number, block));
     }
     Ok(())
 }

@@ -1,43 +1,26 @@
-//! Sets of dead rows.
+//! Sets of dead rows: of one type in all tests, because each type more is a copy more of what is compiled.
 
 use index_model::{DeadRows, RowAddr};
 
-/// A set without rows.
-#[derive(Drop)]
-pub struct NoRows {}
+/// The rows of these blocks, both ends among them.
+#[derive(Clone, Copy, Drop)]
+pub struct Blocks {
+    pub from: u32,
+    pub to: u32,
+}
 
-impl DeadRows for NoRows {
-    ghost use Rattle.std.specs.Prelude.{false};
+impl DeadRows for Blocks {
+    ghost use Rattle.std.specs.Prelude.{◌&&◌, nat_le};
 
-    ghost is_in = { λ rows row. false };
+    ghost is_in = { λ set row. nat_le set.from row.block && nat_le row.block set.to };
 
-    fn is_dead(&self, _row: RowAddr) -> bool {
-        false
+    fn is_dead(&self, row: RowAddr) -> bool {
+        self.from <= row.block() && row.block() <= self.to
     }
 }
 
 /// Every row.
-pub struct EachRow {}
-
-impl DeadRows for EachRow {
-    ghost use Rattle.std.specs.Prelude.{true};
-
-    ghost is_in = { λ rows row. true };
-
-    fn is_dead(&self, _row: RowAddr) -> bool {
-        true
-    }
-}
-
-/// The rows of odd offsets.
-pub struct OddRows {}
-
-impl DeadRows for OddRows {
-    ghost use Rattle.std.specs.Prelude.{◌==◌, ◌%◌};
-
-    ghost is_in = { λ rows row. row.offset % 2 == 1 };
-
-    fn is_dead(&self, row: RowAddr) -> bool {
-        row.offset() % 2 == 1
-    }
-}
+pub const EACH_ROW: Blocks = Blocks {
+    from: 0,
+    to: u32::MAX,
+};

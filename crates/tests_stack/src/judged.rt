@@ -2,13 +2,13 @@
 //! and answered, and computes each word of the promises over it.
 
 mod crashes;
-mod dead;
 mod dice;
 mod judge;
 mod pages;
 mod pairs;
 mod past;
 mod runs;
+mod sets;
 mod stores;
 mod tally;
 mod tests;

@@ -47,7 +47,7 @@ fn cycle_at(device: &mut MemDevice, block: u32) -> u32 {
 }
 
 fn replay(alloc: Global, device: &mut MemDevice) -> Result<Replayed, Fault> {
-    if device.len() != LEN {
+    if device.len() != LEN || !LIMITS.are_valid() {
         return Err(Fault::DeviceTooSmall);
     }
     Log::replay(alloc, device, LIMITS)
@@ -76,17 +76,17 @@ fn begin(store: &mut Store<MemDevice>, session: Session) -> Result<u64, Fault> {
 #[test]
 fn forced_acts_are_left(rt: HostRuntime) -> Result<(), Fail> {
     let mut store = store(rt.alloc())?;
-    assert_eq!(rt; store.room(), 15);
-    assert_eq!(rt; act(&mut store, &[marked(1, 1)]), Ok(1));
-    assert_eq!(rt; force(&mut store), Ok(1));
-    assert_eq!(rt; act(&mut store, &[marked(2, 2)]), Ok(2));
-    assert_eq!(rt; (store.durable(), store.used(), store.room()), (1, 3, 13));
-    assert_eq!(rt; store.acts(), 2);
+    assert!(rt; store.room() == 15);
+    assert!(rt; act(&mut store, &[marked(1, 1)]) == Ok(1));
+    assert!(rt; force(&mut store) == Ok(1));
+    assert!(rt; act(&mut store, &[marked(2, 2)]) == Ok(2));
+    assert!(rt; (store.durable(), store.used(), store.room()) == (1, 3, 13));
+    assert!(rt; store.acts() == 2);
     let device = device_of(store);
     for image in IMAGES {
         let mut found = left(rt.alloc(), &device, image)?;
-        assert_eq!(rt; logged(rt.alloc(), &mut found)?, 1);
-        assert_eq!(rt; cycle_at(&mut found, 1), 0);
+        assert!(rt; logged(rt.alloc(), &mut found)? == 1);
+        assert!(rt; cycle_at(&mut found, 1) == 0);
     }
     Ok(())
 }
@@ -94,17 +94,17 @@ fn forced_acts_are_left(rt: HostRuntime) -> Result<(), Fail> {
 #[test]
 fn a_checkpoint_brings_pages_home(rt: HostRuntime) -> Result<(), Fail> {
     let mut store = store(rt.alloc())?;
-    assert_eq!(rt; act(&mut store, &[marked(1, 7)]), Ok(1));
-    assert_eq!(rt; act(&mut store, &[marked(2, 8)]), Ok(2));
-    assert_eq!(rt; checkpoint(&mut store), Ok(2));
-    assert_eq!(rt; (store.durable(), store.room()), (2, 15));
+    assert!(rt; act(&mut store, &[marked(1, 7)]) == Ok(1));
+    assert!(rt; act(&mut store, &[marked(2, 8)]) == Ok(2));
+    assert!(rt; checkpoint(&mut store) == Ok(2));
+    assert!(rt; (store.durable(), store.room()) == (2, 15));
     let device = device_of(store);
     for image in IMAGES {
         let mut found = left(rt.alloc(), &device, image)?;
-        assert_eq!(rt; logged(rt.alloc(), &mut found)?, 0);
-        assert_eq!(rt; cycle_at(&mut found, 1), 7);
-        assert_eq!(rt; cycle_at(&mut found, 2), 8);
-        assert_eq!(rt; cycle_at(&mut found, 3), 0);
+        assert!(rt; logged(rt.alloc(), &mut found)? == 0);
+        assert!(rt; cycle_at(&mut found, 1) == 7);
+        assert!(rt; cycle_at(&mut found, 2) == 8);
+        assert!(rt; cycle_at(&mut found, 3) == 0);
     }
     Ok(())
 }
@@ -114,18 +114,18 @@ fn a_checkpoint_brings_pages_home(rt: HostRuntime) -> Result<(), Fail> {
 fn each_call_of_a_checkpoint_fails(rt: HostRuntime) -> Result<(), Fail> {
     for n in 1..9 {
         let mut store = store(rt.alloc())?;
-        assert_eq!(rt; act(&mut store, &[marked(1, 7)]), Ok(1));
+        assert!(rt; act(&mut store, &[marked(1, 7)]) == Ok(1));
         store.fail_at(n);
-        assert_eq!(rt; checkpoint(&mut store), Err(Fault::Io));
+        assert!(rt; checkpoint(&mut store) == Err(Fault::Io));
         let stopped = n <= 4 || n >= 7;
-        assert_eq!(rt; store.is_stopped(), stopped);
+        assert!(rt; store.is_stopped() == stopped);
         if stopped {
-            assert_eq!(rt; act(&mut store, &[marked(1, 8)]), Err(Fault::Stopped));
-            assert_eq!(rt; checkpoint(&mut store), Err(Fault::Stopped));
-            assert_eq!(rt; force(&mut store), Err(Fault::Stopped));
-            assert_eq!(rt; begin(&mut store, Session::new(0)?), Err(Fault::Stopped));
+            assert!(rt; act(&mut store, &[marked(1, 8)]) == Err(Fault::Stopped));
+            assert!(rt; checkpoint(&mut store) == Err(Fault::Stopped));
+            assert!(rt; force(&mut store) == Err(Fault::Stopped));
+            assert!(rt; begin(&mut store, Session::new(0)?) == Err(Fault::Stopped));
         } else {
-            assert_eq!(rt; checkpoint(&mut store), Ok(1));
+            assert!(rt; checkpoint(&mut store) == Ok(1));
         }
     }
     Ok(())
@@ -142,12 +142,12 @@ fn flushes_go_on_behind_a_failed_checkpoint(rt: HostRuntime) -> Result<(), Fail>
         }
         force(&mut store)?;
         store.fail_at(written as u64 + 1);
-        assert_eq!(rt; checkpoint(&mut store), Err(Fault::Io));
+        assert!(rt; checkpoint(&mut store) == Err(Fault::Io));
         for block in &order[written..] {
-            assert_eq!(rt; flush(&mut store), Ok(Some(*block)));
+            assert!(rt; flush(&mut store) == Ok(Some(*block)));
         }
-        assert_eq!(rt; flush(&mut store), Ok(None));
-        assert_eq!(rt; checkpoint(&mut store), Ok(4));
+        assert!(rt; flush(&mut store) == Ok(None));
+        assert!(rt; checkpoint(&mut store) == Ok(4));
     }
     Ok(())
 }
@@ -156,28 +156,28 @@ fn flushes_go_on_behind_a_failed_checkpoint(rt: HostRuntime) -> Result<(), Fail>
 fn a_full_log_is_refused(rt: HostRuntime) -> Result<(), Fail> {
     let mut store = store(rt.alloc())?;
     for n in 0..15u32 {
-        assert_eq!(rt; store.room(), 15 - n);
+        assert!(rt; store.room() == 15 - n);
         assert!(rt; act(&mut store, &[marked(1, n)]).is_ok());
         assert!(rt; force(&mut store).is_ok());
     }
-    assert_eq!(rt; act(&mut store, &[marked(1, 15)]), Err(Fault::LogFull));
-    assert_eq!(rt; checkpoint(&mut store), Ok(15));
-    assert_eq!(rt; act(&mut store, &[marked(1, 15)]), Ok(16));
+    assert!(rt; act(&mut store, &[marked(1, 15)]) == Err(Fault::LogFull));
+    assert!(rt; checkpoint(&mut store) == Ok(15));
+    assert!(rt; act(&mut store, &[marked(1, 15)]) == Ok(16));
     Ok(())
 }
 
 #[test]
 fn acts_on_one_block_wait_as_one_image(rt: HostRuntime) -> Result<(), Fail> {
     let mut store = store(rt.alloc())?;
-    assert_eq!(rt; act(&mut store, &[marked(1, 1)]), Ok(1));
-    assert_eq!(rt; act(&mut store, &[marked(1, 2)]), Ok(2));
-    assert_eq!(rt; store.room(), 14);
+    assert!(rt; act(&mut store, &[marked(1, 1)]) == Ok(1));
+    assert!(rt; act(&mut store, &[marked(1, 2)]) == Ok(2));
+    assert!(rt; store.room() == 14);
     for n in 3..41u32 {
-        assert_eq!(rt; act(&mut store, &[marked(1, n)]), Ok(u64::from(n)));
+        assert!(rt; act(&mut store, &[marked(1, n)]) == Ok(u64::from(n)));
     }
-    assert_eq!(rt; force(&mut store), Ok(40));
+    assert!(rt; force(&mut store) == Ok(40));
     let mut found = left_of(rt.alloc(), &store, CrashImage::Drop)?;
-    assert_eq!(rt; logged(rt.alloc(), &mut found)?, 1);
+    assert!(rt; logged(rt.alloc(), &mut found)? == 1);
     Ok(())
 }
 
@@ -222,7 +222,7 @@ fn more_pages_than_frames(rt: HostRuntime) -> Result<(), Fail> {
                 let mut store = store;
                 assert!(rt; has_all(&mut store, 100));
             }
-            Err(refused) => assert_eq!(rt; refused.fault, Fault::Stopped),
+            Err(refused) => assert!(rt; refused.fault == Fault::Stopped),
         }
     }
     Ok(())
@@ -242,12 +242,12 @@ fn pinned_pages_stay(rt: HostRuntime) -> Result<(), Fail> {
     for block in 1..17u32 {
         assert!(rt; page(&mut store, block).is_ok());
     }
-    assert_eq!(rt; cycle_of(&mut store, 20), Err(Fault::NoFrame));
-    assert_eq!(rt; act(&mut store, &[marked(20, 1)]), Err(Fault::NoFrame));
-    assert_eq!(rt; act(&mut store, &[marked(5, 77)]), Ok(40));
+    assert!(rt; cycle_of(&mut store, 20) == Err(Fault::NoFrame));
+    assert!(rt; act(&mut store, &[marked(20, 1)]) == Err(Fault::NoFrame));
+    assert!(rt; act(&mut store, &[marked(5, 77)]) == Ok(40));
     store.unpin(Session::new(3)?, 4);
-    assert_eq!(rt; cycle_of(&mut store, 20), Ok(20));
-    assert_eq!(rt; cycle_of(&mut store, 5), Ok(77));
+    assert!(rt; cycle_of(&mut store, 20) == Ok(20));
+    assert!(rt; cycle_of(&mut store, 5) == Ok(77));
     Ok(())
 }
 
@@ -258,8 +258,8 @@ fn a_failed_fetch_is_made_again(rt: HostRuntime) -> Result<(), Fail> {
     act_on_all(&mut store, 0)?;
     checkpoint(&mut store)?;
     store.fail_at(1);
-    assert_eq!(rt; cycle_of(&mut store, 1), Err(Fault::Io));
-    assert_eq!(rt; cycle_of(&mut store, 1), Ok(1));
+    assert!(rt; cycle_of(&mut store, 1) == Err(Fault::Io));
+    assert!(rt; cycle_of(&mut store, 1) == Ok(1));
     assert!(rt; !store.is_stopped());
     assert!(rt; has_all(&mut store, 0));
     Ok(())

@@ -1,6 +1,6 @@
 //! Each call of a world: of many sessions over pages in memory and on a device.
 
-use crate::dead::NoRows;
+use crate::dead::Blocks;
 use crate::plain::{self, device_of, finish, give, left_by, one, open_world, page_in, put, run};
 use crate::small::{ALL, LEN, LIMITS, entry, made, pages};
 use device::{CrashImage, Device, MemDevice};
@@ -14,7 +14,7 @@ use std::alloc::Global;
 use std::test::{Fail, *};
 use world::World;
 
-fn world(alloc: Global, sessions: u32) -> Result<World<MapStore, NoRows>, Fault> {
+fn world(alloc: Global, sessions: u32) -> Result<World<MapStore, Blocks>, Fault> {
     plain::world(alloc, pages(alloc, LIMITS)?, sessions, Vec::new(alloc))
 }
 
@@ -41,7 +41,7 @@ fn told(answer: &Answer) -> (&'static str, u64) {
 // Runs these events: whether each has this answer.
 fn are_answered<S: PageStore>(
     alloc: Global,
-    world: &mut World<S, NoRows>,
+    world: &mut World<S, Blocks>,
     rows: &[(Event, &str, u64)],
 ) -> Result<bool, Fail> {
     let (mut events, mut answers) = (Vec::new(alloc), Vec::new(alloc));
@@ -111,7 +111,7 @@ fn each_event_once(rt: HostRuntime) -> Result<(), Fail> {
     Ok(())
 }
 
-fn abandon(world: &mut World<MapStore, NoRows>, session: u32) -> Answer {
+fn abandon(world: &mut World<MapStore, Blocks>, session: u32) -> Answer {
     world.abandon(session)
 }
 
@@ -138,7 +138,7 @@ fn readers_and_abandon(rt: HostRuntime) -> Result<(), Fail> {
 
 // Why no world of so many sessions is made, with the store; NoMemory where one is.
 fn refused(alloc: Global, store: MapStore, sessions: u32) -> Result<(Fault, MapStore), Fault> {
-    let sets: Vec<NoRows> = Vec::new(alloc);
+    let sets: Vec<Blocks> = Vec::new(alloc);
     match World::new(alloc, store, sessions, sets) {
         Ok(_) => Err(Fault::NoMemory),
         Err(not_made) => Ok((not_made.fault, not_made.store)),
@@ -149,14 +149,14 @@ fn refused(alloc: Global, store: MapStore, sessions: u32) -> Result<(Fault, MapS
 fn one_to_64_sessions(rt: HostRuntime) -> Result<(), Fail> {
     for sessions in [0, 65] {
         let (fault, store) = refused(rt.alloc(), pages(rt.alloc(), LIMITS)?, sessions)?;
-        assert_eq!(rt; fault, Fault::BadLimits);
-        assert_eq!(rt; store.used(), 2);
+        assert!(rt; fault == Fault::BadLimits);
+        assert!(rt; store.used() == 2);
     }
     Ok(())
 }
 
 // The index that a device holds.
-fn opened(alloc: Global, device: MemDevice) -> Result<World<Store<MemDevice>, NoRows>, Fault> {
+fn opened(alloc: Global, device: MemDevice) -> Result<World<Store<MemDevice>, Blocks>, Fault> {
     match open_world(alloc, device, 16, 2, Vec::new(alloc)) {
         Ok(world) => Ok(world),
         Err(not_opened) => Err(not_opened.fault),
@@ -164,7 +164,7 @@ fn opened(alloc: Global, device: MemDevice) -> Result<World<Store<MemDevice>, No
 }
 
 // What the words of crashes are for it.
-fn law(world: &World<Store<MemDevice>, NoRows>) {
+fn law(world: &World<Store<MemDevice>, Blocks>) {
     world.crash_law();
 }
 
@@ -189,7 +189,7 @@ fn forced_actions_are_left(rt: HostRuntime) -> Result<(), Fail> {
         (Event::Step(1), "added", 2),
     ];
     assert!(rt; are_answered(rt.alloc(), &mut world, &rows)?);
-    assert_eq!(rt; world.actions(), 2);
+    assert!(rt; world.actions() == 2);
     law(&world);
     for image in [CrashImage::Drop, CrashImage::Keep, CrashImage::Tear] {
         let left = left_by(rt.alloc(), &world, image)?;
@@ -197,12 +197,12 @@ fn forced_actions_are_left(rt: HostRuntime) -> Result<(), Fail> {
         assert!(rt; matches!(&leaf.items, Items::Entries(entries) if entries.len() == 1));
     }
     let device = device_of(world.into_store());
-    assert_eq!(rt; device.len(), LEN);
+    assert!(rt; device.len() == LEN);
     Ok(())
 }
 
 // Begins a call of session 0 and makes its steps, 16 at most: the last answer.
-fn called(world: &mut World<Store<MemDevice>, NoRows>, begin: Event) -> Answer {
+fn called(world: &mut World<Store<MemDevice>, Blocks>, begin: Event) -> Answer {
     let mut answer = one(world, begin);
     for _ in 0..16 {
         if !matches!(answer, Answer::Begun | Answer::Going) {
@@ -214,7 +214,7 @@ fn called(world: &mut World<Store<MemDevice>, NoRows>, begin: Event) -> Answer {
 }
 
 // Scans all by session 1: how many entries, each of the key and the place of its number; or None for a wrong answer.
-fn counted(world: &mut World<Store<MemDevice>, NoRows>) -> Option<u8> {
+fn counted(world: &mut World<Store<MemDevice>, Blocks>) -> Option<u8> {
     let mut given = 0u8;
     let mut answer = one(world, Event::Scan(1, ALL));
     for _ in 0..32 {
@@ -253,12 +253,12 @@ fn split_leaf_is_opened_again(rt: HostRuntime) -> Result<(), Fail> {
             )
         );
     }
-    assert_eq!(rt; world.used(), 4);
-    assert_eq!(rt; world.actions(), 6);
+    assert!(rt; world.used() == 4);
+    assert!(rt; world.actions() == 6);
     assert!(rt; matches!(one(&mut world, Event::Force), Answer::Forced(6)));
     let left = left_by(rt.alloc(), &world, CrashImage::Drop)?;
     let mut again = opened(rt.alloc(), left)?;
-    assert_eq!(rt; again.used(), 4);
+    assert!(rt; again.used() == 4);
     assert!(rt; counted(&mut again) == Some(5));
     // The root is on level 1: the metapage, the root, the leaf, the entry.
     let rows = [

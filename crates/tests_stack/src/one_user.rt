@@ -1,6 +1,6 @@
 //! Each call of an index of one user.
 
-use crate::dead::{EachRow, OddRows};
+use crate::dead::{Blocks, EACH_ROW};
 use crate::plain::{
     begin_scan, bulk_delete, checkpoint_of, clean_up, commit, end_scan, insert, next, open_index,
     rescan,
@@ -43,14 +43,14 @@ fn entries_are_given_in_order(rt: HostRuntime) -> Result<(), Fail> {
     let mut index = index(rt.alloc())?;
     for (place, key) in [0x63, 0x61, 0x62].iter().enumerate() {
         let inserted = insert(&mut index, entry(*key, u16::from(*key)))?;
-        assert_eq!(rt; inserted.action, place as u64 + 1);
+        assert!(rt; inserted.action == place as u64 + 1);
         assert!(rt; inserted.unfinished.is_none());
     }
-    assert_eq!(rt; insert(&mut index, entry(0x61, 0x61)), Err(Fault::Exists));
-    assert_eq!(rt; commit(&mut index), Ok(3));
+    assert!(rt; insert(&mut index, entry(0x61, 0x61)) == Err(Fault::Exists));
+    assert!(rt; commit(&mut index) == Ok(3));
     let token = begin_scan(&mut index, ALL)?;
     for expected in [0x61, 0x62, 0x63, 0, 0] {
-        assert_eq!(rt; given(&mut index, token), expected);
+        assert!(rt; given(&mut index, token) == expected);
     }
     let part = Range {
         from: Key::new(&[0x62]).ok(),
@@ -58,13 +58,13 @@ fn entries_are_given_in_order(rt: HostRuntime) -> Result<(), Fail> {
     };
     rescan(&mut index, token, part)?;
     for expected in [0x62, 0, 0] {
-        assert_eq!(rt; given(&mut index, token), expected);
+        assert!(rt; given(&mut index, token) == expected);
     }
-    assert_eq!(rt; end_scan(&mut index, token), Ok(()));
-    assert_eq!(rt; checkpoint_of(&mut index), Ok(3));
+    assert!(rt; end_scan(&mut index, token) == Ok(()));
+    assert!(rt; checkpoint_of(&mut index) == Ok(3));
     law(&index);
     let device = index.into_device();
-    assert_eq!(rt; device.len(), LEN);
+    assert!(rt; device.len() == LEN);
     Ok(())
 }
 
@@ -76,10 +76,10 @@ fn a_split_leaf_is_scanned(rt: HostRuntime) -> Result<(), Fail> {
         let inserted = insert(&mut index, entry(key, u16::from(key)))?;
         assert!(rt; inserted.unfinished.is_none());
     }
-    assert_eq!(rt; commit(&mut index), Ok(8));
+    assert!(rt; commit(&mut index) == Ok(8));
     let token = begin_scan(&mut index, ALL)?;
     for expected in [1, 2, 3, 4, 5, 6, 7, 0, 0] {
-        assert_eq!(rt; given(&mut index, token), expected);
+        assert!(rt; given(&mut index, token) == expected);
     }
     Ok(())
 }
@@ -88,14 +88,14 @@ fn a_split_leaf_is_scanned(rt: HostRuntime) -> Result<(), Fail> {
 fn an_index_is_opened_again(rt: HostRuntime) -> Result<(), Fail> {
     let mut first = index(rt.alloc())?;
     assert!(rt; insert(&mut first, entry(0x61, 1)).is_ok());
-    assert_eq!(rt; commit(&mut first), Ok(1));
+    assert!(rt; commit(&mut first) == Ok(1));
     let mut again = open_index(rt.alloc(), first.into_device(), 16)?;
     let token = begin_scan(&mut again, ALL)?;
     for expected in [1, 0] {
-        assert_eq!(rt; given(&mut again, token), expected);
+        assert!(rt; given(&mut again, token) == expected);
     }
     let refused = open_index(rt.alloc(), again.into_device(), 15);
-    assert_eq!(rt; refused.err(), Some(Fault::BadLimits));
+    assert!(rt; refused.err() == Some(Fault::BadLimits));
     Ok(())
 }
 
@@ -103,13 +103,13 @@ fn an_index_is_opened_again(rt: HostRuntime) -> Result<(), Fail> {
 fn closed_tokens_are_refused(rt: HostRuntime) -> Result<(), Fail> {
     let mut index = in_memory(rt.alloc())?;
     let first = begin_scan(&mut index, ALL)?;
-    assert_eq!(rt; end_scan(&mut index, first), Ok(()));
+    assert!(rt; end_scan(&mut index, first) == Ok(()));
     let second = begin_scan(&mut index, ALL)?;
     assert!(rt; first != second);
-    assert_eq!(rt; given(&mut index, first), 112);
-    assert_eq!(rt; end_scan(&mut index, first), Err(Fault::NoSession));
-    assert_eq!(rt; rescan(&mut index, first, ALL), Err(Fault::NoSession));
-    assert_eq!(rt; given(&mut index, second), 0);
+    assert!(rt; given(&mut index, first) == 112);
+    assert!(rt; end_scan(&mut index, first) == Err(Fault::NoSession));
+    assert!(rt; rescan(&mut index, first, ALL) == Err(Fault::NoSession));
+    assert!(rt; given(&mut index, second) == 0);
     Ok(())
 }
 
@@ -120,8 +120,8 @@ fn at_most_63_scans(rt: HostRuntime) -> Result<(), Fail> {
     for _scan in 1..63 {
         assert!(rt; begin_scan(&mut index, ALL).is_ok());
     }
-    assert_eq!(rt; begin_scan(&mut index, ALL), Err(Fault::NoSession));
-    assert_eq!(rt; end_scan(&mut index, first), Ok(()));
+    assert!(rt; begin_scan(&mut index, ALL) == Err(Fault::NoSession));
+    assert!(rt; end_scan(&mut index, first) == Ok(()));
     assert!(rt; begin_scan(&mut index, ALL).is_ok());
     Ok(())
 }
@@ -135,13 +135,13 @@ fn a_failed_device_stops_the_index(rt: HostRuntime) -> Result<(), Fail> {
     let mut index = open_index(rt.alloc(), device, 16)?;
     let token = begin_scan(&mut index, ALL)?;
     assert!(rt; insert(&mut index, entry(0x61, 1)).is_ok());
-    assert_eq!(rt; commit(&mut index), Ok(1));
+    assert!(rt; commit(&mut index) == Ok(1));
     assert!(rt; insert(&mut index, entry(0x62, 2)).is_ok());
-    assert_eq!(rt; commit(&mut index), Err(Fault::Io));
-    assert_eq!(rt; commit(&mut index), Err(Fault::Stopped));
+    assert!(rt; commit(&mut index) == Err(Fault::Io));
+    assert!(rt; commit(&mut index) == Err(Fault::Stopped));
     assert!(rt; matches!(insert(&mut index, entry(0x63, 3)), Err(Fault::Stopped)));
-    assert_eq!(rt; rescan(&mut index, token, ALL), Err(Fault::Stopped));
-    assert_eq!(rt; begin_scan(&mut index, ALL), Err(Fault::Stopped));
+    assert!(rt; rescan(&mut index, token, ALL) == Err(Fault::Stopped));
+    assert!(rt; begin_scan(&mut index, ALL) == Err(Fault::Stopped));
     assert!(rt; end_scan(&mut index, token).is_ok());
     Ok(())
 }
@@ -158,30 +158,24 @@ fn insert_9(index: &mut Index<Store<MemDevice>>) -> Result<(), Fault> {
 fn deleted_pages_are_used_again(rt: HostRuntime) -> Result<(), Fail> {
     let mut index = index(rt.alloc())?;
     insert_9(&mut index)?;
-    let removed = bulk_delete(&mut index, &EachRow {})?;
-    assert_eq!(rt; (removed.tuples_removed, removed.num_index_tuples), (9, 0));
+    let removed = bulk_delete(&mut index, &EACH_ROW)?;
+    assert!(rt; (removed.tuples_removed, removed.num_index_tuples) == (9, 0));
     let cleaned = clean_up(&mut index)?;
-    assert_eq!(rt; (cleaned.tuples_removed, cleaned.num_index_tuples), (0, 0));
+    assert!(rt; (cleaned.tuples_removed, cleaned.num_index_tuples) == (0, 0));
     // The metapage, the root and its last child are left.
-    assert_eq!(rt; cleaned.num_pages, removed.num_pages);
-    assert_eq!(rt;
-        cleaned.pages_newly_deleted.wrapping_add(3),
-        cleaned.num_pages
-    );
-    assert_eq!(rt; cleaned.pages_deleted, cleaned.pages_newly_deleted);
+    assert!(rt; cleaned.num_pages == removed.num_pages);
+    assert!(rt; cleaned.pages_newly_deleted.wrapping_add(3) == cleaned.num_pages);
+    assert!(rt; cleaned.pages_deleted == cleaned.pages_newly_deleted);
 
     insert_9(&mut index)?;
     let token = begin_scan(&mut index, ALL)?;
     for expected in [1, 2, 3, 4, 5, 6, 7, 8, 9, 0] {
-        assert_eq!(rt; given(&mut index, token), expected);
+        assert!(rt; given(&mut index, token) == expected);
     }
     assert!(rt; end_scan(&mut index, token).is_ok());
     let again = clean_up(&mut index)?;
-    assert_eq!(rt; again.num_index_tuples, 9);
-    assert_eq!(rt;
-        (again.num_pages, again.pages_newly_deleted),
-        (cleaned.num_pages, 0)
-    );
+    assert!(rt; again.num_index_tuples == 9);
+    assert!(rt; (again.num_pages, again.pages_newly_deleted) == (cleaned.num_pages, 0));
     Ok(())
 }
 
@@ -218,7 +212,7 @@ fn few_frames_answer_as_many_do(rt: HostRuntime) -> Result<(), Fail> {
         place = (place % MANY + 7) % MANY;
         let inserted = insert(&mut few, nth(place))?;
         assert!(rt; inserted.unfinished.is_none());
-        assert_eq!(rt; insert(&mut many, nth(place)), Ok(inserted));
+        assert!(rt; insert(&mut many, nth(place)) == Ok(inserted));
     }
     assert!(rt; gives_all(&mut few)? && gives_all(&mut many)?);
     Ok(())
@@ -227,15 +221,17 @@ fn few_frames_answer_as_many_do(rt: HostRuntime) -> Result<(), Fail> {
 #[test]
 fn dead_rows_are_deleted(rt: HostRuntime) -> Result<(), Fail> {
     let mut index = index(rt.alloc())?;
+    // Odd keys have rows of block 1, even ones of block 0.
     for key in 1..8u8 {
-        assert!(rt; insert(&mut index, entry(key, u16::from(key))).is_ok());
+        let new = keyed(&[key], u32::from(key) % 2, u16::from(key));
+        assert!(rt; insert(&mut index, new).is_ok());
     }
-    let stats = bulk_delete(&mut index, &OddRows {})?;
-    assert_eq!(rt; stats.tuples_removed, 4);
-    assert_eq!(rt; stats.num_index_tuples, 3);
+    let stats = bulk_delete(&mut index, &Blocks { from: 1, to: 1 })?;
+    assert!(rt; stats.tuples_removed == 4);
+    assert!(rt; stats.num_index_tuples == 3);
     let token = begin_scan(&mut index, ALL)?;
     for expected in [2, 4, 6, 0] {
-        assert_eq!(rt; given(&mut index, token), expected);
+        assert!(rt; given(&mut index, token) == expected);
     }
     Ok(())
 }

@@ -42,31 +42,31 @@ const LEAF: [u8; 20] = [
 #[test]
 fn an_empty_index(rt: HostRuntime) -> Result<(), Fail> {
     let mut device = device(rt.alloc(), 331_776)?;
-    assert_eq!(rt; create(&mut device, &limits(64)), Ok(()));
-    assert_eq!(rt; bytes_at(&mut device, 0), begins(&SUPERBLOCK));
-    assert_eq!(rt; bytes_at(&mut device, 4_096)[0], 0);
-    assert_eq!(rt; bytes_at(&mut device, 69_632), begins(&METAPAGE));
-    assert_eq!(rt; bytes_at(&mut device, 73_728), begins(&LEAF));
-    assert_eq!(rt; bytes_at(&mut device, 77_824), [0; 48]);
+    assert!(rt; create(&mut device, &limits(64)) == Ok(()));
+    assert!(rt; bytes_at(&mut device, 0) == begins(&SUPERBLOCK));
+    assert!(rt; bytes_at(&mut device, 4_096)[0] == 0);
+    assert!(rt; bytes_at(&mut device, 69_632) == begins(&METAPAGE));
+    assert!(rt; bytes_at(&mut device, 73_728) == begins(&LEAF));
+    assert!(rt; bytes_at(&mut device, 77_824) == [0; 48]);
     Ok(())
 }
 
 #[test]
 fn refusals(rt: HostRuntime) -> Result<(), Fail> {
     let mut short = device(rt.alloc(), 331_775)?;
-    assert_eq!(rt; create(&mut short, &limits(64)), Err(Fault::DeviceTooSmall));
+    assert!(rt; create(&mut short, &limits(64)) == Err(Fault::DeviceTooSmall));
     let mut few = limits(64);
     few.items = 3;
-    assert_eq!(rt; create(&mut short, &few), Err(Fault::BadLimits));
+    assert!(rt; create(&mut short, &few) == Err(Fault::BadLimits));
     // Each of its 69 calls fails once: zeros, sync, gate, 62 blocks, two pages, sync, superblock, sync.
     let mut device = device(rt.alloc(), 331_776)?;
     device.fail_at(71);
-    assert_eq!(rt; create(&mut device, &limits(64)), Ok(()));
+    assert!(rt; create(&mut device, &limits(64)) == Ok(()));
     device.fail_at(0);
     device.stop_at(5);
-    assert_eq!(rt; create(&mut device, &limits(64)), Err(Fault::Io));
+    assert!(rt; create(&mut device, &limits(64)) == Err(Fault::Io));
     device.stop_at(0);
-    assert_eq!(rt; create(&mut device, &limits(64)), Ok(()));
+    assert!(rt; create(&mut device, &limits(64)) == Ok(()));
     Ok(())
 }
 
@@ -84,10 +84,10 @@ fn refusal(alloc: Global, device: MemDevice, frames: u32) -> u8 {
 fn an_empty_index_is_opened(rt: HostRuntime) -> Result<(), Fail> {
     match open(rt.alloc(), made_with(rt.alloc(), &limits(64))?, 16) {
         Ok(store) => {
-            assert_eq!(rt; (store.room(), store.used(), store.durable()), (15, 2, 0));
-            assert_eq!(rt; store.limits(), limits(64));
+            assert!(rt; (store.room(), store.used(), store.durable()) == (15, 2, 0));
+            assert!(rt; store.limits() == limits(64));
         }
-        Err(refused) => assert_eq!(rt; refused.fault, Fault::Stopped),
+        Err(refused) => assert!(rt; refused.fault == Fault::Stopped),
     }
     Ok(())
 }
@@ -95,10 +95,7 @@ fn an_empty_index_is_opened(rt: HostRuntime) -> Result<(), Fail> {
 #[test]
 fn small_devices_and_frames(rt: HostRuntime) -> Result<(), Fail> {
     for (frames, number) in [(16, 14), (15, 18), (1_025, 18)] {
-        assert_eq!(rt;
-            refusal(rt.alloc(), device(rt.alloc(), 100)?, frames),
-            number
-        );
+        assert!(rt; refusal(rt.alloc(), device(rt.alloc(), 100)?, frames) == number);
     }
     Ok(())
 }
@@ -113,7 +110,7 @@ fn hostile_indexes(rt: HostRuntime) -> Result<(), Fail> {
     ] {
         let mut device = made(rt.alloc())?;
         write(&mut device, at, bytes)?;
-        assert_eq!(rt; refusal(rt.alloc(), device, 16), number);
+        assert!(rt; refusal(rt.alloc(), device, 16) == number);
     }
     Ok(())
 }
@@ -128,7 +125,7 @@ fn hostile_superblocks(rt: HostRuntime) -> Result<(), Fail> {
         bytes[16] = pages;
         let mut device = device(rt.alloc(), LEN)?;
         write(&mut device, 0, &bytes)?;
-        assert_eq!(rt; refusal(rt.alloc(), device, 16), number);
+        assert!(rt; refusal(rt.alloc(), device, 16) == number);
     }
     Ok(())
 }
@@ -174,20 +171,20 @@ fn each_call_of_an_open_stops(rt: HostRuntime) -> Result<(), Fail> {
             found.stop_at(n);
             match open(rt.alloc(), found, 16) {
                 Ok(store) => {
-                    assert_eq!(rt; (n, store.used()), (13, 3));
+                    assert!(rt; (n, store.used()) == (13, 3));
                 }
                 Err(refused) => {
-                    assert_eq!(rt; refused.fault, Fault::Io);
+                    assert!(rt; refused.fault == Fault::Io);
                     stopped = stopped.saturating_add(1);
                     for again in IMAGES {
                         let twice = left(rt.alloc(), &refused.device, again)?;
-                        assert_eq!(rt; cycles(rt.alloc(), twice), Some((3, 7, 6)));
+                        assert!(rt; cycles(rt.alloc(), twice) == Some((3, 7, 6)));
                     }
                 }
             }
         }
     }
-    assert_eq!(rt; stopped, 36);
+    assert!(rt; stopped == 36);
     Ok(())
 }
 
@@ -216,7 +213,7 @@ fn each_call_of_a_create_stops(rt: HostRuntime) -> Result<(), Fail> {
         for n in 1..15 {
             let mut stopped = left(rt.alloc(), &device, image)?;
             stopped.stop_at(n);
-            assert_eq!(rt; create(&mut stopped, &LIMITS), Err(Fault::Io));
+            assert!(rt; create(&mut stopped, &LIMITS) == Err(Fault::Io));
             for again in IMAGES {
                 let found = used(rt.alloc(), left(rt.alloc(), &stopped, again)?);
                 assert!(rt; may_be_used(n, found), "call {n}, found {found}");

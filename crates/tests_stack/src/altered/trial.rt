@@ -1,6 +1,7 @@
 //! What is done with each altered index.
 
 use super::base::{FRAMES, entry};
+use crate::dead::Blocks;
 use crate::plain::{
     begin_scan, bulk_delete, checkpoint_of, clean_up, end_scan, insert, next, open,
 };
@@ -8,29 +9,17 @@ use crate::small::{ALL, keyed};
 use access_method::{Index, Inserted};
 use amcheck::{CheckFault, Report, check, check_parents};
 use device::MemDevice;
-use index_model::{DeadRows, Entry, Fault, RowAddr, VacuumStats};
+use index_model::{Entry, Fault, VacuumStats};
 use page_action::PageStore;
 use page_store::Store;
 use std::alloc::Global;
 use std::cmp::Ordering;
 
-/// The rows with a block below this one: about half of the entries, so that leaves are left empty.
-const DEAD_BELOW: u32 = 16;
+/// The rows of these blocks: about half of the entries, so that leaves are left empty.
+const DEAD: Blocks = Blocks { from: 0, to: 15 };
 
 /// No index of 32 pages of four items has as many entries.
 const MANY: u32 = 1_000;
-
-struct LowBlocks {}
-
-impl DeadRows for LowBlocks {
-    ghost use Rattle.std.specs.Prelude.{nat_lt};
-
-    ghost is_in = { λ set row. nat_lt row.block 16 };
-
-    fn is_dead(&self, row: RowAddr) -> bool {
-        row.block() < DEAD_BELOW
-    }
-}
 
 /// How the calls of an altered index went.
 #[derive(Clone, Copy, Debug, PartialEq, Eq)]
@@ -151,7 +140,7 @@ impl Trial {
 
     fn deletes_right(&mut self) -> bool {
         let before = self.entries;
-        let answer = bulk_delete(&mut self.index, &LowBlocks {});
+        let answer = bulk_delete(&mut self.index, &DEAD);
         self.is_vacuum_right(answer) && (before.is_none() || self.entries < before)
     }
 

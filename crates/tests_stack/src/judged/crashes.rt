@@ -1,10 +1,11 @@
 //! Crashes of a world over a device in memory.
 
-use super::dead::{Blocks, sets_of};
 use super::dice::Dice;
 use super::judge::Judge;
 use super::runs::{Outcome, Run, are_right, ends_right, judge_of};
+use super::sets::sets_of;
 use super::tally::Tally;
+use crate::dead::Blocks;
 use crate::plain::{fail_at, left, left_by, open_world, stop_at};
 use crate::small::made_with;
 use device::{CrashImage, MemDevice};

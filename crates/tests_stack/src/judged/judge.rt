@@ -2,10 +2,10 @@
 
 ghost use Rattle.std.specs.Prelude.{◌≤◌, ◌<◌};
 
-use super::dead::rows_of;
 use super::dice::Space;
 use super::pages::{contents, flagged, is_on, lost, root_level};
 use super::runs::fault_of;
+use super::sets::rows_of;
 use super::tally::Tally;
 use super::waiting::Waiting;
 use index_model::{Entry, Fault, Range, RowAddr};

@@ -1,10 +1,10 @@
 //! Runs of a world that a judge hears.
 
-use super::dead::Blocks;
 use super::dice::{Dice, Space};
 use super::judge::Judge;
 use super::pages::{are_kept, contents, copies};
 use super::tally::Tally;
+use crate::dead::Blocks;
 use crate::plain;
 use index_model::{Fault, Limits, Range};
 use page_action::PageStore;

@@ -1,10 +1,11 @@
 use super::crashes::crashed;
-use super::dead::{Blocks, sets_of};
 use super::dice::{Dice, Space};
 use super::pairs::crashed_with_few;
 use super::runs::{Outcome, Run, are_right, ends_right, judge_of};
+use super::sets::sets_of;
 use super::stores::{StoreTally, store_crashed};
 use super::tally::Tally;
+use crate::dead::Blocks;
 use crate::plain::world;
 use crate::small::pages;
 use index_model::{Fault, Limits};
