@@ -16,6 +16,3 @@ mod strays;
 
 pub use checks::{check, check_parents};
 pub use report::{CheckFault, Report};
-
-#[cfg(test)]
-mod tests;

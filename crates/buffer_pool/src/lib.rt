@@ -8,6 +8,3 @@ mod pool;
 
 pub use choice::Choice;
 pub use pool::Pool;
-
-#[cfg(test)]
-mod tests;

@@ -14,6 +14,3 @@ mod record;
 pub use device::Device;
 pub use file::{FileDevice, Start, Unknown};
 pub use memory::{CrashImage, MemDevice};
-
-#[cfg(test)]
-mod tests;

@@ -22,6 +22,3 @@ pub fn needed_len(limits: &Limits) -> u64
 {
     page_place(limits, limits.pages)
 }
-
-#[cfg(test)]
-mod tests;

@@ -6,6 +6,3 @@ mod tree;
 
 pub use blocks::FreeBlocks;
 pub use tree::lesser;
-
-#[cfg(test)]
-mod tests;

@@ -23,6 +23,3 @@ pub use range::Range;
 pub use row::RowAddr;
 pub use session::Session;
 pub use stats::VacuumStats;
-
-#[cfg(test)]
-mod tests;

@@ -7,6 +7,3 @@ mod table;
 
 pub use mode::{Latch, Mode};
 pub use table::LatchTable;
-
-#[cfg(test)]
-mod tests;

@@ -9,8 +9,3 @@ mod superblock;
 
 pub use creation::create;
 pub use opening::{Refused, open};
-
-#[cfg(test)]
-mod store_tests;
-#[cfg(test)]
-mod tests;

@@ -11,6 +11,3 @@ mod waiting;
 
 pub use image::are_images;
 pub use log::{Log, Replayed};
-
-#[cfg(test)]
-mod tests;

@@ -22,6 +22,3 @@ pub use leaf::{find, matches_beyond, may_hold, put};
 pub use leaf_edits::{separator, split_leaf};
 pub use link_edits::{add_link, find_child, fits_behind, hand_on_link, split_links};
 pub use marks::{clear_split, may_be_mended, mend_left, point_to_root, root_over};
-
-#[cfg(test)]
-mod tests;

@@ -1,5 +1,0 @@
-use Rattle.std.proofs.Common.{length}
-use Rattle.plain_histories.proofs.bulk_delete.+all_gone.Given as goal
-
-abbrev pub decreases-all_gone : goal.decreases-all_gone
-decreases-all_gone l = length l.candidates.now

@@ -1,5 +1,0 @@
-use Rattle.std.proofs.Common.{length}
-use Rattle.plain_histories.proofs.bulk_delete.+is_added_in.Given as goal
-
-abbrev pub decreases-is_added_in : goal.decreases-is_added_in
-decreases-is_added_in l = length l.actions.now

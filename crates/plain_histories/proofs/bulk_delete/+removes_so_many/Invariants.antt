@@ -1,5 +1,0 @@
-use Rattle.std.proofs.Common.{length}
-use Rattle.plain_histories.proofs.bulk_delete.+removes_so_many.Given as goal
-
-abbrev pub decreases-removes_so_many : goal.decreases-removes_so_many
-decreases-removes_so_many l = length l.actions.now

@@ -1,9 +1,0 @@
-use Rattle.std.proofs.Common.{true}
-use Rattle.index_model.specs.Order.{is_among}
-use Rattle.index_model.specs.Actions.{is_there_after}
-use Rattle.plain_histories.specs.Plain.{history_of}
-use Rattle.plain_histories.proofs.Moments.{IsSoFar}
-use Rattle.plain_histories.proofs.contents.is_there_throughout.Given as goal
-
-abbrev pub invariant-loop-k : goal.invariant-loop-k
-invariant-loop-k l = IsSoFar (λ j. is_there_after (is_among l.start) (history_of l.history) j l.entry) true l.began l.k

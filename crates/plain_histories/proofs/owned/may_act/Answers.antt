@@ -1,9 +1,0 @@
-use Rattle.std.proofs.Common.{suc}
-use Rattle.index_model.specs.Order.{is_among}
-use Rattle.index_model.specs.Actions.{is_there_after}
-use Rattle.plain_histories.specs.Plain.{history_of}
-use Rattle.plain_histories.proofs.owned.may_act.Goals as goal
-
-pub returns-in-Reshapes : goal.returns-in-Reshapes
-returns-in-Reshapes c =
-    rw c.in-Reshapes.is (c.may_reshape.ensures (is_there_after (is_among c.args.start.now) (history_of c.args.history.now) c.args.before) (suc c.args.before) c.args.added)

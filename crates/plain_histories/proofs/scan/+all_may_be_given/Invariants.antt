@@ -1,5 +1,0 @@
-use Rattle.std.proofs.Common.{length}
-use Rattle.plain_histories.proofs.scan.+all_may_be_given.Given as goal
-
-abbrev pub decreases-all_may_be_given : goal.decreases-all_may_be_given
-decreases-all_may_be_given l = length l.given.now

@@ -1,5 +1,0 @@
-use Rattle.std.proofs.Common.{length}
-use Rattle.plain_histories.proofs.scan.+ascends_past.Given as goal
-
-abbrev pub decreases-ascends_past : goal.decreases-ascends_past
-decreases-ascends_past l = length l.list.now

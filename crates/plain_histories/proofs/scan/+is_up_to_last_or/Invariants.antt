@@ -1,5 +1,0 @@
-use Rattle.std.proofs.Common.{length}
-use Rattle.plain_histories.proofs.scan.+is_up_to_last_or.Given as goal
-
-abbrev pub decreases-is_up_to_last_or : goal.decreases-is_up_to_last_or
-decreases-is_up_to_last_or l = length l.list.now

@@ -1,0 +1,180 @@
+//! Pages that are split, and the way down.
+
+use crate::trees::{entry, leaf, page};
+use arrayvec::ArrayVec;
+use index_model::{Bound, Entry};
+use page_codec::{Downlink, Items, Page, is_page};
+use std::test::*;
+use tree_shape::{
+    Aim, add_link, child_toward, clear_split, entries_on, find, find_child, fits_behind, has_links,
+    links_on, may_be_mended, may_hold, mend_left, point_to_root, root_over, separator, split_leaf,
+    split_links,
+};
+
+fn at(key: u8) -> Bound {
+    separator(&[entry(key, 1, 1)], &[])
+}
+
+fn link(key: u8, child: u32) -> Downlink {
+    Downlink {
+        bound: Some(at(key)),
+        child,
+    }
+}
+
+fn lowest(child: u32) -> Downlink {
+    Downlink { bound: None, child }
+}
+
+// Page 7 of level 1 with these downlinks.
+fn inner(links: &[Downlink]) -> Page {
+    let mut list = ArrayVec::new();
+    let _ = list.try_extend_from_slice(links);
+    page(7, 1, None, None, Items::Downlinks(list))
+}
+
+fn four_links() -> [Downlink; 4] {
+    [lowest(1), link(3, 2), link(5, 3), link(7, 4)]
+}
+
+// Splits the leaf for an entry that it hasn't; None where it can't be.
+fn leaf_halves(page: &mut Page, entry: Entry, new: u32, cycle: u32) -> Option<Page> {
+    let Err(place) = find(entries_on(page), &entry) else {
+        return None;
+    };
+    if !is_page(page) || !may_hold(page, &entry) || entries_on(page).len() < 2 {
+        return None;
+    }
+    if new == 0 || new > 65_535 {
+        return None;
+    }
+    Some(split_leaf(page, place, entry, new, cycle))
+}
+
+#[test]
+fn leaf_in_two_halves(rt: HostRuntime) {
+    let entries = [
+        entry(1, 1, 1),
+        entry(3, 1, 1),
+        entry(5, 1, 1),
+        entry(7, 1, 1),
+    ];
+    let mut page = leaf(1, None, None, &entries, None);
+    let Some(right) = leaf_halves(&mut page, entry(4, 1, 1), 9, 6) else {
+        assert!(rt; false);
+        return;
+    };
+    assert!(rt; entries_on(&page) == [entry(1, 1, 1), entry(3, 1, 1), entry(4, 1, 1)].as_slice());
+    assert!(rt; entries_on(&right) == [entry(5, 1, 1), entry(7, 1, 1)].as_slice());
+    assert!(rt; page.split && page.high == Some(at(4)));
+    assert!(rt; page.right == Some(9));
+    assert!(rt; right.left == Some(1));
+    assert!(rt; !right.split && right.high.is_none());
+    assert!(rt; right.block == 9);
+    assert!(rt; (page.cycle, right.cycle) == (6, 6));
+}
+
+// Whether a downlink of this key fits behind that place.
+fn fits(links: &[Downlink], place: usize, key: u8, high: Option<u8>) -> bool {
+    place < links.len() && fits_behind(links, place, &at(key), &high.map(at))
+}
+
+#[test]
+fn place_of_a_downlink(rt: HostRuntime) {
+    let three = [lowest(1), link(3, 2), link(7, 4)];
+    assert!(rt; find_child(&three, 4) == Some(2));
+    assert!(rt; find_child(&three, 5) == None);
+    assert!(rt; fits(&three, 1, 5, None));
+    assert!(rt; !fits(&three, 1, 3, None));
+    assert!(rt; !fits(&three, 1, 7, None));
+    assert!(rt; !fits(&three, 2, 8, Some(8)));
+}
+
+// Puts a downlink of this key behind that place; false where it can't be.
+fn is_linked(page: &mut Page, place: usize, key: u8, child: u32) -> bool {
+    if !has_links(page) || links_on(page).len() >= 50 || place >= links_on(page).len() {
+        return false;
+    }
+    add_link(page, place, at(key), child);
+    true
+}
+
+#[test]
+fn downlink_comes_onto_a_page(rt: HostRuntime) {
+    let mut page = inner(&[lowest(1), link(7, 4)]);
+    assert!(rt; has_links(&page));
+    assert!(rt; is_linked(&mut page, 0, 3, 2));
+    assert!(rt; links_on(&page) == [lowest(1), link(3, 2), link(7, 4)].as_slice());
+}
+
+// Splits the page for a downlink of this key behind that place; None where it can't be.
+fn inner_halves(page: &mut Page, place: usize, key: u8, child: u32, new: u32) -> Option<Page> {
+    let separator = separator(&[entry(key, 1, 1)], &[]);
+    let links = links_on(page);
+    if links.len() < 2
+        || place >= links.len()
+        || !fits_behind(links, place, &separator, &page.high)
+        || !is_page(page)
+        || !has_links(page)
+    {
+        return None;
+    }
+    if child == 0 || child > 65_535 || new == 0 || new > 65_535 {
+        return None;
+    }
+    Some(split_links(page, place, separator, child, new))
+}
+
+#[test]
+fn internal_page_in_two_halves(rt: HostRuntime) {
+    let mut page = inner(&four_links());
+    let Some(right) = inner_halves(&mut page, 1, 4, 9, 8) else {
+        assert!(rt; false);
+        return;
+    };
+    assert!(rt; links_on(&page) == [lowest(1), link(3, 2), link(4, 9)].as_slice());
+    assert!(rt; links_on(&right) == [lowest(3), link(7, 4)].as_slice());
+    assert!(rt; page.split && page.high == Some(at(5)));
+    assert!(rt; page.right == Some(8));
+    assert!(rt; right.left == Some(7));
+    assert!(rt; !right.split && right.high.is_none());
+    assert!(rt; right.block == 8);
+}
+
+#[test]
+fn way_down(rt: HostRuntime) {
+    let four = four_links();
+    for (aim, child) in [
+        (Aim::Below(at(4)), 2),
+        (Aim::Below(at(5)), 2),
+        (Aim::UpTo(at(5)), 3),
+        (Aim::Below(at(1)), 1),
+    ] {
+        assert!(rt; child_toward(&four, &aim) == Some(child));
+    }
+    assert!(rt; child_toward(&[], &Aim::Below(at(1))) == None);
+    assert!(rt; Aim::Below(at(5)).is_within(&Some(at(5))));
+    assert!(rt; !Aim::UpTo(at(5)).is_within(&Some(at(5))));
+    assert!(rt; Aim::UpTo(at(5)).is_within(&None));
+}
+
+#[test]
+fn marks_of_a_split(rt: HostRuntime) {
+    let mut page = inner(&[]);
+    page.split = true;
+    clear_split(&mut page);
+    assert!(rt; !page.split);
+    assert!(rt; may_be_mended(&page));
+    mend_left(&mut page, 5);
+    assert!(rt; page.left == Some(5));
+
+    let root = root_over(6, 2, 7, at(5), 8);
+    assert!(rt; is_page(&root));
+    assert!(rt; links_on(&root) == [lowest(7), link(5, 8)].as_slice());
+
+    page.items = Items::Meta;
+    assert!(rt; !may_be_mended(&page));
+    point_to_root(&mut page, 6, 2);
+    assert!(rt; page.right == Some(6));
+    assert!(rt; page.level == 2);
+}

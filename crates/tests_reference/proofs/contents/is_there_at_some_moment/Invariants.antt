@@ -1,0 +1,9 @@
+use Rattle.std.proofs.Common.{false}
+use Rattle.index_model.specs.Order.{is_among}
+use Rattle.index_model.specs.Actions.{is_there_after}
+use Rattle.tests_reference.specs.Plain.{history_of}
+use Rattle.tests_reference.proofs.Moments.{IsSoFar}
+use Rattle.tests_reference.proofs.contents.is_there_at_some_moment.Given as goal
+
+abbrev pub invariant-loop-k : goal.invariant-loop-k
+invariant-loop-k l = IsSoFar (λ j. is_there_after (is_among l.start) (history_of l.history) j l.entry) false l.began l.k

@@ -1,0 +1,5 @@
+use Rattle.std.proofs.Common.{length}
+use Rattle.tests_reference.proofs.scan.+all_given_if_owed.Given as goal
+
+abbrev pub decreases-all_given_if_owed : goal.decreases-all_given_if_owed
+decreases-all_given_if_owed l = length l.candidates.now

@@ -1,0 +1,249 @@
+//! Which answers of a scan are right.
+
+ghost use Rattle.std.specs.Prelude.{◌≡◌, ◌↔◌, ◌<◌, ◌≤◌, ◌^◌, IsTrue};
+ghost use Rattle.std.specs.List.{AllByRecursion};
+ghost use Rattle.index_model.specs.Order.{is_among as spec_is_among, last_or, IsAscending, AscendsPast, bound_of, IsPast};
+ghost use Rattle.index_model.specs.Calls.{IsAnyEntry, IsReached, IsUpToLast, GivesOnly, GivesAll, IsScanAnswer, IsScanAnswerSoFar};
+ghost use Rattle.tests_reference.specs.Plain.{history_of};
+ghost use Rattle.tests_reference.specs.Named.{added_by, MayBeGiven, Reach, IsGivenIfOwed};
+
+use crate::action::{PlainAction, PlainEffect};
+use crate::contents::{is_among, is_there_at_some_moment, is_there_throughout};
+use index_model::{Bound, Entry, Range};
+
+fn ascends_past(low: &Option<Bound>, list: &[Entry]) -> bool
+    ensures { IsTrue result ↔ AscendsPast low.now list.now }
+{
+    match list {
+        [] => true,
+        [first, rest @ ..] => {
+            let low_is_below = match low {
+                None => true,
+                Some(low) => low.is_below(first),
+            };
+            low_is_below && ascends_past(&Some(first.bound()), rest)
+        }
+    }
+}
+
+/// Whether the list is strictly ascending.
+pub fn is_ascending(list: &[Entry]) -> bool
+    ensures { IsTrue result ↔ IsAscending list.now }
+{
+    ascends_past(&None, list)
+}
+
+fn is_up_to_last_or(last: &Option<Bound>, list: &[Entry], entry: &Entry) -> bool
+    ensures { IsTrue result ↔ IsReached (last_or last.now list.now) entry.now }
+{
+    match list {
+        [] => match last {
+            None => false,
+            Some(last) => !last.is_below(entry),
+        },
+        [first, rest @ ..] => is_up_to_last_or(&Some(first.bound()), rest, entry),
+    }
+}
+
+/// Whether the entry isn't greater than the last of the list, which has one.
+pub fn is_up_to_last(list: &[Entry], entry: &Entry) -> bool
+    ensures { IsTrue result ↔ IsUpToLast list.now entry.now }
+{
+    is_up_to_last_or(&None, list, entry)
+}
+
+fn may_be_given(
+    start: &[Entry],
+    history: &[PlainAction],
+    range: &Range,
+    began: usize,
+    now: usize,
+    entry: &Entry,
+) -> bool
+    requires { now < 2 ^ 63 }
+    ensures { IsTrue result ↔
+        MayBeGiven (spec_is_among start.now) (history_of history.now) range.now began now
+        entry.now }
+{
+    range.contains(entry) && is_there_at_some_moment(start, history, began, now, entry)
+}
+
+fn all_may_be_given(
+    start: &[Entry],
+    history: &[PlainAction],
+    range: &Range,
+    began: usize,
+    now: usize,
+    given: &[Entry],
+) -> bool
+    requires { now < 2 ^ 63 }
+    ensures { IsTrue result ↔
+        AllByRecursion (MayBeGiven (spec_is_among start.now) (history_of history.now)
+        range.now began now) given.now }
+{
+    match given {
+        [] => true,
+        [first, rest @ ..] => {
+            may_be_given(start, history, range, began, now, first)
+                && all_may_be_given(start, history, range, began, now, rest)
+        }
+    }
+}
+
+fn is_given_if_owed(
+    start: &[Entry],
+    history: &[PlainAction],
+    range: &Range,
+    began: usize,
+    now: usize,
+    whole: bool,
+    given: &[Entry],
+    entry: &Entry,
+) -> bool
+    requires { now < 2 ^ 63 }
+    ensures { IsTrue result ↔
+        IsGivenIfOwed (spec_is_among start.now) (history_of history.now) range.now began now
+        given.now (Reach whole given.now) entry.now }
+{
+    if !whole && !is_up_to_last(given, entry) {
+        return true;
+    }
+    if !range.contains(entry) {
+        return true;
+    }
+    if !is_there_throughout(start, history, began, now, entry) {
+        return true;
+    }
+    is_among(given, entry)
+}
+
+fn all_given_if_owed(
+    start: &[Entry],
+    history: &[PlainAction],
+    range: &Range,
+    began: usize,
+    now: usize,
+    whole: bool,
+    given: &[Entry],
+    candidates: &[Entry],
+) -> bool
+    requires { now < 2 ^ 63 }
+    ensures { IsTrue result ↔
+        AllByRecursion (IsGivenIfOwed (spec_is_among start.now) (history_of history.now)
+        range.now began now given.now (Reach whole given.now)) candidates.now }
+{
+    match candidates {
+        [] => true,
+        [first, rest @ ..] => {
+            is_given_if_owed(start, history, range, began, now, whole, given, first)
+                && all_given_if_owed(start, history, range, began, now, whole, given, rest)
+        }
+    }
+}
+
+fn all_added_given_if_owed(
+    start: &[Entry],
+    history: &[PlainAction],
+    range: &Range,
+    began: usize,
+    now: usize,
+    whole: bool,
+    given: &[Entry],
+    actions: &[PlainAction],
+) -> bool
+    requires { now < 2 ^ 63 }
+    ensures { IsTrue result ↔
+        AllByRecursion (IsGivenIfOwed (spec_is_among start.now) (history_of history.now)
+        range.now began now given.now (Reach whole given.now)) (added_by (history_of
+        actions.now)) }
+{
+    match actions {
+        [] => true,
+        [first, rest @ ..] => {
+            let is_fine = match &first.effect {
+                PlainEffect::Adds(entry) => {
+                    is_given_if_owed(start, history, range, began, now, whole, given, entry)
+                }
+                _ => true,
+            };
+            is_fine
+                && all_added_given_if_owed(start, history, range, began, now, whole, given, rest)
+        }
+    }
+}
+
+#[tactic(auto, using(crate::proofs::Candidates::gives_only, crate::proofs::Candidates::all_may))]
+fn gives_only(
+    start: &[Entry],
+    history: &[PlainAction],
+    range: &Range,
+    began: usize,
+    now: usize,
+    given: &[Entry],
+) -> bool
+    requires { now < 2 ^ 63 }
+    ensures { IsTrue result ↔
+        GivesOnly (spec_is_among start.now) (history_of history.now) range.now began now
+        given.now }
+{
+    is_ascending(given) && all_may_be_given(start, history, range, began, now, given)
+}
+
+#[tactic(auto, using(crate::proofs::Candidates::gives_all, crate::proofs::Candidates::owed_of_all))]
+fn gives_all(
+    start: &[Entry],
+    history: &[PlainAction],
+    range: &Range,
+    began: usize,
+    now: usize,
+    whole: bool,
+    given: &[Entry],
+) -> bool
+    requires interval { began ≤ now }
+    requires short { now < 2 ^ 63 }
+    ensures { IsTrue result ↔
+        GivesAll (spec_is_among start.now) (history_of history.now) range.now began now
+        given.now (Reach whole given.now) }
+{
+    all_given_if_owed(start, history, range, began, now, whole, given, start)
+        && all_added_given_if_owed(start, history, range, began, now, whole, given, history)
+}
+
+/// Whether these are the right answer of a scan that has finished: `began` and `ended` are the
+/// lengths of the history when it began and when it ended.
+pub fn is_scan_answer(
+    start: &[Entry],
+    history: &[PlainAction],
+    range: &Range,
+    began: usize,
+    ended: usize,
+    given: &[Entry],
+) -> bool
+    requires interval { began ≤ ended }
+    requires short { ended < 2 ^ 63 }
+    ensures { IsTrue result ↔
+        IsScanAnswer (spec_is_among start.now) (history_of history.now) range.now began ended
+        given.now }
+{
+    gives_only(start, history, range, began, ended, given)
+        && gives_all(start, history, range, began, ended, true, given)
+}
+
+/// Whether these are a right answer of a scan so far: `now` is the present length of the history.
+pub fn is_scan_answer_so_far(
+    start: &[Entry],
+    history: &[PlainAction],
+    range: &Range,
+    began: usize,
+    now: usize,
+    given: &[Entry],
+) -> bool
+    requires interval { began ≤ now }
+    requires short { now < 2 ^ 63 }
+    ensures { IsTrue result ↔
+        IsScanAnswerSoFar (spec_is_among start.now) (history_of history.now) range.now began
+        now given.now }
+{
+    gives_only(start, history, range, began, now, given)
+        && gives_all(start, history, range, began, now, false, given)
+}

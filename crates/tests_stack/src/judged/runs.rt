@@ -1,0 +1,208 @@
+//! Runs of a world that a judge hears.
+
+use super::dice::{Dice, Space};
+use super::judge::Judge;
+use super::pages::{are_kept, contents, copies};
+use super::tally::Tally;
+use crate::dead::Blocks;
+use crate::plain;
+use index_model::{Fault, Limits, Range};
+use page_action::PageStore;
+use schedule::Event;
+use session_calls::Answer;
+use std::alloc::{AllocError, Global};
+use world::World;
+
+/// What stays the same in a run.
+#[derive(Clone, Copy)]
+pub struct Run {
+    pub alloc: Global,
+    pub limits: Limits,
+    pub space: Space,
+}
+
+/// Whether all of a run was right, and what it came to.
+#[derive(Clone, Copy, Debug)]
+pub struct Outcome {
+    pub is_right: bool,
+    pub tally: Tally,
+}
+
+/// A judge of a world without calls that has made no action.
+pub fn judge_of<S: PageStore>(run: Run, world: &mut World<S, Blocks>) -> Result<Judge, AllocError> {
+    let pages = copies(run.alloc, world)?;
+    let start = contents(run.alloc, &pages)?;
+    Judge::new(run.alloc, run.space, pages, start)
+}
+
+/// The session that an event names.
+pub fn session_of(event: &Event) -> u32 {
+    match event {
+        Event::Insert(session, _)
+        | Event::Scan(session, _)
+        | Event::Bulk(session, _)
+        | Event::Cleanup(session)
+        | Event::Step(session)
+        | Event::Next(session)
+        | Event::End(session) => *session,
+        Event::Force | Event::Flush | Event::Checkpoint => u32::MAX,
+    }
+}
+
+/// Keeps the action that the session's call just made: whether it is right.
+pub fn acts<S: PageStore>(
+    alloc: Global,
+    world: &mut World<S, Blocks>,
+    judge: &mut Judge,
+    session: u32,
+) -> Result<bool, AllocError> {
+    let pages = copies(alloc, world)?;
+    let entries = contents(alloc, &pages)?;
+    judge.acts(session, pages, &entries)
+}
+
+/// What an answer says that kept it from more.
+pub fn fault_of(answer: &Answer) -> Option<Fault> {
+    match answer {
+        Answer::Refused(fault) => Some(*fault),
+        Answer::Added { unfinished, .. } => *unfinished,
+        _ => None,
+    }
+}
+
+/// Whether what the answer calls full is full: each block is used, or the log has no room for the four images of an act.
+pub fn is_full<S: PageStore>(world: &World<S, Blocks>, limits: Limits, answer: &Answer) -> bool {
+    match fault_of(answer) {
+        Some(Fault::IndexFull) => world.used() == limits.pages,
+        Some(Fault::LogFull) => world.room() <= 4,
+        _ => true,
+    }
+}
+
+/// Whether the same sessions run calls.
+pub fn are_running<S: PageStore>(world: &World<S, Blocks>, judge: &Judge, sessions: u32) -> bool {
+    (0..sessions).all(|session| world.is_running(session) == judge.is_running(session))
+}
+
+/// Does one event: its answer, or None where that is wrong, or what it has done.
+fn one<S: PageStore>(
+    run: Run,
+    world: &mut World<S, Blocks>,
+    judge: &mut Judge,
+    event: Event,
+) -> Result<Option<Answer>, AllocError> {
+    let before = world.actions();
+    let answer = plain::one(world, event);
+    let is_kept = if world.actions() == before {
+        are_kept(world, judge.pages())
+    } else {
+        acts(run.alloc, world, judge, session_of(&event))?
+    };
+    let is_right = is_kept
+        && judge.hears(&event, &answer)?
+        && world.actions() == judge.actions() as u64
+        && are_running(world, judge, run.space.sessions)
+        && is_full(world, run.limits, &answer);
+    Ok(if is_right { Some(answer) } else { None })
+}
+
+/// So many random events: whether all are right.
+pub fn are_right<S: PageStore>(
+    run: Run,
+    world: &mut World<S, Blocks>,
+    judge: &mut Judge,
+    dice: &mut Dice,
+    events: u32,
+) -> Result<bool, AllocError> {
+    for _ in 0..events {
+        let event = dice.event(run.space);
+        if one(run, world, judge, event)?.is_none() {
+            return Ok(false);
+        }
+    }
+    Ok(true)
+}
+
+/// Takes what the call of session 0 has ready, and makes a step of it: whether both are right, and nothing blocks it.
+fn goes_on<S: PageStore>(
+    run: Run,
+    world: &mut World<S, Blocks>,
+    judge: &mut Judge,
+) -> Result<bool, AllocError> {
+    for _ in 0..50 {
+        match one(run, world, judge, Event::Next(0))? {
+            Some(Answer::Gave(Some(_))) => {}
+            Some(_) => break,
+            None => return Ok(false),
+        }
+    }
+    Ok(match one(run, world, judge, Event::Step(0))? {
+        Some(Answer::Refused(Fault::Blocked(_))) | None => false,
+        Some(_) => true,
+    })
+}
+
+/// Begins a call of session 0, which alone has one, and runs it to its end: whether all of it is right, and nothing
+/// blocks it.
+fn runs_alone<S: PageStore>(
+    run: Run,
+    world: &mut World<S, Blocks>,
+    judge: &mut Judge,
+    event: Event,
+) -> Result<bool, AllocError> {
+    if one(run, world, judge, event)?.is_none() {
+        return Ok(false);
+    }
+    for _ in 0..1_000 {
+        if !world.is_running(0) {
+            return Ok(true);
+        }
+        if !goes_on(run, world, judge)? {
+            return Ok(false);
+        }
+    }
+    Ok(false)
+}
+
+/// Gives each call up: whether that is right.
+fn gives_all_up<S: PageStore>(
+    run: Run,
+    world: &mut World<S, Blocks>,
+    judge: &mut Judge,
+) -> Result<bool, AllocError> {
+    for session in 0..run.space.sessions {
+        if one(run, world, judge, Event::End(session))?.is_none() {
+            return Ok(false);
+        }
+    }
+    Ok(true)
+}
+
+/// Gives each call up, and then inserts some entries, deletes those of one row and scans all, alone: whether that is right,
+/// nothing blocks it, the delete tells how many entries are left, and the scan gives exactly the contents.
+pub fn ends_right<S: PageStore>(
+    run: Run,
+    world: &mut World<S, Blocks>,
+    judge: &mut Judge,
+    dice: &mut Dice,
+) -> Result<bool, AllocError> {
+    if !gives_all_up(run, world, judge)? {
+        return Ok(false);
+    }
+    for _ in 0..10 {
+        let entry = dice.entry(run.space);
+        if !runs_alone(run, world, judge, Event::Insert(0, entry))? {
+            return Ok(false);
+        }
+    }
+    let all = Range {
+        from: None,
+        below: None,
+    };
+    Ok(
+        runs_alone(run, world, judge, Event::Bulk(0, 0))?
+            && judge.tells_all()
+            && runs_alone(run, world, judge, Event::Scan(0, all))?
+            && judge.are_contents(judge.last_given(), judge.actions()),
+    )
+}

@@ -1,0 +1,58 @@
+//! The sets of dead rows of a run.
+
+use super::dice::Space;
+use crate::dead::Blocks;
+use index_model::{DeadRows, Fault, RowAddr};
+use std::alloc::{AllocError, Global};
+
+/// The blocks of the set at this place: one each, and behind them all.
+fn set_at(space: Space, place: u32) -> Blocks {
+    if place < space.rows {
+        Blocks {
+            from: place,
+            to: place,
+        }
+    } else {
+        Blocks {
+            from: 0,
+            to: space.rows,
+        }
+    }
+}
+
+fn listed(alloc: Global, space: Space) -> Result<Vec<Blocks>, AllocError> {
+    let mut sets = Vec::new(alloc);
+    for place in 0..space.rows {
+        sets.push(set_at(space, place))?;
+    }
+    sets.push(set_at(space, space.rows))?;
+    Ok(sets)
+}
+
+/// The sets of a run.
+pub fn sets_of(alloc: Global, space: Space) -> Result<Vec<Blocks>, Fault> {
+    match listed(alloc, space) {
+        Ok(sets) => Ok(sets),
+        Err(_) => Err(Fault::NoMemory),
+    }
+}
+
+/// The rows of the set at this place, of those that entries have; None where there is no such set.
+pub fn rows_of(
+    alloc: Global,
+    space: Space,
+    place: u32,
+) -> Result<Option<Vec<RowAddr>>, AllocError> {
+    if place > space.rows {
+        return Ok(None);
+    }
+    let set = set_at(space, place);
+    let mut rows = Vec::new(alloc);
+    for block in 0..space.rows {
+        let row = RowAddr::new(block, 1).unwrap_or_default();
+        if set.is_dead(row) {
+            rows.push(row)?;
+        }
+    }
+    Ok(Some(rows))
+}

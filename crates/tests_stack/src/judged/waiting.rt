@@ -1,0 +1,65 @@
+//! The pages that wait to be written, kept plainly.
+
+use super::pages::is_same;
+use page_codec::Page;
+use std::alloc::{AllocError, Global};
+
+/// A block, and the action behind which it has waited.
+#[derive(Clone, Copy)]
+struct Waiter {
+    block: u32,
+    since: usize,
+}
+
+/// The blocks that were changed and aren't written since, in the order of their first change.
+#[derive(Drop)]
+pub struct Waiting {
+    blocks: Vec<Waiter>,
+}
+
+impl Waiting {
+    /// Nothing waits.
+    pub fn new(alloc: Global) -> Waiting {
+        Waiting {
+            blocks: Vec::new(alloc),
+        }
+    }
+
+    fn has(&self, block: u32) -> bool {
+        self.blocks.iter().any(|waiter| waiter.block == block)
+    }
+
+    /// The action of this number left the new pages where the old ones were.
+    pub fn changes(&mut self, old: &[Page], new: &[Page], since: usize) -> Result<(), AllocError> {
+        for page in new {
+            let is_changed = match old.get(page.block as usize) {
+                Some(before) => !is_same(before, page),
+                None => true,
+            };
+            if is_changed && !self.has(page.block) {
+                self.blocks.push(Waiter {
+                    block: page.block,
+                    since,
+                })?;
+            }
+        }
+        Ok(())
+    }
+
+    /// Takes the block that was written: whether it has waited longest; None where nothing waits.
+    pub fn writes(&mut self, written: Option<u32>) -> bool {
+        let Some(block) = written else {
+            return self.blocks.is_empty();
+        };
+        let Some(at) = self.blocks.iter().position(|waiter| waiter.block == block) else {
+            return false;
+        };
+        let waiter = self.blocks.remove(at);
+        self.blocks.iter().all(|other| waiter.since <= other.since)
+    }
+
+    /// All were written.
+    pub fn clear(&mut self) {
+        self.blocks.clear();
+    }
+}

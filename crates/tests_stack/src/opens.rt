@@ -1,0 +1,224 @@
+//! Indexes that are made on a device, and opened again.
+
+use crate::plain::{
+    act, checkpoint, create, device, device_of, force, left, open, page, read, write,
+};
+use crate::small::{LEN, LIMITS, limits, made, made_with, marked};
+use device::{CrashImage, MemDevice};
+use index_model::Fault;
+use page_action::PageStore;
+use std::alloc::Global;
+use std::test::{Fail, *};
+
+/// So many bytes of the device from there on.
+fn bytes_at(device: &mut MemDevice, at: u64) -> [u8; 48] {
+    let mut bytes = [7; 48];
+    let _ = read(device, at, &mut bytes);
+    bytes
+}
+
+/// These bytes, and zeros behind them.
+fn begins(bytes: &[u8]) -> [u8; 48] {
+    let mut all = [0; 48];
+    for (place, byte) in all.iter_mut().zip(bytes) {
+        *place = *byte;
+    }
+    all
+}
+
+const SUPERBLOCK: [u8; 24] = [
+    0x42, 0x4c, 0x49, 0x4e, 0x4b, 0x49, 0x44, 0x58, 1, 0, 0, 0, 4, 0, 0, 0, 0x40, 0, 0, 0, 0, 0, 1,
+    0,
+];
+
+const METAPAGE: [u8; 20] = [
+    0x42, 0x4c, 0x50, 0x31, 0, 0, 0, 0, 1, 0, 0, 0, 0xff, 0xff, 0xff, 0xff, 1, 0, 0, 0,
+];
+
+const LEAF: [u8; 20] = [
+    0x42, 0x4c, 0x50, 0x31, 1, 0, 0, 0, 2, 0, 0, 0, 0xff, 0xff, 0xff, 0xff, 0xff, 0xff, 0xff, 0xff,
+];
+
+#[test]
+fn an_empty_index(rt: HostRuntime) -> Result<(), Fail> {
+    let mut device = device(rt.alloc(), 331_776)?;
+    assert!(rt; create(&mut device, &limits(64)) == Ok(()));
+    assert!(rt; bytes_at(&mut device, 0) == begins(&SUPERBLOCK));
+    assert!(rt; bytes_at(&mut device, 4_096)[0] == 0);
+    assert!(rt; bytes_at(&mut device, 69_632) == begins(&METAPAGE));
+    assert!(rt; bytes_at(&mut device, 73_728) == begins(&LEAF));
+    assert!(rt; bytes_at(&mut device, 77_824) == [0; 48]);
+    Ok(())
+}
+
+#[test]
+fn refusals(rt: HostRuntime) -> Result<(), Fail> {
+    let mut short = device(rt.alloc(), 331_775)?;
+    assert!(rt; create(&mut short, &limits(64)) == Err(Fault::DeviceTooSmall));
+    let mut few = limits(64);
+    few.items = 3;
+    assert!(rt; create(&mut short, &few) == Err(Fault::BadLimits));
+    // Each of its 69 calls fails once: zeros, sync, gate, 62 blocks, two pages, sync, superblock, sync.
+    let mut device = device(rt.alloc(), 331_776)?;
+    device.fail_at(71);
+    assert!(rt; create(&mut device, &limits(64)) == Ok(()));
+    device.fail_at(0);
+    device.stop_at(5);
+    assert!(rt; create(&mut device, &limits(64)) == Err(Fault::Io));
+    device.stop_at(0);
+    assert!(rt; create(&mut device, &limits(64)) == Ok(()));
+    Ok(())
+}
+
+const IMAGES: [CrashImage; 3] = [CrashImage::Drop, CrashImage::Keep, CrashImage::Tear];
+
+/// The number of the fault that an open is refused with, 0 where it isn't.
+fn refusal(alloc: Global, device: MemDevice, frames: u32) -> u8 {
+    match open(alloc, device, frames) {
+        Ok(_) => 0,
+        Err(refused) => refused.fault.number(),
+    }
+}
+
+#[test]
+fn an_empty_index_is_opened(rt: HostRuntime) -> Result<(), Fail> {
+    match open(rt.alloc(), made_with(rt.alloc(), &limits(64))?, 16) {
+        Ok(store) => {
+            assert!(rt; (store.room(), store.used(), store.durable()) == (15, 2, 0));
+            assert!(rt; store.limits() == limits(64));
+        }
+        Err(refused) => assert!(rt; refused.fault == Fault::Stopped),
+    }
+    Ok(())
+}
+
+#[test]
+fn small_devices_and_frames(rt: HostRuntime) -> Result<(), Fail> {
+    for (frames, number) in [(16, 14), (15, 18), (1_025, 18)] {
+        assert!(rt; refusal(rt.alloc(), device(rt.alloc(), 100)?, frames) == number);
+    }
+    Ok(())
+}
+
+/// Over a sound index: an open gate, and 16 images, which don't fit; another level of the root; another version.
+#[test]
+fn hostile_indexes(rt: HostRuntime) -> Result<(), Fail> {
+    for (at, bytes, number) in [
+        (4_096, &[1, 16, 0, 0, 0][..], 16),
+        (69_632 + 4_096 + 9, &[1], 17),
+        (8, &[2], 15),
+    ] {
+        let mut device = made(rt.alloc())?;
+        write(&mut device, at, bytes)?;
+        assert!(rt; refusal(rt.alloc(), device, 16) == number);
+    }
+    Ok(())
+}
+
+/// Superblocks of an index of 3 items a page, of 9 pages, which is longer than its device, and of one none of whose blocks is
+/// in use.
+#[test]
+fn hostile_superblocks(rt: HostRuntime) -> Result<(), Fail> {
+    for (items, pages, number) in [(3, 8, 18), (4, 9, 14), (4, 8, 17)] {
+        let mut bytes = SUPERBLOCK;
+        bytes[12] = items;
+        bytes[16] = pages;
+        let mut device = device(rt.alloc(), LEN)?;
+        write(&mut device, 0, &bytes)?;
+        assert!(rt; refusal(rt.alloc(), device, 16) == number);
+    }
+    Ok(())
+}
+
+/// A device whose log holds two acts that are forced and one that isn't, on top of a checkpoint.
+fn busy_device(alloc: Global) -> Result<MemDevice, Fault> {
+    let mut store = match open(alloc, made(alloc)?, 16) {
+        Ok(store) => store,
+        Err(refused) => return Err(refused.fault),
+    };
+    act(&mut store, &[marked(1, 5)])?;
+    checkpoint(&mut store)?;
+    act(&mut store, &[marked(2, 6)])?;
+    act(&mut store, &[marked(1, 7)])?;
+    force(&mut store)?;
+    act(&mut store, &[marked(3, 8)])?;
+    Ok(device_of(store))
+}
+
+/// The cycles of the pages of an index that is opened on the device; none where it is refused.
+fn cycles(alloc: Global, device: MemDevice) -> Option<(u32, u32, u32)> {
+    match open(alloc, device, 1_024) {
+        Ok(store) => {
+            let mut store = store;
+            let used = store.used();
+            let first = page(&mut store, 1).ok()?;
+            let second = page(&mut store, 2).ok()?;
+            Some((used, first.cycle, second.cycle))
+        }
+        Err(_) => None,
+    }
+}
+
+// It reads the superblock, syncs, reads the log, writes two images and syncs them, closes the log by a write and a
+// sync, and reads three pages and the unused block behind them.
+#[test]
+fn each_call_of_an_open_stops(rt: HostRuntime) -> Result<(), Fail> {
+    let device = busy_device(rt.alloc())?;
+    let mut stopped: u32 = 0;
+    for image in IMAGES {
+        for n in 1..14 {
+            let mut found = left(rt.alloc(), &device, image)?;
+            found.stop_at(n);
+            match open(rt.alloc(), found, 16) {
+                Ok(store) => {
+                    assert!(rt; (n, store.used()) == (13, 3));
+                }
+                Err(refused) => {
+                    assert!(rt; refused.fault == Fault::Io);
+                    stopped = stopped.saturating_add(1);
+                    for again in IMAGES {
+                        let twice = left(rt.alloc(), &refused.device, again)?;
+                        assert!(rt; cycles(rt.alloc(), twice) == Some((3, 7, 6)));
+                    }
+                }
+            }
+        }
+    }
+    assert!(rt; stopped == 36);
+    Ok(())
+}
+
+/// What an open finds: how many pages are in use, and 0 where it is refused.
+fn used(alloc: Global, device: MemDevice) -> u32 {
+    match open(alloc, device, 16) {
+        Ok(store) => store.used(),
+        Err(_) => 0,
+    }
+}
+
+/// Whether so many pages may be in use where a create stopped at this call: zeros over the superblock, sync, gate, 6 blocks, two
+/// pages, sync, superblock, sync. A crash leaves the index of three pages that was there, none, or the new one of two.
+fn may_be_used(n: u64, found: u32) -> bool {
+    match n {
+        1..3 => found == 0 || found == 3,
+        3..13 => found == 0,
+        _ => found == 0 || found == 2,
+    }
+}
+
+#[test]
+fn each_call_of_a_create_stops(rt: HostRuntime) -> Result<(), Fail> {
+    let device = busy_device(rt.alloc())?;
+    for image in IMAGES {
+        for n in 1..15 {
+            let mut stopped = left(rt.alloc(), &device, image)?;
+            stopped.stop_at(n);
+            assert!(rt; create(&mut stopped, &LIMITS) == Err(Fault::Io));
+            for again in IMAGES {
+                let found = used(rt.alloc(), left(rt.alloc(), &stopped, again)?);
+                assert!(rt; may_be_used(n, found), "call {n}, found {found}");
+            }
+        }
+    }
+    Ok(())
+}
