@@ -1,5 +1,5 @@
 -- What a cleanup of an index does, read off the run.
-use Rattle.std.proofs.Common.{◌≡◌, ℕ, suc, Bool, Option, Some, None, unwrap_or, Result, Ok, Err, List, [], ◌∷◌, ◌++◌, length, refl, sym, ap, ◌∙◌}
+use Rattle.std.proofs.Common.{◌≡◌, ℕ, suc, Bool, Option, None, unwrap_or, Result, Ok, Err, List, [], ◌∷◌, ◌++◌, length, refl, sym, ap, ◌∙◌}
 use Rattle.index_model.specs.Actions.{Effect, Add, Remove, Shape, Action, later_or, last_said, contents_after}
 use Rattle.index_model.specs.Calls.{AskCleanup, Call}
 use Rattle.index_model.specs.declared.entry.Entry.{Entry}

@@ -1,6 +1,7 @@
 -- Seats and slots.
-use Rattle.std.proofs.Common.{◌≡◌, ◌≢◌, ℕ, ◌<◌, Option, Some, None, unwrap_or, Ok, List, [], ◌∷◌, ◌++◌, length, slice_get, slice_set, replicate, refl, sym, ap, subst, ◌∙◌, arith, inl, inr}
-use Rattle.std.proofs.lemmas.Bool.{cases_eq}
+use Rattle.std.proofs.Common.{◌≡◌, ◌≢◌, ℕ, ◌<◌, Option, Some, None, unwrap_or, Ok, List, [], ◌∷◌, ◌++◌, length, get_or, slice_get, slice_set, replicate, refl, sym, ap, subst, ◌∙◌, arith, inl, inr}
+use Rattle.std.proofs.lemmas.Bool.{cases_eq, eq-eqb, ne_eqb}
+use Rattle.std.proofs.lemmas.Option.{slice_get-get_or}
 use Rattle.index_model.specs.Actions.{Action}
 use Rattle.index_model.specs.Calls.{AskScan}
 use Rattle.std.specs.Prelude.{◌||◌, Bool, true, false}
@@ -22,6 +23,7 @@ use Rattle.schedule.specs.Events.{OthersStay, where_begun_at}
 use Rattle.schedule.proofs.Unused.{in_replicate}
 use Rattle.schedule.proofs.Lists.{get_set_same, get_set_other, get_some}
 use Rattle.whole_calls.specs.Telling.{TellsEnd, BeginTold}
+use Rattle.whole_calls.proofs.Tellings.{true_false}
 use Rattle.page_codec.specs.declared.page.Page.{Page}
 use Rattle.access_method.specs.declared.index.Index.{Index}
 use Rattle.access_method.specs.Indexes.{IndexFits, IndexKeeps, RescanTold}
@@ -36,6 +38,23 @@ closed_at n i number seats is = of (slice_get seats i) refl
     of None at = refl
     of (Some None) at = refl
     of (Some (Some seat)) at = (let e : Some seat ≡ None = in_replicate n None (Some seat) i (ap (λ (l : List (Option Seat)). slice_get l i) (sym is) ∙ at) in absurd cc)
+
+-- the seat that is read there is the token's, or another's
+pub seat_found : (seats : List (Option Seat)) (session number : ℕ) (seat : Seat) → session < length seats → get_or seats session None ≡ Some seat → seat.number ≡ number
+    → Some seat ≡ seat_for number (slice_get seats session)
+seat_found seats session number seat within is same = rw (slice_get-get_or seats session None within, is, eq-eqb seat.number number same) refl
+
+pub seat_of_another : (seats : List (Option Seat)) (session number : ℕ) (seat : Seat) → session < length seats → get_or seats session None ≡ Some seat → seat.number ≢ number
+    → None ≡ seat_for number (slice_get seats session)
+seat_of_another seats session number seat within is other = rw (slice_get-get_or seats session None within, is, ne_eqb seat.number number other) refl
+
+-- a token is open and not refused: its seat is not none, and not a refused one
+pub not_refused : (found : Option Seat) (seat : Seat) (number : ℕ) → found ≡ Some seat → seat.is_refused ≡ true → found ≡ Some (record { number = number; is_refused = false }) → ⊥
+not_refused found seat number is refused is_open = true_false (sym refused ∙ ap is_refused_in (sym is ∙ is_open))
+  where
+    is_refused_in : Option Seat → Bool
+    is_refused_in None = false
+    is_refused_in (Some s) = s.is_refused
 
 -- the slots of sessions that stay
 stays_at : (old new : List (Option Op)) (session other : ℕ) → OthersStay session old new → other ≢ session → slot_of new other ≡ slot_of old other

@@ -1,12 +1,12 @@
 -- The tests and removals of a holding, as chains over its lists.
-use Rattle.std.proofs.Common.{◌≡◌, ℕ, suc, ◌+◌, Bool, true, false, not, ◌&&◌, ◌||◌, ◌==◌, cond, nat_lt, List, [], ◌∷◌, length, Some, None, refl, ap, sym, ◌∙◌, arith, add-one, ◌≤◌, take_all, append-nil}
+use Rattle.std.proofs.Common.{◌≡◌, ℕ, suc, ◌+◌, Bool, true, false, not, ◌&&◌, ◌||◌, ◌==◌, cond, nat_lt, List, [], ◌∷◌, length, drop, drop-cons, get_or, ◌<◌, Some, None, refl, ap, sym, ◌∙◌, arith, add-one, ◌≤◌, take_all, append-nil}
 use Rattle.std.proofs.Math.ListN.{drop_of_length-le}
-use Rattle.std.proofs.lemmas.Bool.{ltb-false}
-use Rattle.std.specs.List.{list_any, position, position_or_len, remove, enumerate_from}
+use Rattle.std.proofs.lemmas.Bool.{ltb-false, eq-eqb}
+use Rattle.std.specs.List.{list_any, position, position_or_len, remove}
 use Rattle.latch_table.specs.declared.mode.Mode.{Mode}
 use Rattle.latch_table.specs.declared.mode.Mode.TheVariants.{Shared, Exclusive, Cleanup}
 use Rattle.latch_table.specs.declared.mode.Latch.{Latch}
-use Rattle.latch_table.specs.Holdings.{excludes, latches_exclude, has_pin, without_latch, Table, holding_excludes, others_exclude, pins_exclude}
+use Rattle.latch_table.specs.Holdings.{excludes, latches_exclude, has_pin, without_latch, Holding, Table, holding_excludes, others_exclude, pins_exclude}
 
 -- latches exclude where any of them does
 pub latches_exclude-list_any : (latches : List Latch) (block : ℕ) (asked : Mode) → latches_exclude latches block asked ≡ list_any (λ held. (held.block == block) && excludes held.mode asked) latches
@@ -41,12 +41,29 @@ without_latch-without [] block = refl
 without_latch-without (held ∷ latches) block =
     ap (λ rest. cond (held.block == block) latches (held ∷ rest)) (without_latch-without latches block)
 
--- the holdings exclude where another session's does
-pub others_exclude-list_any : (from : ℕ) (table : Table) (session block : ℕ) (asked : Mode)
-    → others_exclude from table session block asked ≡ list_any (λ item. not (item.0 == session) && holding_excludes item.1 block asked) (enumerate_from from table)
-others_exclude-list_any from [] session block asked = refl
-others_exclude-list_any from (holding ∷ table) session block asked =
-    rw (add-one from) (ap (λ rest. (not (from == session) && holding_excludes holding block asked) || rest) (others_exclude-list_any (suc from) table session block asked))
+and_false : (b : Bool) → (b && false) ≡ false
+and_false true = refl
+and_false false = refl
+
+-- whether the holdings from this number on exclude, by the one there and those behind it
+others_exclude-drop : (table : Table) (number session block : ℕ) (asked : Mode) (any : Holding) → number < length table
+    → others_exclude number (drop number table) session block asked
+    ≡ ((not (number == session) && holding_excludes (get_or table number any) block asked) || others_exclude (number + 1) (drop (number + 1) table) session block asked)
+others_exclude-drop table number session block asked any below =
+    rw (drop-cons table number any below, add-one number) refl
+
+-- a holding that doesn't exclude is passed
+pub passes_on : (table : Table) (number session block : ℕ) (asked : Mode) (any : Holding) → number < length table
+    → holding_excludes (get_or table number any) block asked ≡ false
+    → others_exclude number (drop number table) session block asked ≡ others_exclude (number + 1) (drop (number + 1) table) session block asked
+passes_on table number session block asked any below none =
+    rw (others_exclude-drop table number session block asked any below, none, and_false (not (number == session))) refl
+
+-- the session's own is passed
+pub passes_own : (table : Table) (number session block : ℕ) (asked : Mode) (any : Holding) → number < length table → number ≡ session
+    → others_exclude number (drop number table) session block asked ≡ others_exclude (number + 1) (drop (number + 1) table) session block asked
+passes_own table number session block asked any below own =
+    rw (others_exclude-drop table number session block asked any below, eq-eqb number session own) refl
 
 chosen_none : {X : Type 0} (test : Bool) (x : X) → cond test (Some x) None ≡ None → test ≡ false
 chosen_none true x none = absurd cc

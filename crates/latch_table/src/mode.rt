@@ -3,7 +3,7 @@
 ghost use Rattle.std.specs.Prelude.{◌≡◌};
 
 /// How a page is latched.
-#[derive(Clone, Copy, Debug, Default, PartialEq, Eq)]
+#[derive(Clone, Copy, Default)]
 pub enum Mode {
     /// Beside other shared ones.
     #[default]
@@ -29,7 +29,7 @@ impl Mode {
 }
 
 /// A latch of a page.
-#[derive(Clone, Copy, Debug, Default, PartialEq, Eq)]
+#[derive(Clone, Copy, Default)]
 pub struct Latch {
     pub block: u32,
     pub mode: Mode,

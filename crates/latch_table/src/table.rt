@@ -1,7 +1,6 @@
 //! The table of all sessions.
 
-ghost use Rattle.std.specs.Prelude.{◌≡◌, ◌+◌, ◌<◌, ◌≤◌, ◌==◌, ◌&&◌, true, false, not, length, replicate, List, OnOk, OnErr, IfErr, IsOk};
-ghost use Rattle.std.specs.List.{list_any, enumerate_from};
+ghost use Rattle.std.specs.Prelude.{◌≡◌, ◌+◌, ◌≤◌, ℕ, true, false, length, replicate, OnOk, OnErr, IfErr, IsOk};
 
 use crate::held::Held;
 use crate::mode::{Latch, Mode};
@@ -33,6 +32,7 @@ impl Model for LatchTable {
 
 impl LatchTable {
     ghost use Rattle.latch_table.specs.Holdings.{nothing_held, is_held_by_another, latched, released, pinned, unpinned, pinned_blocks, with_holding, HasRoom};
+    ghost use Rattle.latch_table.specs.declared.mode.Mode.{Mode};
 
     /// A table in which nobody holds anything.
     pub fn new() -> LatchTable
@@ -44,17 +44,50 @@ impl LatchTable {
         }
     }
 
+    // Whether no other session holds anything.
+    fn is_alone(&self, session: Session) -> bool
+        ensures alone { result ≡ true
+            → (block : ℕ) (mode : Mode) → is_held_by_another self.now session block mode ≡ false }
+        ensures sessions { length self.now ≡ 64 }
+    {
+        let number = session.number() as usize;
+        self.holders == count(self.holdings[number].holds_any())
+    }
+
+    // Whether another session holds what excludes that latch of the block, by asking each.
+    fn others_conflict(&self, session: Session, block: u32, mode: Mode) -> bool
+        ensures { result ≡ is_held_by_another self.now session block mode }
+    {
+        one_conflicts(&self.holdings, session.number() as usize, block, mode)
+    }
+
     /// Whether another session holds what excludes that latch of the block. What the session itself holds never
     /// does.
     pub fn conflicts(&self, session: Session, block: u32, mode: Mode) -> bool
         ensures value { result ≡ is_held_by_another self.now session block mode }
         ensures sessions { length self.now ≡ 64 }
     {
+        !self.is_alone(session) && self.others_conflict(session, block, mode)
+    }
+
+    // Whether the session has its 8 latches.
+    fn is_full(&self, session: Session) -> bool
+        ensures full { result ≡ true → HasRoom self.now session → ⊥ }
+        ensures room { result ≡ false → HasRoom self.now session }
+    {
+        self.holdings[session.number() as usize].is_full()
+    }
+
+    // Takes a latch that the session has room for.
+    fn take(&mut self, session: Session, latch: Latch)
+        requires { HasRoom self.old session }
+        ensures { self.new ≡ latched self.old session latch.block latch.mode }
+    {
         let number = session.number() as usize;
-        if self.holders == count(self.holdings[number].holds_any()) {
-            return false;
-        }
-        others_conflict(&self.holdings, number, block, mode)
+        let before = self.holdings[number].holds_any();
+        self.holdings[number].latch(latch);
+        let after = self.holdings[number].holds_any();
+        self.holders = recounted(self.holders, before, after);
     }
 
     /// Takes a latch, or answers `Blocked` with the block and takes nothing: where another session holds what
@@ -73,14 +106,10 @@ impl LatchTable {
         if self.conflicts(session, block, mode) {
             return Err(Fault::Blocked(block));
         }
-        let number = session.number() as usize;
-        if self.holdings[number].is_full() {
+        if self.is_full(session) {
             return Err(Fault::Blocked(block));
         }
-        let before = self.holdings[number].holds_any();
-        self.holdings[number].latch(Latch { block, mode });
-        let after = self.holdings[number].holds_any();
-        self.holders = recounted(self.holders, before, after);
+        self.take(session, Latch { block, mode });
         Ok(())
     }
 
@@ -141,7 +170,7 @@ impl LatchTable {
 }
 
 ghost use Rattle.latch_table.specs.Holders.{one_if};
-ghost use Rattle.latch_table.specs.Holdings.{holding_excludes};
+ghost use Rattle.latch_table.specs.Holdings.{is_held_by_another};
 
 // How many sessions that is.
 fn count(holds_any: bool) -> usize
@@ -159,11 +188,14 @@ fn recounted(holders: usize, before: bool, after: bool) -> usize
     holders + count(after) - count(before)
 }
 
-fn others_conflict(holdings: &[Held], session: usize, block: u32, mode: Mode) -> bool
-    ensures { result
-        ≡ list_any (λ item. not (item.0 == session) && holding_excludes item.1 block mode)
-        (enumerate_from 0 holdings.now) }
+// Whether one of these sessions, other than this one, holds what excludes that latch of the block.
+fn one_conflicts(holdings: &[Held], session: usize, block: u32, mode: Mode) -> bool
+    ensures { result ≡ is_held_by_another holdings.now session block mode }
 {
-    holdings.iter().enumerate().any(|(number, held)| number != session
-        && held.excludes(block, mode))
+    for number in 0..holdings.len() {
+        if number != session && holdings[number].excludes(block, mode) {
+            return true;
+        }
+    }
+    false
 }

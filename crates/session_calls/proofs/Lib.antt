@@ -15,3 +15,4 @@ pub mod Beginning
 pub mod Counting
 pub mod Hindering
 pub mod RunningOn
+mod Refusing

@@ -1,12 +1,50 @@
 use Rattle.access_method.proofs.Refusals.{give_cause, run_unhindered, frames_stay}
 use Rattle.std.specs.Prelude.{[]}
-use Rattle.std.proofs.Common.{true, Ok, Some, sym, ◌∙◌}
+use Rattle.std.proofs.Common.{true, false, Ok, Some, sym, ◌∙◌}
 use Rattle.schedule.specs.Snapshots.{here_with, snapshot_of}
 use Rattle.whole_calls.proofs.Tellings.{runs_has_call, true_false}
 use Rattle.access_method.specs.Indexes.{slots_within}
 use Rattle.access_method.proofs.Results.{gives_right}
-use Rattle.access_method.proofs.Seats.{agree_over, calm_on}
+use Rattle.access_method.proofs.Seats.{agree_over, calm_on, not_refused}
 use Rattle.access_method.proofs.index.Index.amgettuple.Goals as goal
+
+-- the token is not open
+pub returns-in_default-clause-runs : goal.returns-in_default-clause-runs
+returns-in_default-clause-runs g c is_open = absurd (c.in_default.not-Some (record { number = c.args.token.number; is_refused = false }) (c.find.ensures.value ∙ is_open))
+
+pub returns-in_default-clause-cause : goal.returns-in_default-clause-cause
+returns-in_default-clause-cause g c is_open = absurd (c.in_default.not-Some (record { number = c.args.token.number; is_refused = false }) (c.find.ensures.value ∙ is_open))
+
+pub returns-in_default-clause-gives : goal.returns-in_default-clause-gives
+returns-in_default-clause-gives g c is_open = absurd (c.in_default.not-Some (record { number = c.args.token.number; is_refused = false }) (c.find.ensures.value ∙ is_open))
+
+pub returns-in_default-clause-over : goal.returns-in_default-clause-over
+returns-in_default-clause-over g c is_open = absurd (c.in_default.not-Some (record { number = c.args.token.number; is_refused = false }) (c.find.ensures.value ∙ is_open))
+
+pub returns-in_default-clause-ends : goal.returns-in_default-clause-ends
+returns-in_default-clause-ends g c is_open = absurd (c.in_default.not-Some (record { number = c.args.token.number; is_refused = false }) (c.find.ensures.value ∙ is_open))
+
+pub returns-in_default-clause-tokens : goal.returns-in_default-clause-tokens
+returns-in_default-clause-tokens g c is_open = absurd (c.in_default.not-Some (record { number = c.args.token.number; is_refused = false }) (c.find.ensures.value ∙ is_open))
+
+-- a fault was answered
+pub returns-then-seat-clause-runs : goal.returns-then-seat-clause-runs
+returns-then-seat-clause-runs g c is_open = absurd (not_refused c.find.result c.in-Some.seat c.args.token.number c.in-Some.is c.if-seat.true (c.find.ensures.value ∙ is_open))
+
+pub returns-then-seat-clause-cause : goal.returns-then-seat-clause-cause
+returns-then-seat-clause-cause g c is_open = absurd (not_refused c.find.result c.in-Some.seat c.args.token.number c.in-Some.is c.if-seat.true (c.find.ensures.value ∙ is_open))
+
+pub returns-then-seat-clause-gives : goal.returns-then-seat-clause-gives
+returns-then-seat-clause-gives g c is_open = absurd (not_refused c.find.result c.in-Some.seat c.args.token.number c.in-Some.is c.if-seat.true (c.find.ensures.value ∙ is_open))
+
+pub returns-then-seat-clause-over : goal.returns-then-seat-clause-over
+returns-then-seat-clause-over g c is_open = absurd (not_refused c.find.result c.in-Some.seat c.args.token.number c.in-Some.is c.if-seat.true (c.find.ensures.value ∙ is_open))
+
+pub returns-then-seat-clause-ends : goal.returns-then-seat-clause-ends
+returns-then-seat-clause-ends g c is_open = absurd (not_refused c.find.result c.in-Some.seat c.args.token.number c.in-Some.is c.if-seat.true (c.find.ensures.value ∙ is_open))
+
+pub returns-then-seat-clause-tokens : goal.returns-then-seat-clause-tokens
+returns-then-seat-clause-tokens g c is_open = absurd (not_refused c.find.result c.in-Some.seat c.args.token.number c.in-Some.is c.if-seat.true (c.find.ensures.value ∙ is_open))
 
 pub returns-then-not-is_running-clause-answers : goal.returns-then-not-is_running-clause-answers
 returns-then-not-is_running-clause-answers g c honest start history calls fits number call range is ask =

@@ -2,7 +2,7 @@ use Rattle.std.specs.Prelude.{map}
 use Rattle.std.proofs.Common.{subst, sym, Some, suc}
 use Rattle.session_calls.specs.Due.{IsDueIn}
 use Rattle.session_calls.specs.Ops.{OpFits}
-use Rattle.session_calls.specs.Sessions.{CallFits}
+use Rattle.session_calls.specs.Sessions.{CallFits, OpSteps}
 use Rattle.session_calls.specs.declared.op.Op.{Op}
 use Rattle.session_calls.proofs.Counting.{insert_counts, scan_counts}
 use Rattle.session_calls.proofs.Hindering.{insert_hindered}
@@ -14,7 +14,12 @@ use Rattle.vacuum.specs.BulkDeletes.{BulkDeleteGoesOn, IsDueOf}
 use Rattle.std.proofs.Common.{ap, refl}
 use Rattle.index_model.specs.Calls.{AskScan}
 use Rattle.scan.specs.declared.steps.ScanOp.{ScanOp}
-use Rattle.session_calls.specs.declared.op.Op.TheVariants.{Scan}
+use Rattle.session_calls.specs.declared.op.Op.TheVariants.{Insert, Scan, Bulk, Cleanup}
+use Rattle.session_calls.specs.declared.answer.Answer.TheVariants.{Refused}
+use Rattle.insert_split.specs.declared.insert.InsertOp.{InsertOp}
+use Rattle.vacuum.specs.declared.steps.BulkDeleteOp.{BulkDeleteOp}
+use Rattle.page_delete.specs.declared.steps.CleanupOp.{CleanupOp}
+use Rattle.session_calls.proofs.Refusing.{refused_steps, told_stopped, insert_told_stopped}
 use Rattle.session_calls.proofs.Going.{step_is_refused}
 use Rattle.vacuum.specs.Counts.{IsCounted}
 use Rattle.session_calls.proofs.Deleting.{counted_on, set_found, bulk_goes_on, bulk_finishes, bulk_is_refused}
@@ -205,3 +210,35 @@ returns-in-Err-step-2-clause-goes g c honest start history number call fits =
     rw c.in-Bulk.is (bulk_is_refused old (g.S.PageStore.state c.step-in-Some.new.store) (g.S.PageStore.backing c.args.store.now) (g.S.PageStore.backing c.step-in-Some.new.store)
     start history number call c.in-Bulk.set c.in-Bulk.op c.step-in-Some.new.self mine
     c.step-in-Some.ensures.session c.in-Err-step-2.fault c.in-Err-step-2.ensures.refused (c.in-Err-step-2.ensures.stepped honest mine.world.order mine.runs.fits))
+
+pub returns-in-Err-clause-all : goal.returns-in-Err-clause-all
+returns-in-Err-clause-all g c =
+    let before = c.in-Insert.op in
+    let told = c.in-Err.ensures.all in
+    subst (λ (op : Op). OpSteps g.S.PageStore op (Insert c.step.new.self) c.args.store.now c.step.new.store (Refused c.in-Err.fault)) (sym c.in-Insert.is)
+    (refused_steps g.S.PageStore (Insert before) (Insert c.step.new.self) c.args.store.now c.step.new.store c.in-Err.fault told.steps told.kept told.refused.state (ap (λ (op : InsertOp). Insert op) told.refused.op)
+    (λ is_stopped. insert_told_stopped before.added c.in-Err.fault (told.stopped is_stopped)))
+
+pub returns-in-Err-step-clause-all : goal.returns-in-Err-step-clause-all
+returns-in-Err-step-clause-all g c =
+    let before = c.in-Scan.op in
+    let told = c.in-Err-step.ensures in
+    subst (λ (op : Op). OpSteps g.S.PageStore op (Scan c.step-in-Scan.new.self) c.args.store.now c.step-in-Scan.new.store (Refused c.in-Err-step.fault)) (sym c.in-Scan.is)
+    (refused_steps g.S.PageStore (Scan before) (Scan c.step-in-Scan.new.self) c.args.store.now c.step-in-Scan.new.store c.in-Err-step.fault told.steps told.kept told.refused.state (ap (λ (op : ScanOp). Scan op) told.refused.op)
+    (λ is_stopped. told_stopped c.in-Err-step.fault (told.stopped is_stopped)))
+
+pub returns-in-Err-step-2-clause-all : goal.returns-in-Err-step-2-clause-all
+returns-in-Err-step-2-clause-all g c =
+    let before = c.in-Bulk.op in
+    let told = c.in-Err-step-2.ensures in
+    subst (λ (op : Op). OpSteps g.S.PageStore op (Bulk c.in-Bulk.set c.step-in-Some.new.self) c.args.store.now c.step-in-Some.new.store (Refused c.in-Err-step-2.fault)) (sym c.in-Bulk.is)
+    (refused_steps g.S.PageStore (Bulk c.in-Bulk.set before) (Bulk c.in-Bulk.set c.step-in-Some.new.self) c.args.store.now c.step-in-Some.new.store c.in-Err-step-2.fault told.steps told.kept told.refused.state (ap (λ (op : BulkDeleteOp). Bulk c.in-Bulk.set op) told.refused.op)
+    (λ is_stopped. told_stopped c.in-Err-step-2.fault (told.stopped is_stopped)))
+
+pub returns-in-Err-step-3-clause-all : goal.returns-in-Err-step-3-clause-all
+returns-in-Err-step-3-clause-all g c =
+    let before = c.in-Cleanup.op in
+    let told = c.in-Err-step-3.ensures in
+    subst (λ (op : Op). OpSteps g.S.PageStore op (Cleanup c.step-in-Cleanup.new.self) c.args.store.now c.step-in-Cleanup.new.store (Refused c.in-Err-step-3.fault)) (sym c.in-Cleanup.is)
+    (refused_steps g.S.PageStore (Cleanup before) (Cleanup c.step-in-Cleanup.new.self) c.args.store.now c.step-in-Cleanup.new.store c.in-Err-step-3.fault told.steps told.kept told.refused.state (ap (λ (op : CleanupOp). Cleanup op) told.refused.op)
+    (λ is_stopped. told_stopped c.in-Err-step-3.fault (told.stopped is_stopped)))

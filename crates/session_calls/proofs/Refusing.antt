@@ -1,0 +1,56 @@
+-- A step that is refused, and changes nothing.
+use Rattle.std.proofs.Common.{◌≡◌, ◌≤◌, ℕ, Bool, true, false, Option, Some, None, Result, Err, ap, arith}
+use Rattle.std.specs.Prelude.{if◌then◌else◌}
+use Rattle.index_model.specs.declared.fault.Fault.{Fault}
+use Rattle.index_model.specs.declared.fault.Fault.TheVariants.{Stopped}
+use Rattle.page_action.specs.States.{State, Continues}
+use Rattle.page_action.specs.declared.page_store.PageStore.{Ghosts}
+use Rattle.descent.specs.Shared.{IsOneStep}
+use Rattle.insert_split.specs.Inserts.{AnswersStopped as InsertAnswersStopped}
+use Rattle.session_calls.specs.Ops.{OpAnswers, session_of, is_sweep, call_kind, add_of, AnswersStopped, ends_call}
+use Rattle.session_calls.specs.Sessions.{OpSteps, OnlyWritersAct, work_in}
+use Rattle.session_calls.specs.declared.answer.Answer.TheVariants.{Refused}
+use Rattle.session_calls.specs.declared.op.Op.{Op}
+use Rattle.session_calls.specs.declared.op.Op.TheVariants.{Insert, Scan, Bulk, Cleanup}
+
+answers : (before after : Op) (fault : Fault) → OpAnswers before after (Refused fault)
+answers (Insert op) after fault = tt
+answers (Scan op) after fault = tt
+answers (Bulk set op) after fault = tt
+answers (Cleanup op) after fault = tt
+
+no_act : (op : Op) (old new : State) → new ≡ old → OnlyWritersAct (Some op) old new
+no_act (Insert op) old new same = tt
+no_act (Scan op) old new same = ap (λ (st : State). st.acts) same
+no_act (Bulk set op) old new same = tt
+no_act (Cleanup op) old new same = tt
+
+no_more : (ends : Bool) (before after : Op) (old new : State) → new ≡ old → after ≡ before
+    → work_in new (if ends then None else Some after) ≤ work_in old (Some before)
+no_more true before after old new same op = omega arith
+no_more false before after old new same op = rw (same, op) (omega arith)
+
+-- what a refused step says, of whichever operation
+pub refused_steps : {S : Type 0} (g : Ghosts S) (before after : Op) (old new : S) (fault : Fault) → Continues g.follows old new → IsOneStep (g.state old) (g.state new)
+    → g.state new ≡ g.state old → after ≡ before → ((g.backing old).stopped ≡ true → AnswersStopped (add_of before) (Refused fault))
+    → OpSteps g before after old new (Refused fault)
+refused_steps g before after old new fault steps kept same op stopped = record {
+  steps = steps;
+  session = ap session_of op;
+  sweep = ap is_sweep op;
+  one_kind = ap call_kind op;
+  kind = answers before after fault;
+  refused = λ other is. (same, op);
+  stopped = stopped;
+  kept = kept;
+  calm = no_act before (g.state old) (g.state new) same;
+  less = λ honest. tt;
+  no_more = λ honest quiet. no_more (ends_call fault) before after (g.state old) (g.state new) same op;
+}
+
+pub told_stopped : {T : Type 0} (fault : Fault) → ◌≡◌ {A = Result T Fault} (Err fault) (Err Stopped) → Refused fault ≡ Refused Stopped
+told_stopped fault is = cc
+
+pub insert_told_stopped : (added : Option ℕ) (fault : Fault) → InsertAnswersStopped added (Err fault) → AnswersStopped added (Refused fault)
+insert_told_stopped None fault is = cc
+insert_told_stopped (Some action) fault is = absurd cc
