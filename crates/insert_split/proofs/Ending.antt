@@ -19,7 +19,7 @@ use Rattle.split_finish.specs.declared.finish.FinishOp.{FinishOp}
 use Rattle.split_finish.specs.declared.finish.FinishStep.TheVariants.{Going as FinishGoing, Done}
 use Rattle.insert_split.specs.Inserts.{InsertFits, InsertStands, InsertSteps, IsNoted, IsToCome, AnswersStopped, insert_left, targets_at, where_inserting, where_left}
 use Rattle.insert_split.specs.Straight.{IsStraight}
-use Rattle.insert_split.specs.Turns.{GoesOn, GoesOnFrom, Leaves, LeavesBy, IsRefusedRightly, is_blocked}
+use Rattle.insert_split.specs.Turns.{GoesOn, GoesOnFrom, Leaves, LeavesBy, IsFinishing, IsRefusedRightly, is_blocked}
 use Rattle.insert_split.specs.declared.insert.InsertAt.{InsertAt}
 use Rattle.insert_split.specs.declared.insert.InsertAt.TheVariants.{Start, At, Holding as Holds, Finishing}
 use Rattle.insert_split.specs.declared.insert.InsertOp.{InsertOp}
@@ -242,3 +242,15 @@ stops g op store result halted told = by op.added refl told
       };
       straight = λ honest order fits whole on room. absurd (past_adding (g.state store) op.entry op.at action (subst (λ (a : Option ℕ). IsToCome op.at a) is fits.to_come) on);
     })
+
+-- what isn't refused
+pub answered_rightly : (added : Option ℕ) (step : InsertStep) → IsRefusedRightly added (Ok step)
+answered_rightly None step = tt
+answered_rightly (Some action) step = tt
+
+-- an insert that finishes has something to finish
+pub has_splits : (at : InsertAt) → IsFinishing at → ((splits : FinishOp) → at ≡ Finishing splits → ⊥) → ⊥
+has_splits Start finishing none = finishing
+has_splits (At way) finishing none = finishing
+has_splits (Holds block) finishing none = finishing
+has_splits (Finishing splits) finishing none = none splits refl

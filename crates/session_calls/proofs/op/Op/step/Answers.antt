@@ -22,8 +22,8 @@ use Rattle.page_delete.specs.declared.steps.CleanupOp.{CleanupOp}
 use Rattle.session_calls.proofs.Refusing.{refused_steps, told_stopped, insert_told_stopped}
 use Rattle.session_calls.proofs.Going.{step_is_refused}
 use Rattle.vacuum.specs.Counts.{IsCounted}
-use Rattle.session_calls.proofs.Deleting.{counted_on, set_found, bulk_goes_on, bulk_finishes, bulk_is_refused}
-use Rattle.session_calls.proofs.Cleaning.{cleanup_goes_on, cleanup_finishes, cleanup_is_refused}
+use Rattle.session_calls.proofs.Deleting.{counted_on, counted_still, set_found, bulk_goes_on, bulk_finishes, bulk_is_refused}
+use Rattle.session_calls.proofs.Cleaning.{cleaned_still, cleanup_goes_on, cleanup_finishes, cleanup_is_refused}
 use Rattle.session_calls.proofs.op.Op.step.Goals as goal
 
 pub returns-in-Ok-Going-clause-goes : goal.returns-in-Ok-Going-clause-goes
@@ -242,3 +242,19 @@ returns-in-Err-step-3-clause-all g c =
     subst (λ (op : Op). OpSteps g.S.PageStore op (Cleanup c.step-in-Cleanup.new.self) c.args.store.now c.step-in-Cleanup.new.store (Refused c.in-Err-step-3.fault)) (sym c.in-Cleanup.is)
     (refused_steps g.S.PageStore (Cleanup before) (Cleanup c.step-in-Cleanup.new.self) c.args.store.now c.step-in-Cleanup.new.store c.in-Err-step-3.fault told.steps told.kept told.refused.state (ap (λ (op : CleanupOp). Cleanup op) told.refused.op)
     (λ is_stopped. told_stopped c.in-Err-step-3.fault (told.stopped is_stopped)))
+
+pub returns-in-Err-step-2-clause-entries : goal.returns-in-Err-step-2-clause-entries
+returns-in-Err-step-2-clause-entries g c honest =
+    let told = c.in-Err-step-2.ensures.refused in
+    rw c.in-Bulk.is (λ counted. (
+      rw (told.state, told.op) (counted_still (map g.T.DeadRows.is_in c.args.sets.now) (g.S.PageStore.state c.args.store.now) c.in-Bulk.set c.in-Bulk.op c.in-Err-step-2.fault counted),
+      tt,
+    ))
+
+pub returns-in-Err-step-3-clause-entries : goal.returns-in-Err-step-3-clause-entries
+returns-in-Err-step-3-clause-entries g c honest =
+    let told = c.in-Err-step-3.ensures.refused in
+    rw c.in-Cleanup.is (λ fits cleaned. (
+      rw (told.state, told.op) (cleaned_still (map g.T.DeadRows.is_in c.args.sets.now) (g.S.PageStore.state c.args.store.now) c.in-Cleanup.op c.in-Err-step-3.fault cleaned),
+      tt,
+    ))
