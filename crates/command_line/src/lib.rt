@@ -11,6 +11,7 @@ mod end;
 mod engine;
 mod file_commands;
 mod files;
+mod help;
 mod line;
 mod listing;
 mod number;
@@ -20,6 +21,7 @@ mod show;
 mod streams;
 mod words;
 
+pub use answer::print_answer;
 pub use checking::check_pages;
 pub use end::End;
 pub use files::open_index;

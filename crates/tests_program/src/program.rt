@@ -6,6 +6,7 @@ mod crashes;
 mod dead;
 mod deletes;
 mod files;
+mod help;
 mod inserts;
 mod lines;
 mod plain;
@@ -19,6 +20,28 @@ use std::rt::Files;
 use std::str;
 use std::test::*;
 
+/// What the program printed, and the status that it ended with.
+#[derive(Drop)]
+struct Printed {
+    out: Vec<u8>,
+    err: Vec<u8>,
+    status: u8,
+}
+
+/// Runs the program on a script.
+fn played(rt: &(impl AllocGlobal + Files<File = File>), words: &[&str], script: &str) -> Printed {
+    let mut input = script.as_bytes();
+    let mut out = Vec::new(rt.alloc());
+    let mut err = Vec::new(rt.alloc());
+    let status = execute(rt, rt.alloc(), words, &mut input, &mut out, &mut err);
+    Printed { out, err, status }
+}
+
+/// The text of what was printed.
+fn text(bytes: &[u8]) -> &str {
+    str::from_utf8(bytes).unwrap_or("no text")
+}
+
 /// Runs the program on a script, and compares all that it prints.
 fn runs(
     rt: &(impl Abort + AllocGlobal + Print + Eprint + Files<File = File>),
@@ -28,12 +51,9 @@ fn runs(
     said: &str,
     status: u8,
 ) -> Result<(), Fail> {
-    let mut input = script.as_bytes();
-    let mut out = Vec::new(rt.alloc());
-    let mut err = Vec::new(rt.alloc());
-    let ended = execute(rt, rt.alloc(), words, &mut input, &mut out, &mut err);
-    assert_eq!(rt; str::from_utf8(out.as_slice()), Ok(printed));
-    assert_eq!(rt; str::from_utf8(err.as_slice()), Ok(said));
-    assert_eq!(rt; ended, status);
+    let played = played(rt, words, script);
+    assert_eq!(rt; text(&played.out), printed);
+    assert_eq!(rt; text(&played.err), said);
+    assert_eq!(rt; played.status, status);
     Ok(())
 }

@@ -1,13 +1,11 @@
 //! What the verifier answers of an index that is opened again.
 
-use super::plain;
+use super::{plain, text};
 use command_line::End;
 use device::{CrashImage, MemDevice};
-use index_model::{Entry, Key, RowAddr};
+use index_model::{Entry, Fault, Key, RowAddr};
 use schedule::Event;
-use session_calls::Answer;
-use std::process::Abort;
-use std::str;
+use std::alloc::Global;
 use std::test::*;
 
 fn entry(key: u8) -> Entry {
@@ -17,29 +15,11 @@ fn entry(key: u8) -> Entry {
     }
 }
 
-/// The index on a device has no damage, and this is printed of it.
-fn is_sound(
-    rt: &(impl Abort + AllocGlobal + Print + Eprint),
-    device: MemDevice,
-    printed: &str,
-) -> Result<(), Fail> {
-    let mut store = plain::store(rt.alloc(), device)?;
-    for parents in [true, false] {
-        let mut out = Vec::new(rt.alloc());
-        let end = plain::check(rt.alloc(), &mut store, parents, &mut out)?;
-        assert_eq!(rt; end, End::Done);
-        assert_eq!(rt; str::from_utf8(out.as_slice()), Ok(printed));
-    }
-    Ok(())
-}
-
-/// The root was split, and its call given up before a new root was made: the split is unfinished, and that is no damage.
-#[test]
-fn unfinished_split(rt: HostRuntime) -> Result<(), Fail> {
-    let alloc = rt.alloc();
+/// The root is split, and its call given up before a new root is made.
+fn left_split(alloc: Global) -> Result<plain::Memory, Fault> {
     let mut world = plain::in_memory(alloc, plain::made(alloc)?)?;
     for key in [0x61, 0x62, 0x63, 0x64] {
-        assert!(rt; plain::put(&mut world, entry(key)).is_ok());
+        plain::put(&mut world, entry(key))?;
     }
     for event in [
         Event::Insert(1, entry(0x65)),
@@ -47,13 +27,41 @@ fn unfinished_split(rt: HostRuntime) -> Result<(), Fail> {
         Event::Step(1),
         Event::Step(1),
         Event::End(1),
+        Event::Force,
     ] {
-        assert!(rt; !matches!(plain::one(&mut world, event), Answer::Refused(_)));
+        plain::one(&mut world, event)?;
     }
-    assert!(rt; matches!(plain::one(&mut world, Event::Force), Answer::Forced(5)));
-    let printed = "ok levels=1 pages=3 entries=5 halfdead=0 deleted=0 unfinished=1\n";
-    // Behind a crash, and where the device is handed over.
-    let left = plain::crash(&world, alloc, CrashImage::Keep)?;
-    is_sound(&rt, left, printed)?;
-    is_sound(&rt, plain::into_device(world), printed)
+    Ok(world)
+}
+
+/// What a check prints of the index on a device, with parents and without.
+fn checked(alloc: Global, device: MemDevice) -> Result<Vec<u8>, Fault> {
+    let mut store = plain::store(alloc, device)?;
+    let mut out = Vec::new(alloc);
+    for parents in [true, false] {
+        if !matches!(
+            plain::check(alloc, &mut store, parents, &mut out),
+            Ok(End::Done)
+        ) {
+            return Err(Fault::PageDamaged(0));
+        }
+    }
+    Ok(out)
+}
+
+/// An unfinished split is no damage: neither behind a crash, nor where the device is handed over.
+#[test]
+fn unfinished_split(rt: HostRuntime) -> Result<(), Fail> {
+    let world = left_split(rt.alloc())?;
+    let left = checked(
+        rt.alloc(),
+        plain::crash(&world, rt.alloc(), CrashImage::Keep)?,
+    )?;
+    let handed = checked(rt.alloc(), plain::into_device(world))?;
+    let printed = "ok levels=1 pages=3 entries=5 halfdead=0 deleted=0 unfinished=1
+ok levels=1 pages=3 entries=5 halfdead=0 deleted=0 unfinished=1
+";
+    assert_eq!(rt; text(&left), printed);
+    assert_eq!(rt; text(&handed), printed);
+    Ok(())
 }

@@ -1,71 +1,21 @@
 //! Command lines, and outputs that are long or fail.
 
-use super::runs;
+use super::{Printed, played, runs, text};
 use command_line::execute;
-use std::io::Write;
+use std::fs::File;
+use std::io::{self, Write};
+use std::rt::Files;
 use std::test::*;
-use std::{io, str};
 
 #[test]
 fn command_lines(rt: HostRuntime) -> Result<(), Fail> {
     let few = ["btidx", "play", "--items", "3"];
-    runs(
-        &rt,
-        few.as_slice(),
-        "",
-        "",
-        "btidx: refused 18 BadLimits\n",
-        2,
-    )?;
-    let mut input = io::empty();
-    let mut out = Vec::new(rt.alloc());
-    let mut err = Vec::new(rt.alloc());
+    let said = "btidx: refused 18 BadLimits\n";
+    runs(&rt, few.as_slice(), "", "", said, 2)?;
+    // What is said of a number that is none is clap's.
     let wide = ["btidx", "play", "--items", "4294967296"];
-    assert_eq!(rt;
-        execute(
-            &rt,
-            rt.alloc(),
-            wide.as_slice(),
-            &mut input,
-            &mut out,
-            &mut err
-        ),
-        2
-    );
-    assert!(rt; out.is_empty() && !err.is_empty());
-    err.clear();
-    let help = ["btidx", "play", "--help"];
-    assert_eq!(rt;
-        execute(
-            &rt,
-            rt.alloc(),
-            help.as_slice(),
-            &mut input,
-            &mut out,
-            &mut err
-        ),
-        0
-    );
-    assert!(rt; err.is_empty());
-    let text = str::from_utf8(out.as_slice()).unwrap_or("");
-    for line in [
-        "insert S KEY ROW",
-        "scan S FROM BELOW",
-        "step S",
-        "run S",
-        "next S",
-        "end S",
-        "put S KEY ROW",
-        "list S FROM BELOW",
-        "force",
-        "checkpoint",
-        "fail N",
-        "stop N",
-        "crash keep|drop|tear",
-        "dump",
-    ] {
-        assert!(rt; text.contains(line), "{line}");
-    }
+    let Printed { out, err, status } = played(&rt, wide.as_slice(), "");
+    assert!(rt; status == 2 && out.is_empty() && !err.is_empty());
     Ok(())
 }
 
@@ -91,26 +41,26 @@ impl Write for Narrow {
     }
 }
 
+/// What the program prints where the output takes 12 bytes.
+fn into_narrow(rt: &(impl AllocGlobal + Files<File = File>), script: &str) -> Printed {
+    let mut input = script.as_bytes();
+    let taken = Vec::new(rt.alloc());
+    let mut out = Narrow { taken, most: 12 };
+    let mut err = Vec::new(rt.alloc());
+    let words = ["btidx", "play"];
+    let status = execute(rt, rt.alloc(), &words, &mut input, &mut out, &mut err);
+    let out = out.taken;
+    Printed { out, err, status }
+}
+
 /// An output that takes no more is a refusal, and has what it took before.
 #[test]
 fn output_fails(rt: HostRuntime) -> Result<(), Fail> {
     for script in ["put 0 61 (0,1)\nforce\n", "put 0 61 (0,1)\nforce\nputt\n"] {
-        let mut input = script.as_bytes();
-        let taken = Vec::new(rt.alloc());
-        let mut out = Narrow { taken, most: 12 };
-        let mut err = Vec::new(rt.alloc());
-        let words = ["btidx", "play"];
-        let ended = execute(
-            &rt,
-            rt.alloc(),
-            words.as_slice(),
-            &mut input,
-            &mut out,
-            &mut err,
-        );
-        assert_eq!(rt; ended, 2);
-        assert_eq!(rt; str::from_utf8(out.taken.as_slice()), Ok("added 1\nforc"));
-        assert_eq!(rt; str::from_utf8(err.as_slice()), Ok("btidx: refused 2 Io\n"));
+        let Printed { out, err, status } = into_narrow(&rt, script);
+        assert_eq!(rt; text(&out), "added 1\nforc");
+        assert_eq!(rt; text(&err), "btidx: refused 2 Io\n");
+        assert_eq!(rt; status, 2);
     }
     Ok(())
 }

@@ -3,7 +3,6 @@
 use super::{plain, runs};
 use index_model::{Entry, Fault, Key, RowAddr};
 use schedule::Event;
-use session_calls::Answer;
 use std::fs::{self, File, OpenFile, OpenOptions};
 use std::os::unix::fs::FileExt;
 use std::process::Abort;
@@ -44,15 +43,9 @@ fn fill(
 ) -> Result<u64, Fault> {
     let mut world = plain::in_file(rt, path)?;
     for key in keys {
-        if let Answer::Refused(fault) = plain::put(&mut world, entry(*key))? {
-            return Err(fault);
-        }
+        plain::put(&mut world, entry(*key))?;
     }
-    match plain::one(&mut world, Event::Checkpoint) {
-        Answer::Checkpointed(count) => Ok(count),
-        Answer::Refused(fault) => Err(fault),
-        _ => Err(Fault::NoSession),
-    }
+    plain::one(&mut world, Event::Checkpoint)
 }
 
 /// A check of the file, with parents or without, prints this line and ends with this status.

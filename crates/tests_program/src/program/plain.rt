@@ -60,12 +60,21 @@ pub fn in_file(rt: &(impl AllocGlobal + Files<File = File>), path: &str) -> Resu
     }
 }
 
-pub fn put<S: PageStore>(world: &mut World<S, NoRows>, entry: Entry) -> Result<Answer, Fault> {
-    world.put(0, entry, 0)
+/// An insert that is run to its end.
+pub fn put<S: PageStore>(world: &mut World<S, NoRows>, entry: Entry) -> Result<(), Fault> {
+    match world.put(0, entry, 0)? {
+        Answer::Refused(fault) => Err(fault),
+        _ => Ok(()),
+    }
 }
 
-pub fn one<S: PageStore>(world: &mut World<S, NoRows>, event: Event) -> Answer {
-    world.one(event)
+/// An event, and how many actions it answers to be durable.
+pub fn one<S: PageStore>(world: &mut World<S, NoRows>, event: Event) -> Result<u64, Fault> {
+    match world.one(event) {
+        Answer::Refused(fault) => Err(fault),
+        Answer::Forced(count) | Answer::Checkpointed(count) => Ok(count),
+        _ => Ok(0),
+    }
 }
 
 pub fn crash(world: &Memory, alloc: Global, image: CrashImage) -> Result<MemDevice, Fault> {
