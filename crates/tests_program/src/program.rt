@@ -10,6 +10,7 @@ mod help;
 mod inserts;
 mod lines;
 mod plain;
+mod rows;
 mod scans;
 mod upkeep;
 
@@ -56,4 +57,36 @@ fn runs(
     assert_eq!(rt; text(&played.err), said);
     assert_eq!(rt; played.status, status);
     Ok(())
+}
+
+/// Runs the parts of a script one behind the other, and compares all that it prints. The script's lines stand behind `> `, or
+/// are comments; what a line prints stands below it.
+fn plays(
+    rt: &(impl Abort + AllocGlobal + Print + Eprint + Files<File = File>),
+    parts: &[&str],
+) -> Result<(), Fail> {
+    let mut script = String::new(rt.alloc());
+    let mut printed = String::new(rt.alloc());
+    for part in parts {
+        for line in part.lines() {
+            let (text, to) = if line.starts_with("#") {
+                (line, &mut script)
+            } else if let Some(event) = line.strip_prefix("> ") {
+                (event, &mut script)
+            } else {
+                (line, &mut printed)
+            };
+            to.push_str(text)?;
+            to.push_str("\n")?;
+        }
+    }
+    let words = ["btidx", "play"];
+    runs(
+        rt,
+        words.as_slice(),
+        script.as_str(),
+        printed.as_str(),
+        "",
+        0,
+    )
 }
