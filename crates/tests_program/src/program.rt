@@ -1,5 +1,6 @@
 //! What no clause says: the texts that the program prints, and how it ends.
 
+mod caller;
 mod checks;
 mod commands;
 mod crashes;
@@ -7,6 +8,7 @@ mod dead;
 mod deletes;
 mod files;
 mod help;
+mod in_a_file;
 mod inserts;
 mod lines;
 mod plain;
