@@ -6,6 +6,7 @@ mod commands;
 mod crashes;
 mod dead;
 mod deletes;
+mod examples;
 mod files;
 mod help;
 mod in_a_file;
