@@ -1,4 +1,4 @@
-//! What the lines of a script are done with: the only file of the program that knows an index.
+//! The index that a script is run over: a device in memory, and the sessions of a world.
 
 ghost use Rattle.std.specs.Prelude.{◌≡◌, ◌≢◌, ◌∷◌, [], true, Bool, List, Ok, IfOk, OnOk, OnErr};
 ghost use Rattle.device.specs.Memory.{trace_of, plan_of, left_by};
@@ -20,6 +20,7 @@ ghost use Rattle.command_line.specs.Settings.{IsSetting};
 
 use crate::dead::DeadList;
 use device::{CrashImage, Device, MemDevice};
+use device_layout::needed_len;
 use index_model::{DeadRows, Entry, Fault, Limits, Range};
 use page_action::PageStore;
 use page_codec::Page;
@@ -84,7 +85,7 @@ impl Engine {
         if !setting.is_valid() {
             return Err(Fault::BadLimits);
         }
-        let mut device = MemDevice::new(alloc, length(&setting.limits))?;
+        let mut device = MemDevice::new(alloc, needed_len(&setting.limits))?;
         create(&mut device, &setting.limits)?;
         Ok(Engine {
             alloc,
@@ -226,9 +227,4 @@ fn opened(
         Ok(world) => Ok(world),
         Err(not_opened) => Err(not_opened.fault),
     }
-}
-
-/// The bytes that an index of these limits takes.
-fn length(limits: &Limits) -> u64 {
-    4_096 + u64::from(limits.log_bytes) + 4_096 * u64::from(limits.pages)
 }

@@ -154,7 +154,7 @@ fn play_line<W: Write>(
     }
 }
 
-/// The same for a line that was read. The lines that the index doesn't know yet are no events.
+/// The same for a line that was read.
 fn play_event<W: Write>(
     alloc: Global,
     engine: &mut Engine,
@@ -185,7 +185,7 @@ fn play_event<W: Write>(
             writeln!(out, "set")?;
         }
         Line::Crash(crash) => return play_crash(alloc, engine, *crash, rest, set, out),
-        _ => return Ok(Played::NoEvent),
+        _ => unreachable!(),
     }
     Ok(Played::Answered)
 }
