@@ -1,27 +1,7 @@
 //! The program of the index.
 #![tactic(auto)]
 
-mod answer;
-mod checking;
-mod command;
-mod dead;
-mod dump;
-mod end;
-mod engine;
-mod execute;
-mod file_commands;
-mod files;
-mod line;
-mod listing;
-mod number;
-mod play;
-mod refusal;
-mod show;
-#[cfg(test)]
-mod tests;
-mod words;
-
-pub use execute::execute;
+use command_line::execute;
 use std::process::ExitCode;
 use std::{env, io};
 

@@ -1,0 +1,10 @@
+pub mod Parts
+pub mod Numerals
+pub mod Commas
+pub mod RowText
+pub mod Keys
+pub mod Scripts
+pub mod Fresh
+pub mod Opened
+pub mod Printed
+pub mod Listed

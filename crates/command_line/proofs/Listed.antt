@@ -1,0 +1,24 @@
+-- Pages printed one after the other.
+use Rattle.std.proofs.Common.{◌≡◌, ℕ, ◌+◌, ◌++◌, ◌∷◌, [], List, take, slice_get, Some, true, sym, ap, ◌∙◌, subst}
+use Rattle.std.proofs.KnownBytes.{Appends-trans}
+use Rattle.std.proofs.lemmas.List.{take_more, flat_map_more}
+use Rattle.std.proofs.lemmas.Option.{get_or_from_slice_get, slice_get_within}
+use Rattle.std.specs.Io.KnownBytes.{Appends}
+use Rattle.std.specs.Prelude.{Option, Bool, get_or}
+use Rattle.page_codec.specs.declared.page.Page.{Page}
+use Rattle.command_line.specs.Dumping.{page_text, pages_text}
+use Rattle.command_line.specs.Listing.{Lists}
+
+-- the lines of a page stand behind those of the pages before it
+next_lines : (pages : List Page) (i : ℕ) (page : Page) → slice_get pages i ≡ Some page → pages_text (take i pages) ++ page_text page ≡ pages_text (take (i + 1) pages)
+next_lines pages i page found =
+    let there : get_or pages i page ≡ page = get_or_from_slice_get pages i page page found in
+    flat_map_more page_text [] (take i pages) page
+    ∙ ap pages_text (ap (λ p. take i pages ++ p ∷ []) (sym there) ∙ sym (take_more pages i page (slice_get_within pages i page found)))
+
+-- one page more is printed
+pub lists_on : (before now : Bool) (pages : List Page) (i : ℕ) (page : Page) (a b c : Option (List ℕ)) → (now ≡ true → before ≡ true)
+    → Lists before (take i pages) a b → (now ≡ true → slice_get pages i ≡ Some page) → Appends b c (page_text page) → Lists now (take (i + 1) pages) a c
+lists_on before now pages i page a b c was lists found printed = λ honest.
+    subst (Appends a c) (next_lines pages i page (found honest))
+    (Appends-trans a b c (pages_text (take i pages)) (page_text page) (lists (was honest)) printed)

@@ -1,0 +1,15 @@
+use Rattle.std.proofs.Common.{◌≡◌, take}
+use Rattle.page_action.specs.States.{Continues}
+use Rattle.command_line.specs.Listing.{Lists}
+use Rattle.command_line.proofs.listing.list_pages.Given as goal
+
+abbrev pub invariant-loop-block : goal.invariant-loop-block
+invariant-loop-block g l =
+    let state = g.S.PageStore.state in
+    let backing = g.S.PageStore.backing in
+    let contents = g.W.Write.contents in
+    record {
+      steps : Continues g.S.PageStore.follows l.fn.store l.store;
+      state_is : state l.store ≡ state l.fn.store;
+      lists : Lists (backing l.store).honest (take l.block (state l.fn.store).pages) (contents l.fn.out) (contents l.out);
+    }

@@ -1,0 +1,24 @@
+-- What a dump prints, and what that means.
+use Rattle.std.specs.Prelude.{◌≡◌, true, Bool, ℕ, ◌<◌, Option, List, length, take, ⊤}
+use Rattle.std.specs.Io.KnownBytes.{Appends}
+use Rattle.page_codec.specs.declared.page.Page.{Page}
+use Rattle.command_line.specs.Dumping.{pages_text}
+use Rattle.command_line.specs.declared.end.End.{End}
+use Rattle.command_line.specs.declared.end.End.TheVariants.{Done, Damaged, Said, Refused}
+
+-- what was printed is the lines of these pages, in their order, as far as the device kept its model
+abbrev pub Lists : Bool → List Page → Option (List ℕ) → Option (List ℕ) → Type 0
+Lists honest pages old new = honest ≡ true → Appends old new (pages_text pages)
+
+-- what was printed is the lines of the first so many of these pages, but not of all
+pub record ListsFirst (honest : Bool) (pages : List Page) (old new : Option (List ℕ)) : Type 0 where
+  pub count : ℕ
+  pub few : count < length pages
+  pub printed : Lists honest (take count pages) old new
+
+-- all was done, or a refusal is to be said
+abbrev pub IsDoneOrRefused : End → Type 0
+IsDoneOrRefused Done = ⊤
+IsDoneOrRefused Damaged = ⊥
+IsDoneOrRefused Said = ⊥
+IsDoneOrRefused (Refused fault) = ⊤

@@ -1,0 +1,56 @@
+-- What a check prints, and what that means.
+use Rattle.std.specs.Prelude.{◌≡◌, true, false, Bool, ℕ, Option, List, [], ◌∷◌, ◌++◌, codes, ⊤}
+use Rattle.std.specs.Io.KnownBytes.{Appends}
+use Rattle.amcheck.specs.Levels.{HasLevels}
+use Rattle.amcheck.specs.Reports.{IsReport}
+use Rattle.amcheck.specs.declared.report.Report.{Report}
+use Rattle.command_line.specs.Printing.{numbered}
+use Rattle.command_line.specs.declared.end.End.{End}
+use Rattle.command_line.specs.declared.end.End.TheVariants.{Done, Damaged, Said, Refused}
+use Rattle.page_codec.specs.declared.page.Page.{Page}
+use Rattle.tree_acts.specs.Trees.{IsTree}
+
+abbrev pub report_text : Report → List ℕ
+report_text report =
+    numbered (codes "ok levels=") report.levels ++ (numbered (codes " pages=") report.pages
+    ++ (numbered (codes " entries=") report.entries ++ (numbered (codes " halfdead=") report.half_dead
+    ++ (numbered (codes " deleted=") report.deleted ++ numbered (codes " unfinished=") report.unfinished))))
+
+abbrev pub damage_text : ℕ → ℕ → List ℕ
+damage_text number block = numbered (codes "damage ") number ++ numbered (codes " block ") block
+
+-- what was printed is the report of these pages, as far as the device kept its model
+pub record TellsReport (honest : Bool) (pages : List Page) (old new : Option (List ℕ)) : Type 0 where
+  pub report : Report
+  pub printed : Appends old new (report_text report ++ 10 ∷ [])
+  pub is : honest ≡ true → IsReport pages report
+
+-- what was printed is a damage, which pages that are a B-link tree don't have
+pub record TellsDamage (honest : Bool) (pages : List Page) (old new : Option (List ℕ)) : Type 0 where
+  pub number : ℕ
+  pub block : ℕ
+  pub printed : Appends old new (damage_text number block ++ 10 ∷ [])
+  pub unsound : honest ≡ true → IsTree pages → ⊥
+
+-- what was printed is a report
+pub record PrintsReport (old new : Option (List ℕ)) : Type 0 where
+  pub report : Report
+  pub printed : Appends old new (report_text report ++ 10 ∷ [])
+
+-- what was printed is a damage: its number and its block
+pub record PrintsDamage (old new : Option (List ℕ)) : Type 0 where
+  pub number : ℕ
+  pub block : ℕ
+  pub printed : Appends old new (damage_text number block ++ 10 ∷ [])
+
+-- pages are sound: with parents and children a B-link tree, without them an index of levels
+abbrev pub AreSound : Bool → List Page → Type 0
+AreSound true pages = IsTree pages
+AreSound false pages = HasLevels pages
+
+-- a check finds no damage, finds one, or is refused
+abbrev pub IsCheckEnd : End → Type 0
+IsCheckEnd Done = ⊤
+IsCheckEnd Damaged = ⊤
+IsCheckEnd Said = ⊥
+IsCheckEnd (Refused fault) = ⊤

@@ -1,0 +1,83 @@
+//! What the verifier answers, printed.
+
+ghost use Rattle.std.specs.Prelude.{◌≡◌, true, Ok, IfOk};
+ghost use Rattle.index_model.specs.Faults.{HasCause};
+ghost use Rattle.page_action.specs.States.{Continues};
+ghost use Rattle.amcheck.specs.Checks.{where_checked};
+ghost use Rattle.command_line.specs.Printing.{PrintsLine};
+ghost use Rattle.command_line.specs.Reporting.{TellsReport, TellsDamage, AreSound, IsCheckEnd, report_text, damage_text};
+
+use crate::end::End;
+use amcheck::{CheckFault, Report, check, check_parents};
+use index_model::Fault;
+use page_action::PageStore;
+use std::alloc::Global;
+use std::io::{self, Write};
+
+/// Judges the levels and links of a store's pages, and their parents and children where that is asked for, and prints the
+/// report, or the first damage. Refused as `amcheck::check` is: nothing is printed then.
+///
+/// A printed report is that of the pages, and with parents it means that they are a B-link tree; pages that are one have no
+/// damage.
+pub fn check_pages<S: PageStore, W: Write>(
+    alloc: Global,
+    store: &mut S,
+    parents: bool,
+    out: &mut W,
+) -> io::Result<End>
+    ensures steps { Continues S.follows store.old store.new }
+    ensures state { S.state store.new ≡ S.state store.old }
+    ensures ends { IfOk result IsCheckEnd }
+    ensures report { result ≡ Ok End.Done → TellsReport (S.backing store.new).honest
+        (S.state store.old).pages (W.contents out.old) (W.contents out.new) }
+    ensures sound { result ≡ Ok End.Done → (S.backing store.new).honest ≡ true
+        → AreSound parents (S.state store.old).pages }
+    ensures damage { result ≡ Ok End.Damaged → TellsDamage (S.backing store.new).honest
+        (S.state store.old).pages (W.contents out.old) (W.contents out.new) }
+    ensures refused { (fault : Fault) → result ≡ Ok (End.Refused fault)
+        → HasCause (where_checked (S.state store.old) (S.backing store.old)
+        (S.backing store.new)) fault }
+    ensures silent { (fault : Fault) → result ≡ Ok (End.Refused fault)
+        → W.contents out.new ≡ W.contents out.old }
+{
+    let checked = if parents {
+        check_parents(alloc, store)
+    } else {
+        check(alloc, store)
+    };
+    match checked {
+        Ok(report) => {
+            print_report(out, &report)?;
+            Ok(End::Done)
+        }
+        Err(CheckFault::Damage { number, block }) => {
+            print_damage(out, number, block)?;
+            Ok(End::Damaged)
+        }
+        Err(CheckFault::Refused(fault)) => Ok(End::Refused(fault)),
+    }
+}
+
+/// Prints `ok`, and each number of the report behind its name.
+pub fn print_report<W: Write>(out: &mut W, report: &Report) -> io::Result<()>
+    ensures { PrintsLine (W.contents out.old) (W.contents out.new) result (report_text report.now) }
+{
+    let levels = report.levels;
+    let pages = report.pages;
+    let entries = report.entries;
+    let half_dead = report.half_dead;
+    let deleted = report.deleted;
+    let unfinished = report.unfinished;
+    writeln!(
+        out,
+        "ok levels={levels} pages={pages} entries={entries} halfdead={half_dead} deleted={deleted} unfinished={unfinished}"
+    )
+}
+
+/// Prints `damage N block B`.
+pub fn print_damage<W: Write>(out: &mut W, number: u8, block: u32) -> io::Result<()>
+    ensures { PrintsLine (W.contents out.old) (W.contents out.new) result
+        (damage_text number block) }
+{
+    writeln!(out, "damage {number} block {block}")
+}

@@ -1,0 +1,149 @@
+//! The command line.
+
+ghost use Rattle.std.specs.Prelude.{◌≡◌, [], codes, unwrap_or};
+ghost use Rattle.clap.specs.Matches.{found_of, first_value};
+ghost use Rattle.command_line.specs.CommandLine.{HasFlag};
+
+use crate::engine::Setting;
+use crate::help::{FAULTS, REPORT, SCRIPT};
+use clap::{Arg, ArgAction, ArgMatches, Command, value_parser};
+use index_model::Limits;
+use std::alloc::{AllocError, Global};
+
+// What the sizes of an index are.
+const ITEMS: &str = "Items that a page holds at most: 4 to 50";
+
+const PAGES: &str = "Blocks of the index: 8 to 65536";
+
+const LOG: &str = "Bytes of the log: 65536 to 16777216, a multiple of 4096";
+
+/// The whole command line.
+pub fn program<'a>(alloc: Global) -> Result<Command<'a>, AllocError> {
+    let command = Command::new(alloc, "btidx")
+        .about("A B-link tree index that survives crashes.")
+        .subcommand_required(true)
+        .arg_required_else_help(true)
+        .disable_help_subcommand(true)
+        .after_help(FAULTS)
+        .subcommand(play(alloc)?)?;
+    with_file_commands(alloc, command)
+}
+
+// The commands over an index in a file. (Each more in one chain costs the prover more than the one before.)
+fn with_file_commands<'a>(alloc: Global, command: Command<'a>) -> Result<Command<'a>, AllocError> {
+    command
+        .subcommand(create(alloc)?)?
+        .subcommand(check(alloc)?)?
+        .subcommand(dump(alloc)?)
+}
+
+fn play<'a>(alloc: Global) -> Result<Command<'a>, AllocError> {
+    let command = Command::new(alloc, "play")
+        .about("Run a script from standard input over an index in memory")
+        .after_help(SCRIPT);
+    with_limits(alloc, command)?
+        .arg(size(
+            alloc,
+            "frames",
+            "16",
+            "Pages that are held in memory: 16 to 1024",
+        ))?
+        .arg(size(alloc, "sessions", "8", "Sessions: 1 to 64"))
+}
+
+// The sizes of an index, each with what it is if none is given.
+fn with_limits<'a>(alloc: Global, command: Command<'a>) -> Result<Command<'a>, AllocError> {
+    command
+        .arg(size(alloc, "items", "4", ITEMS))?
+        .arg(size(alloc, "pages", "64", PAGES))?
+        .arg(size(alloc, "log", "1048576", LOG))
+}
+
+fn create<'a>(alloc: Global) -> Result<Command<'a>, AllocError> {
+    Command::new(alloc, "create")
+        .about("Make an empty index in a new file")
+        .arg(file(alloc))?
+        .arg(needed_size(alloc, "items", ITEMS))?
+        .arg(needed_size(alloc, "pages", PAGES))?
+        .arg(needed_size(alloc, "log", LOG))
+}
+
+fn check<'a>(alloc: Global) -> Result<Command<'a>, AllocError> {
+    Command::new(alloc, "check")
+        .about("Look for damage in the index in a file")
+        .after_help(REPORT)
+        .arg(file(alloc))?
+        .arg(
+            Arg::new(alloc, "parents")
+                .long("parents")
+                .action(ArgAction::SetTrue)
+                .help("Compare parents and children too"),
+        )
+}
+
+fn dump<'a>(alloc: Global) -> Result<Command<'a>, AllocError> {
+    Command::new(alloc, "dump")
+        .about("Print each page of the index in a file, with its items")
+        .arg(file(alloc))
+}
+
+fn file<'a>(alloc: Global) -> Arg<'a> {
+    Arg::new(alloc, "path")
+        .value_name("PATH")
+        .required(true)
+        .help("The file of the index")
+}
+
+fn needed_size<'a>(alloc: Global, name: &'a str, help: &'a str) -> Arg<'a> {
+    Arg::new(alloc, name)
+        .long(name)
+        .value_name("N")
+        .value_parser(value_parser!(u32))
+        .required(true)
+        .help(help)
+}
+
+fn size<'a>(alloc: Global, name: &'a str, value: &'a str, help: &'a str) -> Arg<'a> {
+    Arg::new(alloc, name)
+        .long(name)
+        .value_name("N")
+        .value_parser(value_parser!(u32))
+        .default_value(value)
+        .help(help)
+}
+
+/// The sizes on a command line of `play`.
+pub fn setting(matches: &ArgMatches<'_>) -> Setting {
+    Setting {
+        limits: limits(matches),
+        frames: number(matches, "frames"),
+        sessions: number(matches, "sessions"),
+    }
+}
+
+/// The sizes of an index on a command line of `create` or `play`.
+pub fn limits(matches: &ArgMatches<'_>) -> Limits {
+    Limits {
+        items: number(matches, "items"),
+        pages: number(matches, "pages"),
+        log_bytes: number(matches, "log"),
+    }
+}
+
+/// The file on a command line of `create`, `check` or `dump`.
+pub fn path<'a>(matches: &ArgMatches<'a>) -> &'a str
+    ensures { result.now ≡ unwrap_or (first_value (found_of matches.now) (codes "path")) [] }
+{
+    matches.get_str("path").unwrap_or("")
+}
+
+/// Whether a command line of `check` asks for parents and children too.
+pub fn has_parents(matches: &ArgMatches<'_>) -> bool
+    ensures { HasFlag (found_of matches.now) (codes "parents") result }
+{
+    matches.get_flag("parents")
+}
+
+fn number(matches: &ArgMatches<'_>, name: &str) -> u32 {
+    matches.get_one::<u32>(name).unwrap_or(0)
+}

@@ -1,0 +1,29 @@
+//! The program `btidx` as a library: its command line, the lines of a script, and what is printed. The program itself hands
+//! [`execute`] the streams of its process. All else that is public here is for tests.
+#![tactic(auto)]
+
+mod answer;
+mod checking;
+mod command;
+mod dead;
+mod dump;
+mod end;
+mod engine;
+mod file_commands;
+mod files;
+mod help;
+mod line;
+mod listing;
+mod number;
+mod play;
+mod refusal;
+mod show;
+mod streams;
+mod words;
+
+pub use answer::print_answer;
+pub use checking::check_pages;
+pub use end::End;
+pub use files::open_index;
+pub use line::{Crash, Line, LineError, Rows, parse};
+pub use streams::execute;

@@ -1,0 +1,318 @@
+//! The lines of a script.
+
+ghost use Rattle.std.specs.Prelude.{◌≡◌, ℕ, ◌<◌, ◌^◌, Some, None, Ok, Err, List, [], ◌∷◌, ◌++◌, IfSome, IfOk, IsOk, ◌↔◌, IsTrue, codes};
+ghost use Rattle.std.specs.Fmt.{decimal};
+ghost use Rattle.index_model.specs.Row.{Row};
+ghost use Rattle.command_line.specs.Spelling.{key_text, row_text};
+ghost use Rattle.command_line.specs.Script.{line_words, entry_words, range_words, end_text, crash_text, IsQuiet, Spells};
+
+use crate::number::{key, number, number_u32, row};
+use crate::words::Words;
+use index_model::{Entry, Fault, Key, Range, RowAddr};
+
+/// What a crash leaves of the bytes that weren't synced.
+#[derive(Clone, Copy, Debug, PartialEq, Eq)]
+pub enum Crash {
+    /// All of them.
+    Keep,
+    /// None of them.
+    Drop,
+    /// The first half of each write.
+    Tear,
+}
+
+/// The rows of a `bulk` line.
+#[derive(Drop)]
+pub struct Rows<'a> {
+    words: Words<'a>,
+}
+
+impl<'a> Rows<'a> {
+    /// The next row, or None behind the last.
+    pub fn next(&mut self) -> Option<RowAddr>
+        ensures { (row : Row) → result ≡ Some row
+            → self.old.words ≡ row_text row ∷ self.new.words }
+    {
+        let word = self.words.next()?;
+        match row(word)? {
+            Ok(row) => Some(row),
+            Err(_) => None,
+        }
+    }
+}
+
+/// A line of a script. Its first number is that of a session.
+#[derive(Drop)]
+pub enum Line<'a> {
+    /// An empty line or a comment.
+    Nothing,
+    Insert(u32, Entry),
+    Scan(u32, Range),
+    Bulk(u32, Rows<'a>),
+    Cleanup(u32),
+    Step(u32),
+    Run(u32),
+    Next(u32),
+    End(u32),
+    /// An insert, run to its end.
+    Put(u32, Entry),
+    /// A scan, run to its end.
+    List(u32, Range),
+    Force,
+    Flush,
+    Checkpoint,
+    /// The device call of this number from now on, from 1, fails.
+    Fail(u64),
+    /// The device calls from this number from now on, from 1, fail.
+    Stop(u64),
+    Crash(Crash),
+    Dump,
+}
+
+/// Why a line stands for nothing that could be done.
+#[derive(Clone, Copy, Debug, PartialEq, Eq)]
+pub enum LineError {
+    /// It has no form of the table of lines.
+    NotAnEvent,
+    /// It has, but its key is too long (6), or else its row is none (7).
+    Refused(Fault),
+}
+
+/// The line of this text.
+pub fn parse(text: &[u8]) -> Result<Line<'_>, LineError>
+    ensures ok { IfOk result (Spells text.now) }
+    ensures quiet { IsQuiet text.now → result ≡ Ok Line.Nothing }
+{
+    if text.is_empty() || text[0] == b'#' {
+        return Ok(Line::Nothing);
+    }
+    let mut words = Words::new(text);
+    let Some(read) = event(&mut words) else {
+        return Err(LineError::NotAnEvent);
+    };
+    if !words.have_ended() {
+        return Err(LineError::NotAnEvent);
+    }
+    match read {
+        Ok(line) => Ok(line),
+        Err(fault) => Err(LineError::Refused(fault)),
+    }
+}
+
+fn event<'a>(words: &mut Words<'a>) -> Option<Result<Line<'a>, Fault>>
+    ensures { (line : Line) → result ≡ Some (Ok line) → words.old ≡ line_words line ++ words.new }
+{
+    let name = words.next()?;
+    if let Some(line) = plain(name) {
+        return Some(Ok(line));
+    }
+    let value = words.next()?;
+    if let Some(line) = counted(name, value) {
+        return Some(Ok(line));
+    }
+    one_session(name, value, words)
+}
+
+/// A line of a session.
+fn one_session<'a>(
+    name: &[u8],
+    value: &[u8],
+    words: &mut Words<'a>,
+) -> Option<Result<Line<'a>, Fault>>
+    ensures { (line : Line) → result ≡ Some (Ok line)
+        → name.now ∷ value.now ∷ words.old ≡ line_words line ++ words.new }
+{
+    let session = number_u32(value)?;
+    if let Some(line) = of_session(name, session) {
+        return Some(Ok(line));
+    }
+    with_values(name, session, words)
+}
+
+fn is(name: &[u8], word: &[u8]) -> bool
+    ensures { IsTrue result ↔ (name.now ≡ word.now) }
+{
+    name == word
+}
+
+/// A line of one word.
+fn plain(name: &[u8]) -> Option<Line<'static>>
+    ensures found { IfSome result (λ line. name.now ∷ [] ≡ line_words line) }
+    ensures force { name.now ≡ codes "force" → result ≡ Some Line.Force }
+    ensures flush { name.now ≡ codes "flush" → result ≡ Some Line.Flush }
+    ensures checkpoint { name.now ≡ codes "checkpoint" → result ≡ Some Line.Checkpoint }
+    ensures dump { name.now ≡ codes "dump" → result ≡ Some Line.Dump }
+{
+    if is(name, b"checkpoint") {
+        return Some(Line::Checkpoint);
+    }
+    match name {
+        b"force" => Some(Line::Force),
+        b"flush" => Some(Line::Flush),
+        b"dump" => Some(Line::Dump),
+        _ => None,
+    }
+}
+
+/// A line of the device.
+fn counted(name: &[u8], value: &[u8]) -> Option<Line<'static>>
+    ensures { IfSome result (λ line. name.now ∷ value.now ∷ [] ≡ line_words line) }
+{
+    match name {
+        b"fail" => Some(Line::Fail(count(value)?)),
+        b"stop" => Some(Line::Stop(count(value)?)),
+        b"crash" => Some(Line::Crash(crash_named(value)?)),
+        _ => None,
+    }
+}
+
+fn count(text: &[u8]) -> Option<u64>
+    ensures found { IfSome result (λ number. (text.now ≡ decimal number) × (0 < number)) }
+    ensures only { (n : ℕ) → 0 < n → n < 2 ^ 64 → text.now ≡ decimal n → result ≡ Some n }
+{
+    let number = number(text)?;
+    if number == 0 { None } else { Some(number) }
+}
+
+fn crash_named(text: &[u8]) -> Option<Crash>
+    ensures found { IfSome result (λ crash. text.now ≡ crash_text crash) }
+    ensures keep { text.now ≡ codes "keep" → result ≡ Some Crash.Keep }
+    ensures drop { text.now ≡ codes "drop" → result ≡ Some Crash.Drop }
+    ensures tear { text.now ≡ codes "tear" → result ≡ Some Crash.Tear }
+{
+    match text {
+        b"keep" => Some(Crash::Keep),
+        b"drop" => Some(Crash::Drop),
+        b"tear" => Some(Crash::Tear),
+        _ => None,
+    }
+}
+
+/// A line of a session and nothing else.
+fn of_session(name: &[u8], session: u32) -> Option<Line<'static>>
+    ensures found { IfSome result (λ line. name.now ∷ decimal session ∷ [] ≡ line_words line) }
+    ensures cleanup { name.now ≡ codes "cleanup" → result ≡ Some (Line.Cleanup session) }
+    ensures step { name.now ≡ codes "step" → result ≡ Some (Line.Step session) }
+    ensures run { name.now ≡ codes "run" → result ≡ Some (Line.Run session) }
+    ensures next { name.now ≡ codes "next" → result ≡ Some (Line.Next session) }
+    ensures end { name.now ≡ codes "end" → result ≡ Some (Line.End session) }
+{
+    if is(name, b"cleanup") {
+        return Some(Line::Cleanup(session));
+    }
+    match name {
+        b"step" => Some(Line::Step(session)),
+        b"run" => Some(Line::Run(session)),
+        b"next" => Some(Line::Next(session)),
+        b"end" => Some(Line::End(session)),
+        _ => None,
+    }
+}
+
+/// A line of a session with an entry, a range or rows.
+fn with_values<'a>(
+    name: &[u8],
+    session: u32,
+    words: &mut Words<'a>,
+) -> Option<Result<Line<'a>, Fault>>
+    ensures { (line : Line) → result ≡ Some (Ok line)
+        → name.now ∷ decimal session ∷ words.old ≡ line_words line ++ words.new }
+{
+    match name {
+        b"insert" => Some(entry(words)?.map(|entry| Line::Insert(session, entry))),
+        b"put" => Some(entry(words)?.map(|entry| Line::Put(session, entry))),
+        b"bulk" => Some(bulk_rows(words)?.map(|rows| Line::Bulk(session, rows))),
+        _ => with_range(name, session, words),
+    }
+}
+
+// A line of a session with a range.
+fn with_range<'a>(
+    name: &[u8],
+    session: u32,
+    words: &mut Words<'a>,
+) -> Option<Result<Line<'a>, Fault>>
+    ensures { (line : Line) → result ≡ Some (Ok line)
+        → name.now ∷ decimal session ∷ words.old ≡ line_words line ++ words.new }
+{
+    match name {
+        b"scan" => Some(range(words)?.map(|range| Line::Scan(session, range))),
+        b"list" => Some(range(words)?.map(|range| Line::List(session, range))),
+        _ => None,
+    }
+}
+
+/// A key and a row. The key's fault comes before the row's.
+fn entry(words: &mut Words<'_>) -> Option<Result<Entry, Fault>>
+    ensures { IfSome result (λ read. IfOk read
+        (λ entry. words.old ≡ entry_words entry ++ words.new)) }
+{
+    let key = key(words.next()?)?;
+    let row = row(words.next()?)?;
+    Some(entry_of(key, row))
+}
+
+fn entry_of(key: Result<Key, Fault>, row: Result<RowAddr, Fault>) -> Result<Entry, Fault>
+    ensures ok { IfOk result (λ entry. (key ≡ Ok entry.key) × (row ≡ Ok entry.row)) }
+    ensures key_first { (fault : Fault) → key ≡ Err fault → result ≡ Err fault }
+    ensures then_row { (fault : Fault) → IsOk key → row ≡ Err fault → result ≡ Err fault }
+    ensures both { IsOk key → IsOk row → IsOk result }
+{
+    let key = key?;
+    let row = row?;
+    Ok(Entry { key, row })
+}
+
+/// Two ends of a range.
+fn range(words: &mut Words<'_>) -> Option<Result<Range, Fault>>
+    ensures { IfSome result (λ read. IfOk read
+        (λ range. words.old ≡ range_words range ++ words.new)) }
+{
+    let from = end(words.next()?)?;
+    let below = end(words.next()?)?;
+    Some(range_of(from, below))
+}
+
+fn range_of(
+    from: Result<Option<Key>, Fault>,
+    below: Result<Option<Key>, Fault>,
+) -> Result<Range, Fault>
+    ensures ok { IfOk result (λ range. (from ≡ Ok range.from) × (below ≡ Ok range.below)) }
+    ensures from_first { (fault : Fault) → from ≡ Err fault → result ≡ Err fault }
+    ensures then_below { (fault : Fault) → IsOk from → below ≡ Err fault → result ≡ Err fault }
+    ensures both { IsOk from → IsOk below → IsOk result }
+{
+    let from = from?;
+    let below = below?;
+    Ok(Range { from, below })
+}
+
+/// A key, or `*` for an open end.
+fn end(text: &[u8]) -> Option<Result<Option<Key>, Fault>>
+    ensures { IfSome result (λ read. IfOk read (λ key. text.now ≡ end_text key)) }
+{
+    if text == b"*".as_slice() {
+        return Some(Ok(None));
+    }
+    match key(text)? {
+        Ok(key) => Some(Ok(Some(key))),
+        Err(fault) => Some(Err(fault)),
+    }
+}
+
+/// All words that are left, each a row.
+fn bulk_rows<'a>(words: &mut Words<'a>) -> Option<Result<Rows<'a>, Fault>>
+    ensures { IfSome result (λ read. IfOk read (λ rows. words.old ≡ rows.words ++ words.new)) }
+{
+    let all = words.copy();
+    let mut is_bad = false;
+    while let Some(word) = words.next() {
+        if row(word)?.is_err() {
+            is_bad = true;
+        }
+    }
+    if is_bad {
+        return Some(Err(Fault::BadRow));
+    }
+    Some(Ok(Rows { words: all }))
+}

@@ -1,0 +1,267 @@
+//! Scripts.
+
+ghost use Rattle.std.specs.Prelude.{◌≡◌, ◌≤◌, ◌+◌, length, drop};
+ghost use Rattle.command_line.specs.Events.{event_of};
+
+use crate::answer::{print_answer, print_entry, print_refused};
+use crate::dead::{DeadList, dead_of};
+use crate::dump::print_page;
+use crate::end::End;
+use crate::engine::{Engine, Setting, Sink};
+use crate::line::{Crash, Line, LineError, parse};
+use crate::refusal::print_no_event;
+use device::CrashImage;
+use index_model::{Entry, Fault, Range};
+use page_codec::Page;
+use schedule::Event;
+use session_calls::Answer;
+use std::alloc::{AllocError, Global};
+use std::io::{self, Read, Write};
+
+/// Prints what an engine gives.
+#[derive(Drop)]
+struct Printer<'a, W> {
+    out: &'a mut W,
+}
+
+impl<W: Write> Sink for Printer<'_, W> {
+    fn entry(&mut self, entry: &Entry) -> io::Result<()> {
+        print_entry(self.out, entry)
+    }
+
+    fn page(&mut self, page: &Page) -> io::Result<()> {
+        print_page(self.out, page)
+    }
+}
+
+/// Reads a script to its end and runs it, printing an answer for each line. The first line that is no event ends it.
+pub fn play<R: Read, W: Write, E: Write>(
+    alloc: Global,
+    setting: &Setting,
+    input: &mut R,
+    out: &mut W,
+    err: &mut E,
+) -> io::Result<End> {
+    let mut text = Vec::new(alloc);
+    input.read_to_end(&mut text)?;
+    let Ok(sets) = sets_of(alloc, text.as_slice()) else {
+        return Ok(End::Refused(Fault::NoMemory));
+    };
+    match Engine::new(alloc, setting, sets) {
+        Ok(mut engine) => run(alloc, &mut engine, text.as_slice(), out, err),
+        Err(fault) => Ok(End::Refused(fault)),
+    }
+}
+
+fn run<W: Write, E: Write>(
+    alloc: Global,
+    engine: &mut Engine,
+    text: &[u8],
+    out: &mut W,
+    err: &mut E,
+) -> io::Result<End> {
+    let mut number = 0u64;
+    // The place of the next `bulk` line among those of its index.
+    let mut set = 0u32;
+    let mut rest = text;
+    while !rest.is_empty() {
+        number = number.saturating_add(1);
+        let end = line_end(rest);
+        let line = &rest[..end];
+        rest = behind(rest, end);
+        match play_line(alloc, engine, line, rest, &mut set, out)? {
+            Played::Answered => {}
+            Played::NoEvent => {
+                out.flush()?;
+                print_no_event(err, number)?;
+                return Ok(End::Said);
+            }
+            Played::NotOpened(fault) => return Ok(End::Refused(fault)),
+        }
+    }
+    Ok(End::Done)
+}
+
+/// The sets of the `bulk` lines up to the first crash.
+fn sets_of(alloc: Global, script: &[u8]) -> Result<Vec<DeadList>, AllocError> {
+    let mut sets = Vec::new(alloc);
+    let mut rest = script;
+    while !rest.is_empty() {
+        let end = line_end(rest);
+        match parse(&rest[..end]) {
+            Ok(Line::Crash(_)) => return Ok(sets),
+            Ok(line) => {
+                if let Some(dead) = dead_of(alloc, line)? {
+                    sets.push(dead)?;
+                }
+            }
+            Err(_) => {}
+        }
+        rest = behind(rest, end);
+    }
+    Ok(sets)
+}
+
+/// Where the first line ends.
+fn line_end(script: &[u8]) -> usize
+    ensures { result ≤ length script.now }
+{
+    script
+        .iter()
+        .position(|byte| *byte == b'\n')
+        .unwrap_or(script.len())
+}
+
+/// What is behind the line that ends there, and behind its newline.
+fn behind(script: &[u8], end: usize) -> &[u8]
+    requires { end ≤ length script.now }
+    ensures { result.now ≡ drop (end + 1) script.now }
+{
+    if end == script.len() {
+        &script[end..]
+    } else {
+        &script[end + 1..]
+    }
+}
+
+/// What a line did.
+#[derive(Clone, Copy, Debug, PartialEq, Eq)]
+enum Played {
+    /// Its answer is printed, if it has one.
+    Answered,
+    /// Nothing: it is no event.
+    NoEvent,
+    /// The index couldn't be opened again after a crash. The refusal is printed.
+    NotOpened(Fault),
+}
+
+/// Does what a line says, which has this rest behind it, and prints the answer.
+fn play_line<W: Write>(
+    alloc: Global,
+    engine: &mut Engine,
+    text: &[u8],
+    rest: &[u8],
+    set: &mut u32,
+    out: &mut W,
+) -> io::Result<Played> {
+    match parse(text) {
+        Ok(line) => play_event(alloc, engine, &line, rest, set, out),
+        Err(LineError::NotAnEvent) => Ok(Played::NoEvent),
+        Err(LineError::Refused(fault)) => {
+            print_refused(out, fault)?;
+            Ok(Played::Answered)
+        }
+    }
+}
+
+/// The same for a line that was read.
+fn play_event<W: Write>(
+    alloc: Global,
+    engine: &mut Engine,
+    line: &Line<'_>,
+    rest: &[u8],
+    set: &mut u32,
+    out: &mut W,
+) -> io::Result<Played> {
+    if let Some(event) = event_of(line, *set) {
+        if let Event::Bulk(_, _) = event {
+            *set = set.saturating_add(1);
+        }
+        print_answer(out, &engine.one(event))?;
+        return Ok(Played::Answered);
+    }
+    match line {
+        Line::Nothing => {}
+        Line::Run(session) => print_outcome(out, engine.run(*session))?,
+        Line::Put(session, entry) => print_outcome(out, engine.put(*session, entry))?,
+        Line::List(session, range) => play_list(engine, *session, range, out)?,
+        Line::Dump => play_dump(engine, out)?,
+        Line::Fail(n) => {
+            engine.fail_at(*n);
+            writeln!(out, "set")?;
+        }
+        Line::Stop(n) => {
+            engine.stop_at(*n);
+            writeln!(out, "set")?;
+        }
+        Line::Crash(crash) => return play_crash(alloc, engine, *crash, rest, set, out),
+        _ => unreachable!(),
+    }
+    Ok(Played::Answered)
+}
+
+/// The event that a line is, if it is one; a bulk delete's set has this place among the sets.
+fn event_of(line: &Line<'_>, set: u32) -> Option<Event>
+    ensures { result ≡ event_of set line.now }
+{
+    match line {
+        Line::Insert(session, entry) => Some(Event::Insert(*session, *entry)),
+        Line::Scan(session, range) => Some(Event::Scan(*session, *range)),
+        Line::Bulk(session, _) => Some(Event::Bulk(*session, set)),
+        Line::Cleanup(session) => Some(Event::Cleanup(*session)),
+        Line::Step(session) => Some(Event::Step(*session)),
+        Line::Next(session) => Some(Event::Next(*session)),
+        Line::End(session) => Some(Event::End(*session)),
+        Line::Force => Some(Event::Force),
+        Line::Flush => Some(Event::Flush),
+        Line::Checkpoint => Some(Event::Checkpoint),
+        _ => None,
+    }
+}
+
+/// A crash, and the index opened again, with the sets of the lines that follow.
+fn play_crash<W: Write>(
+    alloc: Global,
+    engine: &mut Engine,
+    crash: Crash,
+    rest: &[u8],
+    set: &mut u32,
+    out: &mut W,
+) -> io::Result<Played> {
+    let image = match crash {
+        Crash::Keep => CrashImage::Keep,
+        Crash::Drop => CrashImage::Drop,
+        Crash::Tear => CrashImage::Tear,
+    };
+    let reopened = match sets_of(alloc, rest) {
+        Ok(sets) => engine.crash(image, sets),
+        Err(_) => Err(Fault::NoMemory),
+    };
+    match reopened {
+        Ok(()) => {
+            *set = 0;
+            writeln!(out, "opened")?;
+            Ok(Played::Answered)
+        }
+        Err(fault) => {
+            print_refused(out, fault)?;
+            Ok(Played::NotOpened(fault))
+        }
+    }
+}
+
+fn play_list<W: Write>(
+    engine: &mut Engine,
+    session: u32,
+    range: &Range,
+    out: &mut W,
+) -> io::Result<()> {
+    match engine.list(session, range, &mut Printer { out })? {
+        Ok(count) => writeln!(out, "done {count}"),
+        Err(fault) => print_refused(out, fault),
+    }
+}
+
+fn print_outcome<W: Write>(out: &mut W, outcome: Result<Answer, Fault>) -> io::Result<()> {
+    match outcome {
+        Ok(answer) => print_answer(out, &answer),
+        Err(fault) => print_refused(out, fault),
+    }
+}
+
+fn play_dump<W: Write>(engine: &mut Engine, out: &mut W) -> io::Result<()> {
+    match engine.dump(&mut Printer { out })? {
+        Ok(()) => Ok(()),
+        Err(fault) => print_refused(out, fault),
+    }
+}

@@ -1,0 +1,22 @@
+//! What a command that fails prints.
+
+ghost use Rattle.command_line.specs.Printing.{PrintsLine, no_event_text};
+
+use index_model::Fault;
+use std::io::{self, Write};
+
+/// Prints `btidx: refused N NAME`, for a damaged page with its block behind it.
+pub fn print_refusal<W: Write>(err: &mut W, fault: Fault) -> io::Result<()> {
+    let number = fault.number();
+    match fault {
+        Fault::PageDamaged(block) => writeln!(err, "btidx: refused {number} {fault} {block}"),
+        _ => writeln!(err, "btidx: refused {number} {fault}"),
+    }
+}
+
+/// Prints that this line of a script, counted from 1, is no event.
+pub fn print_no_event<W: Write>(err: &mut W, line: u64) -> io::Result<()>
+    ensures { PrintsLine (W.contents err.old) (W.contents err.new) result (no_event_text line) }
+{
+    writeln!(err, "btidx: line {line}: not an event")
+}

@@ -1,0 +1,86 @@
+//! Command lines, and outputs that are long or fail.
+
+use super::{Printed, played, runs, text};
+use command_line::execute;
+use std::fs::File;
+use std::io::{self, Write};
+use std::rt::Files;
+use std::test::*;
+
+#[test]
+fn command_lines(rt: HostRuntime) -> Result<(), Fail> {
+    let few = ["btidx", "play", "--items", "3"];
+    let said = "btidx: refused 18 BadLimits\n";
+    runs(&rt, few.as_slice(), "", "", said, 2)?;
+    // What is said of a number that is none is clap's.
+    let wide = ["btidx", "play", "--items", "4294967296"];
+    let Printed { out, err, status } = played(&rt, wide.as_slice(), "");
+    assert!(rt; status == 2 && out.is_empty() && !err.is_empty());
+    Ok(())
+}
+
+/// Takes so many bytes and then fails.
+#[derive(Drop)]
+struct Narrow {
+    taken: Vec<u8>,
+    most: usize,
+}
+
+impl Write for Narrow {
+    fn write(&mut self, buf: &[u8]) -> io::Result<usize> {
+        let count = buf.len().min(self.most.saturating_sub(self.taken.len()));
+        if count == 0 {
+            return Err(io::Error::from(io::ErrorKind::StorageFull));
+        }
+        self.taken.extend_from_slice(&buf[..count])?;
+        Ok(count)
+    }
+
+    fn flush(&mut self) -> io::Result<()> {
+        Ok(())
+    }
+}
+
+/// What the program prints where the output takes 12 bytes.
+fn into_narrow(rt: &(impl AllocGlobal + Files<File = File>), script: &str) -> Printed {
+    let mut input = script.as_bytes();
+    let taken = Vec::new(rt.alloc());
+    let mut out = Narrow { taken, most: 12 };
+    let mut err = Vec::new(rt.alloc());
+    let words = ["btidx", "play"];
+    let status = execute(rt, rt.alloc(), &words, &mut input, &mut out, &mut err);
+    let out = out.taken;
+    Printed { out, err, status }
+}
+
+/// An output that takes no more is a refusal, and has what it took before.
+#[test]
+fn output_fails(rt: HostRuntime) -> Result<(), Fail> {
+    for script in ["put 0 61 (0,1)\nforce\n", "put 0 61 (0,1)\nforce\nputt\n"] {
+        let Printed { out, err, status } = into_narrow(&rt, script);
+        assert_eq!(rt; text(&out), "added 1\nforc");
+        assert_eq!(rt; text(&err), "btidx: refused 2 Io\n");
+        assert_eq!(rt; status, 2);
+    }
+    Ok(())
+}
+
+/// More lines than the buffer of the output holds come out whole, also where a line is no event.
+#[test]
+fn long_output(rt: HostRuntime) -> Result<(), Fail> {
+    let mut script = String::new(rt.alloc());
+    let mut printed = String::new(rt.alloc());
+    for _ in 0..1_000 {
+        script.push_str("end 0\nforce\n")?;
+        printed.push_str("refused 12\nforced 0\n")?;
+    }
+    script.push_str("ends 0\n")?;
+    runs(
+        &rt,
+        ["btidx", "play"].as_slice(),
+        script.as_str(),
+        printed.as_str(),
+        "btidx: line 2001: not an event\n",
+        2,
+    )
+}

@@ -1,0 +1,257 @@
+//! Indexes in files. Each test has a file of its own.
+
+use super::{plain, runs};
+use index_model::{Entry, Fault, Key, RowAddr};
+use schedule::Event;
+use std::fs::{self, File, OpenFile, OpenOptions};
+use std::os::unix::fs::FileExt;
+use std::process::Abort;
+use std::rt::Files;
+use std::test::*;
+
+/// Makes an empty index of 64 blocks with a log of 65,536 bytes in a new file.
+fn create(
+    rt: &(impl Abort + AllocGlobal + Print + Eprint + Files<File = File>),
+    path: &str,
+) -> Result<(), Fail> {
+    let _ = fs::remove_file(rt, path);
+    let words = [
+        "btidx", "create", path, "--items", "4", "--pages", "64", "--log", "65536",
+    ];
+    runs(rt, words.as_slice(), "", "created\n", "", 0)
+}
+
+/// Writes bytes over those of a file.
+fn patch(rt: &impl Files<File = File>, path: &str, at: u64, bytes: &[u8]) -> Result<(), Fail> {
+    let file = OpenOptions::new().write(true).open(rt, path)?;
+    file.write_all_at(bytes, at)?;
+    Ok(())
+}
+
+fn entry(key: u8) -> Entry {
+    Entry {
+        key: Key::new(&[key]).unwrap_or(Key::EMPTY),
+        row: RowAddr::new(0, u16::from(key % 16)).unwrap_or_default(),
+    }
+}
+
+/// Inserts entries into the index in a file, with keys of one byte, and makes a checkpoint. Answers the number of actions.
+fn fill(
+    rt: &(impl AllocGlobal + Files<File = File>),
+    path: &str,
+    keys: &[u8],
+) -> Result<u64, Fault> {
+    let mut world = plain::in_file(rt, path)?;
+    for key in keys {
+        plain::put(&mut world, entry(*key))?;
+    }
+    plain::one(&mut world, Event::Checkpoint)
+}
+
+/// A check of the file, with parents or without, prints this line and ends with this status.
+fn check_ends(
+    rt: &(impl Abort + AllocGlobal + Print + Eprint + Files<File = File>),
+    path: &str,
+    parents: bool,
+    printed: &str,
+    status: u8,
+) -> Result<(), Fail> {
+    let words = ["btidx", "check", path, "--parents"];
+    let count = if parents { 4 } else { 3 };
+    runs(rt, &words[..count], "", printed, "", status)
+}
+
+/// So does a check with parents and one without.
+fn checks(
+    rt: &(impl Abort + AllocGlobal + Print + Eprint + Files<File = File>),
+    path: &str,
+    printed: &str,
+    status: u8,
+) -> Result<(), Fail> {
+    check_ends(rt, path, false, printed, status)?;
+    check_ends(rt, path, true, printed, status)
+}
+
+/// Whether these bytes stand there.
+fn stand(bytes: &[u8], at: usize, wanted: &[u8]) -> bool {
+    match bytes.get(at..) {
+        Some(rest) => rest.starts_with(wanted),
+        None => false,
+    }
+}
+
+/// Whether zeros stand from there to there.
+fn are_zeros(bytes: &[u8], from: usize, to: usize) -> bool {
+    match bytes.get(from..to) {
+        Some(range) => range.iter().all(|byte| *byte == 0),
+        None => false,
+    }
+}
+
+const FRESH: &str = "ok levels=1 pages=2 entries=0 halfdead=0 deleted=0 unfinished=0\n";
+
+#[test]
+fn fresh_file(rt: HostRuntime) -> Result<(), Fail> {
+    let path = "btidx_fresh.idx";
+    create(&rt, path)?;
+    let bytes = fs::read(&rt, path)?;
+    assert_eq!(rt; bytes.len(), 331_776);
+    let superblock = b"BLINKIDX\x01\0\0\0\x04\0\0\0\x40\0\0\0\0\0\x01\0";
+    assert!(rt; stand(bytes.as_slice(), 0, superblock));
+    assert!(rt; are_zeros(bytes.as_slice(), 24, 4_097));
+    let metapage = b"BLP1\0\0\0\0\x01\0\0\0\xff\xff\xff\xff\x01\0\0\0";
+    assert!(rt; stand(bytes.as_slice(), 69_632, metapage));
+    assert!(rt; are_zeros(bytes.as_slice(), 69_652, 73_728));
+    let leaf = b"BLP1\x01\0\0\0\x02\0\0\0\xff\xff\xff\xff\xff\xff\xff\xff";
+    assert!(rt; stand(bytes.as_slice(), 73_728, leaf));
+    assert!(rt; are_zeros(bytes.as_slice(), 73_748, 331_776));
+    checks(&rt, path, FRESH, 0)?;
+    fs::remove_file(&rt, path)?;
+    Ok(())
+}
+
+#[test]
+fn refused_files(rt: HostRuntime) -> Result<(), Fail> {
+    let path = "btidx_refused.idx";
+    create(&rt, path)?;
+    // The path is there.
+    let again = [
+        "btidx", "create", path, "--items", "4", "--pages", "64", "--log", "65536",
+    ];
+    runs(&rt, again.as_slice(), "", "", "btidx: refused 2 Io\n", 2)?;
+    checks(&rt, path, FRESH, 0)?;
+    fs::remove_file(&rt, path)?;
+    // The limits are tested first, and no file is made.
+    let few = [
+        "btidx", "create", path, "--items", "3", "--pages", "64", "--log", "65536",
+    ];
+    runs(
+        &rt,
+        few.as_slice(),
+        "",
+        "",
+        "btidx: refused 18 BadLimits\n",
+        2,
+    )?;
+    // The path isn't there, or is a folder.
+    for command in ["check", "dump"] {
+        let words = ["btidx", command, path];
+        runs(&rt, words.as_slice(), "", "", "btidx: refused 2 Io\n", 2)?;
+        let words = ["btidx", command, "."];
+        runs(&rt, words.as_slice(), "", "", "btidx: refused 2 Io\n", 2)?;
+    }
+    // A file of 100 bytes.
+    fs::write(&rt, path, [0; 100].as_slice())?;
+    for command in ["check", "dump"] {
+        let words = ["btidx", command, path];
+        runs(
+            &rt,
+            words.as_slice(),
+            "",
+            "",
+            "btidx: refused 14 BadSuper\n",
+            2,
+        )?;
+    }
+    fs::remove_file(&rt, path)?;
+    Ok(())
+}
+
+/// A fresh file with some bytes altered: what a check and a dump say.
+#[test]
+fn altered_files(rt: HostRuntime) -> Result<(), Fail> {
+    let path = "btidx_altered.idx";
+    let altered: [(u64, &[u8], &str); 6] = [
+        (8, &[3, 0, 0, 0], "btidx: refused 15 BadVersion\n"),
+        (28, &[1], "btidx: refused 14 BadSuper\n"),
+        // The number of items.
+        (12, &[51], "btidx: refused 18 BadLimits\n"),
+        // Open groups without images, and with more than there is room for.
+        (4_096, &[1, 0, 0, 0, 0], "btidx: refused 16 LogDamaged\n"),
+        (4_096, &[1, 16, 0, 0, 0], "btidx: refused 16 LogDamaged\n"),
+        (69_632, &[0; 4_096], "btidx: refused 17 PageDamaged 0\n"),
+    ];
+    for (at, bytes, said) in altered {
+        create(&rt, path)?;
+        patch(&rt, path, at, bytes)?;
+        runs(&rt, ["btidx", "check", path].as_slice(), "", "", said, 2)?;
+        runs(&rt, ["btidx", "dump", path].as_slice(), "", "", said, 2)?;
+    }
+    // One byte is lacking at the end.
+    create(&rt, path)?;
+    OpenOptions::new()
+        .write(true)
+        .open(&rt, path)?
+        .set_len(331_775)?;
+    let words = ["btidx", "check", path];
+    runs(
+        &rt,
+        words.as_slice(),
+        "",
+        "",
+        "btidx: refused 14 BadSuper\n",
+        2,
+    )?;
+    // The gate is closed, whatever stands behind.
+    create(&rt, path)?;
+    patch(&rt, path, 4_096, &[2, 16, 0, 0, 0])?;
+    checks(&rt, path, FRESH, 0)?;
+    // The root.
+    patch(&rt, path, 69_648, &[5, 0, 0, 0])?;
+    checks(&rt, path, "damage 1 block 5\n", 1)?;
+    fs::remove_file(&rt, path)?;
+    Ok(())
+}
+
+/// An index of two levels stands in its file, and the damage of a left link is found.
+#[test]
+fn two_levels(rt: HostRuntime) -> Result<(), Fail> {
+    let path = "btidx_two_levels.idx";
+    create(&rt, path)?;
+    assert_eq!(rt; fill(&rt, path, &[0x61, 0x62, 0x63, 0x64, 0x65]), Ok(6));
+    let sound = "ok levels=2 pages=4 entries=5 halfdead=0 deleted=0 unfinished=0\n";
+    checks(&rt, path, sound, 0)?;
+    runs(
+        &rt,
+        ["btidx", "dump", path].as_slice(),
+        "",
+        "0 meta root=3 level=1
+1 leaf live left=- right=2 high=63 (0,3) split=0 cycle=0 n=3
+  61 (0,1)
+  62 (0,2)
+  63 (0,3)
+2 leaf live left=1 right=- high=- split=0 cycle=0 n=2
+  64 (0,4)
+  65 (0,5)
+3 internal level=1 left=- right=- high=- split=0 n=2
+  * -> 1
+  63 (0,3) -> 2
+",
+        "",
+        0,
+    )?;
+    patch(&rt, path, 77_836, &[3, 0, 0, 0])?;
+    checks(&rt, path, "damage 2 block 2\n", 1)?;
+    fs::remove_file(&rt, path)?;
+    Ok(())
+}
+
+/// Damages of parents and children, which a check finds with `--parents` alone.
+#[test]
+fn parents_and_children(rt: HostRuntime) -> Result<(), Fail> {
+    let path = "btidx_parents.idx";
+    create(&rt, path)?;
+    assert_eq!(rt; fill(&rt, path, &[0x61, 0x62, 0x63, 0x64, 0x65]), Ok(6));
+    let sound = "ok levels=2 pages=4 entries=5 halfdead=0 deleted=0 unfinished=0\n";
+    // The bound of the root's second item is 62 (0,3), and the low of its child 63 (0,3).
+    patch(&rt, path, 82_103, &[0x62])?;
+    check_ends(&rt, path, false, sound, 0)?;
+    check_ends(&rt, path, true, "damage 7 block 3\n", 1)?;
+    // The root has its first item alone: none leads to page 2.
+    patch(&rt, path, 81_952, &[1, 0])?;
+    patch(&rt, path, 82_102, &[0; 75])?;
+    check_ends(&rt, path, false, sound, 0)?;
+    check_ends(&rt, path, true, "damage 8 block 2\n", 1)?;
+    fs::remove_file(&rt, path)?;
+    Ok(())
+}
