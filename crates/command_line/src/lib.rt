@@ -23,7 +23,7 @@ mod words;
 
 pub use answer::print_answer;
 pub use checking::check_pages;
+pub use dead::DeadList;
 pub use end::End;
-pub use files::open_index;
 pub use line::{Crash, Line, LineError, Rows, parse};
 pub use streams::execute;

@@ -4,7 +4,6 @@ mod caller;
 mod checks;
 mod commands;
 mod crashes;
-mod dead;
 mod deletes;
 mod examples;
 mod files;

@@ -1,8 +1,7 @@
 //! Indexes in files. Each test has a file of its own.
 
-use super::{plain, runs};
+use super::{caller, plain, runs};
 use index_model::{Entry, Fault, Key, RowAddr};
-use schedule::Event;
 use std::fs::{self, File, OpenFile, OpenOptions};
 use std::os::unix::fs::FileExt;
 use std::process::Abort;
@@ -41,11 +40,11 @@ fn fill(
     path: &str,
     keys: &[u8],
 ) -> Result<u64, Fault> {
-    let mut world = plain::in_file(rt, path)?;
+    let mut index = caller::open(rt, rt.alloc(), path)?;
     for key in keys {
-        plain::put(&mut world, entry(*key))?;
+        plain::insert(&mut index, entry(*key))?;
     }
-    plain::one(&mut world, Event::Checkpoint)
+    caller::close(index)
 }
 
 /// A check of the file, with parents or without, prints this line and ends with this status.

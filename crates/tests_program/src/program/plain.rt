@@ -1,9 +1,9 @@
 //! Calls without their contracts: a test looks at the answers alone, and what a call promises would be carried, call by call,
 //! to the end of the test that makes it.
 
-use super::dead::NoRows;
-use command_line::{End, check_pages, open_index};
-use device::{CrashImage, FileDevice, MemDevice, Unknown};
+use access_method::Index;
+use command_line::{DeadList, End, check_pages};
+use device::{CrashImage, MemDevice};
 use index_model::{Entry, Fault, Limits};
 use page_action::PageStore;
 use page_store::Store;
@@ -11,16 +11,11 @@ use recovery::{create, open};
 use schedule::Event;
 use session_calls::Answer;
 use std::alloc::Global;
-use std::fs::File;
 use std::io;
-use std::rt::Files;
 use world::World;
 
-/// An index in memory.
-pub type Memory = World<Store<MemDevice>, NoRows>;
-
-/// An index in a file.
-pub type InFile = World<Store<FileDevice<Unknown>>, NoRows>;
+/// An index in memory, as a script has it.
+pub type Memory = World<Store<MemDevice>, DeadList>;
 
 const LIMITS: Limits = Limits {
     items: 4,
@@ -51,30 +46,24 @@ pub fn store(alloc: Global, device: MemDevice) -> Result<Store<MemDevice>, Fault
     }
 }
 
-/// The index in a file, with one session.
-pub fn in_file(rt: &(impl AllocGlobal + Files<File = File>), path: &str) -> Result<InFile, Fault> {
-    let store = open_index::<_, Unknown>(rt, rt.alloc(), path)?;
-    match World::new(rt.alloc(), store, 1, Vec::new(rt.alloc())) {
-        Ok(world) => Ok(world),
-        Err(not_made) => Err(not_made.fault),
-    }
-}
-
 /// An insert that is run to its end.
-pub fn put<S: PageStore>(world: &mut World<S, NoRows>, entry: Entry) -> Result<(), Fault> {
+pub fn put(world: &mut Memory, entry: Entry) -> Result<(), Fault> {
     match world.put(0, entry, 0)? {
         Answer::Refused(fault) => Err(fault),
         _ => Ok(()),
     }
 }
 
-/// An event, and how many actions it answers to be durable.
-pub fn one<S: PageStore>(world: &mut World<S, NoRows>, event: Event) -> Result<u64, Fault> {
+pub fn one(world: &mut Memory, event: Event) -> Result<(), Fault> {
     match world.one(event) {
         Answer::Refused(fault) => Err(fault),
-        Answer::Forced(count) | Answer::Checkpointed(count) => Ok(count),
-        _ => Ok(0),
+        _ => Ok(()),
     }
+}
+
+pub fn insert<S: PageStore>(index: &mut Index<S>, entry: Entry) -> Result<(), Fault> {
+    let _inserted = index.aminsert(entry)?;
+    Ok(())
 }
 
 pub fn crash(world: &Memory, alloc: Global, image: CrashImage) -> Result<MemDevice, Fault> {
