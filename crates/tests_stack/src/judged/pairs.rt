@@ -10,7 +10,7 @@ use super::runs::{
 };
 use super::tally::Tally;
 use crate::plain::{fail_at, left_by, one, put, stop_at};
-use device::CrashImage;
+use device::{CrashImage, MemDevice};
 use index_model::Fault;
 use schedule::Event;
 use session_calls::Answer;
@@ -46,11 +46,17 @@ fn event_behind(event: Event, answer: &Answer) -> Option<Event> {
 /// The index of this world, which has no calls, opened again with some entries more.
 fn filled(run: Run, few: OverDevice, dice: &mut Dice, entries: u32) -> Result<OverDevice, Fault> {
     let mut few = few;
+    let left = fill(run, &mut few, dice, entries)?;
+    opened(run, FEW, left)
+}
+
+/// Puts some entries and makes a checkpoint: what a crash leaves then.
+fn fill(run: Run, few: &mut OverDevice, dice: &mut Dice, entries: u32) -> Result<MemDevice, Fault> {
     for _ in 0..entries {
-        put(&mut few, 0, dice.entry(run.space), 8)?;
+        put(few, 0, dice.entry(run.space), 8)?;
     }
-    one(&mut few, Event::Checkpoint);
-    opened(run, FEW, left_by(run.alloc, &few, CrashImage::Drop)?)
+    one(few, Event::Checkpoint);
+    left_by(run.alloc, few, CrashImage::Drop)
 }
 
 impl Pair {
@@ -70,8 +76,8 @@ impl Pair {
         })
     }
 
-    /// Has the second do what the first has answered so: whether that has changed the pages as is right.
-    fn follows(&mut self, run: Run, event: Event, answer: &Answer) -> Result<bool, AllocError> {
+    /// Has the second do what the first has answered so: whether it has made an action.
+    fn does(&mut self, event: Event, answer: &Answer) -> bool {
         if self.all.room() < 8 {
             let _ = one(&mut self.all, Event::Checkpoint);
         }
@@ -79,7 +85,12 @@ impl Pair {
         if let Some(same) = event_behind(event, answer) {
             let _ = one(&mut self.all, same);
         }
-        if self.all.actions() == before {
+        self.all.actions() != before
+    }
+
+    /// Has the second do what the first has answered so: whether that has changed the pages as is right.
+    fn follows(&mut self, run: Run, event: Event, answer: &Answer) -> Result<bool, AllocError> {
+        if !self.does(event, answer) {
             return Ok(are_kept(&mut self.all, self.judge.pages()));
         }
         let is_right = acts(
@@ -95,15 +106,17 @@ impl Pair {
     /// An event: whether it is right.
     fn one(&mut self, run: Run, event: Event) -> Result<bool, AllocError> {
         let answer = one(&mut self.few, event);
-        Ok(
-            self.follows(run, event, &answer)?
-                && self.judge.hears(&event, &answer)?
-                && self.few.actions() == self.all.actions()
-                && self.few.actions() == self.judge.actions() as u64
-                && are_running(&self.few, &self.judge, run.space.sessions)
-                && are_running(&self.all, &self.judge, run.space.sessions)
-                && is_full(&self.few, run.limits, &answer),
-        )
+        let is_right = self.follows(run, event, &answer)? && self.judge.hears(&event, &answer)?;
+        Ok(is_right && self.agree(run) && is_full(&self.few, run.limits, &answer))
+    }
+
+    /// Whether both worlds have made the actions and run the calls that the judge knows.
+    fn agree(&self, run: Run) -> bool {
+        let actions = self.judge.actions() as u64;
+        self.few.actions() == actions
+            && self.all.actions() == actions
+            && are_running(&self.few, &self.judge, run.space.sessions)
+            && are_running(&self.all, &self.judge, run.space.sessions)
     }
 
     /// A force, which tells whether the log has failed: whether it is right, and whether all pages of the first are as they

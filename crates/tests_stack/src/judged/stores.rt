@@ -330,19 +330,23 @@ impl Watched {
         let device = left_of(self.alloc, &self.store, image)?;
         let again = Watched::new(self.alloc, opened(self.alloc, device, dice, tally)?)?;
         count(&mut tally.images);
+        let is_right = self.leads_to(&again, tally)?;
+        Ok(if is_right { Some(again) } else { None })
+    }
+
+    /// Whether the other began with the pages after some first part of the acts that holds every durable one.
+    fn leads_to(&self, again: &Watched, tally: &mut StoreTally) -> Result<bool, AllocError> {
         let durable = self.store.durable() as usize;
-        match self.past.part_of(again.past.start(), durable)? {
-            Some(part) => {
-                if part < self.past.acts() {
-                    count(&mut tally.losing);
-                }
-                if part > durable {
-                    count(&mut tally.more);
-                }
-                Ok(Some(again))
-            }
-            None => Ok(None),
+        let Some(part) = self.past.part_of(again.past.start(), durable)? else {
+            return Ok(false);
+        };
+        if part < self.past.acts() {
+            count(&mut tally.losing);
         }
+        if part > durable {
+            count(&mut tally.more);
+        }
+        Ok(true)
     }
 }
 
