@@ -69,23 +69,99 @@ fn cycle_of(store: &mut Store<MemDevice>, block: u32) -> Result<u32, Fault> {
     page(store, block).map(|page| page.cycle)
 }
 
-fn begin(store: &mut Store<MemDevice>, session: Session) -> Result<u64, Fault> {
-    store.begin(session)
+/// A call of a store.
+#[derive(Clone, Copy)]
+enum Call {
+    /// The leaf of this block gets this cycle.
+    Act(u32, u32),
+    Force,
+    Checkpoint,
+    /// Answers the block, 0 for none.
+    Flush,
+    /// The cycle of the page of this block.
+    Cycle(u32),
+    /// Session 0 begins a call.
+    Begin,
+    /// This session pins this block, or lets it go.
+    Pin(u32, u32),
+    Unpin(u32, u32),
+    /// This device call from now on fails.
+    FailAt(u64),
+    Room,
+    Used,
+    Acts,
+    Durable,
+    /// 1 where the log has failed.
+    IsStopped,
+}
+
+fn begin(store: &mut Store<MemDevice>, session: u32) -> Result<u64, Fault> {
+    store.begin(Session::new(session)?)
+}
+
+fn pin(store: &mut Store<MemDevice>, session: u32, block: u32) -> Result<u64, Fault> {
+    store.pin(Session::new(session)?, block);
+    Ok(0)
+}
+
+fn unpin(store: &mut Store<MemDevice>, session: u32, block: u32) -> Result<u64, Fault> {
+    store.unpin(Session::new(session)?, block);
+    Ok(0)
+}
+
+fn fail_at(store: &mut Store<MemDevice>, n: u64) -> Result<u64, Fault> {
+    store.fail_at(n);
+    Ok(0)
+}
+
+/// What the call answers; 0 where it answers nothing.
+fn answer(store: &mut Store<MemDevice>, call: Call) -> Result<u64, Fault> {
+    match call {
+        Call::Act(block, cycle) => act(store, &[marked(block, cycle)]),
+        Call::Force => force(store),
+        Call::Checkpoint => checkpoint(store),
+        Call::Flush => Ok(u64::from(flush(store)?.unwrap_or(0))),
+        Call::Cycle(block) => Ok(u64::from(cycle_of(store, block)?)),
+        Call::Begin => begin(store, 0),
+        Call::Pin(session, block) => pin(store, session, block),
+        Call::Unpin(session, block) => unpin(store, session, block),
+        Call::FailAt(n) => fail_at(store, n),
+        Call::Room => Ok(u64::from(store.room())),
+        Call::Used => Ok(u64::from(store.used())),
+        Call::Acts => Ok(store.acts()),
+        Call::Durable => Ok(store.durable()),
+        Call::IsStopped => Ok(u64::from(store.is_stopped())),
+    }
+}
+
+/// The first of these calls, counted from 1, that isn't answered so; 0 where all are.
+fn wrong(store: &mut Store<MemDevice>, rows: &[(Call, Result<u64, Fault>)]) -> usize {
+    for (place, (call, wanted)) in rows.iter().enumerate() {
+        if answer(store, *call) != *wanted {
+            return place + 1;
+        }
+    }
+    0
 }
 
 #[test]
 fn forced_acts_are_left(rt: HostRuntime) -> Result<(), Fail> {
     let mut store = store(rt.alloc())?;
-    assert!(rt; store.room() == 15);
-    assert!(rt; act(&mut store, &[marked(1, 1)]) == Ok(1));
-    assert!(rt; force(&mut store) == Ok(1));
-    assert!(rt; act(&mut store, &[marked(2, 2)]) == Ok(2));
-    assert!(rt; (store.durable(), store.used(), store.room()) == (1, 3, 13));
-    assert!(rt; store.acts() == 2);
+    let rows = [
+        (Call::Room, Ok(15)),
+        (Call::Act(1, 1), Ok(1)),
+        (Call::Force, Ok(1)),
+        (Call::Act(2, 2), Ok(2)),
+        (Call::Durable, Ok(1)),
+        (Call::Used, Ok(3)),
+        (Call::Room, Ok(13)),
+        (Call::Acts, Ok(2)),
+    ];
+    assert_eq!(rt; wrong(&mut store, &rows), 0);
     let device = device_of(store);
     for image in IMAGES {
         let mut found = left(rt.alloc(), &device, image)?;
-        assert!(rt; logged(rt.alloc(), &mut found)? == 1);
+        assert!(rt; logged(rt.alloc(), &mut found) == Ok(1));
         assert!(rt; cycle_at(&mut found, 1) == 0);
     }
     Ok(())
@@ -94,60 +170,90 @@ fn forced_acts_are_left(rt: HostRuntime) -> Result<(), Fail> {
 #[test]
 fn a_checkpoint_brings_pages_home(rt: HostRuntime) -> Result<(), Fail> {
     let mut store = store(rt.alloc())?;
-    assert!(rt; act(&mut store, &[marked(1, 7)]) == Ok(1));
-    assert!(rt; act(&mut store, &[marked(2, 8)]) == Ok(2));
-    assert!(rt; checkpoint(&mut store) == Ok(2));
-    assert!(rt; (store.durable(), store.room()) == (2, 15));
+    let rows = [
+        (Call::Act(1, 7), Ok(1)),
+        (Call::Act(2, 8), Ok(2)),
+        (Call::Checkpoint, Ok(2)),
+        (Call::Durable, Ok(2)),
+        (Call::Room, Ok(15)),
+    ];
+    assert_eq!(rt; wrong(&mut store, &rows), 0);
     let device = device_of(store);
     for image in IMAGES {
         let mut found = left(rt.alloc(), &device, image)?;
-        assert!(rt; logged(rt.alloc(), &mut found)? == 0);
-        assert!(rt; cycle_at(&mut found, 1) == 7);
-        assert!(rt; cycle_at(&mut found, 2) == 8);
-        assert!(rt; cycle_at(&mut found, 3) == 0);
+        assert!(rt; logged(rt.alloc(), &mut found) == Ok(0));
+        for (block, cycle) in [(1, 7), (2, 8), (3, 0)] {
+            assert!(rt; cycle_at(&mut found, block) == cycle);
+        }
     }
     Ok(())
 }
+
+/// How a store goes on behind a checkpoint that has failed, whose log has failed too.
+const STOPPED: [(Call, Result<u64, Fault>); 5] = [
+    (Call::IsStopped, Ok(1)),
+    (Call::Act(1, 8), Err(Fault::Stopped)),
+    (Call::Checkpoint, Err(Fault::Stopped)),
+    (Call::Force, Err(Fault::Stopped)),
+    (Call::Begin, Err(Fault::Stopped)),
+];
+
+/// The same where it can go on.
+const GOING: [(Call, Result<u64, Fault>); 2] = [
+    (Call::IsStopped, Ok(0)),
+    (Call::Checkpoint, Ok(1)),
+];
 
 // Four calls force, one writes the page and one syncs it, two close the log.
 #[test]
 fn each_call_of_a_checkpoint_fails(rt: HostRuntime) -> Result<(), Fail> {
     for n in 1..9 {
         let mut store = store(rt.alloc())?;
-        assert!(rt; act(&mut store, &[marked(1, 7)]) == Ok(1));
-        store.fail_at(n);
-        assert!(rt; checkpoint(&mut store) == Err(Fault::Io));
-        let stopped = n <= 4 || n >= 7;
-        assert!(rt; store.is_stopped() == stopped);
-        if stopped {
-            assert!(rt; act(&mut store, &[marked(1, 8)]) == Err(Fault::Stopped));
-            assert!(rt; checkpoint(&mut store) == Err(Fault::Stopped));
-            assert!(rt; force(&mut store) == Err(Fault::Stopped));
-            assert!(rt; begin(&mut store, Session::new(0)?) == Err(Fault::Stopped));
+        let rows = [
+            (Call::Act(1, 7), Ok(1)),
+            (Call::FailAt(n), Ok(0)),
+            (Call::Checkpoint, Err(Fault::Io)),
+        ];
+        assert_eq!(rt; wrong(&mut store, &rows), 0);
+        if n <= 4 || n >= 7 {
+            assert_eq!(rt; wrong(&mut store, &STOPPED), 0);
         } else {
-            assert!(rt; checkpoint(&mut store) == Ok(1));
+            assert_eq!(rt; wrong(&mut store, &GOING), 0);
         }
     }
     Ok(())
 }
 
+/// Three pages are changed, in the order 2, 3, 1, and made durable.
+const CHANGED: [(Call, Result<u64, Fault>); 5] = [
+    (Call::Act(2, 7), Ok(1)),
+    (Call::Act(3, 7), Ok(2)),
+    (Call::Act(1, 7), Ok(3)),
+    (Call::Act(2, 7), Ok(4)),
+    (Call::Force, Ok(4)),
+];
+
+/// They are flushed, and then there is nothing to flush.
+const FLUSHED: [(Call, Result<u64, Fault>); 5] = [
+    (Call::Flush, Ok(2)),
+    (Call::Flush, Ok(3)),
+    (Call::Flush, Ok(1)),
+    (Call::Flush, Ok(0)),
+    (Call::Checkpoint, Ok(4)),
+];
+
 // Three pages are written and synced, and the log is closed: what was not written waits in its order.
 #[test]
 fn flushes_go_on_behind_a_failed_checkpoint(rt: HostRuntime) -> Result<(), Fail> {
-    let order = [2, 3, 1];
     for written in 0..4usize {
         let mut store = store(rt.alloc())?;
-        for block in [2, 3, 1, 2] {
-            assert!(rt; act(&mut store, &[marked(block, 7)]).is_ok());
-        }
-        force(&mut store)?;
-        store.fail_at(written as u64 + 1);
-        assert!(rt; checkpoint(&mut store) == Err(Fault::Io));
-        for block in &order[written..] {
-            assert!(rt; flush(&mut store) == Ok(Some(*block)));
-        }
-        assert!(rt; flush(&mut store) == Ok(None));
-        assert!(rt; checkpoint(&mut store) == Ok(4));
+        assert_eq!(rt; wrong(&mut store, &CHANGED), 0);
+        let rows = [
+            (Call::FailAt(written as u64 + 1), Ok(0)),
+            (Call::Checkpoint, Err(Fault::Io)),
+        ];
+        assert_eq!(rt; wrong(&mut store, &rows), 0);
+        assert_eq!(rt; wrong(&mut store, &FLUSHED[written..]), 0);
     }
     Ok(())
 }
@@ -156,28 +262,33 @@ fn flushes_go_on_behind_a_failed_checkpoint(rt: HostRuntime) -> Result<(), Fail>
 fn a_full_log_is_refused(rt: HostRuntime) -> Result<(), Fail> {
     let mut store = store(rt.alloc())?;
     for n in 0..15u32 {
-        assert!(rt; store.room() == 15 - n);
-        assert!(rt; act(&mut store, &[marked(1, n)]).is_ok());
-        assert!(rt; force(&mut store).is_ok());
+        let number = u64::from(n) + 1;
+        let rows = [
+            (Call::Room, Ok(16 - number)),
+            (Call::Act(1, n), Ok(number)),
+            (Call::Force, Ok(number)),
+        ];
+        assert_eq!(rt; wrong(&mut store, &rows), 0);
     }
-    assert!(rt; act(&mut store, &[marked(1, 15)]) == Err(Fault::LogFull));
-    assert!(rt; checkpoint(&mut store) == Ok(15));
-    assert!(rt; act(&mut store, &[marked(1, 15)]) == Ok(16));
+    let rows = [
+        (Call::Act(1, 15), Err(Fault::LogFull)),
+        (Call::Checkpoint, Ok(15)),
+        (Call::Act(1, 15), Ok(16)),
+    ];
+    assert_eq!(rt; wrong(&mut store, &rows), 0);
     Ok(())
 }
 
 #[test]
 fn acts_on_one_block_wait_as_one_image(rt: HostRuntime) -> Result<(), Fail> {
     let mut store = store(rt.alloc())?;
-    assert!(rt; act(&mut store, &[marked(1, 1)]) == Ok(1));
-    assert!(rt; act(&mut store, &[marked(1, 2)]) == Ok(2));
-    assert!(rt; store.room() == 14);
-    for n in 3..41u32 {
-        assert!(rt; act(&mut store, &[marked(1, n)]) == Ok(u64::from(n)));
+    for n in 1..41u32 {
+        let rows = [(Call::Act(1, n), Ok(u64::from(n))), (Call::Room, Ok(14))];
+        assert_eq!(rt; wrong(&mut store, &rows), 0);
     }
-    assert!(rt; force(&mut store) == Ok(40));
+    assert_eq!(rt; wrong(&mut store, &[(Call::Force, Ok(40))]), 0);
     let mut found = left_of(rt.alloc(), &store, CrashImage::Drop)?;
-    assert!(rt; logged(rt.alloc(), &mut found)? == 1);
+    assert!(rt; logged(rt.alloc(), &mut found) == Ok(1));
     Ok(())
 }
 
@@ -206,24 +317,42 @@ fn has_all(store: &mut Store<MemDevice>, more: u32) -> bool {
     true
 }
 
+/// Acts on all pages twice, and forces: whether each is as it was acted last.
+fn acts_twice(store: &mut Store<MemDevice>) -> Result<bool, Fault> {
+    act_on_all(store, 0)?;
+    let first = has_all(store, 0);
+    act_on_all(store, 100)?;
+    force(store)?;
+    Ok(first && has_all(store, 100))
+}
+
+/// A store of 40 pages, all written.
+fn checkpointed(alloc: Global) -> Result<Store<MemDevice>, Fault> {
+    let mut store = new_store(alloc, &limits(MANY))?;
+    act_on_all(&mut store, 0)?;
+    checkpoint(&mut store)?;
+    Ok(store)
+}
+
+/// Whether what is opened behind a crash has the pages of the second time.
+fn is_left(alloc: Global, device: &MemDevice, image: CrashImage) -> Result<bool, Fault> {
+    match open(alloc, left(alloc, device, image)?, 16) {
+        Ok(store) => {
+            let mut store = store;
+            Ok(has_all(&mut store, 100))
+        }
+        Err(refused) => Err(refused.fault),
+    }
+}
+
 // 40 pages in 16 frames: each is as it was acted last, also after a crash.
 #[test]
 fn more_pages_than_frames(rt: HostRuntime) -> Result<(), Fail> {
     let mut store = new_store(rt.alloc(), &limits(MANY))?;
-    act_on_all(&mut store, 0)?;
-    assert!(rt; has_all(&mut store, 0));
-    act_on_all(&mut store, 100)?;
-    assert!(rt; has_all(&mut store, 100));
-    force(&mut store)?;
+    assert!(rt; acts_twice(&mut store) == Ok(true));
     let device = device_of(store);
     for image in IMAGES {
-        match open(rt.alloc(), left(rt.alloc(), &device, image)?, 16) {
-            Ok(store) => {
-                let mut store = store;
-                assert!(rt; has_all(&mut store, 100));
-            }
-            Err(refused) => assert!(rt; refused.fault == Fault::Stopped),
-        }
+        assert!(rt; is_left(rt.alloc(), &device, image) == Ok(true));
     }
     Ok(())
 }
@@ -231,36 +360,38 @@ fn more_pages_than_frames(rt: HostRuntime) -> Result<(), Fail> {
 // 16 frames hold the pages that 8 sessions pin, and one more has no frame.
 #[test]
 fn pinned_pages_stay(rt: HostRuntime) -> Result<(), Fail> {
-    let mut store = new_store(rt.alloc(), &limits(MANY))?;
-    act_on_all(&mut store, 0)?;
-    checkpoint(&mut store)?;
+    let mut store = checkpointed(rt.alloc())?;
     for n in 0..8u32 {
-        let session = Session::new(n)?;
-        store.pin(session, n.saturating_add(1));
-        store.pin(session, n.saturating_add(9));
+        let rows = [(Call::Pin(n, n + 1), Ok(0)), (Call::Pin(n, n + 9), Ok(0))];
+        assert_eq!(rt; wrong(&mut store, &rows), 0);
     }
     for block in 1..17u32 {
-        assert!(rt; page(&mut store, block).is_ok());
+        let rows = [(Call::Cycle(block), Ok(u64::from(block)))];
+        assert_eq!(rt; wrong(&mut store, &rows), 0);
     }
-    assert!(rt; cycle_of(&mut store, 20) == Err(Fault::NoFrame));
-    assert!(rt; act(&mut store, &[marked(20, 1)]) == Err(Fault::NoFrame));
-    assert!(rt; act(&mut store, &[marked(5, 77)]) == Ok(40));
-    store.unpin(Session::new(3)?, 4);
-    assert!(rt; cycle_of(&mut store, 20) == Ok(20));
-    assert!(rt; cycle_of(&mut store, 5) == Ok(77));
+    let rows = [
+        (Call::Cycle(20), Err(Fault::NoFrame)),
+        (Call::Act(20, 1), Err(Fault::NoFrame)),
+        (Call::Act(5, 77), Ok(40)),
+        (Call::Unpin(3, 4), Ok(0)),
+        (Call::Cycle(20), Ok(20)),
+        (Call::Cycle(5), Ok(77)),
+    ];
+    assert_eq!(rt; wrong(&mut store, &rows), 0);
     Ok(())
 }
 
 // A read that fails, and a page that can't be written to make room, leave all as it was.
 #[test]
 fn a_failed_fetch_is_made_again(rt: HostRuntime) -> Result<(), Fail> {
-    let mut store = new_store(rt.alloc(), &limits(MANY))?;
-    act_on_all(&mut store, 0)?;
-    checkpoint(&mut store)?;
-    store.fail_at(1);
-    assert!(rt; cycle_of(&mut store, 1) == Err(Fault::Io));
-    assert!(rt; cycle_of(&mut store, 1) == Ok(1));
-    assert!(rt; !store.is_stopped());
+    let mut store = checkpointed(rt.alloc())?;
+    let rows = [
+        (Call::FailAt(1), Ok(0)),
+        (Call::Cycle(1), Err(Fault::Io)),
+        (Call::Cycle(1), Ok(1)),
+        (Call::IsStopped, Ok(0)),
+    ];
+    assert_eq!(rt; wrong(&mut store, &rows), 0);
     assert!(rt; has_all(&mut store, 0));
     Ok(())
 }

@@ -6,7 +6,7 @@ use crate::small::{ALL, LEN, LIMITS, entry, made, pages};
 use device::{CrashImage, Device, MemDevice};
 use index_model::{Entry, Fault};
 use page_action::{MapStore, PageStore};
-use page_codec::{Items, Page};
+use page_codec::Items;
 use page_store::Store;
 use schedule::{Event, is_running};
 use session_calls::Answer;
@@ -38,24 +38,38 @@ fn told(answer: &Answer) -> (&'static str, u64) {
     }
 }
 
-// Runs these events: whether each has this answer.
-fn are_answered<S: PageStore>(
+// The answers to these events.
+fn answers_to<S: PageStore>(
     alloc: Global,
     world: &mut World<S, Blocks>,
     rows: &[(Event, &str, u64)],
-) -> Result<bool, Fail> {
+) -> Result<Vec<Answer>, Fault> {
     let (mut events, mut answers) = (Vec::new(alloc), Vec::new(alloc));
     for (event, _, _) in rows {
-        events.push(*event)?;
-    }
-    run(world, &events, &mut answers)?;
-    for (answer, (_, word, number)) in answers.iter().zip(rows) {
-        let said = told(answer);
-        if said.0 != *word || said.1 != *number {
-            return Ok(false);
+        if events.push(*event).is_err() {
+            return Err(Fault::NoMemory);
         }
     }
-    Ok(answers.len() == rows.len())
+    run(world, &events, &mut answers)?;
+    Ok(answers)
+}
+
+// The first of these events, counted from 1, that isn't answered so; 0 where all are, 99 where they can't be run.
+fn wrong<S: PageStore>(
+    alloc: Global,
+    world: &mut World<S, Blocks>,
+    rows: &[(Event, &str, u64)],
+) -> usize {
+    let Ok(answers) = answers_to(alloc, world, rows) else {
+        return 99;
+    };
+    for (place, (answer, (_, word, number))) in answers.iter().zip(rows).enumerate() {
+        let said = told(answer);
+        if said.0 != *word || said.1 != *number {
+            return place + 1;
+        }
+    }
+    if answers.len() == rows.len() { 0 } else { 99 }
 }
 
 #[test]
@@ -80,7 +94,7 @@ fn latched_leaf_blocks_others(rt: HostRuntime) -> Result<(), Fail> {
         (Event::Step(2), "added", 3),
         (Event::Step(3), "ready", 3),
     ];
-    assert!(rt; are_answered(rt.alloc(), &mut world, &rows)?);
+    assert_eq!(rt; wrong(rt.alloc(), &mut world, &rows), 0);
     Ok(())
 }
 
@@ -107,7 +121,7 @@ fn each_event_once(rt: HostRuntime) -> Result<(), Fail> {
         (Event::End(0), "ended", 0),
         (Event::End(0), "refused", 12),
     ];
-    assert!(rt; are_answered(rt.alloc(), &mut world, &rows)?);
+    assert_eq!(rt; wrong(rt.alloc(), &mut world, &rows), 0);
     Ok(())
 }
 
@@ -115,24 +129,30 @@ fn abandon(world: &mut World<MapStore, Blocks>, session: u32) -> Answer {
     world.abandon(session)
 }
 
+// Session 63 begins a scan, which is abandoned: whether it runs one before, in between, and behind.
+fn begins_and_abandons(world: &mut World<MapStore, Blocks>) -> [bool; 5] {
+    [
+        world.is_running(63),
+        matches!(one(world, Event::Scan(63, ALL)), Answer::Begun),
+        world.is_running(63),
+        matches!(abandon(world, 63), Answer::Ended),
+        world.is_running(63),
+    ]
+}
+
+fn block_in(world: &mut World<MapStore, Blocks>, block: u32) -> Result<u32, Fault> {
+    Ok(page_in(world, block)?.block)
+}
+
 #[test]
 fn readers_and_abandon(rt: HostRuntime) -> Result<(), Fail> {
     let mut world = world(rt.alloc(), 64)?;
-    assert!(rt; !world.is_running(63));
-    assert!(rt; matches!(one(&mut world, Event::Scan(63, ALL)), Answer::Begun));
-    assert!(rt; world.is_running(63));
+    assert!(rt; begins_and_abandons(&mut world) == [false, true, true, true, false]);
     assert!(rt; !world.is_running(64));
-    assert!(rt; matches!(abandon(&mut world, 63), Answer::Ended));
-    assert!(rt; !world.is_running(63));
-    assert!(rt; world.used() == 2);
-    assert!(rt; world.actions() == 0);
-    assert!(rt; world.room() == 15);
-    let leaf = page_in(&mut world, 1);
-    assert!(rt; matches!(leaf, Ok(page) if page.block == 1));
-    let missing = page_in(&mut world, 2);
-    assert!(rt; matches!(missing, Err(Fault::PageDamaged(2))));
-    let store = world.into_store();
-    assert!(rt; store.begun() == 1);
+    assert!(rt; (world.used(), world.actions(), world.room()) == (2, 0, 15));
+    assert!(rt; block_in(&mut world, 1) == Ok(1));
+    assert!(rt; block_in(&mut world, 2) == Err(Fault::PageDamaged(2)));
+    assert!(rt; world.into_store().begun() == 1);
     Ok(())
 }
 
@@ -168,10 +188,17 @@ fn law(world: &World<Store<MemDevice>, Blocks>) {
     world.crash_law();
 }
 
-// The page of a block of the index that a device holds.
-fn page_of(alloc: Global, device: MemDevice, block: u32) -> Result<Page, Fault> {
-    let mut world = opened(alloc, device)?;
-    page_in(&mut world, block)
+// How many entries the root has, which is a leaf, of the index that a crash leaves; 99 where it is none.
+fn entries_left(
+    alloc: Global,
+    world: &World<Store<MemDevice>, Blocks>,
+    image: CrashImage,
+) -> Result<usize, Fault> {
+    let mut again = opened(alloc, left_by(alloc, world, image)?)?;
+    match page_in(&mut again, 1)?.items {
+        Items::Entries(entries) => Ok(entries.len()),
+        _ => Ok(99),
+    }
 }
 
 #[test]
@@ -188,16 +215,13 @@ fn forced_actions_are_left(rt: HostRuntime) -> Result<(), Fail> {
         (Event::Step(1), "going", 0),
         (Event::Step(1), "added", 2),
     ];
-    assert!(rt; are_answered(rt.alloc(), &mut world, &rows)?);
+    assert_eq!(rt; wrong(rt.alloc(), &mut world, &rows), 0);
     assert!(rt; world.actions() == 2);
     law(&world);
     for image in [CrashImage::Drop, CrashImage::Keep, CrashImage::Tear] {
-        let left = left_by(rt.alloc(), &world, image)?;
-        let leaf = page_of(rt.alloc(), left, 1)?;
-        assert!(rt; matches!(&leaf.items, Items::Entries(entries) if entries.len() == 1));
+        assert!(rt; entries_left(rt.alloc(), &world, image) == Ok(1));
     }
-    let device = device_of(world.into_store());
-    assert!(rt; device.len() == LEN);
+    assert!(rt; device_of(world.into_store()).len() == LEN);
     Ok(())
 }
 
@@ -237,27 +261,36 @@ fn counted(world: &mut World<Store<MemDevice>, Blocks>) -> Option<u8> {
     None
 }
 
+// Whether session 0 adds the entry of this key, and leaves no split unfinished.
+fn adds(world: &mut World<Store<MemDevice>, Blocks>, key: u8) -> bool {
+    matches!(
+        called(world, Event::Insert(0, entry(key, u16::from(key)))),
+        Answer::Added {
+            unfinished: None,
+            ..
+        }
+    )
+}
+
+// What is opened behind a crash.
+fn opened_again(
+    alloc: Global,
+    world: &World<Store<MemDevice>, Blocks>,
+) -> Result<World<Store<MemDevice>, Blocks>, Fault> {
+    opened(alloc, left_by(alloc, world, CrashImage::Drop)?)
+}
+
 #[test]
 fn split_leaf_is_opened_again(rt: HostRuntime) -> Result<(), Fail> {
     let mut world = opened(rt.alloc(), made(rt.alloc())?)?;
     // A leaf has room for 4 entries. The fifth splits it, and the split is finished by a new root.
     for key in 1..6u8 {
-        let put = called(&mut world, Event::Insert(0, entry(key, u16::from(key))));
-        assert!(rt;
-            matches!(
-                put,
-                Answer::Added {
-                    unfinished: None,
-                    ..
-                }
-            )
-        );
+        assert!(rt; adds(&mut world, key));
     }
     assert!(rt; world.used() == 4);
     assert!(rt; world.actions() == 6);
     assert!(rt; matches!(one(&mut world, Event::Force), Answer::Forced(6)));
-    let left = left_by(rt.alloc(), &world, CrashImage::Drop)?;
-    let mut again = opened(rt.alloc(), left)?;
+    let mut again = opened_again(rt.alloc(), &world)?;
     assert!(rt; again.used() == 4);
     assert!(rt; counted(&mut again) == Some(5));
     // The root is on level 1: the metapage, the root, the leaf, the entry.
@@ -268,33 +301,39 @@ fn split_leaf_is_opened_again(rt: HostRuntime) -> Result<(), Fail> {
         (Event::Step(0), "going", 0),
         (Event::Step(0), "added", 1),
     ];
-    assert!(rt; are_answered(rt.alloc(), &mut again, &rows)?);
+    assert_eq!(rt; wrong(rt.alloc(), &mut again, &rows), 0);
     assert!(rt; counted(&mut again) == Some(6));
     Ok(())
+}
+
+// The first entry that a scan of session 1 gives, which has one ready, and whether it gives none behind it.
+fn scanned(world: &mut World<Store<MemDevice>, Blocks>) -> Result<(Option<Entry>, bool), Fault> {
+    if !matches!(one(world, Event::Scan(1, ALL)), Answer::Begun)
+        || !matches!(finish(world, 1, 0)?, Answer::Ready(1))
+    {
+        return Err(Fault::NoMemory);
+    }
+    let first = give(world, 1, 0)?;
+    Ok((first, give(world, 1, 0)?.is_none()))
+}
+
+// Whether the first entry is put by the first action.
+fn is_put(world: &mut World<Store<MemDevice>, Blocks>) -> bool {
+    matches!(
+        put(world, 0, entry(0x61, 1), 5),
+        Ok(Answer::Added {
+            action: 1,
+            unfinished: None
+        })
+    )
 }
 
 #[test]
 fn calls_run_to_their_ends(rt: HostRuntime) -> Result<(), Fail> {
     let mut world = opened(rt.alloc(), made(rt.alloc())?)?;
-    let added = put(&mut world, 0, entry(0x61, 1), 5);
-    assert!(rt;
-        matches!(
-            added,
-            Ok(Answer::Added {
-                action: 1,
-                unfinished: None
-            })
-        )
-    );
-    assert!(rt; matches!(one(&mut world, Event::Scan(1, ALL)), Answer::Begun));
-    assert!(rt; matches!(finish(&mut world, 1, 0), Ok(Answer::Ready(1))));
-    assert!(rt; give(&mut world, 1, 0)? == Some(entry(0x61, 1)));
-    assert!(rt; give(&mut world, 1, 0)?.is_none());
-    assert!(rt;
-        matches!(
-            finish(&mut world, 1, 0),
-            Ok(Answer::Refused(Fault::NoSession))
-        )
-    );
+    assert!(rt; is_put(&mut world));
+    assert!(rt; scanned(&mut world) == Ok((Some(entry(0x61, 1)), true)));
+    let over = finish(&mut world, 1, 0);
+    assert!(rt; matches!(over, Ok(Answer::Refused(Fault::NoSession))));
     Ok(())
 }

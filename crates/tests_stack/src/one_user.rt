@@ -6,9 +6,9 @@ use crate::plain::{
     rescan,
 };
 use crate::small::{ALL, LEN, LIMITS, entry, keyed, limits, made, made_with, pages};
-use access_method::{Index, ScanToken};
+use access_method::{Index, Inserted, ScanToken};
 use device::{Device, MemDevice};
-use index_model::{Entry, Fault, Key, Range};
+use index_model::{Entry, Fault, Key, Range, VacuumStats};
 use page_action::{MapStore, PageStore};
 use page_store::Store;
 use std::alloc::Global;
@@ -38,33 +38,78 @@ fn law(index: &Index<Store<MemDevice>>) {
     index.crash_law();
 }
 
-#[test]
-fn entries_are_given_in_order(rt: HostRuntime) -> Result<(), Fail> {
-    let mut index = index(rt.alloc())?;
-    for (place, key) in [0x63, 0x61, 0x62].iter().enumerate() {
-        let inserted = insert(&mut index, entry(*key, u16::from(*key)))?;
-        assert!(rt; inserted.action == place as u64 + 1);
-        assert!(rt; inserted.unfinished.is_none());
+// The entry of this key, and of the row of that number.
+fn of(key: u8) -> Entry {
+    entry(key, u16::from(key))
+}
+
+// The action by which the entry was added; 0 where it was refused, or has left a split unfinished.
+fn added<S: PageStore>(index: &mut Index<S>, new: Entry) -> u64 {
+    match insert(index, new) {
+        Ok(
+            Inserted {
+                action,
+                unfinished: None,
+            },
+        ) => action,
+        _ => 0,
     }
-    assert!(rt; insert(&mut index, entry(0x61, 0x61)) == Err(Fault::Exists));
-    assert!(rt; commit(&mut index) == Ok(3));
-    let token = begin_scan(&mut index, ALL)?;
-    for expected in [0x61, 0x62, 0x63, 0, 0] {
-        assert!(rt; given(&mut index, token) == expected);
+}
+
+// Whether the entries of the keys from 1 to below this one are added.
+fn adds_to(index: &mut Index<Store<MemDevice>>, end: u8) -> bool {
+    for key in 1..end {
+        if added(index, of(key)) == 0 {
+            return false;
+        }
     }
+    true
+}
+
+// Whether the scan of this token gives these, one after the other.
+fn gives<S: PageStore>(index: &mut Index<S>, token: ScanToken, wanted: &[u64]) -> bool {
+    for number in wanted {
+        if given(index, token) != *number {
+            return false;
+        }
+    }
+    true
+}
+
+// Whether a scan of all gives these, one after the other.
+fn scans<S: PageStore>(index: &mut Index<S>, wanted: &[u64]) -> Result<bool, Fault> {
+    let token = begin_scan(index, ALL)?;
+    let is_right = gives(index, token, wanted);
+    end_scan(index, token)?;
+    Ok(is_right)
+}
+
+// A scan of three entries, which is begun again over the second: whether both give what is right.
+fn scans_again(index: &mut Index<Store<MemDevice>>) -> Result<bool, Fault> {
+    let token = begin_scan(index, ALL)?;
+    let all = gives(index, token, &[0x61, 0x62, 0x63, 0, 0]);
     let part = Range {
         from: Key::new(&[0x62]).ok(),
         below: Key::new(&[0x63]).ok(),
     };
-    rescan(&mut index, token, part)?;
-    for expected in [0x62, 0, 0] {
-        assert!(rt; given(&mut index, token) == expected);
+    rescan(index, token, part)?;
+    let second = gives(index, token, &[0x62, 0, 0]);
+    end_scan(index, token)?;
+    Ok(all && second)
+}
+
+#[test]
+fn entries_are_given_in_order(rt: HostRuntime) -> Result<(), Fail> {
+    let mut index = index(rt.alloc())?;
+    for (key, action) in [(0x63, 1), (0x61, 2), (0x62, 3)] {
+        assert!(rt; added(&mut index, of(key)) == action);
     }
-    assert!(rt; end_scan(&mut index, token) == Ok(()));
+    assert!(rt; insert(&mut index, of(0x61)) == Err(Fault::Exists));
+    assert!(rt; commit(&mut index) == Ok(3));
+    assert!(rt; scans_again(&mut index) == Ok(true));
     assert!(rt; checkpoint_of(&mut index) == Ok(3));
     law(&index);
-    let device = index.into_device();
-    assert!(rt; device.len() == LEN);
+    assert!(rt; index.into_device().len() == LEN);
     Ok(())
 }
 
@@ -72,39 +117,36 @@ fn entries_are_given_in_order(rt: HostRuntime) -> Result<(), Fail> {
 fn a_split_leaf_is_scanned(rt: HostRuntime) -> Result<(), Fail> {
     let mut index = index(rt.alloc())?;
     // A leaf has room for 4 entries. The fifth splits it, and one action more finishes the split.
-    for key in 1..8u8 {
-        let inserted = insert(&mut index, entry(key, u16::from(key)))?;
-        assert!(rt; inserted.unfinished.is_none());
-    }
+    assert!(rt; adds_to(&mut index, 8));
     assert!(rt; commit(&mut index) == Ok(8));
-    let token = begin_scan(&mut index, ALL)?;
-    for expected in [1, 2, 3, 4, 5, 6, 7, 0, 0] {
-        assert!(rt; given(&mut index, token) == expected);
-    }
+    assert!(rt; scans(&mut index, &[1, 2, 3, 4, 5, 6, 7, 0, 0]) == Ok(true));
     Ok(())
 }
 
 #[test]
 fn an_index_is_opened_again(rt: HostRuntime) -> Result<(), Fail> {
     let mut first = index(rt.alloc())?;
-    assert!(rt; insert(&mut first, entry(0x61, 1)).is_ok());
+    assert!(rt; added(&mut first, entry(0x61, 1)) == 1);
     assert!(rt; commit(&mut first) == Ok(1));
     let mut again = open_index(rt.alloc(), first.into_device(), 16)?;
-    let token = begin_scan(&mut again, ALL)?;
-    for expected in [1, 0] {
-        assert!(rt; given(&mut again, token) == expected);
-    }
+    assert!(rt; scans(&mut again, &[1, 0]) == Ok(true));
     let refused = open_index(rt.alloc(), again.into_device(), 15);
     assert!(rt; refused.err() == Some(Fault::BadLimits));
     Ok(())
 }
 
+// The tokens of a scan that has ended, and of one begun behind it.
+fn tokens(index: &mut Index<MapStore>) -> Result<(ScanToken, ScanToken), Fault> {
+    let first = begin_scan(index, ALL)?;
+    end_scan(index, first)?;
+    let second = begin_scan(index, ALL)?;
+    Ok((first, second))
+}
+
 #[test]
 fn closed_tokens_are_refused(rt: HostRuntime) -> Result<(), Fail> {
     let mut index = in_memory(rt.alloc())?;
-    let first = begin_scan(&mut index, ALL)?;
-    assert!(rt; end_scan(&mut index, first) == Ok(()));
-    let second = begin_scan(&mut index, ALL)?;
+    let (first, second) = tokens(&mut index)?;
     assert!(rt; first != second);
     assert!(rt; given(&mut index, first) == 112);
     assert!(rt; end_scan(&mut index, first) == Err(Fault::NoSession));
@@ -126,6 +168,15 @@ fn at_most_63_scans(rt: HostRuntime) -> Result<(), Fail> {
     Ok(())
 }
 
+// What an index answers whose log has failed: to an insert, to a scan that begins again and to one that begins.
+fn refusals(index: &mut Index<Store<MemDevice>>, token: ScanToken) -> [Option<Fault>; 3] {
+    [
+        insert(index, of(0x63)).err(),
+        rescan(index, token, ALL).err(),
+        begin_scan(index, ALL).err(),
+    ]
+}
+
 #[test]
 fn a_failed_device_stops_the_index(rt: HostRuntime) -> Result<(), Fail> {
     let mut device = made(rt.alloc())?;
@@ -134,45 +185,39 @@ fn a_failed_device_stops_the_index(rt: HostRuntime) -> Result<(), Fail> {
     device.fail_at(14);
     let mut index = open_index(rt.alloc(), device, 16)?;
     let token = begin_scan(&mut index, ALL)?;
-    assert!(rt; insert(&mut index, entry(0x61, 1)).is_ok());
-    assert!(rt; commit(&mut index) == Ok(1));
-    assert!(rt; insert(&mut index, entry(0x62, 2)).is_ok());
-    assert!(rt; commit(&mut index) == Err(Fault::Io));
+    for (key, wanted) in [(0x61, Ok(1)), (0x62, Err(Fault::Io))] {
+        assert!(rt; insert(&mut index, of(key)).is_ok());
+        assert!(rt; commit(&mut index) == wanted);
+    }
     assert!(rt; commit(&mut index) == Err(Fault::Stopped));
-    assert!(rt; matches!(insert(&mut index, entry(0x63, 3)), Err(Fault::Stopped)));
-    assert!(rt; rescan(&mut index, token, ALL) == Err(Fault::Stopped));
-    assert!(rt; begin_scan(&mut index, ALL) == Err(Fault::Stopped));
+    assert!(rt; refusals(&mut index, token) == [Some(Fault::Stopped); 3]);
     assert!(rt; end_scan(&mut index, token).is_ok());
     Ok(())
 }
 
-// Inserts 9 entries into an index that has none of them.
-fn insert_9(index: &mut Index<Store<MemDevice>>) -> Result<(), Fault> {
-    for number in 1..10 {
-        let _inserted = insert(index, entry(number, u16::from(number)))?;
+// Inserts 9 entries, and deletes them and their pages: how many there were.
+fn deletes_all(index: &mut Index<Store<MemDevice>>) -> Result<(VacuumStats, VacuumStats), Fault> {
+    if !adds_to(index, 10) {
+        return Err(Fault::NoMemory);
     }
-    Ok(())
+    let removed = bulk_delete(index, &EACH_ROW)?;
+    let cleaned = clean_up(index)?;
+    Ok((removed, cleaned))
 }
 
 #[test]
 fn deleted_pages_are_used_again(rt: HostRuntime) -> Result<(), Fail> {
     let mut index = index(rt.alloc())?;
-    insert_9(&mut index)?;
-    let removed = bulk_delete(&mut index, &EACH_ROW)?;
+    let (removed, cleaned) = deletes_all(&mut index)?;
     assert!(rt; (removed.tuples_removed, removed.num_index_tuples) == (9, 0));
-    let cleaned = clean_up(&mut index)?;
     assert!(rt; (cleaned.tuples_removed, cleaned.num_index_tuples) == (0, 0));
     // The metapage, the root and its last child are left.
     assert!(rt; cleaned.num_pages == removed.num_pages);
     assert!(rt; cleaned.pages_newly_deleted.wrapping_add(3) == cleaned.num_pages);
     assert!(rt; cleaned.pages_deleted == cleaned.pages_newly_deleted);
 
-    insert_9(&mut index)?;
-    let token = begin_scan(&mut index, ALL)?;
-    for expected in [1, 2, 3, 4, 5, 6, 7, 8, 9, 0] {
-        assert!(rt; given(&mut index, token) == expected);
-    }
-    assert!(rt; end_scan(&mut index, token).is_ok());
+    assert!(rt; adds_to(&mut index, 10));
+    assert!(rt; scans(&mut index, &[1, 2, 3, 4, 5, 6, 7, 8, 9, 0]) == Ok(true));
     let again = clean_up(&mut index)?;
     assert!(rt; again.num_index_tuples == 9);
     assert!(rt; (again.num_pages, again.pages_newly_deleted) == (cleaned.num_pages, 0));
@@ -202,36 +247,44 @@ fn gives_all(index: &mut Index<Store<MemDevice>>) -> Result<bool, Fault> {
     Ok(next(index, token)?.is_none())
 }
 
+// Inserts so many entries, not in order, into both: whether they answer the same, and leave no split unfinished.
+fn answer_alike(
+    few: &mut Index<Store<MemDevice>>,
+    many: &mut Index<Store<MemDevice>>,
+) -> Result<bool, Fault> {
+    let mut place = 0u16;
+    for _ in 0..MANY {
+        // Each place once.
+        place = (place % MANY + 7) % MANY;
+        let inserted = insert(few, nth(place))?;
+        if inserted.unfinished.is_some() || insert(many, nth(place))? != inserted {
+            return Ok(false);
+        }
+    }
+    Ok(gives_all(few)? && gives_all(many)?)
+}
+
 #[test]
 fn few_frames_answer_as_many_do(rt: HostRuntime) -> Result<(), Fail> {
     let mut few = wide(rt.alloc(), 16)?;
     let mut many = wide(rt.alloc(), 1_024)?;
-    let mut place = 0u16;
-    for _ in 0..MANY {
-        // Each place once, not in order.
-        place = (place % MANY + 7) % MANY;
-        let inserted = insert(&mut few, nth(place))?;
-        assert!(rt; inserted.unfinished.is_none());
-        assert!(rt; insert(&mut many, nth(place)) == Ok(inserted));
-    }
-    assert!(rt; gives_all(&mut few)? && gives_all(&mut many)?);
+    assert!(rt; answer_alike(&mut few, &mut many) == Ok(true));
     Ok(())
+}
+
+// Deletes the rows of block 1, which odd keys have, while even keys have rows of block 0.
+fn deletes_odd(index: &mut Index<Store<MemDevice>>) -> Result<VacuumStats, Fault> {
+    for key in 1..8u8 {
+        insert(index, keyed(&[key], u32::from(key) % 2, u16::from(key)))?;
+    }
+    bulk_delete(index, &Blocks { from: 1, to: 1 })
 }
 
 #[test]
 fn dead_rows_are_deleted(rt: HostRuntime) -> Result<(), Fail> {
     let mut index = index(rt.alloc())?;
-    // Odd keys have rows of block 1, even ones of block 0.
-    for key in 1..8u8 {
-        let new = keyed(&[key], u32::from(key) % 2, u16::from(key));
-        assert!(rt; insert(&mut index, new).is_ok());
-    }
-    let stats = bulk_delete(&mut index, &Blocks { from: 1, to: 1 })?;
-    assert!(rt; stats.tuples_removed == 4);
-    assert!(rt; stats.num_index_tuples == 3);
-    let token = begin_scan(&mut index, ALL)?;
-    for expected in [2, 4, 6, 0] {
-        assert!(rt; given(&mut index, token) == expected);
-    }
+    let stats = deletes_odd(&mut index)?;
+    assert!(rt; (stats.tuples_removed, stats.num_index_tuples) == (4, 3));
+    assert!(rt; scans(&mut index, &[2, 4, 6, 0]) == Ok(true));
     Ok(())
 }

@@ -7,6 +7,7 @@ use crate::small::{LEN, LIMITS, limits, made, made_with, marked};
 use device::{CrashImage, MemDevice};
 use index_model::Fault;
 use page_action::PageStore;
+use page_store::Store;
 use std::alloc::Global;
 use std::test::{Fail, *};
 
@@ -130,30 +131,42 @@ fn hostile_superblocks(rt: HostRuntime) -> Result<(), Fail> {
     Ok(())
 }
 
-/// A device whose log holds two acts that are forced and one that isn't, on top of a checkpoint.
-fn busy_device(alloc: Global) -> Result<MemDevice, Fault> {
-    let mut store = match open(alloc, made(alloc)?, 16) {
-        Ok(store) => store,
-        Err(refused) => return Err(refused.fault),
-    };
-    act(&mut store, &[marked(1, 5)])?;
-    checkpoint(&mut store)?;
-    act(&mut store, &[marked(2, 6)])?;
-    act(&mut store, &[marked(1, 7)])?;
-    force(&mut store)?;
-    act(&mut store, &[marked(3, 8)])?;
-    Ok(device_of(store))
+/// Two acts that are forced and one that isn't, on top of a checkpoint.
+fn make_busy(store: &mut Store<MemDevice>) -> Result<(), Fault> {
+    act(store, &[marked(1, 5)])?;
+    checkpoint(store)?;
+    act(store, &[marked(2, 6)])?;
+    act(store, &[marked(1, 7)])?;
+    force(store)?;
+    act(store, &[marked(3, 8)])?;
+    Ok(())
 }
 
-/// The cycles of the pages of an index that is opened on the device; none where it is refused.
+/// A device whose log holds these.
+fn busy_device(alloc: Global) -> Result<MemDevice, Fault> {
+    match open(alloc, made(alloc)?, 16) {
+        Ok(store) => {
+            let mut store = store;
+            make_busy(&mut store)?;
+            Ok(device_of(store))
+        }
+        Err(refused) => Err(refused.fault),
+    }
+}
+
+/// How many pages a store has, and the cycles of the first two leaves; none where it refuses them.
+fn cycles_in(store: &mut Store<MemDevice>) -> Option<(u32, u32, u32)> {
+    let first = page(store, 1).ok()?;
+    let second = page(store, 2).ok()?;
+    Some((store.used(), first.cycle, second.cycle))
+}
+
+/// The same of the index that is opened on the device; none where it is refused.
 fn cycles(alloc: Global, device: MemDevice) -> Option<(u32, u32, u32)> {
     match open(alloc, device, 1_024) {
         Ok(store) => {
             let mut store = store;
-            let used = store.used();
-            let first = page(&mut store, 1).ok()?;
-            let second = page(&mut store, 2).ok()?;
-            Some((used, first.cycle, second.cycle))
+            cycles_in(&mut store)
         }
         Err(_) => None,
     }

@@ -30,13 +30,19 @@ fn fill(index: &mut Index<Store<MemDevice>>, from: u32, to: u32) -> Result<(), F
     Ok(())
 }
 
+/// Inserts all, with a checkpoint before the last ones and a commit behind them.
+fn fill_all(index: &mut Index<Store<MemDevice>>) -> Result<(), Fault> {
+    fill(index, 0, 27)?;
+    checkpoint_of(index)?;
+    fill(index, 27, ENTRIES)?;
+    commit(index)?;
+    Ok(())
+}
+
 /// What a crash keeps of an index of three levels, behind a checkpoint and a commit: the last inserts stand in the log
 /// alone.
 pub fn sound(alloc: Global) -> Result<MemDevice, Fault> {
     let mut index = open_index(alloc, made_with(alloc, &limits(32))?, FRAMES)?;
-    fill(&mut index, 0, 27)?;
-    checkpoint_of(&mut index)?;
-    fill(&mut index, 27, ENTRIES)?;
-    commit(&mut index)?;
+    fill_all(&mut index)?;
     left(alloc, &index.into_device(), CrashImage::Keep)
 }

@@ -6,7 +6,7 @@ use crate::plain::{
     begin_scan, bulk_delete, checkpoint_of, clean_up, end_scan, insert, next, open,
 };
 use crate::small::{ALL, keyed};
-use access_method::{Index, Inserted};
+use access_method::{Index, Inserted, ScanToken};
 use amcheck::{CheckFault, Report, check, check_parents};
 use device::MemDevice;
 use index_model::{Entry, Fault, VacuumStats};
@@ -49,8 +49,8 @@ struct Trial {
 }
 
 impl Trial {
-    fn scan(&mut self) -> Result<Given, Fault> {
-        let token = begin_scan(&mut self.index, ALL)?;
+    /// What the scan of this token gives.
+    fn all_given(&mut self, token: ScanToken) -> Result<Given, Fault> {
         let mut given = Given {
             count: 0,
             ascend: true,
@@ -66,6 +66,12 @@ impl Trial {
             given.count = given.count.saturating_add(1);
             last = Some(entry);
         }
+        Ok(given)
+    }
+
+    fn scan(&mut self) -> Result<Given, Fault> {
+        let token = begin_scan(&mut self.index, ALL)?;
+        let given = self.all_given(token)?;
         end_scan(&mut self.index, token)?;
         Ok(given)
     }
@@ -176,13 +182,21 @@ impl Trial {
     fn opens_again(self, alloc: Global, used: u32) -> bool {
         let Trial { index, entries } = self;
         match open(alloc, index.into_device(), FRAMES) {
-            Ok(mut store) => match verified(alloc, &mut store) {
-                Some(Ok(report)) => entries.is_none_or(|count| count == u64::from(report.entries)),
-                Some(Err(_)) => entries.is_none(),
-                None => false,
-            },
+            Ok(store) => {
+                let mut store = store;
+                is_found_again(alloc, &mut store, entries)
+            }
             Err(refused) => matches!(refused.fault, Fault::PageDamaged(block) if block > used),
         }
+    }
+}
+
+/// Whether the verifier finds so many entries, or damage where the index wasn't sound.
+fn is_found_again(alloc: Global, store: &mut Store<MemDevice>, entries: Option<u64>) -> bool {
+    match verified(alloc, store) {
+        Some(Ok(report)) => entries.is_none_or(|count| count == u64::from(report.entries)),
+        Some(Err(_)) => entries.is_none(),
+        None => false,
     }
 }
 
@@ -226,28 +240,44 @@ fn verified(alloc: Global, store: &mut Store<MemDevice>) -> Option<Result<Report
     }
 }
 
-/// Opens the index, verifies it, makes each call, and opens it again.
-pub fn tried(alloc: Global, device: MemDevice) -> Outcome {
-    let mut store = match open(alloc, device, FRAMES) {
-        Ok(store) => store,
-        Err(refused) if is_open_fault(refused.fault) => return Outcome::NotOpened,
-        Err(_) => return Outcome::Wrong("an open"),
-    };
-    let (outcome, entries) = match verified(alloc, &mut store) {
+/// What the verifier finds, as an outcome, and how many entries there are, where it finds no damage.
+fn begun(alloc: Global, store: &mut Store<MemDevice>) -> (Outcome, Option<u64>) {
+    match verified(alloc, store) {
         Some(Ok(report)) => (Outcome::Sound, Some(u64::from(report.entries))),
         Some(Err(number)) => (Outcome::Damaged(number), None),
-        None => return Outcome::Wrong("a check"),
-    };
+        None => (Outcome::Wrong("a check"), None),
+    }
+}
+
+/// Verifies the index, makes each call, and opens it again.
+fn tried_in(alloc: Global, store: Store<MemDevice>) -> Outcome {
+    let mut store = store;
+    let (outcome, entries) = begun(alloc, &mut store);
+    if let Outcome::Wrong(_) = outcome {
+        return outcome;
+    }
     let used = store.used();
     let mut trial = Trial {
         index: Index::new(store),
         entries,
     };
-    if let Some(wrong) = trial.find_wrong() {
-        return Outcome::Wrong(wrong);
+    match trial.find_wrong() {
+        Some(wrong) => Outcome::Wrong(wrong),
+        None => {
+            if trial.opens_again(alloc, used) {
+                outcome
+            } else {
+                Outcome::Wrong("an open behind all calls")
+            }
+        }
     }
-    if !trial.opens_again(alloc, used) {
-        return Outcome::Wrong("an open behind all calls");
+}
+
+/// Opens the index, verifies it, makes each call, and opens it again.
+pub fn tried(alloc: Global, device: MemDevice) -> Outcome {
+    match open(alloc, device, FRAMES) {
+        Ok(store) => tried_in(alloc, store),
+        Err(refused) if is_open_fault(refused.fault) => Outcome::NotOpened,
+        Err(_) => Outcome::Wrong("an open"),
     }
-    outcome
 }

@@ -100,22 +100,51 @@ fn fails_right(
     are_right(run, world, judge, dice, 100)
 }
 
+/// Random events, a crash, and what is opened behind it, of which the judge hears from then on: whether all is right.
+fn crashes_right(
+    run: Run,
+    world: &mut OverDevice,
+    judge: &mut Judge,
+    dice: &mut Dice,
+    tally: &mut Tally,
+    events: u32,
+) -> Result<bool, Fail> {
+    if !fails_right(run, world, judge, dice, events)? {
+        return Ok(false);
+    }
+    *world = opened_again(run, FOR_ALL, world, dice, tally)?;
+    let next = judge_of(run, world)?;
+    let is_right = judge.crashes(&next);
+    tally.join(judge.tally());
+    *judge = next;
+    Ok(is_right)
+}
+
+/// So many crashes, each behind so many events, and the end of the run: whether all is right.
+fn runs_right(
+    run: Run,
+    world: &mut OverDevice,
+    dice: &mut Dice,
+    tally: &mut Tally,
+    crashes: u32,
+    events: u32,
+) -> Result<bool, Fail> {
+    let mut judge = judge_of(run, world)?;
+    for _ in 0..crashes {
+        if !crashes_right(run, world, &mut judge, dice, tally, events)? {
+            return Ok(false);
+        }
+    }
+    let is_right = ends_right(run, world, &mut judge, dice)?;
+    tally.join(judge.tally());
+    Ok(is_right)
+}
+
 /// A run over a device with so many crashes, each behind so many events.
 pub fn crashed(run: Run, seed: u64, crashes: u32, events: u32) -> Result<Outcome, Fail> {
     let mut dice = Dice::new(seed);
-    let mut world = on_a_device(run, FOR_ALL)?;
-    let mut judge = judge_of(run, &mut world)?;
     let mut tally = Tally::default();
-    let mut is_right = true;
-    for _ in 0..crashes {
-        is_right = is_right && fails_right(run, &mut world, &mut judge, &mut dice, events)?;
-        world = opened_again(run, FOR_ALL, &world, &mut dice, &mut tally)?;
-        let next = judge_of(run, &mut world)?;
-        is_right = is_right && judge.crashes(&next);
-        tally.join(judge.tally());
-        judge = next;
-    }
-    is_right = is_right && ends_right(run, &mut world, &mut judge, &mut dice)?;
-    tally.join(judge.tally());
+    let mut world = on_a_device(run, FOR_ALL)?;
+    let is_right = runs_right(run, &mut world, &mut dice, &mut tally, crashes, events)?;
     Ok(Outcome { is_right, tally })
 }

@@ -84,6 +84,13 @@ pub fn are_running<S: PageStore>(world: &World<S, Blocks>, judge: &Judge, sessio
     (0..sessions).all(|session| world.is_running(session) == judge.is_running(session))
 }
 
+/// Whether the world has made the actions and runs the calls that the judge knows, and what the answer calls full is full.
+fn agree<S: PageStore>(run: Run, world: &World<S, Blocks>, judge: &Judge, answer: &Answer) -> bool {
+    world.actions() == judge.actions() as u64
+        && are_running(world, judge, run.space.sessions)
+        && is_full(world, run.limits, answer)
+}
+
 /// Does one event: its answer, or None where that is wrong, or what it has done.
 fn one<S: PageStore>(
     run: Run,
@@ -98,11 +105,7 @@ fn one<S: PageStore>(
     } else {
         acts(run.alloc, world, judge, session_of(&event))?
     };
-    let is_right = is_kept
-        && judge.hears(&event, &answer)?
-        && world.actions() == judge.actions() as u64
-        && are_running(world, judge, run.space.sessions)
-        && is_full(world, run.limits, &answer);
+    let is_right = is_kept && judge.hears(&event, &answer)? && agree(run, world, judge, &answer);
     Ok(if is_right { Some(answer) } else { None })
 }
 

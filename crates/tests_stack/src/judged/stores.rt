@@ -330,20 +330,54 @@ impl Watched {
         let device = left_of(self.alloc, &self.store, image)?;
         let again = Watched::new(self.alloc, opened(self.alloc, device, dice, tally)?)?;
         count(&mut tally.images);
+        let is_right = self.leads_to(&again, tally)?;
+        Ok(if is_right { Some(again) } else { None })
+    }
+
+    /// Whether the other began with the pages after some first part of the acts that holds every durable one.
+    fn leads_to(&self, again: &Watched, tally: &mut StoreTally) -> Result<bool, AllocError> {
         let durable = self.store.durable() as usize;
-        match self.past.part_of(again.past.start(), durable)? {
-            Some(part) => {
-                if part < self.past.acts() {
-                    count(&mut tally.losing);
-                }
-                if part > durable {
-                    count(&mut tally.more);
-                }
-                Ok(Some(again))
-            }
-            None => Ok(None),
+        let Some(part) = self.past.part_of(again.past.start(), durable)? else {
+            return Ok(false);
+        };
+        if part < self.past.acts() {
+            count(&mut tally.losing);
+        }
+        if part > durable {
+            count(&mut tally.more);
+        }
+        Ok(true)
+    }
+}
+
+/// Random calls and three crashes: what is opened again behind one of them, or None where something isn't right.
+fn next_of(
+    watched: &mut Watched,
+    dice: &mut Dice,
+    calls: u32,
+    tally: &mut StoreTally,
+) -> Result<Option<Watched>, Fail> {
+    if !watched.runs(dice, calls, tally)? {
+        return Ok(None);
+    }
+    let next = dice.roll(3) as usize;
+    let mut chosen = None;
+    for at in 0..3usize {
+        let again = watched.crashes(IMAGES[at], dice, tally)?;
+        if again.is_none() {
+            return Ok(None);
+        }
+        if at == next {
+            chosen = again;
         }
     }
+    Ok(chosen)
+}
+
+/// A store over a new index of 64 pages.
+fn fresh(alloc: Global, dice: &mut Dice, tally: &mut StoreTally) -> Result<Watched, Fault> {
+    let device = made_with(alloc, &LIMITS)?;
+    Watched::new(alloc, opened(alloc, device, dice, tally)?)
 }
 
 /// A store of 16 frames over a new index of 64 pages, with so many crashes, each behind at most so many calls: whether all is
@@ -356,24 +390,11 @@ pub fn store_crashed(
     tally: &mut StoreTally,
 ) -> Result<bool, Fail> {
     let mut dice = Dice::new(seed);
-    let device = made_with(alloc, &LIMITS)?;
-    let mut watched = Watched::new(alloc, opened(alloc, device, &mut dice, tally)?)?;
+    let mut watched = fresh(alloc, &mut dice, tally)?;
     for _ in 0..crashes {
-        if !watched.runs(&mut dice, calls, tally)? {
-            return Ok(false);
-        }
-        let next = dice.roll(3) as usize;
-        let mut chosen = None;
-        for at in 0..3usize {
-            let Some(again) = watched.crashes(IMAGES[at], &mut dice, tally)? else {
-                return Ok(false);
-            };
-            if at == next {
-                chosen = Some(again);
-            }
-        }
-        if let Some(again) = chosen {
-            watched = again;
+        match next_of(&mut watched, &mut dice, calls, tally)? {
+            Some(again) => watched = again,
+            None => return Ok(false),
         }
     }
     Ok(true)

@@ -10,7 +10,7 @@ use crate::plain::world;
 use crate::small::pages;
 use index_model::{Fault, Limits};
 use page_action::MapStore;
-use std::alloc::Global;
+use std::alloc::{AllocError, Global};
 use std::test::{Fail, *};
 use world::World;
 
@@ -25,18 +25,28 @@ fn in_memory(run: Run) -> Result<World<MapStore, Blocks>, Fault> {
     )
 }
 
-/// A run over an empty index in memory.
-fn ran(run: Run, seed: u64, events: u32) -> Result<Outcome, Fail> {
-    let mut world = in_memory(run)?;
-    let mut judge = judge_of(run, &mut world)?;
+/// A run over an index in memory.
+fn run_over(
+    run: Run,
+    world: &mut World<MapStore, Blocks>,
+    seed: u64,
+    events: u32,
+) -> Result<Outcome, AllocError> {
+    let mut judge = judge_of(run, world)?;
     judge.expects_no_writes();
     let mut dice = Dice::new(seed);
-    let is_right = are_right(run, &mut world, &mut judge, &mut dice, events)?
-        && ends_right(run, &mut world, &mut judge, &mut dice)?;
+    let is_right = are_right(run, world, &mut judge, &mut dice, events)?
+        && ends_right(run, world, &mut judge, &mut dice)?;
     Ok(Outcome {
         is_right,
         tally: judge.tally(),
     })
+}
+
+/// A run over an empty index in memory.
+fn ran(run: Run, seed: u64, events: u32) -> Result<Outcome, Fail> {
+    let mut world = in_memory(run)?;
+    Ok(run_over(run, &mut world, seed, events)?)
 }
 
 /// A run of so many sessions that has room for all its entries, on pages of so many items.
