@@ -1,6 +1,6 @@
 //! The pages that wait to be written, kept plainly.
 
-use super::pages::is_same;
+use crate::pages::is_same;
 use page_codec::Page;
 use std::alloc::{AllocError, Global};
 

@@ -1,6 +1,6 @@
 //! The pages after each first part of the acts.
 
-use super::pages::is_same;
+use crate::pages::is_same;
 use page_codec::Page;
 use std::alloc::{AllocError, Global};
 

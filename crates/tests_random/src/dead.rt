@@ -1,9 +1,25 @@
 //! The sets of dead rows of a run.
 
-use super::dice::Space;
-use crate::dead::Blocks;
+use crate::dice::Space;
 use index_model::{DeadRows, Fault, RowAddr};
 use std::alloc::{AllocError, Global};
+
+/// The rows of these blocks, both ends among them.
+#[derive(Clone, Copy, Drop)]
+pub struct Blocks {
+    from: u32,
+    to: u32,
+}
+
+impl DeadRows for Blocks {
+    ghost use Rattle.std.specs.Prelude.{◌&&◌, nat_le};
+
+    ghost is_in = { λ set row. nat_le set.from row.block && nat_le row.block set.to };
+
+    fn is_dead(&self, row: RowAddr) -> bool {
+        self.from <= row.block() && row.block() <= self.to
+    }
+}
 
 /// The blocks of the set at this place: one each, and behind them all.
 fn set_at(space: Space, place: u32) -> Blocks {

@@ -2,12 +2,12 @@
 
 ghost use Rattle.std.specs.Prelude.{◌≤◌, ◌<◌};
 
-use super::dice::Space;
-use super::pages::{contents, flagged, is_on, lost, root_level};
-use super::runs::fault_of;
-use super::sets::rows_of;
-use super::tally::Tally;
-use super::waiting::Waiting;
+use crate::dead::rows_of;
+use crate::dice::Space;
+use crate::pages::{contents, flagged, is_on, lost, root_level};
+use crate::runs::fault_of;
+use crate::tally::Tally;
+use crate::waiting::Waiting;
 use index_model::{Entry, Fault, Range, RowAddr};
 use page_codec::Page;
 use schedule::Event;
@@ -227,14 +227,8 @@ impl Judge {
             .changes(&self.pages, &pages, self.history.len())?;
         self.pages = pages;
         self.history.push(PlainAction { by, effect })?;
-        let is_known = self.counts(by, adds, removes, cleans);
-        Ok(is_known && self.are_contents(entries, self.history.len()))
-    }
-
-    /// Counts the last action, of the call of this number, by what it has done; false where there is no such call.
-    fn counts(&mut self, by: usize, adds: bool, removes: bool, cleans: bool) -> bool {
         let Some(call) = self.calls.get_mut(by) else {
-            return false;
+            return Ok(false);
         };
         if adds {
             self.tally.add();
@@ -246,7 +240,7 @@ impl Judge {
         } else {
             self.tally.reshape(call.added.is_none());
         }
-        true
+        Ok(self.are_contents(entries, self.history.len()))
     }
 
     /// Keeps the answer of an event, and says whether it is right. The event's action is kept before.

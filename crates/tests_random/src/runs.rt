@@ -1,11 +1,10 @@
 //! Runs of a world that a judge hears.
 
-use super::dice::{Dice, Space};
-use super::judge::Judge;
-use super::pages::{are_kept, contents, copies};
-use super::tally::Tally;
 use crate::dead::Blocks;
-use crate::plain;
+use crate::dice::{Dice, Space};
+use crate::judge::Judge;
+use crate::pages::{are_kept, contents, copies};
+use crate::tally::Tally;
 use index_model::{Fault, Limits, Range};
 use page_action::PageStore;
 use schedule::Event;
@@ -84,13 +83,6 @@ pub fn are_running<S: PageStore>(world: &World<S, Blocks>, judge: &Judge, sessio
     (0..sessions).all(|session| world.is_running(session) == judge.is_running(session))
 }
 
-/// Whether the world has made the actions and runs the calls that the judge knows, and what the answer calls full is full.
-fn agree<S: PageStore>(run: Run, world: &World<S, Blocks>, judge: &Judge, answer: &Answer) -> bool {
-    world.actions() == judge.actions() as u64
-        && are_running(world, judge, run.space.sessions)
-        && is_full(world, run.limits, answer)
-}
-
 /// Does one event: its answer, or None where that is wrong, or what it has done.
 fn one<S: PageStore>(
     run: Run,
@@ -99,13 +91,17 @@ fn one<S: PageStore>(
     event: Event,
 ) -> Result<Option<Answer>, AllocError> {
     let before = world.actions();
-    let answer = plain::one(world, event);
+    let answer = world.one(event);
     let is_kept = if world.actions() == before {
         are_kept(world, judge.pages())
     } else {
         acts(run.alloc, world, judge, session_of(&event))?
     };
-    let is_right = is_kept && judge.hears(&event, &answer)? && agree(run, world, judge, &answer);
+    let is_right = is_kept
+        && judge.hears(&event, &answer)?
+        && world.actions() == judge.actions() as u64
+        && are_running(world, judge, run.space.sessions)
+        && is_full(world, run.limits, &answer);
     Ok(if is_right { Some(answer) } else { None })
 }
 
