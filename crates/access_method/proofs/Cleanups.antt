@@ -8,7 +8,8 @@ use Rattle.index_model.specs.declared.stats.VacuumStats.{VacuumStats}
 use Rattle.index_model.proofs.Histories.{contents_after-append}
 use Rattle.page_action.specs.declared.page_store.PageStore.{Ghosts}
 use Rattle.session_calls.specs.declared.request.Request.TheVariants.{Cleanup as ToCleanup}
-use Rattle.schedule.specs.Snapshots.{StoreAndSlots, snapshot_of, Fits}
+use Rattle.schedule.specs.TheoremMoments.{StoreAndSlots, snapshot_of}
+use Rattle.schedule.specs.TheoremRuns.{Fits}
 use Rattle.whole_calls.specs.Going.{CallRuns}
 use Rattle.whole_calls.specs.Sweeping.{SweepTold, swept_came, TellsCleaned}
 use Rattle.whole_calls.specs.Telling.{acts_by, AreOwnEffects, first_call}
@@ -32,7 +33,7 @@ module _ {S : Type 0} (g : Ghosts S) (old new : StoreAndSlots S) (start : Entry 
   pub cleaned_up : (result : Result VacuumStats Fault) → (r : CallRuns g 63 (SweepTold 63 ToCleanup result) (swept_came result) old new start history calls) → TellsCleaned (g.state new.store) result → IsCleanedUp g result old.store new.store
   cleaned_up (Ok stats) r told =
       let t = r.tells in
-      record { contents = λ e. r.ran.fits.matches.contents e ∙ stays r.then_history t.effects t.own t.history_is e ∙ sym (fits.matches.contents e); told = told }
+      record { contents = λ e. r.ran.fits.explains.contents e ∙ stays r.then_history t.effects t.own t.history_is e ∙ sym (fits.explains.contents e); told = told }
   cleaned_up (Err fault) r told =
       let t = r.tells in
-      record { contents = λ e. r.ran.fits.matches.contents e ∙ stays r.then_history t.effects t.own t.history_is e ∙ sym (fits.matches.contents e); told = told }
+      record { contents = λ e. r.ran.fits.explains.contents e ∙ stays r.then_history t.effects t.own t.history_is e ∙ sym (fits.explains.contents e); told = told }

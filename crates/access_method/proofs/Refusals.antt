@@ -2,7 +2,7 @@
 use Rattle.whole_calls.specs.Inserting.{InsertGoes}
 use Rattle.whole_calls.specs.Going.{CallRuns}
 use Rattle.schedule.specs.declared.event.Event.{Event}
-use Rattle.schedule.specs.Runs.{IsRun, Carries}
+use Rattle.schedule.specs.TheoremRuns.{IsRun, Carries, Fits}
 use Rattle.session_calls.specs.declared.answer.Answer.{Answer}
 use Rattle.index_model.specs.Calls.{Call}
 use Rattle.index_model.specs.Actions.{Action}
@@ -25,7 +25,8 @@ use Rattle.page_action.specs.declared.page_store.PageStore.{Ghosts}
 use Rattle.session_calls.specs.Ops.{IsFaultCaused, is_vacuum}
 use Rattle.session_calls.specs.Sessions.{is_busy}
 use Rattle.session_calls.specs.declared.request.Request.TheVariants.{Insert as ToInsert, Bulk as ToBulk, Cleanup as ToCleanup}
-use Rattle.schedule.specs.Snapshots.{StoreAndSlots, Snapshot, snapshot_of, Fits, IsFree, slot_of, slot_vacuums, one_vacuums}
+use Rattle.schedule.specs.TheoremMoments.{StoreAndSlots, Snapshot, snapshot_of}
+use Rattle.schedule.specs.Snapshots.{IsFree, slot_of, slot_vacuums, one_vacuums}
 use Rattle.schedule.proofs.Lists.{get_some}
 use Rattle.whole_calls.specs.Refusing.{another_runs, where_inserted, where_called, is_used_up, is_tall, InsertCallIsCaused, where_gone}
 use Rattle.whole_calls.specs.declared.inserted.Inserted.{Inserted}
@@ -33,6 +34,7 @@ use Rattle.access_method.specs.Indexes.{slots_within, has_entry, InsertsOrKeeps,
 use Rattle.access_method.specs.Refusals.{where_run, where_inserting, InsertHasCause, IsUnhindered, IsForWantOfSpace, IsOfSpace, InsertsUnhindered}
 use Rattle.access_method.specs.Tokens.{NoneVacuums}
 use Rattle.access_method.specs.declared.index.Index.{Index}
+use Rattle.schedule.proofs.Fitting.{beyond_of, running_of}
 
 true_false : true ≡ false → ⊥
 true_false h = cc
@@ -108,7 +110,7 @@ run_frames : {S : Type 0} (g : Ghosts S) (start : Entry → Bool) (told : List A
 run_frames {S} g start told [] [] first last is = ap (λ (m : Snapshot S). (g.state m.store).frames) (sym is)
 run_frames g start told [] (answer ∷ answers) first last is = absurd is
 run_frames g start told (event ∷ events) [] first last is = absurd is
-run_frames g start told (event ∷ events) (answer ∷ answers) first last is = run_frames g start (told ++ answer ∷ []) events answers is.1.0 last is.1.2 ∙ is.1.1.does.quiet.frames
+run_frames g start told (event ∷ events) (answer ∷ answers) first last is = run_frames g start (told ++ answer ∷ []) events answers is.1.0 last is.1.2 ∙ is.1.1.also.quiet.frames
 
 pub frames_stay : {S : Type 0} (g : Ghosts S) (session : ℕ) (Tells : Snapshot S → Snapshot S → Type 0) (came : Option Answer) (old new : StoreAndSlots S) (start : Entry → Bool) (history : List Action) (calls : List Call)
     → CallRuns g session Tells came old new start history calls → (g.state new.store).frames ≡ (g.state old.store).frames
@@ -211,9 +213,9 @@ all_alone g start now fits idle other differ = by (slice_get now.slots other) re
     by : (o : Option (Option Op)) → slice_get now.slots other ≡ o → holding_of (g.state now.store).table other ≡ nothing_held
     by None at = elim (cases_lt other (length now.slots)) [
       | inl lt ↦ absurd (let s = get_some now.slots other lt in some_none s.0 (sym s.1 ∙ at))
-      | inr ge ↦ (fits.beyond other ge).holds
+      | inr ge ↦ (beyond_of fits other ge).holds
     ]
-    by (Some None) at = (let free : IsFree g now other = fits.running other None at in free.idle.holds)
+    by (Some None) at = (let free : IsFree g now other = running_of fits other None at in free.idle.holds)
     by (Some (Some op)) at = absurd (let same : Some op ≡ None = sym (ap (λ (o : Option (Option Op)). unwrap_or o None) at) ∙ none in cc)
 
 -- why a bulk delete is refused

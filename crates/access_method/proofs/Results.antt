@@ -4,8 +4,10 @@ use Rattle.index_model.specs.Faults.{HasCause}
 use Rattle.page_action.specs.Causes.{where_forced}
 use Rattle.session_calls.specs.declared.answer.Answer.{Answer}
 use Rattle.session_calls.specs.declared.answer.Answer.TheVariants.{Begun, Going, Added, Ready, Done, Finished, Gave, Ended, Forced, Flushed, Checkpointed, Refused}
-use Rattle.schedule.specs.Events.{Kind, KeepsStore, Upkeep, Forces, Flushes, Checkpoints, kept_answer, kind_of, IsOfSession, AnswersUpkeep, StoreIsKept, EventDoes}
-use Rattle.schedule.specs.Runs.{Carries, Runs}
+use Rattle.schedule.specs.TheoremKinds.{Kind, KeepsStore, Upkeep, Forces, Flushes, Checkpoints, kind_of}
+use Rattle.schedule.specs.Making.{EventDoes}
+use Rattle.schedule.specs.Events.{kept_answer, IsOfSession, AnswersUpkeep, StoreIsKept}
+use Rattle.schedule.specs.TheoremRuns.{Carries, Runs, Fits}
 use Rattle.schedule.specs.declared.event.Event.{Event}
 use Rattle.schedule.proofs.Keeping.{Laws}
 use Rattle.whole_calls.specs.Telling.{IsSilent}
@@ -25,8 +27,9 @@ use Rattle.index_model.specs.declared.fault.Fault.TheVariants.{Exists}
 use Rattle.index_model.specs.declared.range.Range.{Range}
 use Rattle.index_model.proofs.Histories.{contents_after-append, contents_after-add}
 use Rattle.page_action.specs.declared.page_store.PageStore.{Ghosts}
-use Rattle.session_calls.specs.Sessions.{begun_call, given_one, ended}
-use Rattle.schedule.specs.Snapshots.{StoreAndSlots, Fits, snapshot_of}
+use Rattle.session_calls.specs.TheoremCalls.{begun_call}
+use Rattle.session_calls.specs.Sessions.{given_one, ended}
+use Rattle.schedule.specs.TheoremMoments.{StoreAndSlots, snapshot_of}
 use Rattle.schedule.proofs.Lists.{get_append_new, get_set_same, get_within, same_some}
 use Rattle.whole_calls.specs.Telling.{InsertTold, inserted_call, shapes}
 use Rattle.whole_calls.specs.Inserting.{InsertGoes}
@@ -57,7 +60,7 @@ told_or_kept g entry (Ok inserted) came old new start history calls fits r =
     let t = r.tells in
     let call : Call = inserted_call 63 entry (length history) inserted.action t.ending (length r.then_history) in
     let found : slice_get r.then_calls (length calls) ≡ Some call = ap (λ (l : List Call). slice_get l (length calls)) t.calls_is ∙ get_append_new calls call in
-    let meets : Meets start r.then_history (length calls) call = r.ran.fits.meets (length calls) call found in
+    let meets : Meets start r.then_history (length calls) call = r.ran.fits.explains.meets (length calls) call found in
     let added = meets.right.add in
     let front : List Action = history ++ shapes (length calls) t.before in
     let behind : List Action = shapes (length calls) t.behind in
@@ -71,14 +74,14 @@ told_or_kept g entry (Ok inserted) came old new start history calls fits r =
     let kept : (e : Entry) → contents_after start front e ≡ contents_after start history e = λ e. after_nothing start history (shapes (length calls) t.before) e (all_shapes_say (length calls) t.before e) in
     let whole : r.then_history ≡ (front ++ act ∷ []) ++ behind = t.history_is ∙ sym (append_assoc front (act ∷ []) behind) in
     record {
-      was_absent = fits.matches.contents entry ∙ sym (kept entry) ∙ ap (λ (l : List Action). contents_after start l entry) (sym first) ∙ added.was_absent;
-      contents = λ e. r.ran.fits.matches.contents e ∙ ap (λ (l : List Action). contents_after start l e) whole
+      was_absent = fits.explains.contents entry ∙ sym (kept entry) ∙ ap (λ (l : List Action). contents_after start l entry) (sym first) ∙ added.was_absent;
+      contents = λ e. r.ran.fits.explains.contents e ∙ ap (λ (l : List Action). contents_after start l e) whole
           ∙ after_nothing start (front ++ act ∷ []) behind e (all_shapes_say (length calls) t.behind e) ∙ contents_after-add start front (length calls) entry e
-          ∙ ap (λ (b : Bool). same_entry entry e || b) (kept e ∙ sym (fits.matches.contents e));
-      since = (let a = t.action_is in let b : (g.state old.store).acts ≡ length history = fits.matches.count in omega (arith, a, b));
+          ∙ ap (λ (b : Bool). same_entry entry e || b) (kept e ∙ sym (fits.explains.contents e));
+      since = (let a = t.action_is in let b : (g.state old.store).acts ≡ length history = fits.explains.count in omega (arith, a, b));
       until = (
           let a = t.action_is in
-          let b : (g.state new.store).acts ≡ length r.then_history = r.ran.fits.matches.count in
+          let b : (g.state new.store).acts ≡ length r.then_history = r.ran.fits.explains.count in
           let c : length r.then_history ≡ length front + length (act ∷ behind) = ap (λ (l : List Action). length l) t.history_is ∙ length-append front (act ∷ behind) in
           let d : length (act ∷ behind) ≡ suc (length behind) = refl in
           omega (arith, a, b, c, d, many));
@@ -87,16 +90,16 @@ told_or_kept g entry (Err fault) came old new start history calls fits r =
     let t = r.tells in
     let failed : Call = ended (begun_call 63 (AskInsert entry) (length history)) (Failed Exists) (length r.then_history) in
     record {
-      contents = λ e. r.ran.fits.matches.contents e ∙ ap (λ (l : List Action). contents_after start l e) t.history_is ∙ after_nothing start history (shapes (length calls) t.shaped) e (all_shapes_say (length calls) t.shaped e) ∙ sym (fits.matches.contents e);
+      contents = λ e. r.ran.fits.explains.contents e ∙ ap (λ (l : List Action). contents_after start l e) t.history_is ∙ after_nothing start history (shapes (length calls) t.shaped) e (all_shapes_say (length calls) t.shaped e) ∙ sym (fits.explains.contents e);
       was_there = λ exists. (
           let found : slice_get r.then_calls (length calls) ≡ Some failed = ap (λ (l : List Call). slice_get l (length calls)) (t.exists_is exists) ∙ get_append_new calls failed in
-          let meets : Meets start r.then_history (length calls) failed = r.ran.fits.meets (length calls) failed found in
+          let meets : Meets start r.then_history (length calls) failed = r.ran.fits.explains.meets (length calls) failed found in
           let at : ThereAtSomeMoment start r.then_history (length history) (length r.then_history) entry = meets.right.end.1 refl in
           let more : ℕ = at.moment - length history in
           let moment : at.moment ≡ length history + more = (let a = at.since in omega (arith, a)) in
           let first : take at.moment r.then_history ≡ history ++ take more (shapes (length calls) t.shaped) =
           ap (λ (n : ℕ). take n r.then_history) moment ∙ ap (λ (l : List Action). take (length history + more) l) t.history_is ∙ take-append-add history (shapes (length calls) t.shaped) more in
-          fits.matches.contents entry ∙ sym (after_nothing start history (take more (shapes (length calls) t.shaped)) entry (shapes_say (length calls) t.shaped more entry))
+          fits.explains.contents entry ∙ sym (after_nothing start history (take more (shapes (length calls) t.shaped)) entry (shapes_say (length calls) t.shaped more entry))
           ∙ ap (λ (l : List Action). contents_after start l entry) (sym first) ∙ at.there);
     }
 
@@ -118,14 +121,14 @@ pub gives_right : {S : Type 0} (g : Ghosts S) (session : ℕ) (result : Result (
 gives_right g session (Ok (Some entry)) old new start history calls r number call range running ask =
     let told : Becomes number (given_one call entry) (snapshot_of old history calls) (snapshot_of new r.then_history r.then_calls) = r.tells number call range running ask in
     let found : slice_get r.then_calls number ≡ Some (given_one call entry) = ap (λ (l : List Call). slice_get l number) told.calls_is ∙ get_set_same calls number (given_one call entry) (get_within calls number call running.found) in
-    let meets : Meets start r.then_history number (given_one call entry) = r.ran.fits.meets number (given_one call entry) found in
+    let meets : Meets start r.then_history number (given_one call entry) = r.ran.fits.explains.meets number (given_one call entry) found in
     subst (λ (l : List Action). IsScanAnswerSoFar start l range call.began (length l) (call.given ++ entry ∷ [])) told.history_is
     (so_far start r.then_history number call.began call.until call.ask range (call.given ++ entry ∷ []) call.added call.ending ask running.running meets.right)
 gives_right g session (Ok None) old new start history calls r number call range running ask =
     let after : Call = ended call EndsFinished (length history) in
     let told : Becomes number after (snapshot_of old history calls) (snapshot_of new r.then_history r.then_calls) = r.tells number call range running ask in
     let found : slice_get r.then_calls number ≡ Some after = ap (λ (l : List Call). slice_get l number) told.calls_is ∙ get_set_same calls number after (get_within calls number call running.found) in
-    let meets : Meets start r.then_history number after = r.ran.fits.meets number after found in
+    let meets : Meets start r.then_history number after = r.ran.fits.explains.meets number after found in
     subst (λ (l : List Action). IsScanAnswer start l range call.began (length history) call.given) told.history_is
     (subst (λ (a : Ask). AnswersRight start r.then_history number call.began (length history) a call.given call.added EndsFinished) ask meets.right)
 gives_right g session (Err fault) old new start history calls r number call range running ask = tt

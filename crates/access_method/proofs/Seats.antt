@@ -13,12 +13,13 @@ use Rattle.page_action.specs.States.{Backing}
 use Rattle.index_model.specs.declared.range.Range.{Range}
 use Rattle.page_action.specs.Contents.{entry_on_live_leaf}
 use Rattle.page_action.specs.declared.page_store.PageStore.{Ghosts}
-use Rattle.session_calls.specs.Ops.{DeadSets, RunsOn}
+use Rattle.session_calls.specs.TheoremCalls.{DeadSets, begun_call}
+use Rattle.session_calls.specs.Ops.{RunsOn}
 use Rattle.session_calls.proofs.RunningOn.{stays_vacuum}
-use Rattle.session_calls.specs.Sessions.{begun_call}
 use Rattle.session_calls.specs.declared.request.Request.TheVariants.{Scan as ToScan}
 use Rattle.session_calls.specs.declared.op.Op.{Op}
-use Rattle.schedule.specs.Snapshots.{Snapshot, slot_of, slot_vacuums}
+use Rattle.schedule.specs.TheoremMoments.{Snapshot}
+use Rattle.schedule.specs.Snapshots.{slot_of, slot_vacuums}
 use Rattle.schedule.specs.Events.{OthersStay, where_begun_at}
 use Rattle.schedule.proofs.Unused.{in_replicate}
 use Rattle.schedule.proofs.Lists.{get_set_same, get_set_other, get_some}

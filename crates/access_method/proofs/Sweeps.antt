@@ -18,9 +18,11 @@ use Rattle.session_calls.specs.Sessions.{ended}
 use Rattle.session_calls.specs.declared.op.Op.{Op}
 use Rattle.session_calls.specs.declared.op.Op.TheVariants.{Bulk}
 use Rattle.session_calls.specs.declared.request.Request.TheVariants.{Bulk as ToBulk}
-use Rattle.schedule.specs.Crashes.{KeepsHistory, IsCrashSafe}
+use Rattle.schedule.specs.TheoremCrashes.{KeepsHistory, IsCrashSafe}
 use Rattle.schedule.specs.Events.{OthersStay}
-use Rattle.schedule.specs.Snapshots.{StoreAndSlots, Snapshot, snapshot_of, slot_of, Fits}
+use Rattle.schedule.specs.TheoremMoments.{StoreAndSlots, Snapshot, snapshot_of}
+use Rattle.schedule.specs.TheoremRuns.{Fits}
+use Rattle.schedule.specs.Snapshots.{slot_of}
 use Rattle.schedule.proofs.Lists.{get_append_new}
 use Rattle.whole_calls.specs.Going.{CallRuns}
 use Rattle.whole_calls.specs.Sweeping.{SweepTold, swept_came, TellsEntries, removed_of}
@@ -123,19 +125,19 @@ module _ {S : Type 0} (g : Ghosts S) (dead : Row → Bool) (old new : StoreAndSl
       let t = r.tells in
       let call : Call = ended sweep_call (Vacuumed stats) (length r.then_history) in
       let found : slice_get r.then_calls (length calls) ≡ Some call = ap (λ (l : List Call). slice_get l (length calls)) t.calls_is ∙ get_append_new calls call in
-      let meets : Meets start r.then_history (length calls) call = r.ran.fits.meets (length calls) call found in
+      let meets : Meets start r.then_history (length calls) call = r.ran.fits.explains.meets (length calls) call found in
       let right : IsBulkDeleteAnswer start r.then_history (length calls) (length history) (length r.then_history) dead stats =
       subst (λ (l : List (Row → Bool)). IsBulkDeleteAnswer start r.then_history (length calls) (length history) (length r.then_history) (unwrap_or (slice_get l 0) (λ row. false)) stats) sets_are meets.right in
-      let apt = remove_there start (length calls) r.then_calls call dead found asks history r.then_history t.effects t.history_is r.ran.fits.owned in
+      let apt = remove_there start (length calls) r.then_calls call dead found asks history r.then_history t.effects t.history_is r.ran.fits.explains.owned in
       let after : (e : Entry) → contents_after start r.then_history e ≡ (contents_after start history e && not (dead e.row)) = λ e. of e (dead e.row) refl t.effects t.own t.history_is right in
       record {
-        contents = λ e. r.ran.fits.matches.contents e ∙ after e ∙ ap (λ (b : Bool). b && not (dead e.row)) (sym (fits.matches.contents e));
+        contents = λ e. r.ran.fits.explains.contents e ∙ after e ∙ ap (λ (b : Bool). b && not (dead e.row)) (sym (fits.explains.contents e));
         removed = record {
           listed = removed_of t.effects;
           once = all_once start (length calls) history t.effects apt;
           such = λ e. removed_so (contents_after start history e) (is_among (removed_of t.effects) e) (dead e.row)
               (sym (left_by_all start (length calls) history t.effects apt e) ∙ ap (λ (l : List Action). contents_after start l e) (sym t.history_is) ∙ after e) (all_were start (length calls) history t.effects apt e)
-              ∙ ap (λ (b : Bool). b && dead e.row) (sym (fits.matches.contents e));
+              ∙ ap (λ (b : Bool). b && dead e.row) (sym (fits.explains.contents e));
           many = right.removed ∙ ap (λ (l : List Action). removed_by (length calls) l) (between r.then_history t.effects t.own t.history_is) ∙ all_counted start (length calls) t.effects;
         };
         left = left;
@@ -156,8 +158,8 @@ module _ {S : Type 0} (g : Ghosts S) (dead : Row → Bool) (old new : StoreAndSl
   swept_or_less (Err fault) r left =
       let t = r.tells in
       record {
-        others = λ e alive. r.ran.fits.matches.contents e ∙ alive_stays r.then_history t.effects t.own t.history_is e alive ∙ sym (fits.matches.contents e);
-        came = λ e there. fits.matches.contents e ∙ was_there r.then_history t.effects t.own t.history_is e (sym (r.ran.fits.matches.contents e) ∙ there);
+        others = λ e alive. r.ran.fits.explains.contents e ∙ alive_stays r.then_history t.effects t.own t.history_is e alive ∙ sym (fits.explains.contents e);
+        came = λ e there. fits.explains.contents e ∙ was_there r.then_history t.effects t.own t.history_is e (sym (r.ran.fits.explains.contents e) ∙ there);
       }
 
 -- the sessions of an index run no bulk delete behind one

@@ -4,7 +4,8 @@ use Rattle.index_model.specs.declared.fault.Fault.{Fault}
 use Rattle.index_model.specs.declared.fault.Fault.TheVariants.{NoSession}
 use Rattle.session_calls.specs.declared.answer.Answer.{Answer}
 use Rattle.session_calls.specs.declared.answer.Answer.TheVariants.{Forced, Checkpointed, Refused}
-use Rattle.schedule.specs.Events.{Upkeep, kept_answer}
+use Rattle.schedule.specs.TheoremKinds.{Upkeep}
+use Rattle.schedule.specs.Events.{kept_answer}
 
 -- how many actions are told as durable, or the refusal
 abbrev pub counted : Answer → Result ℕ Fault

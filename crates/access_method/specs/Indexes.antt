@@ -19,12 +19,12 @@ use Rattle.page_codec.specs.declared.page.Page.{Page}
 use Rattle.page_store.specs.Stores.{state_of, device_of}
 use Rattle.page_store.specs.declared.store.Store.{Store}
 use Rattle.recovery.specs.declared.opening.Refused.{Refused as NotOpened}
-use Rattle.session_calls.specs.Sessions.{begun_call}
+use Rattle.session_calls.specs.TheoremCalls.{begun_call}
 use Rattle.session_calls.specs.declared.answer.Answer.{Answer}
 use Rattle.session_calls.specs.declared.request.Request.TheVariants.{Bulk as ToBulk}
-use Rattle.schedule.specs.Crashes.{KeepsHistory, IsCrashSafe}
-use Rattle.schedule.specs.Runs.{Carries}
-use Rattle.schedule.specs.Snapshots.{StoreAndSlots, Snapshot, snapshot_of, IsRunningCall, Fits}
+use Rattle.schedule.specs.TheoremCrashes.{KeepsHistory, IsCrashSafe}
+use Rattle.schedule.specs.TheoremRuns.{Carries, Fits}
+use Rattle.schedule.specs.TheoremMoments.{StoreAndSlots, Snapshot, snapshot_of, IsRunningCall}
 use Rattle.vacuum.specs.Counts.{entries_below}
 use Rattle.whole_calls.specs.Going.{CallRuns, CallGoes}
 use Rattle.whole_calls.specs.Inserting.{InsertGoes}

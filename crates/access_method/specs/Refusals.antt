@@ -1,5 +1,5 @@
 -- Why a call of an index is refused that runs steps, and what it answers where nothing hinders it.
-use Rattle.schedule.specs.Snapshots.{IsRunningCall}
+use Rattle.schedule.specs.TheoremMoments.{IsRunningCall}
 use Rattle.index_model.specs.declared.range.Range.{Range}
 use Rattle.index_model.specs.Calls.{AskScan, Call}
 use Rattle.page_codec.specs.declared.page.PageState.TheVariants.{HalfDead}

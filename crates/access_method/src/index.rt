@@ -102,7 +102,7 @@ impl<S: PageStore> Index<S> {
     ghost use Rattle.page_action.specs.States.{Continues};
     ghost use Rattle.session_calls.specs.declared.answer.Answer.TheVariants.{Begun};
     ghost use Rattle.session_calls.specs.declared.request.Request.TheVariants.{Scan as ToScan, Cleanup as ToCleanup};
-    ghost use Rattle.schedule.specs.Events.{Forces, Checkpoints};
+    ghost use Rattle.schedule.specs.TheoremKinds.{Forces, Checkpoints};
     ghost use Rattle.schedule.specs.Snapshots.{IsUnused, slot_of};
     ghost use Rattle.whole_calls.specs.Telling.{IsSilent, HasBegun, TellsEnd};
     ghost use Rattle.whole_calls.specs.Sweeping.{SweepTold, swept_came, LeavesOnlyNeeded};

@@ -7,13 +7,14 @@ use Rattle.session_calls.specs.declared.op.Op.{Op}
 use Rattle.session_calls.proofs.Bounds.{calls_bounded}
 use Rattle.schedule.specs.Snapshots.{SlotMatches}
 use Rattle.schedule.specs.Bounds.{WorkIsBounded}
+use Rattle.schedule.proofs.Fitting.{running_of}
 
 pub work_bounded : {S : Type 0} (g : Ghosts S) → WorkIsBounded g
-work_bounded {S} g start now fits few session = by (slice_get now.slots session) (fits.running session)
+work_bounded {S} g start now fits few session = by (slice_get now.slots session) (running_of fits session)
   where
     in_slot : (slot : Option Op) → SlotMatches g start now session slot → work_in (g.state now.store) slot < 4398046511104
     in_slot None free = omega arith
-    in_slot (Some op) runs = calls_bounded (g.state now.store) op fits.matches.order few runs.runs.fits
+    in_slot (Some op) runs = calls_bounded (g.state now.store) op fits.invariant.order few runs.runs.fits
 
     by : (found : Option (Option Op)) → ((slot : Option Op) → found ≡ Some slot → SlotMatches g start now session slot)
         → work_in (g.state now.store) (unwrap_or found None) < 4398046511104

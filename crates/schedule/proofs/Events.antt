@@ -16,8 +16,9 @@ use Rattle.page_action.specs.declared.page_store.PageStore.{Ghosts}
 use Rattle.descent.specs.Shared.{OthersRely}
 use Rattle.page_delete.specs.Parts.{PinnedLeavesStay}
 use Rattle.session_calls.specs.Due.{IsDueIn, HasSteps}
-use Rattle.session_calls.specs.Ops.{DeadSets, asked_by, op_before, asks_vacuum, asks_sweep, is_vacuum, is_sweep, is_sweeping, IsOfSets, IsCaused}
-use Rattle.session_calls.specs.Sessions.{Matches, OpRuns, CallFits, SlotFits, IsIdle, acts_of, begun_call, after_request, SessionGoes, SessionBegins, OnlyOwnAreFlagged}
+use Rattle.session_calls.specs.TheoremCalls.{DeadSets, asked_by, acts_of, begun_call}
+use Rattle.session_calls.specs.Ops.{op_before, asks_vacuum, asks_sweep, is_vacuum, is_sweep, is_sweeping, IsOfSets, IsCaused}
+use Rattle.session_calls.specs.Sessions.{Matches, OpRuns, CallFits, SlotFits, IsIdle, after_request, SessionGoes, SessionBegins, OnlyOwnAreFlagged}
 use Rattle.session_calls.specs.Sweeps.{OpSweeps}
 use Rattle.session_calls.specs.declared.answer.Answer.{Answer}
 use Rattle.session_calls.specs.declared.answer.Answer.TheVariants.{Begun, Forced, Flushed, Checkpointed, Refused}
@@ -31,15 +32,22 @@ use Rattle.session_calls.proofs.Meeting.{grown}
 use Rattle.session_calls.proofs.Sweeping.{sweeps_undisturbed}
 use Rattle.session_calls.proofs.Telling.{told_same}
 use Rattle.session_calls.proofs.Undisturbed.{undisturbed, idle_undisturbed}
-use Rattle.schedule.specs.Snapshots.{Snapshot, here_at, slot_of, IsRunningCall, SlotRuns, IsFree, SlotMatches, slot_vacuums, slot_sweeps, one_vacuums, OneVacuums, Fits, slot_has_call, has_call}
-use Rattle.schedule.specs.Events.{Move, Steps, Takes, GivesUp, Upkeep, Forces, Flushes, Checkpoints, UpkeepIsTold, AllAreDurable, Kind, BeginsCall, MovesCall, KeepsStore, IsOfSession, Stays, kept_answer, MovesOn, MayBegin, is_of_sets, session_to_begin, where_begun_at, where_moving, Happens, where_happening, OthersStay, session_at, EventAlways, CountsSteps, KeepsFlags, WaitsForPins, CountsOnEntries, SparesOn, LeavesBe, IsDurable, EventDoes}
-use Rattle.schedule.specs.Runs.{EventRuns}
+use Rattle.schedule.specs.TheoremMoments.{Snapshot, IsRunningCall}
+use Rattle.schedule.specs.Making.{EventDoes}
+use Rattle.schedule.specs.TheoremRuns.{Fits}
+use Rattle.schedule.specs.Snapshots.{here_at, slot_of, SlotRuns, IsFree, SlotMatches, slot_vacuums, slot_sweeps, one_vacuums, OneVacuums, slot_has_call, has_call}
+use Rattle.schedule.specs.TheoremKinds.{Move, Steps, Takes, GivesUp, Upkeep, Forces, Flushes, Checkpoints, Kind, BeginsCall, MovesCall, KeepsStore}
+use Rattle.schedule.specs.TheoremEvents.{IsDurable}
+use Rattle.schedule.specs.Events.{UpkeepIsTold, IsToldDurable, IsOfSession, Stays, kept_answer, MovesOn, MayBegin, is_of_sets, session_to_begin, where_begun_at, where_moving, Happens, where_happening, OthersStay, session_at, EventAlways, CountsSteps, KeepsFlags, WaitsForPins, CountsOnEntries, SparesOn, LeavesBe}
+use Rattle.schedule.specs.Making.{EventRuns}
 use Rattle.schedule.proofs.Frames.{began_within, slot_is, goes_fits}
 use Rattle.schedule.proofs.Keeping.{no_growth}
 use Rattle.schedule.proofs.Leaves.{leaf_same, leaves_same, lows_relied, lows_still}
 use Rattle.schedule.proofs.Lists.{get_set_same, get_set_other, length_set, get_within, get_append_some, get_append_new, get_append_cases, same_some}
 use Rattle.schedule.proofs.Owners.{told_durable, acts_few}
 use Rattle.schedule.proofs.Vacuums.{before_vacuum, before_sweep, calm_request, none_runs, vacuums_still, sweep_begins, cleanup_begins}
+use Rattle.schedule.proofs.Meaning.{does_of}
+use Rattle.schedule.proofs.Fitting.{fits_from, beyond_of, matches_of, running_of}
 
 true_false : true ≡ false → ⊥
 true_false h = cc
@@ -94,20 +102,20 @@ others_stay_set slots session slot s same other apart = get_set_other slots sess
 -- the running call of a session fits
 pub call_fits : {S : Type 0} (g : Ghosts S) (start : Entry → Bool) (old : Snapshot S) (session : ℕ) (op : Op) → Fits g start old
     → (runs : SlotRuns g start old session op) → CallFits (g.state old.store) old.sets start old.history runs.number runs.call op
-call_fits g start old session op fits runs = record { world = fits.matches; running = runs.is.running; meets = fits.meets runs.number runs.call runs.is.found; runs = runs.runs; sweeps = runs.sweeps }
+call_fits g start old session op fits runs = record { world = (matches_of fits); running = runs.is.running; meets = fits.explains.meets runs.number runs.call runs.is.found; runs = runs.runs; sweeps = runs.sweeps }
 
 -- nothing that a moment shows is changed but the log and the device
 pub fits_still : {S : Type 0} (g : Ghosts S) (start : Entry → Bool) (old : Snapshot S) (store : S) → g.state store ≡ g.state old.store → Fits g start old
     → Fits g start (record { store = store; slots = old.slots; sets = old.sets; history = old.history; calls = old.calls })
-fits_still {S} g start old store same fits = record {
-  matches = subst (λ (st : State). Matches st start old.history) (sym same) fits.matches;
-  running = λ u o h. slot_still u o (fits.running u o h);
-  vacuums = subst (λ (st : State). OneVacuums st old.slots) (sym same) fits.vacuums;
-  beyond = λ u far. subst (λ (st : State). IsIdle st u) (sym same) (fits.beyond u far);
-  known = fits.known;
-  meets = fits.meets;
-  owned = fits.owned;
-}
+fits_still {S} g start old store same fits = fits_from (record {
+  matches = subst (λ (st : State). Matches st start old.history) (sym same) (matches_of fits);
+  running = λ u o h. slot_still u o (running_of fits u o h);
+  vacuums = subst (λ (st : State). OneVacuums st old.slots) (sym same) fits.invariant.vacuums;
+  beyond = λ u far. subst (λ (st : State). IsIdle st u) (sym same) (beyond_of fits u far);
+  known = fits.explains.known;
+  meets = fits.explains.meets;
+  owned = fits.explains.owned;
+})
   where
     slot_still : (u : ℕ) (o : Option Op) → SlotMatches g start old u o → SlotMatches g start (record { store = store; slots = old.slots; sets = old.sets; history = old.history; calls = old.calls }) u o
     slot_still u None h = record { none = h.none; idle = subst (λ (st : State). IsIdle st u) (sym same) h.idle }
@@ -131,7 +139,7 @@ module _ {S : Type 0} (g : Ghosts S) (start : Entry → Bool) (old : Snapshot S)
     (waits : WaitsForPins (MovesCall session move) answer (g.state old.store) (Some op) slot) (entries : CountsOnEntries (MovesCall session move) old.sets answer (g.state old.store) (g.state store) (Some op) slot)
     (spares : SparesOn (MovesCall session move) answer (g.state old.store) (g.state store) (Some op) slot) where
   runs : SlotRuns g start old session op
-  runs = fits.running session (Some op) found
+  runs = running_of fits session (Some op) found
 
   fit : CallFits (g.state old.store) old.sets start old.history runs.number runs.call op
   fit = call_fits g start old session op fits runs
@@ -160,7 +168,7 @@ module _ {S : Type 0} (g : Ghosts S) (start : Entry → Bool) (old : Snapshot S)
 
   move_does : EventDoes g start (MovesCall session move) answer old new
   unfolding new
-  move_does = record {
+  move_does = does_of fits new_fits refl (record {
     always = always;
     happens = subst (λ (b : Bool). MovesOn g start b session answer old new) (sym (ap slot_has_call found)) (record {
       number = runs.number;
@@ -186,11 +194,10 @@ module _ {S : Type 0} (g : Ghosts S) (start : Entry → Bool) (old : Snapshot S)
     lows = lows_relied session (g.state old.store) (g.state store) others;
     quiet = leaves_be g (MovesCall session move) old new one.limits one.frames (λ same. one.pages (no_effect one.effect same)) (others_stay_set old.slots session slot);
     durable = told_durable answer (g.backing store).durable (length old.history) one.effect runs.call one.after one.told;
-    sets = refl;
     follows = follows;
     later = later;
-    fits = new_fits;
-  }
+    invariant = new_fits.invariant;
+  })
 
   -- there is a continuation by this move
   pub moves_on : EventRuns g (here_at old) (record { store = store; slots = slice_set old.slots session slot; sets = old.sets }) (MovesCall session move) answer start old.history old.calls
@@ -245,7 +252,7 @@ module _ {S : Type 0} (g : Ghosts S) (start : Entry → Bool) (old : Snapshot S)
   stay_with : (kind : Kind) → Happens g start kind (Refused fault) old then_now → EventAlways g kind (Refused fault) (here_at old) (here_at then_now) → IsCaused (where_happening g kind (here_at old) (here_at then_now)) (Refused fault)
       → ((session : ℕ) → kind ≡ MovesCall session Steps → slot_of old.slots (session_at kind) ≡ None)
       → EventDoes g start kind (Refused fault) old then_now
-  stay_with kind happens always caused idle = record {
+  stay_with kind happens always caused idle = does_of fits (fits_still g start old store same fits) refl (record {
     always = always;
     happens = happens;
     grows = no_growth old.history;
@@ -259,11 +266,10 @@ module _ {S : Type 0} (g : Ghosts S) (start : Entry → Bool) (old : Snapshot S)
     lows = lows_still (g.state old.store) (g.state store) (ap (λ (st : State). st.pages) same);
     quiet = stays_be g kind old then_now same refl;
     durable = tt;
-    sets = refl;
     follows = follows;
     later = later;
-    fits = fits_still g start old store same fits;
-  }
+    invariant = (fits_still g start old store same fits).invariant;
+  })
 
   -- there is a continuation by what is refused, which is none
   pub stays_on : (kind : Kind) → Happens g start kind (Refused fault) old then_now → EventAlways g kind (Refused fault) (here_at old) (here_at then_now) → IsCaused (where_happening g kind (here_at old) (here_at then_now)) (Refused fault)
@@ -287,7 +293,7 @@ module _ {S : Type 0} (g : Ghosts S) (start : Entry → Bool) (old : Snapshot S)
   kept_caused Flushes count at answer is = absurd (let none : kept_answer Flushes count ≡ Some answer = is in cc)
   kept_caused Checkpoints count at answer is = subst (λ (a : Answer). IsCaused at a) (same_some (kept_answer Checkpoints count) (Checkpointed count) answer refl is) tt
 
-  kept_told : (u : Upkeep) (count : ℕ) (answer : Answer) (new : Snapshot S) → kept_answer u count ≡ Some answer → AllAreDurable g u answer old new → UpkeepIsTold g u answer old new
+  kept_told : (u : Upkeep) (count : ℕ) (answer : Answer) (new : Snapshot S) → kept_answer u count ≡ Some answer → IsToldDurable g u answer old new → UpkeepIsTold g u answer old new
   kept_told Forces count answer new is all = all
   kept_told Flushes count answer new is all = absurd (let none : kept_answer Flushes count ≡ Some answer = is in cc)
   kept_told Checkpoints count answer new is all = all
@@ -300,12 +306,12 @@ module _ {S : Type 0} (g : Ghosts S) (start : Entry → Bool) (old : Snapshot S)
       record {
         then_history = old.history;
         then_calls = old.calls;
-        does = record {
+        does = does_of fits (fits_still g start old store same fits) refl (record {
           always = always;
           happens = inl (record {
             tells = kept_told upkeep count answer then told (record {
-              told = sym (ap (kept_answer upkeep) (number ∙ fits.matches.count)) ∙ told;
-              durable = durable ∙ fits.matches.count;
+              told = sym (ap (kept_answer upkeep) (number ∙ fits.explains.count)) ∙ told;
+              durable = durable ∙ fits.explains.count;
             });
             still = record { state_is = same; slots_is = refl; history_is = refl; calls_is = refl };
           });
@@ -320,11 +326,10 @@ module _ {S : Type 0} (g : Ghosts S) (start : Entry → Bool) (old : Snapshot S)
           lows = lows_still (g.state old.store) (g.state store) (ap (λ (st : State). st.pages) same);
           quiet = stays_be g (KeepsStore upkeep) old then same refl;
           durable = kept_durable upkeep count (g.backing store).durable answer told (let n : count ≡ (g.state old.store).acts = number in let d : (g.backing store).durable ≡ (g.state old.store).acts = durable in omega arith);
-          sets = refl;
           follows = follows;
           later = later;
-          fits = fits_still g start old store same fits;
-        };
+          invariant = (fits_still g start old store same fits).invariant;
+        });
       }
 
 -- a changed page is written to its place
@@ -337,7 +342,7 @@ flushes_on_store {S} g start old store fits same follows later block first alway
     record {
       then_history = old.history;
       then_calls = old.calls;
-      does = record {
+      does = does_of fits (fits_still g start old store same fits) refl (record {
         always = always;
         happens = inl (record { tells = ap Flushed first; still = record { state_is = same; slots_is = refl; history_is = refl; calls_is = refl } });
         grows = no_growth old.history;
@@ -351,11 +356,10 @@ flushes_on_store {S} g start old store fits same follows later block first alway
         lows = lows_still (g.state old.store) (g.state store) (ap (λ (st : State). st.pages) same);
         quiet = stays_be g (KeepsStore Flushes) old then same refl;
         durable = tt;
-        sets = refl;
         follows = follows;
         later = later;
-        fits = fits_still g start old store same fits;
-      };
+        invariant = (fits_still g start old store same fits).invariant;
+      });
     }
 
 -- a call that begins changes neither pages nor limits
@@ -437,11 +441,11 @@ module _ {S : Type 0} (g : Ghosts S) (start : Entry → Bool) (old : Snapshot S)
       was_none = slot_is old.slots session None free
 
       by : (b : Bool) → asks_vacuum request ≡ b → (c : Bool) → asks_sweep request ≡ c → OneVacuums (g.state store) (slice_set old.slots session (Some op))
-      by true is true sweeps = sweep_begins (g.state old.store) old.slots session (Some op) within_slots (vacuum_is ∙ is) (alone is) fits.vacuums (g.state store) (sweep_is ∙ sweeps)
+      by true is true sweeps = sweep_begins (g.state old.store) old.slots session (Some op) within_slots (vacuum_is ∙ is) (alone is) fits.invariant.vacuums (g.state store) (sweep_is ∙ sweeps)
           (given_cycle op (sweep_is ∙ sweeps) (begins.sweeps named))
-      by true is false calm = cleanup_begins (g.state old.store) old.slots session (Some op) within_slots (vacuum_is ∙ is) (alone is) fits.vacuums (g.state store) (sweep_is ∙ calm) (begins.cycle calm)
+      by true is false calm = cleanup_begins (g.state old.store) old.slots session (Some op) within_slots (vacuum_is ∙ is) (alone is) fits.invariant.vacuums (g.state store) (sweep_is ∙ calm) (begins.cycle calm)
       by false is c sweeps = vacuums_still (g.state old.store) (g.state store) old.slots session (Some op) within_slots (vacuum_is ∙ is ∙ sym (ap slot_vacuums was_none))
-          (sweep_is ∙ calm_request request is ∙ sym (ap slot_sweeps was_none)) (begins.cycle (calm_request request is)) fits.vacuums
+          (sweep_is ∙ calm_request request is ∙ sym (ap slot_sweeps was_none)) (begins.cycle (calm_request request is)) fits.invariant.vacuums
 
   begun_slot : (u : ℕ) (o : Option Op) → u ≢ session → slice_get old.slots u ≡ Some o → SlotMatches g start old u o → SlotMatches g start begun u o
   begun_slot u None ne in_slot h = record {
@@ -461,9 +465,9 @@ module _ {S : Type 0} (g : Ghosts S) (start : Entry → Bool) (old : Snapshot S)
 
   begun_fits : Fits g start begun
   begun_fits =
-      let was_free : IsFree g old session = fits.running session None free in
+      let was_free : IsFree g old session = running_of fits session None free in
       let within : session < length old.slots = get_within old.slots session None free in
-      record {
+      fits_from (record {
         matches = begins.world;
         running = λ u o h. elim (cases_eq u session) [
           | inl e ↦ (
@@ -477,25 +481,25 @@ module _ {S : Type 0} (g : Ghosts S) (start : Entry → Bool) (old : Snapshot S)
                 runs = begins.holds.1;
                 sweeps = begins.sweeps named;
               })))
-          | inr n ↦ begun_slot u o n (sym (get_set_other old.slots session u (Some op) n) ∙ h) (fits.running u o (sym (get_set_other old.slots session u (Some op) n) ∙ h))
+          | inr n ↦ begun_slot u o n (sym (get_set_other old.slots session u (Some op) n) ∙ h) (running_of fits u o (sym (get_set_other old.slots session u (Some op) n) ∙ h))
         ];
         vacuums = begun_vacuums;
         beyond = λ u far. (
             let many : length (slice_set old.slots session (Some op)) ≡ length old.slots = length_set old.slots session (Some op) in
             let apart : u ≢ session = λ e. absurd (let x : u ≡ session = e in omega arith) in
-            idle_undisturbed (g.state old.store) (g.state store) u (begins.others u apart) (fits.beyond u (omega arith)));
+            idle_undisturbed (g.state old.store) (g.state store) u (begins.others u apart) (beyond_of fits u (omega arith)));
         known = λ i c h. rw (length_set old.slots session (Some op)) (elim (get_append_cases old.calls call i c h) [
-          | inl a ↦ fits.known i c a
+          | inl a ↦ fits.explains.known i c a
           | inr b ↦ (let q : c.session ≡ session = ap (λ (x : Call). x.session) b.1 in omega arith)
         ]);
         meets = λ i c h. elim (get_append_cases old.calls call i c h) [
-          | inl a ↦ fits.meets i c a
+          | inl a ↦ fits.explains.meets i c a
           | inr b ↦ subst (λ (j : ℕ). Meets start old.history j c) (sym b.0) (subst (λ (x : Call). Meets start old.history (length old.calls) x) (sym b.1) begins.meets)
         ];
         owned = λ before a h. (
-            let was : IsOwned start old.history old.calls before a = fits.owned before a h in
+            let was : IsOwned start old.history old.calls before a = fits.explains.owned before a h in
             record { call = was.call; found = get_append_some old.calls (call ∷ []) a.by was.call was.found; since = was.since; until = was.until; may = was.may });
-      }
+      })
 
   pub begins_on : g.follows old.store store → IsLater (g.backing old.store) (g.backing store) → HasSteps (g.state old.store) (g.state store) request (Some op)
       → EventAlways g (BeginsCall session request) Begun (here_at old) (record { store = store; slots = slice_set old.slots session (Some op); sets = old.sets })
@@ -503,7 +507,7 @@ module _ {S : Type 0} (g : Ghosts S) (start : Entry → Bool) (old : Snapshot S)
   begins_on follows later counts always = record {
     then_history = old.history;
     then_calls = old.calls ++ call ∷ [];
-    does = record {
+    does = does_of fits begun_fits refl (record {
       always = always;
       happens = subst (λ (o : Option (Option Op)). MayBegin g o session request Begun old begun) (sym free)
           (inl (record { told = refl; history_is = refl; calls_is = refl; others = begins.others }));
@@ -519,11 +523,10 @@ module _ {S : Type 0} (g : Ghosts S) (start : Entry → Bool) (old : Snapshot S)
       quiet = leaves_be g (BeginsCall session request) old begun (ap (λ (st : State). st.limits) state ∙ request_limits (asks_sweep request) session (g.state old.store)) (ap (λ (st : State). st.frames) state ∙ request_frames (asks_sweep request) session (g.state old.store))
           (λ same. same_pages) (others_stay_set old.slots session (Some op));
       durable = tt;
-      sets = refl;
       follows = follows;
       later = later;
-      fits = begun_fits;
-    };
+      invariant = begun_fits.invariant;
+    });
   }
 
 -- the session that was found

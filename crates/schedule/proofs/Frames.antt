@@ -11,18 +11,22 @@ use Rattle.descent.specs.Shared.{OthersRely}
 use Rattle.page_delete.specs.Parts.{PinnedLeavesStay}
 use Rattle.tree_acts.specs.Leaves.{LeavesStay}
 use Rattle.session_calls.specs.Ops.{asked_of, is_vacuum}
-use Rattle.session_calls.specs.Sessions.{Matches, IsIdle, SlotIs, IsAsked, acts_of, cycle_behind, asks_cleanup}
+use Rattle.session_calls.specs.TheoremCalls.{acts_of}
+use Rattle.session_calls.specs.Sessions.{Matches, IsIdle, SlotIs, IsAsked, cycle_behind, asks_cleanup}
 use Rattle.session_calls.specs.Sweeps.{OpSweeps, SlotSweeps}
 use Rattle.session_calls.specs.declared.op.Op.{Op}
 use Rattle.session_calls.specs.declared.op.Op.TheVariants.{Insert, Scan, Bulk, Cleanup}
 use Rattle.session_calls.proofs.Sweeping.{sweeps_undisturbed}
 use Rattle.session_calls.proofs.Telling.{IsSameCall}
 use Rattle.session_calls.proofs.Undisturbed.{undisturbed, idle_undisturbed}
-use Rattle.schedule.specs.Snapshots.{Snapshot, slot_of, IsRunningCall, SlotRuns, SlotMatches, slot_vacuums, Fits}
+use Rattle.schedule.specs.TheoremMoments.{Snapshot, IsRunningCall}
+use Rattle.schedule.specs.TheoremRuns.{Fits}
+use Rattle.schedule.specs.Snapshots.{slot_of, SlotRuns, SlotMatches, slot_vacuums}
 use Rattle.schedule.proofs.Leaves.{leaves_last}
 use Rattle.schedule.proofs.Lists.{get_set_same, get_set_other, length_set, get_within, get_append, get_append_right, same_some}
 use Rattle.schedule.proofs.Owners.{add_stays, own_action}
 use Rattle.schedule.proofs.Vacuums.{vacuums_go, cycle_kept, calm_sweep, calm_cleanup}
+use Rattle.schedule.proofs.Fitting.{fits_from, beyond_of, running_of}
 
 -- what was there before actions that came later
 may_later : (start : Entry → Bool) (history acts : List Action) (before : ℕ) (effect : Effect) (ask : Ask) (added : Option ℕ) → before ≤ length history
@@ -69,7 +73,7 @@ until_of history acts (Failed f) k n h = h
 -- a running call began within the history
 pub began_within : {S : Type 0} (g : Ghosts S) (start : Entry → Bool) (now : Snapshot S) (session number : ℕ) (call : Call) → Fits g start now → IsRunningCall now.calls session number call → call.began ≤ length now.history
 began_within g start now session number call fits is =
-    let meets : call.began ≤ end_of now.history call.ending call.until = (fits.meets number call is.found).began in
+    let meets : call.began ≤ end_of now.history call.ending call.until = (fits.explains.meets number call is.found).began in
     subst (λ (x : Ending). call.began ≤ end_of now.history x call.until) is.running meets
 
 -- what a session runs, as its slot says
@@ -137,7 +141,7 @@ module _ {S : Type 0} (g : Ghosts S) (start : Entry → Bool) (old : Snapshot S)
   stay_for u ne theirs_runs = by (is_vacuum op) refl
     where
       by : (b : Bool) → is_vacuum op ≡ b → LeavesStay effect (g.state old.store) (g.state store)
-      by true is = absurd (ne (fits.vacuums.alone u session theirs_runs (ap slot_vacuums (slot_is old.slots session (Some op) at) ∙ is)))
+      by true is = absurd (ne (fits.invariant.vacuums.alone u session theirs_runs (ap slot_vacuums (slot_is old.slots session (Some op) at) ∙ is)))
       by false is = leaves (ap asks_cleanup runs.runs.ask ∙ calm_cleanup old.sets op is) (cycle_by ∙ cycle_kept old.sets op slot (g.state old.store).cycle (calm_sweep op is))
 
   -- what another session's bulk delete has to remove is to come still
@@ -218,7 +222,7 @@ module _ {S : Type 0} (g : Ghosts S) (start : Entry → Bool) (old : Snapshot S)
       }
 
   pub goes_fits : Fits g start (record { store = store; slots = slice_set old.slots session slot; sets = old.sets; history = old.history ++ acts; calls = slice_set old.calls runs.number after })
-  goes_fits = record {
+  goes_fits = fits_from (record {
     matches = world;
     running = λ u o h. elim (cases_eq u session) [
       | inl e ↦ (
@@ -226,27 +230,27 @@ module _ {S : Type 0} (g : Ghosts S) (start : Entry → Bool) (old : Snapshot S)
           (get_set_same old.slots session slot (get_within old.slots session (Some op) at)) in
           subst (λ (i : ℕ). SlotMatches g start (record { store = store; slots = slice_set old.slots session slot; sets = old.sets; history = old.history ++ acts; calls = slice_set old.calls runs.number after }) i o) (sym e)
           (subst (λ (x : Option Op). SlotMatches g start (record { store = store; slots = slice_set old.slots session slot; sets = old.sets; history = old.history ++ acts; calls = slice_set old.calls runs.number after }) session x) (sym k) (slot_mine slot holds sweeps)))
-      | inr n ↦ slot_theirs u o n (sym (get_set_other old.slots session u slot n) ∙ h) (fits.running u o (sym (get_set_other old.slots session u slot n) ∙ h))
+      | inr n ↦ slot_theirs u o n (sym (get_set_other old.slots session u slot n) ∙ h) (running_of fits u o (sym (get_set_other old.slots session u slot n) ∙ h))
     ];
-    vacuums = vacuums_go (g.state old.store) (g.state store) old.sets old.slots session op slot (get_within old.slots session (Some op) at) (slot_is old.slots session (Some op) at) cycle_by asks_still fits.vacuums;
+    vacuums = vacuums_go (g.state old.store) (g.state store) old.sets old.slots session op slot (get_within old.slots session (Some op) at) (slot_is old.slots session (Some op) at) cycle_by asks_still fits.invariant.vacuums;
     beyond = λ u far. (
         let many : length (slice_set old.slots session slot) ≡ length old.slots = length_set old.slots session slot in
         let within : session < length old.slots = get_within old.slots session (Some op) at in
         let apart : u ≢ session = λ e. absurd (let x : u ≡ session = e in omega arith) in
-        idle_undisturbed (g.state old.store) (g.state store) u (others u apart) (fits.beyond u (omega arith)));
+        idle_undisturbed (g.state old.store) (g.state store) u (others u apart) (beyond_of fits u (omega arith)));
     known = λ i c h. rw (length_set old.slots session slot) (elim (cases_eq i runs.number) [
       | inl e ↦ (
           let w : session < length old.slots = get_within old.slots session (Some op) at in
           let q : c.session ≡ session = ap (λ (x : Call). x.session) (is_after i c e h) ∙ session_is in
           omega arith)
-      | inr n ↦ fits.known i c (sym (elsewhere i n) ∙ h)
+      | inr n ↦ fits.explains.known i c (sym (elsewhere i n) ∙ h)
     ]);
     meets = λ i c h. elim (cases_eq i runs.number) [
       | inl e ↦ subst (λ (j : ℕ). Meets start (old.history ++ acts) j c) (sym e) (subst (λ (x : Call). Meets start (old.history ++ acts) runs.number x) (sym (is_after i c e h)) meets)
-      | inr n ↦ meets_later start old.history acts i c (fits.meets i c (sym (elsewhere i n) ∙ h))
+      | inr n ↦ meets_later start old.history acts i c (fits.explains.meets i c (sym (elsewhere i n) ∙ h))
     ];
     owned = λ before a h. elim (cases_lt before (length old.history)) [
-      | inl lt ↦ owned_still before a lt (fits.owned before a (sym (get_append old.history acts before lt) ∙ h))
+      | inl lt ↦ owned_still before a lt (fits.explains.owned before a (sym (get_append old.history acts before lt) ∙ h))
       | inr ge ↦ owned_now before a ge h
     ];
-  }
+  })

@@ -6,14 +6,17 @@ use Rattle.index_model.specs.declared.fault.Fault.{Fault}
 use Rattle.index_model.specs.declared.fault.Fault.TheVariants.{Stopped, NoSession}
 use Rattle.page_action.specs.States.{State}
 use Rattle.page_action.specs.declared.page_store.PageStore.{Ghosts}
-use Rattle.session_calls.specs.Ops.{DeadSets, RunsOn, AnswersStopped}
+use Rattle.session_calls.specs.TheoremCalls.{DeadSets}
+use Rattle.session_calls.specs.Ops.{RunsOn, AnswersStopped}
 use Rattle.session_calls.specs.Sessions.{no_call, slot_add, GivesLess, AnswersStep, AnswersNext, AnswersEnd, RefusalChangesNothing, OnlyWritersAct}
 use Rattle.session_calls.specs.declared.answer.Answer.{Answer}
 use Rattle.session_calls.specs.declared.answer.Answer.TheVariants.{Refused}
 use Rattle.session_calls.specs.declared.op.Op.{Op}
-use Rattle.schedule.specs.Snapshots.{here_with, snapshot_of, slot_of, slot_has_call, has_call}
-use Rattle.schedule.specs.Events.{Move, Steps, Takes, GivesUp, MovesCall, MovesOn, where_moving, EventAlways, DoesOneAct}
-use Rattle.schedule.specs.Runs.{Makes}
+use Rattle.schedule.specs.TheoremMoments.{snapshot_of}
+use Rattle.schedule.specs.Snapshots.{here_with, slot_of, slot_has_call, has_call}
+use Rattle.schedule.specs.TheoremKinds.{Move, Steps, Takes, GivesUp, MovesCall}
+use Rattle.schedule.specs.Events.{MovesOn, where_moving, EventAlways, DoesOneAct}
+use Rattle.schedule.specs.Making.{Makes}
 use Rattle.schedule.proofs.Events.{stays_on, refused_stay}
 use Rattle.schedule.proofs.Keeping.{Laws}
 

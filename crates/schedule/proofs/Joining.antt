@@ -4,13 +4,13 @@ use Rattle.std.proofs.lemmas.List.{append-nil}
 use Rattle.index_model.specs.declared.entry.Entry.{Entry}
 use Rattle.page_action.specs.declared.page_store.PageStore.{Ghosts}
 use Rattle.session_calls.specs.declared.answer.Answer.{Answer}
-use Rattle.schedule.specs.Snapshots.{Snapshot}
+use Rattle.schedule.specs.TheoremMoments.{Snapshot}
 use Rattle.schedule.specs.Events.{AreOf}
-use Rattle.schedule.specs.Runs.{AreDurable, IsRun, Ran}
+use Rattle.schedule.specs.TheoremRuns.{AreDurable, IsRun, Ran}
 use Rattle.schedule.specs.declared.event.Event.{Event}
 use Rattle.schedule.proofs.Keeping.{Laws, safe}
-use Rattle.page_action.proofs.Laters.{later_trans}
 use Rattle.schedule.proofs.Running.{durable_more}
+use Rattle.schedule.proofs.Fitting.{matches_of}
 
 are_durable_more : (few many : ℕ) (answers : List Answer) → few ≤ many → AreDurable few answers → AreDurable many answers
 are_durable_more few many [] le h = tt
@@ -31,7 +31,7 @@ run_behind g start before told (x ∷ xs) (y ∷ ys) first last durable run = (
     run.1.1,
     subst (λ (t : List Answer). IsRun g start t xs ys run.1.0 last) (sym (append_assoc before told (y ∷ [])))
         (run_behind g start before (told ++ y ∷ []) xs ys run.1.0 last
-        (are_durable_more (g.backing first.store).durable (g.backing (run.1.0).store).durable before run.1.1.does.later.durable durable) run.1.2),
+        (are_durable_more (g.backing first.store).durable (g.backing (run.1.0).store).durable before run.1.1.also.later.durable durable) run.1.2),
   ),
 )
 run_behind g start before told [] (y ∷ ys) first last durable run = absurd run
@@ -66,9 +66,8 @@ ran_then {S} g laws start events then_events answers then_answers first mid last
   fits = two.fits;
   follows = follows;
   acknowledged = both_durable (g.backing last.store).durable answers then_answers
-      (are_durable_more (g.backing mid.store).durable (g.backing last.store).durable answers two.later.durable one.acknowledged) two.acknowledged;
-  later = later_trans (g.backing first.store) (g.backing mid.store) (g.backing last.store) one.later two.later;
-  crash = λ keeps. safe g laws start first last follows keeps.own two.fits.matches (two.crash (one.crash keeps).keeps).keeps;
+      (are_durable_more (g.backing mid.store).durable (g.backing last.store).durable answers (laws.follows_later mid.store last.store two.follows).durable one.acknowledged) two.acknowledged;
+  crash = λ keeps. safe g laws start first last follows keeps.own (matches_of two.fits) (two.crash (one.crash keeps).keeps).keeps;
 }
 
 -- events of one session followed by events of it are all of it

@@ -8,8 +8,8 @@ use Rattle.page_codec.specs.declared.page.Page.{Page}
 use Rattle.page_action.specs.Laws.{IsPageStore}
 use Rattle.page_action.specs.declared.page_store.PageStore.{Ghosts}
 use Rattle.session_calls.specs.Sessions.{Matches}
-use Rattle.schedule.specs.Snapshots.{Snapshot}
-use Rattle.schedule.specs.Crashes.{ArePagesAfter, KeepsHistory, IsCrashSafe}
+use Rattle.schedule.specs.TheoremMoments.{Snapshot}
+use Rattle.schedule.specs.TheoremCrashes.{ArePagesAfter, KeepsHistory, IsCrashSafe}
 use Rattle.schedule.specs.Events.{GrowsByOne}
 
 -- the laws of a store

@@ -1,4 +1,7 @@
 pub mod Lists
+pub mod Fitting
+pub mod Causes
+pub mod Meaning
 pub mod Unused
 pub mod Owners
 pub mod Vacuums

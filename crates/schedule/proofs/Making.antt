@@ -11,20 +11,25 @@ use Rattle.page_action.specs.Causes.{nothing_wrong, where_forced}
 use Rattle.page_action.specs.States.{State}
 use Rattle.page_action.specs.declared.page_store.PageStore.{Ghosts}
 use Rattle.session_calls.specs.Due.{IsDueIn, CountsDown, HasSteps}
-use Rattle.session_calls.specs.Ops.{DeadSets, op_before, asks_vacuum, asks_sweep, is_sweep, session_of, asked_of, where_slot_stepped, where_asked_next, where_requesting, where_beginning, RunsOn, AnswersStopped}
+use Rattle.session_calls.specs.TheoremCalls.{DeadSets}
+use Rattle.session_calls.specs.Ops.{op_before, asks_vacuum, asks_sweep, is_sweep, session_of, asked_of, where_slot_stepped, where_asked_next, where_requesting, where_beginning, RunsOn, AnswersStopped}
 use Rattle.session_calls.specs.Sessions.{Matches, IsIdle, SlotFits, KeepsPages, SessionGoes, SessionBegins, IsBegun, BeginsBy, after_call, let_go, is_busy, slot_add, LeavesLess, LeavesNoMore, GivesLess, AnswersStep, AnswersNext, AnswersEnd, RefusalChangesNothing, OnlyWritersAct, OnlyOwnAreFlagged, LeavesOwnFlagged, KeepsBeforePins, CountsEntries, SparesLeaves}
 use Rattle.session_calls.specs.declared.answer.Answer.{Answer}
 use Rattle.session_calls.specs.declared.answer.Answer.TheVariants.{Begun, Going, Added, Ready, Done, Finished, Gave, Ended, Forced, Flushed, Checkpointed, Refused}
 use Rattle.session_calls.specs.declared.op.Op.{Op}
 use Rattle.session_calls.specs.declared.request.Request.{Request}
 use Rattle.session_calls.proofs.RunningOn.{runs_over}
-use Rattle.schedule.specs.Snapshots.{here_with, snapshot_of, slot_of, one_vacuums, Fits}
-use Rattle.schedule.specs.Events.{Steps, Takes, GivesUp, Upkeep, Forces, Flushes, Checkpoints, BeginsCall, MovesCall, KeepsStore, kept_answer, is_of_sets, session_to_begin, where_begun_at, DoesOneAct, EventAlways, AnswersUpkeep}
-use Rattle.schedule.specs.Runs.{EventRuns, Makes}
+use Rattle.schedule.specs.TheoremMoments.{snapshot_of}
+use Rattle.schedule.specs.TheoremRuns.{Fits}
+use Rattle.schedule.specs.Snapshots.{here_with, slot_of, one_vacuums}
+use Rattle.schedule.specs.TheoremKinds.{Steps, Takes, GivesUp, Upkeep, Forces, Flushes, Checkpoints, BeginsCall, MovesCall, KeepsStore}
+use Rattle.schedule.specs.Events.{kept_answer, is_of_sets, session_to_begin, where_begun_at, DoesOneAct, EventAlways, AnswersUpkeep}
+use Rattle.schedule.specs.Making.{EventRuns, Makes}
 use Rattle.schedule.proofs.Events.{at_slots, others_stay_set, moves_on, stays_on, refused_stay, keeps_on_store, flushes_on_store, begins_on, named_of, request_pages, request_limits, request_frames, request_acts, not_begun, not_found_why, not_found_first, set_same}
 use Rattle.schedule.proofs.Keeping.{Laws}
 use Rattle.schedule.proofs.Lists.{length_set, get_within, same_some}
 use Rattle.schedule.proofs.Vacuums.{set_is, not_excluded}
+use Rattle.schedule.proofs.Fitting.{matches_of, running_of}
 
 -- what does no act
 no_act : (old new : State) → new.acts ≡ old.acts → new.pages ≡ old.pages → new.limits ≡ old.limits → new.frames ≡ old.frames → DoesOneAct old new
@@ -367,8 +372,8 @@ module _ {S : Type 0} (g : Ghosts S) (laws : Laws g) (old new : S) (follows : g.
       (counts : answer ≡ Begun → HasSteps (g.state old) (g.state new) request slot) (start : Entry → Bool) (history : List Action) (calls : List Call) (fits : Fits g start (snapshot_of (here_with old slots sets) history calls)) where
     does_of : (a : Answer) → answer ≡ a → BeginsBy (g.state old) (g.backing old) (g.state new) session request excluded before slot a → EventRuns g (here_with old slots sets) (here_with new (slice_set slots session slot) sets) (BeginsCall session request) a start history calls
     does_of Begun is h =
-        let idle : IsIdle (g.state old) session = (fits.running session None free).idle in
-        begun_with slot h (always_of Begun h) (begins start history (length calls) is fits.matches idle) (counts is)
+        let idle : IsIdle (g.state old) session = (running_of fits session None free).idle in
+        begun_with slot h (always_of Begun h) (begins start history (length calls) is (matches_of fits) idle) (counts is)
       where
         begun_with : (o : Option Op) → IsBegun (g.state old) (g.state new) session request excluded before o → EventAlways g (BeginsCall session request) Begun (here_with old slots sets) (here_with new (slice_set slots session o) sets)
             → SessionBegins (g.state old) (g.state new) sets start history (length calls) session request o → HasSteps (g.state old) (g.state new) request o

@@ -5,10 +5,11 @@ use Rattle.index_model.specs.Calls.{Ask, AskInsert, AskScan, AskBulkDelete, AskC
 use Rattle.index_model.specs.declared.entry.Entry.{Entry}
 use Rattle.index_model.proofs.Histories.{there_before, there_now}
 use Rattle.descent.specs.Steps.{IsApt}
-use Rattle.session_calls.specs.Sessions.{IsAsked, acts_of, add_after, Told}
+use Rattle.session_calls.specs.TheoremCalls.{acts_of}
+use Rattle.session_calls.specs.Sessions.{IsAsked, add_after, Told}
 use Rattle.session_calls.specs.declared.answer.Answer.{Answer}
 use Rattle.session_calls.specs.declared.answer.Answer.TheVariants.{Begun, Going, Added, Ready, Done, Finished, Gave, Ended, Forced, Flushed, Checkpointed, Refused}
-use Rattle.schedule.specs.Events.{IsDurable}
+use Rattle.schedule.specs.TheoremEvents.{IsDurable}
 
 -- no number of durable actions is told of a call
 pub told_durable : (answer : Answer) (durable count : ℕ) (effect : Option Effect) (call after : Call) → Told answer count effect call after → IsDurable durable answer

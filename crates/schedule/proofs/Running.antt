@@ -2,15 +2,18 @@
 use Rattle.std.proofs.Common.{ℕ, ◌≤◌, Bool, List, [], ◌∷◌, ◌++◌, refl, sym, subst, arith, append_assoc}
 use Rattle.std.proofs.lemmas.List.{append-nil}
 use Rattle.index_model.specs.declared.entry.Entry.{Entry}
-use Rattle.page_action.proofs.Laters.{later_trans}
 use Rattle.page_action.specs.declared.page_store.PageStore.{Ghosts}
 use Rattle.session_calls.specs.declared.answer.Answer.{Answer}
 use Rattle.session_calls.specs.declared.answer.Answer.TheVariants.{Begun, Going, Added, Ready, Done, Finished, Gave, Ended, Forced, Flushed, Checkpointed, Refused}
-use Rattle.schedule.specs.Snapshots.{Snapshot, Fits}
-use Rattle.schedule.specs.Events.{kind_of, IsDurable, EventDoes}
-use Rattle.schedule.specs.Runs.{AreDurable, EventGoes, IsRun, Ran}
+use Rattle.schedule.specs.TheoremMoments.{Snapshot}
+use Rattle.schedule.specs.Making.{EventDoes}
+use Rattle.schedule.specs.TheoremRuns.{Fits}
+use Rattle.schedule.specs.TheoremKinds.{kind_of}
+use Rattle.schedule.specs.TheoremEvents.{IsDurable}
+use Rattle.schedule.specs.TheoremRuns.{AreDurable, EventGoes, IsRun, Ran}
 use Rattle.schedule.specs.declared.event.Event.{Event}
 use Rattle.schedule.proofs.Keeping.{Laws, safe, keeps_on}
+use Rattle.schedule.proofs.Fitting.{fits_behind, goes_does, matches_of}
 
 pub durable_more : (few many : ℕ) (answer : Answer) → few ≤ many → IsDurable few answer → IsDurable many answer
 durable_more few many Begun le h = tt
@@ -52,18 +55,18 @@ run_more g start told (x ∷ xs) [] event answer first mid last run durable goes
 pub event_goes : {S : Type 0} (g : Ghosts S) (laws : Laws g) (start : Entry → Bool) (event : Event) (answer : Answer) (old new : Snapshot S) → Fits g start old
     → EventDoes g start (kind_of event) answer old new → EventGoes g start event answer old new
 event_goes g laws start event answer old new fits does = record {
-  does = does;
-  crash = λ keeps. safe g laws start old new does.follows keeps.own does.fits.matches (keeps_on g laws start old new does.follows does.grows fits.matches.count does.fits.matches keeps);
+  means = does.means;
+  also = does.also;
+  crash = λ keeps. safe g laws start old new does.also.follows keeps.own (matches_of (fits_behind does)) (keeps_on g laws start old new does.also.follows does.also.grows fits.explains.count (matches_of (fits_behind does)) keeps);
 }
 
 -- one event is a run
 pub one_ran : {S : Type 0} (g : Ghosts S) (start : Entry → Bool) (event : Event) (answer : Answer) (old new : Snapshot S) → EventGoes g start event answer old new → Ran g start (event ∷ []) (answer ∷ []) old new
 one_ran g start event answer old new goes = record {
   run = (tt, (new, goes, refl));
-  fits = goes.does.fits;
-  acknowledged = (goes.does.durable, tt);
-  follows = goes.does.follows;
-  later = goes.does.later;
+  fits = fits_behind (goes_does goes);
+  acknowledged = (goes.also.durable, tt);
+  follows = goes.also.follows;
   crash = goes.crash;
 }
 
@@ -75,10 +78,9 @@ ran_more {S} g laws start events answers event answer first mid last follows ran
     record {
       run = run_more g start [] events answers event answer first mid last ran.run ran.acknowledged goes;
       fits = one.fits;
-      acknowledged = all_durable (g.backing mid.store).durable (g.backing last.store).durable answers answer one.later.durable ran.acknowledged one.acknowledged.0;
+      acknowledged = all_durable (g.backing mid.store).durable (g.backing last.store).durable answers answer (laws.follows_later mid.store last.store one.follows).durable ran.acknowledged one.acknowledged.0;
       follows = follows;
-      later = later_trans (g.backing first.store) (g.backing mid.store) (g.backing last.store) ran.later one.later;
-      crash = λ keeps. safe g laws start first last follows keeps.own one.fits.matches (one.crash (ran.crash keeps).keeps).keeps;
+      crash = λ keeps. safe g laws start first last follows keeps.own (matches_of one.fits) (one.crash (ran.crash keeps).keeps).keeps;
     }
 
 -- a run of no event
@@ -88,6 +90,5 @@ none_ran g laws start now fits = record {
   fits = fits;
   acknowledged = tt;
   follows = laws.follows_same now.store;
-  later = laws.follows_later now.store now.store (laws.follows_same now.store);
-  crash = λ keeps. safe g laws start now now (laws.follows_same now.store) keeps.own fits.matches keeps;
+  crash = λ keeps. safe g laws start now now (laws.follows_same now.store) keeps.own (matches_of fits) keeps;
 }

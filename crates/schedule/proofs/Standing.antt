@@ -13,8 +13,9 @@ use Rattle.tree_acts.specs.Leaves.{IsLeafAt}
 use Rattle.tree_acts.proofs.Removing.{leaf_is}
 use Rattle.descent.specs.Shared.{IsInOrder}
 use Rattle.scan.specs.Scans.{LeafIsLive, leaf_pinned}
-use Rattle.session_calls.specs.Ops.{DeadSets, op_before, asked_of}
-use Rattle.session_calls.specs.Sessions.{AnswersNext, IsStillBefore, KeepsBeforePins, OnlyWritersAct, acts_of}
+use Rattle.session_calls.specs.TheoremCalls.{DeadSets, acts_of}
+use Rattle.session_calls.specs.Ops.{op_before, asked_of}
+use Rattle.session_calls.specs.Sessions.{AnswersNext, IsStillBefore, KeepsBeforePins, OnlyWritersAct}
 use Rattle.session_calls.specs.declared.answer.Answer.{Answer}
 use Rattle.session_calls.specs.declared.answer.Answer.TheVariants.{Begun, Going, Added, Ready, Done, Finished, Gave, Ended, Forced, Flushed, Checkpointed, Refused}
 use Rattle.session_calls.specs.declared.op.Op.{Op}
@@ -23,16 +24,21 @@ use Rattle.session_calls.specs.declared.request.Request.{Request}
 use Rattle.session_calls.specs.declared.request.Request.TheVariants.{Insert as ToInsert, Scan as ToScan, Bulk as ToBulk, Cleanup as ToCleanup}
 use Rattle.session_calls.proofs.Meeting.{grown}
 use Rattle.session_calls.proofs.Telling.{IsSameCall, told_same}
-use Rattle.schedule.specs.Snapshots.{Snapshot, slot_of, SlotRuns, slot_vacuums, slot_sweeps, slot_has_call, Fits}
+use Rattle.schedule.specs.TheoremMoments.{Snapshot}
+use Rattle.schedule.specs.Making.{EventDoes}
+use Rattle.schedule.specs.TheoremRuns.{Fits}
+use Rattle.schedule.specs.Snapshots.{slot_of, SlotRuns, slot_vacuums, slot_sweeps, slot_has_call}
 use Rattle.vacuum.specs.declared.steps.BulkDeleteOp.{BulkDeleteOp}
-use Rattle.schedule.specs.Events.{Move, Steps, Takes, GivesUp, Upkeep, Kind, BeginsCall, MovesCall, KeepsStore, kind_of, CallGoesOn, Stays, MovesOn, AnswersBeginning, EventDoes}
-use Rattle.schedule.specs.Runs.{IsRun}
+use Rattle.schedule.specs.TheoremKinds.{Move, Steps, Takes, GivesUp, Upkeep, Kind, BeginsCall, MovesCall, KeepsStore, kind_of}
+use Rattle.schedule.specs.Events.{CallMoves, Stays, MovesOn, AnswersBeginning}
+use Rattle.schedule.specs.TheoremRuns.{IsRun}
 use Rattle.schedule.specs.Stands.{StandsOn, HasLeaf, BeforeEach, DoesNotFinish, NoneFinishes, HasNotCome, NoneHasCome, ScansStandOnLeaves, BulkDeletesWait, BegunBulkDeletesWait}
 use Rattle.schedule.specs.declared.event.Event.{Event}
 use Rattle.schedule.proofs.Frames.{slot_is}
 use Rattle.schedule.proofs.Leaves.{leaf_same}
 use Rattle.schedule.proofs.Lists.{get_set_same, get_set_other, get_within, same_some}
 use Rattle.schedule.proofs.Vacuums.{sweep_vacuums, asked_sweep}
+use Rattle.schedule.proofs.Fitting.{fits_behind, goes_does, running_of}
 
 true_false : true ≡ false → ⊥
 true_false h = cc
@@ -93,7 +99,7 @@ module _ {S : Type 0} (g : Ghosts S) (start : Entry → Bool) where
   -- the leaf on which a scan stands is pinned
   stands_pinned : (session block : ℕ) (now : Snapshot S) → Fits g start now → StandsOn session block now → has_pin (holding_of (g.state now.store).table session).pins block ≡ true
   stands_pinned session block now fits stands =
-      let runs : SlotRuns g start now session (Scan stands.op) = fits.running session (Some (Scan stands.op)) (slot_found now.slots session (Scan stands.op) stands.runs) in
+      let runs : SlotRuns g start now session (Scan stands.op) = running_of fits session (Some (Scan stands.op)) (slot_found now.slots session (Scan stands.op) stands.runs) in
       let is : stands.op.session ≡ session = runs.runs.session ∙ runs.is.session_is in
       let held : holding_of (g.state now.store).table session ≡ leaf_pinned (Some block) =
       subst (λ (s : ℕ). holding_of (g.state now.store).table s ≡ leaf_pinned (Some block)) is (runs.runs.fits.held ∙ ap leaf_pinned stands.leaf) in
@@ -102,16 +108,16 @@ module _ {S : Type 0} (g : Ghosts S) (start : Entry → Bool) where
   -- ... and it is a live leaf
   stands_leaf : (session block : ℕ) (now : Snapshot S) → Fits g start now → StandsOn session block now → HasLeaf g block now
   stands_leaf session block now fits stands =
-      let runs : SlotRuns g start now session (Scan stands.op) = fits.running session (Some (Scan stands.op)) (slot_found now.slots session (Scan stands.op) stands.runs) in
+      let runs : SlotRuns g start now session (Scan stands.op) = running_of fits session (Some (Scan stands.op)) (slot_found now.slots session (Scan stands.op) stands.runs) in
       subst (LeafIsLive (g.state now.store).pages) stands.leaf runs.runs.fits.live
 
   -- behind an event of a session's running call, what it runs was asked the same
   moved_asks : (session : ℕ) (move : Move) (answer : Answer) (old new : Snapshot S) → Fits g start old → EventDoes g start (MovesCall session move) answer old new
       → (op next : Op) → slice_get old.slots session ≡ Some (Some op) → slice_get new.slots session ≡ Some (Some next) → asked_of new.sets next ≡ asked_of old.sets op
   moved_asks session move answer old new fits does op next was is =
-      let before : SlotRuns g start old session op = fits.running session (Some op) was in
-      let behind : SlotRuns g start new session next = does.fits.running session (Some next) is in
-      let goes : CallGoesOn g start session answer old new = subst (λ (b : Bool). MovesOn g start b session answer old new) (ap slot_has_call was) does.happens in
+      let before : SlotRuns g start old session op = running_of fits session (Some op) was in
+      let behind : SlotRuns g start new session next = running_of (fits_behind does) session (Some next) is in
+      let goes : CallMoves g start session answer old new = subst (λ (b : Bool). MovesOn g start b session answer old new) (ap slot_has_call was) does.also.happens in
       let number_is : goes.number ≡ before.number = before.only goes.number goes.call goes.is in
       let call_is : goes.call ≡ before.call = same_some (slice_get old.calls before.number) goes.call before.call (subst (λ (n : ℕ). slice_get old.calls n ≡ Some goes.call) number_is goes.is.found) before.is.found in
       let found : slice_get (slice_set old.calls goes.number goes.after) behind.number ≡ Some behind.call = subst (λ (l : List Call). slice_get l behind.number ≡ Some behind.call) goes.calls_is behind.is.found in
@@ -132,14 +138,14 @@ module _ {S : Type 0} (g : Ghosts S) (start : Entry → Bool) where
     where
       same_slots : (slot_has_call (slice_get old.slots session)) ≡ false → slot_sweeps (slot_of new.slots session) ≡ false
       same_slots none =
-          let stays : Stays g answer old new = subst (λ (b : Bool). MovesOn g start b session answer old new) none does.happens in
+          let stays : Stays g answer old new = subst (λ (b : Bool). MovesOn g start b session answer old new) none does.also.happens in
           ap (λ (l : List (Option Op)). slot_sweeps (slot_of l session)) stays.still.slots_is ∙ idle
 
       to : (op : Op) → slice_get old.slots session ≡ Some (Some op) → (o : Option (Option Op)) → slice_get new.slots session ≡ o → slot_sweeps (unwrap_or o None) ≡ false
       to op was None is = refl
       to op was (Some None) is = refl
       to op was (Some (Some next)) is =
-          asked_sweep old.sets next op (subst (λ (sets : DeadSets). asked_of sets next ≡ asked_of old.sets op) does.sets (moved_asks session move answer old new fits does op next was is))
+          asked_sweep old.sets next op (subst (λ (sets : DeadSets). asked_of sets next ≡ asked_of old.sets op) does.means.sets (moved_asks session move answer old new fits does op next was is))
           ∙ sym (ap slot_sweeps (slot_is old.slots session (Some op) was)) ∙ idle
 
       by : (o : Option (Option Op)) → slice_get old.slots session ≡ o → slot_sweeps (slot_of new.slots session) ≡ false
@@ -158,13 +164,13 @@ module _ {S : Type 0} (g : Ghosts S) (start : Entry → Bool) where
     -- a beginning
     begins_keep : (session : ℕ) (request : Request) (answer : Answer) → EventDoes g start (BeginsCall session request) answer old new → NoneHasCome block new
     begins_keep session request answer does w = elim (cases_eq w session) [
-      | inl e ↦ subst (λ (s : ℕ). HasNotCome block (slot_of new.slots s)) (sym e) (by answer refl does.always.answers)
-      | inr n ↦ as_before w (does.always.others session refl w n)
+      | inl e ↦ subst (λ (s : ℕ). HasNotCome block (slot_of new.slots s)) (sym e) (by answer refl does.also.always.answers)
+      | inr n ↦ as_before w (does.also.always.others session refl w n)
     ]
       where
         by : (a : Answer) → answer ≡ a → AnswersBeginning a → HasNotCome block (slot_of new.slots session)
-        by Begun is h = subst (λ (o : Option Op). HasNotCome block o) (sym (does.always.fresh is)) (fresh_come block session request (leaf_above (g.state old.store) block leaf.page fits.matches.order leaf.was))
-        by (Refused fault) is h = all_as_before (does.always.refused fault is).slots_is session
+        by Begun is h = subst (λ (o : Option Op). HasNotCome block o) (sym (does.also.always.fresh is)) (fresh_come block session request (leaf_above (g.state old.store) block leaf.page fits.invariant.order leaf.was))
+        by (Refused fault) is h = all_as_before (does.also.always.refused fault is).slots_is session
         by Going is h = absurd h
         by (Added x u) is h = absurd h
         by (Ready r) is h = absurd h
@@ -178,30 +184,30 @@ module _ {S : Type 0} (g : Ghosts S) (start : Entry → Bool) where
 
     -- what is done for the store
     upkeep_keeps : (upkeep : Upkeep) (answer : Answer) → EventDoes g start (KeepsStore upkeep) answer old new → NoneHasCome block new
-    upkeep_keeps upkeep answer does w = as_before w (does.always.others (suc w) tt w (λ e. absurd (let n : w ≡ suc w = e in omega arith)))
+    upkeep_keeps upkeep answer does w = as_before w (does.also.always.others (suc w) tt w (λ e. absurd (let n : w ≡ suc w = e in omega arith)))
 
     -- a move of a call that is no bulk delete
     calm_moves : (session : ℕ) (move : Move) (answer : Answer) → EventDoes g start (MovesCall session move) answer old new → slot_sweeps (slot_of old.slots session) ≡ false → NoneHasCome block new
     calm_moves session move answer does idle w = elim (cases_eq w session) [
       | inl e ↦ subst (λ (s : ℕ). HasNotCome block (slot_of new.slots s)) (sym e) (not_sweep_come block (slot_of new.slots session) (moved_sweep session move answer old new fits does idle))
-      | inr n ↦ as_before w (does.always.others session refl w n)
+      | inr n ↦ as_before w (does.also.always.others session refl w n)
     ]
 
     -- ... and of a bulk delete, by what it leaves
     moved_come : (session : ℕ) (move : Move) (answer : Answer) → EventDoes g start (MovesCall session move) answer old new → HasNotCome block (slot_of new.slots session) → NoneHasCome block new
     moved_come session move answer does here w = elim (cases_eq w session) [
       | inl e ↦ subst (λ (s : ℕ). HasNotCome block (slot_of new.slots s)) (sym e) here
-      | inr n ↦ as_before w (does.always.others session refl w n)
+      | inr n ↦ as_before w (does.also.always.others session refl w n)
     ]
 
     -- a step of a bulk delete is still before the leaf
     step_before : (session set : ℕ) (op : BulkDeleteOp) (answer : Answer) → EventDoes g start (MovesCall session Steps) answer old new → slot_of old.slots session ≡ Some (Bulk set op)
         → IsStillBefore block (slot_of new.slots session) answer
     step_before session set op answer does is =
-        let runs : SlotRuns g start old session (Bulk set op) = fits.running session (Some (Bulk set op)) (slot_found old.slots session (Bulk set op) is) in
+        let runs : SlotRuns g start old session (Bulk set op) = running_of fits session (Some (Bulk set op)) (slot_found old.slots session (Bulk set op) is) in
         let session_is : op.session ≡ session = runs.runs.session ∙ runs.is.session_is in
         let apart : stander ≢ op.session = λ e. (let both : Some (Scan stands.op) ≡ Some (Bulk set op) = sym stands.runs ∙ ap (λ (s : ℕ). slot_of old.slots s) (e ∙ session_is) ∙ is in cc) in
-        let waits : KeepsBeforePins (g.state old.store) (Some (Bulk set op)) (slot_of new.slots session) answer = subst (λ (o : Option Op). KeepsBeforePins (g.state old.store) o (slot_of new.slots session) answer) is does.waits in
+        let waits : KeepsBeforePins (g.state old.store) (Some (Bulk set op)) (slot_of new.slots session) answer = subst (λ (o : Option Op). KeepsBeforePins (g.state old.store) o (slot_of new.slots session) answer) is does.also.waits in
         let before : op.cursor ≤ block = subst (λ (o : Option Op). HasNotCome block o) is (none session) in
         waits stander block leaf.page apart leaf.was (stands_pinned stander block old fits stands) before
 
@@ -228,7 +234,7 @@ module _ {S : Type 0} (g : Ghosts S) (start : Entry → Bool) where
     takes_keep session answer does = by (slot_of old.slots session) refl
       where
         refused : (set : ℕ) (op : BulkDeleteOp) (a : Answer) → answer ≡ a → AnswersNext (Some (Bulk set op)) a → new.slots ≡ old.slots
-        refused set op (Refused fault) is h = (does.always.refused fault is).slots_is
+        refused set op (Refused fault) is h = (does.also.always.refused fault is).slots_is
         refused set op Begun is h = absurd h
         refused set op Going is h = absurd h
         refused set op (Added x u) is h = absurd h
@@ -246,11 +252,11 @@ module _ {S : Type 0} (g : Ghosts S) (start : Entry → Bool) where
         by (Some (Insert op)) is = calm_moves session Takes answer does (ap slot_sweeps is)
         by (Some (Scan op)) is = calm_moves session Takes answer does (ap slot_sweeps is)
         by (Some (Cleanup op)) is = calm_moves session Takes answer does (ap slot_sweeps is)
-        by (Some (Bulk set op)) is = all_as_before (refused set op answer refl (subst (λ (o : Option Op). AnswersNext o answer) is does.always.answers))
+        by (Some (Bulk set op)) is = all_as_before (refused set op answer refl (subst (λ (o : Option Op). AnswersNext o answer) is does.also.always.answers))
 
     -- giving a call up
     gives_up_keep : (session : ℕ) (answer : Answer) → EventDoes g start (MovesCall session GivesUp) answer old new → NoneHasCome block new
-    gives_up_keep session answer does = moved_come session GivesUp answer does (subst (λ (o : Option Op). HasNotCome block o) (sym does.always.left.over) tt)
+    gives_up_keep session answer does = moved_come session GivesUp answer does (subst (λ (o : Option Op). HasNotCome block o) (sym does.also.always.left.over) tt)
 
     -- any event
     event_keeps : (kind : Kind) (answer : Answer) → EventDoes g start kind answer old new → DoesNotFinish kind answer old × NoneHasCome block new
@@ -262,27 +268,27 @@ module _ {S : Type 0} (g : Ghosts S) (start : Entry → Bool) where
 
     -- where no act is done, pages are as they were
     leaf_quiet : (kind : Kind) (answer : Answer) → EventDoes g start kind answer old new → (g.state new.store).acts ≡ (g.state old.store).acts → HasLeaf g block new
-    leaf_quiet kind answer does same = leaf_same (g.state old.store) (g.state new.store) (does.always.kept.quiet same) block leaf.page leaf.was
+    leaf_quiet kind answer does same = leaf_same (g.state old.store) (g.state new.store) (does.also.always.kept.quiet same) block leaf.page leaf.was
 
     -- a scan's own step does no act, and others leave it its leaf
     leaf_behind : (kind : Kind) (answer : Answer) → EventDoes g start kind answer old new → HasLeaf g block new
-    leaf_behind (BeginsCall session request) answer does = leaf_quiet (BeginsCall session request) answer does does.always.calm
+    leaf_behind (BeginsCall session request) answer does = leaf_quiet (BeginsCall session request) answer does does.also.always.calm
     leaf_behind (MovesCall session Steps) answer does = elim (cases_eq session stander) [
-      | inl e ↦ leaf_quiet (MovesCall session Steps) answer does (subst (λ (o : Option Op). OnlyWritersAct o (g.state old.store) (g.state new.store)) (ap (λ (s : ℕ). slot_of old.slots s) e ∙ stands.runs) does.always.calm)
-      | inr n ↦ does.leaves stander block leaf.page n leaf.was (stands_pinned stander block old fits stands)
+      | inl e ↦ leaf_quiet (MovesCall session Steps) answer does (subst (λ (o : Option Op). OnlyWritersAct o (g.state old.store) (g.state new.store)) (ap (λ (s : ℕ). slot_of old.slots s) e ∙ stands.runs) does.also.always.calm)
+      | inr n ↦ does.also.leaves stander block leaf.page n leaf.was (stands_pinned stander block old fits stands)
     ]
-    leaf_behind (MovesCall session Takes) answer does = leaf_quiet (MovesCall session Takes) answer does does.always.calm
-    leaf_behind (MovesCall session GivesUp) answer does = leaf_quiet (MovesCall session GivesUp) answer does does.always.calm
-    leaf_behind (KeepsStore upkeep) answer does = leaf_quiet (KeepsStore upkeep) answer does does.always.calm
+    leaf_behind (MovesCall session Takes) answer does = leaf_quiet (MovesCall session Takes) answer does does.also.always.calm
+    leaf_behind (MovesCall session GivesUp) answer does = leaf_quiet (MovesCall session GivesUp) answer does does.also.always.calm
+    leaf_behind (KeepsStore upkeep) answer does = leaf_quiet (KeepsStore upkeep) answer does does.also.always.calm
 
 waits_on_leaf : {S : Type 0} (g : Ghosts S) (start : Entry → Bool) (told : List Answer) (events : List Event) (answers : List Answer) (first last : Snapshot S) → Fits g start first
     → (run : IsRun g start told events answers first last) → (session block : ℕ) → BeforeEach g start (StandsOn session block) told events answers first last run
     → HasLeaf g block first → NoneHasCome block first → NoneFinishes g start told events answers first last run × NoneHasCome block last × HasLeaf g block last
 waits_on_leaf {S} g start told [] [] first last fits run session block stands leaf none = (tt, subst (λ (m : Snapshot S). NoneHasCome block m) run none, subst (λ (m : Snapshot S). HasLeaf g block m) run leaf)
 waits_on_leaf g start told (event ∷ events) (answer ∷ answers) first last fits run session block stands leaf none =
-    let one = event_keeps g start session block first run.1.0 fits stands.0 leaf none (kind_of event) answer run.1.1.does in
-    let still = leaf_behind g start session block first run.1.0 fits stands.0 leaf none (kind_of event) answer run.1.1.does in
-    let rest = waits_on_leaf g start (told ++ answer ∷ []) events answers run.1.0 last run.1.1.does.fits run.1.2 session block stands.1 still one.1 in
+    let one = event_keeps g start session block first run.1.0 fits stands.0 leaf none (kind_of event) answer (goes_does run.1.1) in
+    let still = leaf_behind g start session block first run.1.0 fits stands.0 leaf none (kind_of event) answer (goes_does run.1.1) in
+    let rest = waits_on_leaf g start (told ++ answer ∷ []) events answers run.1.0 last (fits_behind (goes_does run.1.1)) run.1.2 session block stands.1 still one.1 in
     ((one.0, rest.0), rest.1, rest.2)
 waits_on_leaf g start told [] (answer ∷ answers) first last fits run session block stands leaf none = absurd run
 waits_on_leaf g start told (event ∷ events) [] first last fits run session block stands leaf none = absurd run
@@ -296,23 +302,23 @@ bulk_deletes_wait g start told events answers first last fits run session block 
 
 pub begun_bulk_deletes_wait : {S : Type 0} (g : Ghosts S) → BegunBulkDeletesWait g
 begun_bulk_deletes_wait {S} g start told vacuumer set events answers first last fits run session block stands =
-    let rest = waits_on_leaf g start (told ++ Begun ∷ []) events answers next last does.fits run.1.2 session block stands.1 still none in
+    let rest = waits_on_leaf g start (told ++ Begun ∷ []) events answers next last (fits_behind does) run.1.2 session block stands.1 still none in
     ((tt, rest.0), rest.1, rest.2)
   where
     next : Snapshot S
     next = run.1.0
 
     does : EventDoes g start (BeginsCall vacuumer (ToBulk set)) Begun first next
-    does = run.1.1.does
+    does = (goes_does run.1.1)
 
     leaf : HasLeaf g block first
     leaf = stands_leaf g start session block first fits stands.0
 
     above : 1 ≤ block
-    above = leaf_above (g.state first.store) block leaf.page fits.matches.order leaf.was
+    above = leaf_above (g.state first.store) block leaf.page fits.invariant.order leaf.was
 
     still : HasLeaf g block next
-    still = leaf_same (g.state first.store) (g.state next.store) (does.always.kept.quiet does.always.calm) block leaf.page leaf.was
+    still = leaf_same (g.state first.store) (g.state next.store) (does.also.always.kept.quiet does.also.always.calm) block leaf.page leaf.was
 
     -- only the one that has begun runs
     none : NoneHasCome block next
@@ -321,6 +327,6 @@ begun_bulk_deletes_wait {S} g start told vacuumer set events answers first last 
         by : (b : Bool) → slot_sweeps (slot_of next.slots w) ≡ b → HasNotCome block (slot_of next.slots w)
         by false is = not_sweep_come block (slot_of next.slots w) is
         by true is =
-            let here : slot_of next.slots vacuumer ≡ Some (op_before vacuumer (ToBulk set)) = does.always.fresh refl in
-            let same : w ≡ vacuumer = does.fits.vacuums.alone w vacuumer (sweep_vacuums (slot_of next.slots w) is) (ap slot_vacuums here) in
+            let here : slot_of next.slots vacuumer ≡ Some (op_before vacuumer (ToBulk set)) = does.also.always.fresh refl in
+            let same : w ≡ vacuumer = does.also.invariant.vacuums.alone w vacuumer (sweep_vacuums (slot_of next.slots w) is) (ap slot_vacuums here) in
             subst (λ (s : ℕ). HasNotCome block (slot_of next.slots s)) (sym same) (subst (λ (o : Option Op). HasNotCome block o) (sym here) above)

@@ -6,10 +6,14 @@ use Rattle.page_action.specs.Contents.{entry_on_live_leaf}
 use Rattle.page_action.specs.States.{State}
 use Rattle.page_action.specs.declared.page_store.PageStore.{Ghosts}
 use Rattle.vacuum.specs.declared.steps.BulkDeleteOp.{BulkDeleteOp}
-use Rattle.session_calls.specs.Ops.{DeadSets, is_sweeping}
+use Rattle.session_calls.specs.TheoremCalls.{DeadSets}
+use Rattle.session_calls.specs.Ops.{is_sweeping}
 use Rattle.session_calls.specs.declared.op.Op.{Op}
 use Rattle.session_calls.specs.declared.op.Op.TheVariants.{Insert, Scan, Bulk, Cleanup}
-use Rattle.schedule.specs.Snapshots.{Snapshot, SlotRuns, SlotMatches, Fits, IsUnused, here_with, snapshot_of, slot_of, slot_vacuums, one_sweeps}
+use Rattle.schedule.specs.TheoremMoments.{Snapshot, snapshot_of}
+use Rattle.schedule.specs.TheoremRuns.{Fits}
+use Rattle.schedule.specs.Snapshots.{SlotRuns, SlotMatches, IsUnused, here_with, slot_of, slot_vacuums, one_sweeps}
+use Rattle.schedule.proofs.Fitting.{fits_from, beyond_of, matches_of, running_of}
 
 -- what stands in a list of one thing
 pub in_replicate : {X : Type 0} (n : ℕ) (x y : X) (i : ℕ) → slice_get (replicate n x) i ≡ Some y → y ≡ x
@@ -36,7 +40,7 @@ no_starts st unused start is = absurd (let none : Some start ≡ None = sym (ap 
 -- an unused store with empty slots is fitted by the contents of its pages
 pub unused_fits : {S : Type 0} (g : Ghosts S) (store : S) (slots : List (Option Op)) (sets : DeadSets) (n : ℕ) → slots ≡ replicate n None → IsUnused (g.state store)
     → Fits g (entry_on_live_leaf (g.state store).pages) (snapshot_of (here_with store slots sets) [] [])
-unused_fits {S} g store slots sets n is unused = record {
+unused_fits {S} g store slots sets n is unused = fits_from (record {
   matches = record { contents = λ e. refl; count = unused.acts; order = unused.order; starts = no_starts (g.state store) unused };
   running = λ session slot h. of session slot (in_replicate n None slot session (ap (λ (l : List (Option Op)). slice_get l session) (sym is) ∙ h));
   vacuums = record {
@@ -47,7 +51,7 @@ unused_fits {S} g store slots sets n is unused = record {
   known = λ number call h. absurd cc;
   meets = λ number call h. absurd cc;
   owned = λ before action h. absurd cc;
-}
+})
   where
     is_cycle : ℕ → Bool
     is_cycle c = is_sweeping (record (g.state store) { cycle = c })
@@ -69,20 +73,20 @@ module _ {S : Type 0} (g : Ghosts S) (start : Entry → Bool) (now : Snapshot S)
   same_slot session (Some (Bulk set op)) without h = absurd (without set op refl)
 
   pub fits_with : ((session set : ℕ) (op : BulkDeleteOp) → slice_get now.slots session ≡ Some (Some (Bulk set op)) → ⊥) → Fits g start now → Fits g start then
-  fits_with without fits = record {
-    matches = fits.matches;
-    running = λ session slot h. same_slot session slot (λ set op is. without session set op (h ∙ ap Some is)) (fits.running session slot h);
-    vacuums = fits.vacuums;
-    beyond = fits.beyond;
-    known = fits.known;
-    meets = fits.meets;
-    owned = fits.owned;
-  }
+  fits_with without fits = fits_from (record {
+    matches = (matches_of fits);
+    running = λ session slot h. same_slot session slot (λ set op is. without session set op (h ∙ ap Some is)) (running_of fits session slot h);
+    vacuums = fits.invariant.vacuums;
+    beyond = beyond_of fits;
+    known = fits.explains.known;
+    meets = fits.explains.meets;
+    owned = fits.explains.owned;
+  })
 
 -- with no sets no bulk delete runs
 pub no_set_runs : {S : Type 0} (g : Ghosts S) (start : Entry → Bool) (now : Snapshot S) → now.sets ≡ [] → Fits g start now → (session set : ℕ) (op : BulkDeleteOp) → slice_get now.slots session ≡ Some (Some (Bulk set op)) → ⊥
 no_set_runs g start now none fits session set op at =
-    let runs : SlotRuns g start now session (Bulk set op) = fits.running session (Some (Bulk set op)) at in
+    let runs : SlotRuns g start now session (Bulk set op) = running_of fits session (Some (Bulk set op)) at in
     let within : set < length now.sets = runs.sweeps.0 in
     let zero_is : length now.sets ≡ 0 = ap (λ (l : DeadSets). length l) none in
     omega (arith, within, zero_is)

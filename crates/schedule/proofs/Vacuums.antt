@@ -5,7 +5,8 @@ use Rattle.std.proofs.Common.{◌≡◌, ◌≢◌, ℕ, zero, suc, ◌<◌, ◌
 use Rattle.std.proofs.lemmas.Bool.{cases_eq}
 use Rattle.index_model.specs.Calls.{Ask, AskInsert, AskScan, AskBulkDelete, AskCleanup}
 use Rattle.page_action.specs.States.{State}
-use Rattle.session_calls.specs.Ops.{DeadSets, asked_of, op_before, asks_vacuum, asks_sweep, is_vacuum, is_sweep, is_sweeping}
+use Rattle.session_calls.specs.TheoremCalls.{DeadSets}
+use Rattle.session_calls.specs.Ops.{asked_of, op_before, asks_vacuum, asks_sweep, is_vacuum, is_sweep, is_sweeping}
 use Rattle.session_calls.specs.Sessions.{cycle_behind, asks_cleanup}
 use Rattle.session_calls.specs.declared.op.Op.{Op}
 use Rattle.session_calls.specs.declared.op.Op.TheVariants.{Insert, Scan, Bulk, Cleanup}

@@ -1,4 +1,4 @@
--- What an event does, by what it answers.
+-- What an event does beside what it means: what keeps the theorem, and what holds of an event whatever the pages are.
 use Rattle.std.specs.Prelude.{◌≡◌, ◌≢◌, ◌⊎◌, ℕ, suc, ◌≤◌, ◌&&◌, nat_lt, not, Bool, true, false, Option, Some, None, Result, Ok, Err, List, [], ◌∷◌, ◌++◌, length, slice_get, slice_set}
 use Rattle.index_model.specs.Actions.{Effect, Action, contents_after}
 use Rattle.index_model.specs.Calls.{Call}
@@ -15,46 +15,20 @@ use Rattle.tree_acts.specs.Leaves.{IsLeafAt, WasLeaf}
 use Rattle.tree_acts.specs.Lows.{NoLowRises}
 use Rattle.descent.specs.Shared.{OthersRely}
 use Rattle.session_calls.specs.Due.{IsDueIn, CountsDown, HasSteps}
-use Rattle.session_calls.specs.Ops.{DeadSets, asked_by, op_before, asks_vacuum, asked_of, where_stepped, where_asked_next, where_beginning, RunsOn, IsCaused, AnswersStopped}
-use Rattle.session_calls.specs.Sessions.{Told, IsAsked, MovesShape, acts_of, begun_call, is_busy, slot_add, LeavesLess, LeavesNoMore, GivesLess, AnswersStep, AnswersNext, AnswersEnd, RefusalChangesNothing, OnlyWritersAct, OnlyOwnAreFlagged, LeavesOwnFlagged, KeepsBeforePins, CountsEntries, SparesLeaves}
+use Rattle.session_calls.specs.TheoremCalls.{DeadSets, asked_by, acts_of, begun_call}
+use Rattle.session_calls.specs.Ops.{op_before, asks_vacuum, asked_of, where_stepped, where_asked_next, where_beginning, RunsOn, IsCaused, AnswersStopped}
+use Rattle.session_calls.specs.Sessions.{Told, IsAsked, MovesShape, is_busy, slot_add, LeavesLess, LeavesNoMore, GivesLess, AnswersStep, AnswersNext, AnswersEnd, RefusalChangesNothing, OnlyWritersAct, OnlyOwnAreFlagged, LeavesOwnFlagged, KeepsBeforePins, CountsEntries, SparesLeaves}
 use Rattle.session_calls.specs.declared.answer.Answer.{Answer}
 use Rattle.session_calls.specs.declared.answer.Answer.TheVariants.{Begun, Forced, Flushed, Checkpointed, Refused}
 use Rattle.session_calls.specs.declared.op.Op.{Op}
 use Rattle.session_calls.specs.declared.request.Request.{Request}
 use Rattle.session_calls.specs.declared.request.Request.TheVariants.{Insert as ToInsert, Scan as ToScan, Bulk as ToBulk, Cleanup as ToCleanup}
-use Rattle.schedule.specs.Snapshots.{StoreAndSlots, Snapshot, here_at, slot_of, IsRunningCall, has_call, one_vacuums, Fits}
+use Rattle.schedule.specs.TheoremMoments.{StoreAndSlots, Snapshot, IsRunningCall}
+use Rattle.schedule.specs.TheoremKinds.{Move, Steps, Takes, GivesUp, Upkeep, Forces, Flushes, Checkpoints, Kind, BeginsCall, MovesCall, KeepsStore, kind_of}
+use Rattle.schedule.specs.TheoremEvents.{IsStill, IsDurable}
+use Rattle.schedule.specs.Snapshots.{here_at, slot_of, has_call, one_vacuums, Invariant}
 use Rattle.schedule.specs.declared.event.Event.{Event}
 use Rattle.schedule.specs.declared.event.Event.TheVariants.{Insert, Scan, Bulk, Cleanup, Step, Next, End, Force, Flush, Checkpoint}
-
--- what may be done with a running call: a step, asking for the next entry, giving it up
-pub data Move : Type 0 where
-  Steps : Move
-  Takes : Move
-  GivesUp : Move
-
--- what may be done for the store: its acts made durable, a changed page written to its place, or a checkpoint
-pub data Upkeep : Type 0 where
-  Forces : Upkeep
-  Flushes : Upkeep
-  Checkpoints : Upkeep
-
--- an event begins a session's call, moves its running call, or is of the store
-pub data Kind : Type 0 where
-  BeginsCall : ℕ → Request → Kind
-  MovesCall : ℕ → Move → Kind
-  KeepsStore : Upkeep → Kind
-
-abbrev pub kind_of : Event → Kind
-kind_of (Insert session e) = BeginsCall session (ToInsert e)
-kind_of (Scan session range) = BeginsCall session (ToScan range)
-kind_of (Bulk session set) = BeginsCall session (ToBulk set)
-kind_of (Cleanup session) = BeginsCall session ToCleanup
-kind_of (Step session) = MovesCall session Steps
-kind_of (Next session) = MovesCall session Takes
-kind_of (End session) = MovesCall session GivesUp
-kind_of Force = KeepsStore Forces
-kind_of Flush = KeepsStore Flushes
-kind_of Checkpoint = KeepsStore Checkpoints
 
 -- the kind is of this session, or of no session
 abbrev pub IsOfSession : ℕ → Kind → Type 0
@@ -73,7 +47,7 @@ AreOf session (event ∷ events) = IsOf session event × AreOf session events
 
 -- an event of a session's running call: it appends an action of this effect, or none, which the call was asked for; what is
 -- told of it; no other call is changed, and other sessions may rely; and what it does to the shape of the pages
-pub record CallGoesOn {S : Type 0} (g : Ghosts S) (start : Entry → Bool) (session : ℕ) (answer : Answer) (old new : Snapshot S) : Type 0 where
+pub record CallMoves {S : Type 0} (g : Ghosts S) (start : Entry → Bool) (session : ℕ) (answer : Answer) (old new : Snapshot S) : Type 0 where
   pub number : ℕ
   pub call : Call
   pub is : IsRunningCall old.calls session number call
@@ -93,13 +67,6 @@ pub record CallBegins {S : Type 0} (g : Ghosts S) (session : ℕ) (request : Req
   pub calls_is : new.calls ≡ old.calls ++ begun_call session (asked_by old.sets request) (length old.history) ∷ []
   pub others : OthersRely session (g.state old.store) (g.state new.store)
 
--- nothing that a history tells of is changed
-pub record IsStill {S : Type 0} (g : Ghosts S) (old new : Snapshot S) : Type 0 where
-  pub state_is : g.state new.store ≡ g.state old.store
-  pub slots_is : new.slots ≡ old.slots
-  pub history_is : new.history ≡ old.history
-  pub calls_is : new.calls ≡ old.calls
-
 -- the event is refused, and nothing is changed
 pub record Stays {S : Type 0} (g : Ghosts S) (answer : Answer) (old new : Snapshot S) : Type 0 where
   pub fault : Fault
@@ -113,15 +80,15 @@ kept_answer Flushes count = None
 kept_answer Checkpoints count = Some (Checkpointed count)
 
 -- all actions are durable, and so many
-pub record AllAreDurable {S : Type 0} (g : Ghosts S) (upkeep : Upkeep) (answer : Answer) (old new : Snapshot S) : Type 0 where
+pub record IsToldDurable {S : Type 0} (g : Ghosts S) (upkeep : Upkeep) (answer : Answer) (old new : Snapshot S) : Type 0 where
   pub told : kept_answer upkeep (length old.history) ≡ Some answer
   pub durable : (g.backing new.store).durable ≡ length old.history
 
 -- what is told of it: a flush answers the block of the page that waited longest, or that none waited
 abbrev pub UpkeepIsTold : {S : Type 0} → Ghosts S → Upkeep → Answer → Snapshot S → Snapshot S → Type 0
-UpkeepIsTold g Forces answer old new = AllAreDurable g Forces answer old new
+UpkeepIsTold g Forces answer old new = IsToldDurable g Forces answer old new
 UpkeepIsTold g Flushes answer old new = answer ≡ Flushed (slice_get (g.backing old.store).changed 0)
-UpkeepIsTold g Checkpoints answer old new = AllAreDurable g Checkpoints answer old new
+UpkeepIsTold g Checkpoints answer old new = IsToldDurable g Checkpoints answer old new
 
 -- what was to be done for the store is done; nothing that a history tells of is changed
 pub record UpkeepIsDone {S : Type 0} (g : Ghosts S) (upkeep : Upkeep) (answer : Answer) (old new : Snapshot S) : Type 0 where
@@ -138,7 +105,7 @@ pub record StoreIsKept {S : Type 0} (g : Ghosts S) (upkeep : Upkeep) (answer : A
 
 -- a session's running call goes on; without one the event is refused
 abbrev pub MovesOn : {S : Type 0} → Ghosts S → (Entry → Bool) → Bool → ℕ → Answer → Snapshot S → Snapshot S → Type 0
-MovesOn g start true session answer old new = CallGoesOn g start session answer old new
+MovesOn g start true session answer old new = CallMoves g start session answer old new
 MovesOn g start false session answer old new = Stays g answer old new
 
 -- a session without a call may begin one
@@ -391,23 +358,17 @@ pub record LeavesBe {S : Type 0} (g : Ghosts S) (kind : Kind) (old new : Snapsho
   pub due : new.history ≡ old.history → (session other : ℕ) → IsOfSession session kind → other ≢ session
       → StaysAsDue (g.state old.store) (g.state new.store) (slot_of old.slots other) (slot_of new.slots other)
 
--- a number of actions that was answered as durable is not above this
-abbrev pub IsDurable : ℕ → Answer → Type 0
-IsDurable durable (Forced count) = count ≤ durable
-IsDurable durable (Checkpointed count) = count ≤ durable
-IsDurable durable answer = Unit {0}
-
 -- at most one action is appended
 pub record GrowsByOne (old new : List Action) : Type 0 where
   pub acts : List Action
   pub is : new ≡ old ++ acts
   pub few : length acts ≤ 1
 
--- One event of this kind, of what is fitted: what happens, why it is refused, how many steps its call takes, which pages it
--- leaves flagged, which pins a bulk delete waits for and what it or a cleanup counts, which empty leaves a cleanup spares, that
--- pinned leaves stay, that no low rises, what it leaves as it was, the sets among it, and what fits then. The store follows the
--- one before, so no count goes back, and each crash in between is told of.
-pub record EventDoes {S : Type 0} (g : Ghosts S) (start : Entry → Bool) (kind : Kind) (answer : Answer) (old new : Snapshot S) : Type 0 where
+-- What an event also leaves: what always holds of it; what it does to the history and to the calls, step by step; why it is refused, as
+-- its operation tells it; how many steps its call takes, which pages it leaves flagged, which pins a bulk delete waits for and what it
+-- or a cleanup counts, which empty leaves a cleanup spares; that pinned leaves stay and no low rises; what it leaves as it was; that the
+-- store follows the one before, so that no count goes back; and what is known then.
+pub record EventAlso {S : Type 0} (g : Ghosts S) (start : Entry → Bool) (kind : Kind) (answer : Answer) (old new : Snapshot S) : Type 0 where
   pub always : EventAlways g kind answer (here_at old) (here_at new)
   pub happens : Happens g start kind answer old new
   pub grows : GrowsByOne old.history new.history
@@ -421,7 +382,6 @@ pub record EventDoes {S : Type 0} (g : Ghosts S) (start : Entry → Bool) (kind 
   pub lows : NoLowRises (g.state old.store).pages (g.state new.store).pages
   pub quiet : LeavesBe g kind old new
   pub durable : IsDurable (g.backing new.store).durable answer
-  pub sets : new.sets ≡ old.sets
   pub follows : g.follows old.store new.store
   pub later : IsLater (g.backing old.store) (g.backing new.store)
-  pub fits : Fits g start new
+  pub invariant : Invariant g start new

@@ -1,6 +1,11 @@
+pub mod TheoremMoments
+pub mod TheoremKinds
+pub mod TheoremRefusals
+pub mod TheoremEvents
 pub mod Snapshots
-pub mod Crashes
+pub mod TheoremCrashes
 pub mod Events
-pub mod Runs
+pub mod TheoremRuns
+pub mod Making
 pub mod Stands
 pub mod Bounds

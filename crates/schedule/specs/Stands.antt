@@ -9,9 +9,11 @@ use Rattle.session_calls.specs.declared.answer.Answer.{Answer}
 use Rattle.session_calls.specs.declared.answer.Answer.TheVariants.{Begun, Finished}
 use Rattle.session_calls.specs.declared.op.Op.{Op}
 use Rattle.session_calls.specs.declared.op.Op.TheVariants.{Insert, Scan, Bulk, Cleanup}
-use Rattle.schedule.specs.Snapshots.{Snapshot, slot_of, slot_sweeps, Fits}
-use Rattle.schedule.specs.Events.{Steps, Kind, MovesCall, kind_of}
-use Rattle.schedule.specs.Runs.{IsRun}
+use Rattle.schedule.specs.TheoremMoments.{Snapshot}
+use Rattle.schedule.specs.TheoremRuns.{Fits}
+use Rattle.schedule.specs.Snapshots.{slot_of, slot_sweeps}
+use Rattle.schedule.specs.TheoremKinds.{Steps, Kind, MovesCall, kind_of}
+use Rattle.schedule.specs.TheoremRuns.{IsRun}
 use Rattle.schedule.specs.declared.event.Event.{Event}
 use Rattle.schedule.specs.declared.event.Event.TheVariants.{Bulk as BulkEvent}
 

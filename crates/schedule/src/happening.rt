@@ -3,12 +3,15 @@
 ghost use Rattle.std.specs.Prelude.{◌≡◌, ◌<◌, ◌≤◌, ◌+◌, ◌∷◌, ◌&&◌, [], true, List, Option, ℕ, IfErr, IsOk, OnOk, OnErr, length, map, slice_get, take, vec_len, vec_capacity};
 ghost use Rattle.page_action.specs.Room.{HasWholeRoom};
 ghost use Rattle.page_action.specs.States.{Continues};
-ghost use Rattle.session_calls.specs.Ops.{DeadSets, asks_vacuum};
+ghost use Rattle.session_calls.specs.TheoremCalls.{DeadSets};
+ghost use Rattle.session_calls.specs.Ops.{asks_vacuum};
 ghost use Rattle.session_calls.specs.Sessions.{no_call};
 ghost use Rattle.session_calls.specs.declared.op.Op.{Op};
 ghost use Rattle.schedule.specs.Snapshots.{here_with, has_call, slot_vacuums, one_vacuums};
-ghost use Rattle.schedule.specs.Events.{BeginsCall, MovesCall, Steps, Takes, GivesUp, KeepsStore, Forces, Flushes, Checkpoints, kind_of, is_of_sets, session_to_begin, AnswersUpkeep, StoreIsKept, EventAlways};
-ghost use Rattle.schedule.specs.Runs.{Carries, Runs, Makes, answers_behind};
+ghost use Rattle.schedule.specs.TheoremKinds.{BeginsCall, MovesCall, Steps, Takes, GivesUp, KeepsStore, Forces, Flushes, Checkpoints, kind_of};
+ghost use Rattle.schedule.specs.Events.{is_of_sets, session_to_begin, AnswersUpkeep, StoreIsKept, EventAlways};
+ghost use Rattle.schedule.specs.Making.{Makes, answers_behind};
+ghost use Rattle.schedule.specs.TheoremRuns.{Carries, Runs};
 
 use crate::event::Event;
 use index_model::{DeadRows, Fault, Session};

@@ -19,11 +19,13 @@ use Rattle.scan.proofs.Lasting.{bounded as scan_bounded}
 use Rattle.descent.specs.Ways.{root_level, NoneIsFlagged}
 use Rattle.session_calls.specs.Due.{IsServable, IsDueIn, steps_for, HasSteps}
 use Rattle.session_calls.proofs.Counting.{due_still}
-use Rattle.session_calls.specs.Ops.{DeadSets, asked_by, op_before, IsOfSets, asks_sweep, set_at}
+use Rattle.session_calls.specs.Ops.{set_at}
+use Rattle.session_calls.specs.TheoremCalls.{DeadSets, asked_by, begun_call}
+use Rattle.session_calls.specs.Ops.{op_before, IsOfSets, asks_sweep}
 use Rattle.session_calls.specs.Sweeps.{IsSweepSoFar, SlotSweeps}
 use Rattle.session_calls.proofs.Bounds.{bulk_few, cleanup_few}
 use Rattle.session_calls.proofs.Starting.{starts_kept, starts_begun, tree_begun}
-use Rattle.session_calls.specs.Sessions.{Matches, IsIdle, OpRuns, begun_call, work_left, work_in, after_request, SessionBegins}
+use Rattle.session_calls.specs.Sessions.{Matches, IsIdle, OpRuns, work_left, work_in, after_request, SessionBegins}
 use Rattle.session_calls.specs.declared.request.Request.{Request}
 use Rattle.session_calls.specs.declared.request.Request.TheVariants.{Insert as ToInsert, Scan as ToScan, Bulk as ToBulk, Cleanup as ToCleanup}
 use Rattle.session_calls.specs.declared.op.Op.{Op}

@@ -15,7 +15,9 @@ use Rattle.page_delete.specs.Cleanups.{CleanupGoesOn, CleanupEnds, CleanupStays,
 use Rattle.page_delete.specs.Counts.{IsCleaned}
 use Rattle.page_delete.specs.declared.steps.CleanupOp.{CleanupOp}
 use Rattle.page_delete.specs.Parts.{PinnedLeavesStay}
-use Rattle.session_calls.specs.Ops.{DeadSets, where_stepped, ends_call}
+use Rattle.session_calls.specs.Ops.{ends_call}
+use Rattle.session_calls.specs.TheoremCalls.{DeadSets}
+use Rattle.session_calls.specs.Ops.{where_stepped}
 use Rattle.session_calls.specs.Sessions.{CallFits, IsAsked, add_after, ended, OpGoes, slot_after, SlotIsCounted}
 use Rattle.session_calls.specs.declared.answer.Answer.TheVariants.{Going, Finished, Refused}
 use Rattle.session_calls.specs.declared.op.Op.TheVariants.{Cleanup}

@@ -25,8 +25,10 @@ use Rattle.vacuum.specs.Ops.{next_block}
 use Rattle.vacuum.specs.Sweeping.{DueIsToCome}
 use Rattle.vacuum.specs.declared.steps.BulkDeleteOp.{BulkDeleteOp}
 use Rattle.page_delete.specs.Counts.{AllIsCleaned}
-use Rattle.session_calls.specs.Ops.{DeadSets, set_at, where_stepped, is_sweeping, ends_call}
-use Rattle.session_calls.specs.Sessions.{CallFits, IsAsked, add_after, acts_of, ended, OpGoes, let_go, slot_after, SlotIsCounted, TellsAllEntries, TellsAllCleaned, CountsEntries, SparesLeaves, LeavesNeeded}
+use Rattle.session_calls.specs.Ops.{set_at, ends_call}
+use Rattle.session_calls.specs.TheoremCalls.{DeadSets, acts_of}
+use Rattle.session_calls.specs.Ops.{where_stepped, is_sweeping}
+use Rattle.session_calls.specs.Sessions.{CallFits, IsAsked, add_after, ended, OpGoes, let_go, slot_after, SlotIsCounted, TellsAllEntries, TellsAllCleaned, CountsEntries, SparesLeaves, LeavesNeeded}
 use Rattle.page_delete.specs.Spares.{OnlyNeededStay}
 use Rattle.session_calls.specs.Sweeps.{IsDue, IsSweepSoFar}
 use Rattle.session_calls.specs.declared.answer.Answer.{Answer}

@@ -20,8 +20,9 @@ use Rattle.descent.proofs.Acting.{nothing_else}
 use Rattle.descent.proofs.Tables.{apart_nothing}
 use Rattle.index_model.specs.Calls.{Ask, AskInsert, AskScan, AskBulkDelete, AskCleanup}
 use Rattle.page_delete.specs.Parts.{PinnedLeavesStay}
-use Rattle.session_calls.specs.Ops.{DeadSets, asked_of, is_sweep}
-use Rattle.session_calls.specs.Sessions.{Matches, IsIdle, HasStarted, acts_of, let_go, cycle_behind, asks_cleanup, MovesShape, Works}
+use Rattle.session_calls.specs.TheoremCalls.{DeadSets, acts_of}
+use Rattle.session_calls.specs.Ops.{asked_of, is_sweep}
+use Rattle.session_calls.specs.Sessions.{Matches, IsIdle, HasStarted, let_go, cycle_behind, asks_cleanup, MovesShape, Works}
 use Rattle.session_calls.specs.declared.op.Op.{Op}
 use Rattle.session_calls.specs.declared.op.Op.TheVariants.{Insert, Scan, Bulk, Cleanup}
 use Rattle.session_calls.proofs.Lists.{get_set_same, get_set_other}

@@ -9,8 +9,10 @@ use Rattle.index_model.specs.declared.fault.Fault.{Fault}
 use Rattle.page_action.specs.Contents.{entry_on_live_leaf}
 use Rattle.page_action.specs.States.{State}
 use Rattle.descent.proofs.Acting.{nothing_else}
-use Rattle.session_calls.specs.Ops.{DeadSets, session_of, is_sweep, asked_of, add_of, OpFits, OpKnows, IsCaused, once_added, IsFaultCaused, is_last, ends_call}
-use Rattle.session_calls.specs.Sessions.{Matches, OpRuns, CallFits, acts_of, act_count, IsAsked, add_after, noted, ended, Told, let_go, after_call, cycle_behind, Works, SessionGoes, OpGoes, HoldsOn}
+use Rattle.session_calls.specs.Ops.{ends_call}
+use Rattle.session_calls.specs.TheoremCalls.{DeadSets, acts_of}
+use Rattle.session_calls.specs.Ops.{session_of, is_sweep, asked_of, add_of, OpFits, OpKnows, IsCaused, once_added, IsFaultCaused, is_last}
+use Rattle.session_calls.specs.Sessions.{Matches, OpRuns, CallFits, act_count, IsAsked, add_after, noted, ended, Told, let_go, after_call, cycle_behind, Works, SessionGoes, OpGoes, HoldsOn}
 use Rattle.session_calls.specs.Sweeps.{OpSweeps}
 use Rattle.session_calls.specs.declared.answer.Answer.{Answer}
 use Rattle.session_calls.specs.declared.answer.Answer.TheVariants.{Going, Added, Ready, Ended, Refused}

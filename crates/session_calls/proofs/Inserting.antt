@@ -12,7 +12,9 @@ use Rattle.descent.specs.Steps.{Changes}
 use Rattle.insert_split.specs.Inserts.{IsNoted, IsLeft, InsertGoesOn, InsertEnds, InsertStays, where_inserting}
 use Rattle.insert_split.specs.Turns.{is_blocked, IsRefusedRightly}
 use Rattle.insert_split.specs.declared.insert.InsertOp.{InsertOp}
-use Rattle.session_calls.specs.Ops.{DeadSets, ends_call, where_stepped, once_added, IsFaultCaused}
+use Rattle.session_calls.specs.Ops.{ends_call}
+use Rattle.session_calls.specs.TheoremCalls.{DeadSets}
+use Rattle.session_calls.specs.Ops.{where_stepped, once_added, IsFaultCaused}
 use Rattle.session_calls.specs.Sessions.{CallFits, IsAsked, add_after, OpGoes}
 use Rattle.session_calls.specs.declared.answer.Answer.TheVariants.{Going, Added, Refused}
 use Rattle.session_calls.specs.declared.op.Op.TheVariants.{Insert}

@@ -7,7 +7,8 @@ use Rattle.index_model.specs.declared.fault.Fault.{Fault}
 use Rattle.index_model.proofs.Histories.{meets_later, there_before, there_now}
 use Rattle.page_action.specs.Contents.{entry_on_live_leaf}
 use Rattle.page_action.specs.States.{State}
-use Rattle.session_calls.specs.Sessions.{Matches, acts_of, act_count, IsAsked, noted, ended}
+use Rattle.session_calls.specs.TheoremCalls.{acts_of}
+use Rattle.session_calls.specs.Sessions.{Matches, act_count, IsAsked, noted, ended}
 use Rattle.session_calls.proofs.Lists.{get_append_new}
 
 -- the history has as many actions more as the event has effects

@@ -7,7 +7,8 @@ use Rattle.page_action.specs.States.{State, Continues}
 use Rattle.page_action.specs.declared.page_store.PageStore.{Ghosts}
 use Rattle.descent.specs.Shared.{IsOneStep}
 use Rattle.insert_split.specs.Inserts.{AnswersStopped as InsertAnswersStopped}
-use Rattle.session_calls.specs.Ops.{OpAnswers, session_of, is_sweep, call_kind, add_of, AnswersStopped, ends_call}
+use Rattle.session_calls.specs.Ops.{ends_call}
+use Rattle.session_calls.specs.Ops.{OpAnswers, session_of, is_sweep, call_kind, add_of, AnswersStopped}
 use Rattle.session_calls.specs.Sessions.{OpSteps, OnlyWritersAct, work_in}
 use Rattle.session_calls.specs.declared.answer.Answer.TheVariants.{Refused}
 use Rattle.session_calls.specs.declared.op.Op.{Op}

@@ -21,7 +21,8 @@ use Rattle.scan.specs.Scans.{waiting, gone_to, ScanFits, IsNext, IsBehind, LeafI
 use Rattle.scan.specs.declared.steps.ScanAt.{ScanAt}
 use Rattle.scan.specs.declared.steps.ScanAt.TheVariants.{Start, At, Last}
 use Rattle.scan.specs.declared.steps.ScanOp.{ScanOp}
-use Rattle.session_calls.specs.Ops.{DeadSets, IsScanSoFar, asked_of, where_asked_next}
+use Rattle.session_calls.specs.TheoremCalls.{DeadSets}
+use Rattle.session_calls.specs.Ops.{IsScanSoFar, asked_of, where_asked_next}
 use Rattle.session_calls.specs.Sessions.{Matches, OpRuns, CallFits, ended, given_one, SessionGoes, OpGoes}
 use Rattle.session_calls.specs.declared.answer.Answer.TheVariants.{Going, Ready, Done, Gave, Refused}
 use Rattle.session_calls.specs.declared.op.Op.{Op}

@@ -12,8 +12,9 @@ use Rattle.page_action.specs.States.{State}
 use Rattle.tree_acts.specs.Leaves.{LeavesStay, IsAddedBy}
 use Rattle.vacuum.proofs.Lasting.{due_undisturbed}
 use Rattle.vacuum.specs.declared.steps.BulkDeleteOp.{BulkDeleteOp}
-use Rattle.session_calls.specs.Ops.{set_at, is_sweeping}
-use Rattle.session_calls.specs.Sessions.{acts_of}
+use Rattle.session_calls.specs.Ops.{set_at}
+use Rattle.session_calls.specs.TheoremCalls.{acts_of}
+use Rattle.session_calls.specs.Ops.{is_sweeping}
 use Rattle.session_calls.specs.Sweeps.{IsDue, IsSweepSoFar}
 use Rattle.session_calls.specs.Undisturbed.{SweepsAreUndisturbed}
 use Rattle.session_calls.specs.declared.op.Op.TheVariants.{Insert, Scan, Bulk, Cleanup}

@@ -1,3 +1,4 @@
+pub mod TheoremCalls
 pub mod Ops
 pub mod Sweeps
 pub mod Sessions

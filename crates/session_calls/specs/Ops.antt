@@ -25,6 +25,7 @@ use Rattle.vacuum.specs.Work.{bulk_delete_left}
 use Rattle.page_delete.specs.Cleanups.{CleanupFits, where_cleaning}
 use Rattle.page_delete.specs.Ops.{fresh_cleanup}
 use Rattle.page_delete.specs.Work.{cleanup_left}
+use Rattle.session_calls.specs.TheoremCalls.{DeadSets}
 use Rattle.session_calls.specs.declared.answer.Answer.{Answer}
 use Rattle.session_calls.specs.declared.answer.Answer.TheVariants.{Begun, Going, Added, Ready, Done, Finished, Gave, Ended, Forced, Flushed, Checkpointed, Refused}
 use Rattle.session_calls.specs.declared.op.Op.{Op}
@@ -32,20 +33,9 @@ use Rattle.session_calls.specs.declared.op.Op.TheVariants.{Insert, Scan, Bulk, C
 use Rattle.session_calls.specs.declared.request.Request.{Request}
 use Rattle.session_calls.specs.declared.request.Request.TheVariants.{Insert as ToInsert, Scan as ToScan, Bulk as ToBulk, Cleanup as ToCleanup}
 
--- the sets of dead rows that calls may name, by their places
-abbrev pub DeadSets : Type 0
-DeadSets = List (Row → Bool)
-
 -- the set at a place; beyond the last one there is no row in it
 abbrev pub set_at : DeadSets → ℕ → Row → Bool
 set_at sets place = unwrap_or (slice_get sets place) (λ row. false)
-
--- what a request asks, with these sets
-abbrev pub asked_by : DeadSets → Request → Ask
-asked_by sets (ToInsert e) = AskInsert e
-asked_by sets (ToScan range) = AskScan range
-asked_by sets (ToBulk set) = AskBulkDelete (set_at sets set)
-asked_by sets ToCleanup = AskCleanup
 
 -- the set that a request names is there
 abbrev pub IsOfSets : DeadSets → Request → Type 0

@@ -21,7 +21,9 @@ use Rattle.page_delete.specs.Counts.{IsCleaned, AllIsCleaned}
 use Rattle.page_delete.specs.Parts.{PinnedLeavesStay}
 use Rattle.page_delete.specs.Spares.{IsAlone, IsSparing, OnlyNeededStay}
 use Rattle.vacuum.specs.Counts.{IsCounted, entries_below}
-use Rattle.session_calls.specs.Ops.{DeadSets, set_at, asked_by, op_before, session_of, asked_of, add_of, ready_of, OpFits, OpKnows, where_requesting, asks_sweep, is_sweep, IsOfSets, call_kind, IsCaused, ends_call, is_last, OpAnswers, AnswersStopped, op_work, op_targets}
+use Rattle.session_calls.specs.Ops.{set_at, ends_call}
+use Rattle.session_calls.specs.TheoremCalls.{DeadSets, asked_by, begun_call, acts_of}
+use Rattle.session_calls.specs.Ops.{op_before, session_of, asked_of, add_of, ready_of, OpFits, OpKnows, where_requesting, asks_sweep, is_sweep, IsOfSets, call_kind, IsCaused, is_last, OpAnswers, AnswersStopped, op_work, op_targets}
 use Rattle.tree_acts.specs.Leaves.{LeavesStay, IsLeafAt}
 use Rattle.session_calls.specs.Sweeps.{OpSweeps, SlotSweeps}
 use Rattle.session_calls.specs.declared.answer.Answer.{Answer}
@@ -78,11 +80,6 @@ SlotFits st sets start history number call (Some op) = CallFits st sets start hi
 abbrev pub SlotIs : State → DeadSets → (Entry → Bool) → List Action → Call → Option Op → Type 0
 SlotIs st sets start history call None = (call.ending ≢ Running) × IsIdle st call.session
 SlotIs st sets start history call (Some op) = (call.ending ≡ Running) × OpRuns st sets start history call op
-
--- the actions that an event of the call of this number appends: one of this effect, or none
-abbrev pub acts_of : ℕ → Option Effect → List Action
-acts_of number None = []
-acts_of number (Some effect) = record { by = number; effect = effect } ∷ []
 
 -- how many they are
 abbrev pub act_count : Option Effect → ℕ
@@ -400,10 +397,6 @@ SparesLeaves old new (Some (Cleanup op)) after answer =
     IsInOrder old → StartsAreBelow old → CleanupFits old op → IsAlone old op.session → IsSparing old op
     → SlotIsSparing new after × LeavesNeeded new answer
 SparesLeaves old new before after answer = Unit {0}
-
--- a call that begins with so many actions before it
-abbrev pub begun_call : ℕ → Ask → ℕ → Call
-begun_call session ask count = record { session = session; ask = ask; began = count; given = []; added = None; ending = Running; until = 0 }
 
 abbrev pub is_busy : Option Op → Bool
 is_busy None = false

@@ -6,9 +6,9 @@ use Rattle.index_model.specs.declared.entry.Entry.{Entry}
 use Rattle.page_action.specs.States.{State}
 use Rattle.descent.specs.Shared.{MayRely}
 use Rattle.scan.specs.Laws.{PinnedLeavesLast}
-use Rattle.session_calls.specs.Ops.{DeadSets}
+use Rattle.session_calls.specs.TheoremCalls.{DeadSets, acts_of}
 use Rattle.tree_acts.specs.Leaves.{LeavesStay}
-use Rattle.session_calls.specs.Sessions.{OpRuns, acts_of}
+use Rattle.session_calls.specs.Sessions.{OpRuns}
 use Rattle.session_calls.specs.Sweeps.{OpSweeps}
 use Rattle.session_calls.specs.declared.op.Op.{Op}
 

@@ -6,7 +6,8 @@ ghost use Rattle.index_model.specs.Faults.{HasCause};
 ghost use Rattle.index_model.specs.declared.entry.Entry.{Entry};
 ghost use Rattle.page_action.specs.States.{Continues};
 ghost use Rattle.session_calls.specs.Due.{HasSteps};
-ghost use Rattle.session_calls.specs.Ops.{DeadSets, op_before, asks_sweep, where_requesting};
+ghost use Rattle.session_calls.specs.TheoremCalls.{DeadSets};
+ghost use Rattle.session_calls.specs.Ops.{op_before, asks_sweep, where_requesting};
 ghost use Rattle.session_calls.specs.Sessions.{Matches, IsIdle, BeginsBy, SessionBegins, after_request};
 ghost use Rattle.session_calls.specs.declared.request.Request.TheVariants.{Insert as ToInsert, Scan as ToScan, Bulk as ToBulk, Cleanup as ToCleanup};
 

@@ -7,7 +7,8 @@ ghost use Rattle.index_model.specs.declared.entry.Entry.{Entry};
 ghost use Rattle.page_action.specs.Causes.{nothing_wrong};
 ghost use Rattle.page_action.specs.States.{State, Continues};
 ghost use Rattle.session_calls.specs.Due.{IsDueIn, CountsDown};
-ghost use Rattle.session_calls.specs.Ops.{DeadSets, where_slot_stepped, where_asked_next, is_last, RunsOn, AnswersStopped};
+ghost use Rattle.session_calls.specs.TheoremCalls.{DeadSets};
+ghost use Rattle.session_calls.specs.Ops.{where_slot_stepped, where_asked_next, is_last, RunsOn, AnswersStopped};
 ghost use Rattle.session_calls.specs.Sessions.{SlotFits, SessionGoes, KeepsPages, OnlyWritersAct, OnlyOwnAreFlagged, LeavesOwnFlagged, KeepsBeforePins, CountsEntries, SparesLeaves, LeavesLess, LeavesNoMore, GivesLess, AnswersStep, AnswersNext, AnswersEnd, RefusalChangesNothing, no_call, slot_add, after_call};
 ghost use Rattle.session_calls.specs.declared.op.Op.{Op};
 

@@ -8,9 +8,11 @@ use Rattle.page_action.specs.declared.page_store.PageStore.{Ghosts}
 use Rattle.session_calls.specs.declared.answer.Answer.{Answer}
 use Rattle.session_calls.specs.declared.answer.Answer.TheVariants.{Begun, Going, Added, Ready, Done, Finished, Gave, Ended, Forced, Flushed, Checkpointed, Refused}
 use Rattle.session_calls.specs.declared.request.Request.{Request}
-use Rattle.schedule.specs.Snapshots.{StoreAndSlots}
-use Rattle.schedule.specs.Events.{Kind, BeginsCall, kind_of, IsOf, IsOfSession, AnswersBeginning, EventDoes}
-use Rattle.schedule.specs.Runs.{Carries, Runs}
+use Rattle.schedule.specs.TheoremMoments.{StoreAndSlots}
+use Rattle.schedule.specs.TheoremKinds.{Kind, BeginsCall, kind_of}
+use Rattle.schedule.specs.Making.{EventDoes}
+use Rattle.schedule.specs.Events.{IsOf, IsOfSession, AnswersBeginning}
+use Rattle.schedule.specs.TheoremRuns.{Carries, Runs}
 use Rattle.schedule.specs.declared.event.Event.{Event}
 use Rattle.schedule.proofs.Keeping.{Laws}
 use Rattle.whole_calls.specs.Going.{CameBy, CallGoes}

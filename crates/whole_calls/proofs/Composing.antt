@@ -6,14 +6,19 @@ use Rattle.index_model.specs.declared.entry.Entry.{Entry}
 use Rattle.page_action.specs.States.{IsLater, Continues}
 use Rattle.page_action.specs.declared.page_store.PageStore.{Ghosts}
 use Rattle.session_calls.specs.declared.answer.Answer.{Answer}
-use Rattle.schedule.specs.Snapshots.{StoreAndSlots, Snapshot, snapshot_of, here_at, Fits}
-use Rattle.schedule.specs.Events.{kind_of, IsOf, EventDoes}
-use Rattle.schedule.specs.Runs.{EventGoes, Carries, Runs}
+use Rattle.schedule.specs.TheoremMoments.{StoreAndSlots, Snapshot, snapshot_of}
+use Rattle.schedule.specs.Making.{EventDoes}
+use Rattle.schedule.specs.TheoremRuns.{Fits}
+use Rattle.schedule.specs.Snapshots.{here_at}
+use Rattle.schedule.specs.TheoremKinds.{kind_of}
+use Rattle.schedule.specs.Events.{IsOf}
+use Rattle.schedule.specs.TheoremRuns.{EventGoes, Carries, Runs}
 use Rattle.schedule.specs.declared.event.Event.{Event}
 use Rattle.schedule.proofs.Joining.{ran_then, are_of_both}
 use Rattle.schedule.proofs.Keeping.{Laws}
 use Rattle.schedule.proofs.Running.{none_ran}
 use Rattle.whole_calls.specs.Going.{IsAmong, CameBy, CallRuns, CallGoes}
+use Rattle.schedule.proofs.Fitting.{goes_does}
 
 among_left : (xs ys : List Answer) (answer : Answer) → IsAmong xs answer → IsAmong (xs ++ ys) answer
 among_left [] ys answer h = absurd h
@@ -38,7 +43,7 @@ pub event_of : {S : Type 0} (g : Ghosts S) (event : Event) (answer : Answer) (a 
 event_of {S} g event answer a b start history calls r =
     let goes : EventGoes g start event answer (snapshot_of a history calls) (snapshot_of b r.then_history r.then_calls) =
     subst (λ (m : Snapshot S). EventGoes g start event answer (snapshot_of a history calls) m) r.ran.run.1.2 r.ran.run.1.1 in
-    (r.then_history, r.then_calls, goes.does)
+    (r.then_history, r.then_calls, (goes_does goes))
 
 -- the same run, told otherwise
 pub goes_told : {S : Type 0} (g : Ghosts S) (session : ℕ) (Tells Also : Snapshot S → Snapshot S → Type 0) (came also : Option Answer) (a b : StoreAndSlots S)
@@ -126,5 +131,5 @@ module _ {S : Type 0} (g : Ghosts S) (laws : Laws g) (session : ℕ) where
         own = (of, tt);
         ran = r.ran;
         came_by = inl refl;
-        tells = tells start first last refl refl fits goes.does;
+        tells = tells start first last refl refl fits (goes_does goes);
       }

@@ -16,15 +16,20 @@ use Rattle.tree_shape.specs.Staying.{MustStay}
 use Rattle.tree_acts.specs.Deletions.{StartsAreBelow}
 use Rattle.page_delete.specs.Counts.{AllIsCleaned}
 use Rattle.page_delete.specs.Spares.{IsAlone, OnlyNeededStay}
-use Rattle.session_calls.specs.Ops.{DeadSets, asked_of, op_before, session_of, OpFits}
+use Rattle.session_calls.specs.TheoremCalls.{DeadSets}
+use Rattle.session_calls.specs.Ops.{asked_of, op_before, session_of, OpFits}
 use Rattle.session_calls.specs.Sessions.{CountsEntries, SparesLeaves}
 use Rattle.session_calls.specs.declared.answer.Answer.{Answer}
 use Rattle.session_calls.specs.declared.answer.Answer.TheVariants.{Begun, Going, Added, Ready, Done, Finished, Gave, Ended, Forced, Flushed, Checkpointed, Refused}
 use Rattle.session_calls.specs.declared.op.Op.{Op}
 use Rattle.session_calls.specs.declared.op.Op.TheVariants.{Insert, Scan, Bulk, Cleanup}
-use Rattle.schedule.specs.Snapshots.{StoreAndSlots, Snapshot, snapshot_of, slot_of, IsRunningCall, SlotRuns, Fits, has_call}
-use Rattle.schedule.specs.Events.{MovesCall, BeginsCall, Steps, CallGoesOn, MovesOn, MayBegin, Stays, EventDoes}
-use Rattle.schedule.specs.Runs.{Carries, Runs}
+use Rattle.schedule.specs.TheoremMoments.{StoreAndSlots, Snapshot, snapshot_of, IsRunningCall}
+use Rattle.schedule.specs.Making.{EventDoes}
+use Rattle.schedule.specs.TheoremRuns.{Fits}
+use Rattle.schedule.specs.Snapshots.{slot_of, SlotRuns, has_call}
+use Rattle.schedule.specs.TheoremKinds.{MovesCall, BeginsCall, Steps}
+use Rattle.schedule.specs.Events.{CallMoves, MovesOn, MayBegin, Stays}
+use Rattle.schedule.specs.TheoremRuns.{Carries, Runs}
 use Rattle.schedule.specs.declared.event.Event.TheVariants.{Step}
 use Rattle.schedule.proofs.Lists.{get_set_same, get_within}
 use Rattle.schedule.proofs.Standing.{slot_found}
@@ -36,6 +41,7 @@ use Rattle.page_delete.proofs.Sparing.{nothing_spared}
 use Rattle.session_calls.specs.declared.request.Request.TheVariants.{Cleanup as ToCleanup}
 use Rattle.whole_calls.proofs.Composing.{event_of}
 use Rattle.whole_calls.proofs.Tellings.{runs_in_slot, one_runs}
+use Rattle.schedule.proofs.Fitting.{fits_behind, running_of}
 
 -- nobody else holds a page, behind a step of the session's call
 alone_on : (session : ℕ) (old now : State) (one other : ℕ) → OthersRely session old now → one ≡ session → other ≡ session → IsAlone old one → IsAlone now other
@@ -94,24 +100,24 @@ module _ {S : Type 0} (g : Ghosts S) (start : Entry → Bool) (session : ℕ) (x
   -- what it runs fits the pages
   runs_fits : (op : Op) → slot_of x.slots session ≡ Some op → OpFits old op
   runs_fits op is =
-      let runs : SlotRuns g start x session op = fits.running session (Some op) (slot_found x.slots session op is) in
+      let runs : SlotRuns g start x session op = running_of fits session (Some op) (slot_found x.slots session op is) in
       runs.runs.fits
 
   -- what a step of it stands on, and does
   stands : (op : Op) (answer : Answer) → EventDoes g start (MovesCall session Steps) answer x y → slot_of x.slots session ≡ Some op → StepCounts x.sets old now op (slot_of y.slots session) answer
   stands op answer does is = record {
-    order = fits.matches.order;
-    starts = fits.matches.starts;
+    order = fits.invariant.order;
+    starts = fits.invariant.starts;
     fits = runs_fits op is;
-    entries = subst (λ (o : Option Op). CountsEntries x.sets old now o (slot_of y.slots session) answer) is does.entries;
-    spares = subst (λ (o : Option Op). SparesLeaves old now o (slot_of y.slots session) answer) is does.spares;
+    entries = subst (λ (o : Option Op). CountsEntries x.sets old now o (slot_of y.slots session) answer) is does.also.entries;
+    spares = subst (λ (o : Option Op). SparesLeaves old now o (slot_of y.slots session) answer) is does.also.spares;
   }
 
   -- ... that goes on
   goes_on : (what : Followed) (op : Op) → EventDoes g start (MovesCall session Steps) Going x y → slot_of x.slots session ≡ Some op → IsCountedAs what x.sets old (Some op) → IsCountedAs what x.sets now (slot_of y.slots session)
-  goes_on what op does slot counted = of (has_call x.slots session) does.happens
+  goes_on what op does slot counted = of (has_call x.slots session) does.also.happens
     where
-      on : CallGoesOn g start session Going x y → IsCountedAs what x.sets now (slot_of y.slots session)
+      on : CallMoves g start session Going x y → IsCountedAs what x.sets now (slot_of y.slots session)
       on c =
           let r = runs_in_slot g start x fits session c.number c.call c.is in
           let same : r.2.call ≡ c.call = (one_runs g start x fits session c.number r.2.number c.call r.2.call c.is r.2.is).1 in
@@ -123,11 +129,11 @@ module _ {S : Type 0} (g : Ghosts S) (start : Entry → Bool) (session : ℕ) (x
             session_is = ap (λ (k : Call). k.session) c.told ∙ c.is.session_is;
             running = ap (λ (k : Call). k.ending) c.told ∙ c.is.running;
           } in
-          let q = runs_in_slot g start y does.fits session c.number c.after runs in
-          let then_same : q.2.call ≡ c.after = (one_runs g start y does.fits session c.number q.2.number c.after q.2.call runs q.2.is).1 in
+          let q = runs_in_slot g start y (fits_behind does) session c.number c.after runs in
+          let then_same : q.2.call ≡ c.after = (one_runs g start y (fits_behind does) session c.number q.2.number c.after q.2.call runs q.2.is).1 in
           let is : slot_of y.slots session ≡ Some q.0 = ap (λ (o : Option (Option Op)). unwrap_or o None) q.1 in
           let asked : asked_of x.sets q.0 ≡ asked_of x.sets op =
-          ap (λ (l : DeadSets). asked_of l q.0) (sym does.sets) ∙ sym q.2.runs.ask ∙ ap (λ (k : Call). k.ask) then_same ∙ ap (λ (k : Call). k.ask) c.told ∙ ask in
+          ap (λ (l : DeadSets). asked_of l q.0) (sym does.means.sets) ∙ sym q.2.runs.ask ∙ ap (λ (k : Call). k.ask) then_same ∙ ap (λ (k : Call). k.ask) c.told ∙ ask in
           subst (λ (o : Option Op). IsCountedAs what x.sets now o) (sym is)
           (counted_next what x.sets old now op q.0 Going
           (alone_on session old now (session_of op) (session_of q.0) c.others (ap session_of (sym op_is) ∙ r.2.runs.session ∙ r.2.is.session_is) (q.2.runs.session ∙ q.2.is.session_is))
@@ -251,8 +257,8 @@ pub begins_sparing : {S : Type 0} (g : Ghosts S) (start : Entry → Bool) (sessi
     → IsUndisturbed (g.state x.store) session → (answer ≡ Begun → slot_of y.slots session ≡ Some (op_before session ToCleanup)) → BeginsToCount of_leaves y.sets (g.state y.store) (slot_of y.slots session) (begun_of answer)
 begins_sparing {S} g start session answer x y fits does calm fresh =
     begins_as of_leaves y.sets (g.state y.store) session (slot_of y.slots session) answer (
-      alone (slice_get x.slots session) does.happens,
-      nothing_spared (g.state y.store) session does.fits.matches.order (λ block dead. calm.none_dead block (subst (λ (ps : List Page). (nodes_of ps block).state ≡ HalfDead) (does.quiet.pages (same (slice_get x.slots session) does.happens)) dead)),
+      alone (slice_get x.slots session) does.also.happens,
+      nothing_spared (g.state y.store) session does.also.invariant.order (λ block dead. calm.none_dead block (subst (λ (ps : List Page). (nodes_of ps block).state ≡ HalfDead) (does.also.quiet.pages (same (slice_get x.slots session) does.also.happens)) dead)),
     ) fresh
   where
     same : (o : Option (Option Op)) → MayBegin g o session ToCleanup answer x y → y.history ≡ x.history

@@ -23,7 +23,9 @@ use Rattle.session_calls.specs.Sessions.{noted}
 use Rattle.session_calls.specs.Sweeps.{OpSweeps}
 use Rattle.session_calls.specs.declared.op.Op.{Op}
 use Rattle.session_calls.specs.declared.op.Op.TheVariants.{Insert, Scan, Bulk, Cleanup}
-use Rattle.schedule.specs.Snapshots.{Snapshot, IsRunningCall, Fits, slot_of}
+use Rattle.schedule.specs.TheoremMoments.{Snapshot, IsRunningCall}
+use Rattle.schedule.specs.TheoremRuns.{Fits}
+use Rattle.schedule.specs.Snapshots.{slot_of}
 use Rattle.schedule.proofs.Keeping.{Laws}
 use Rattle.whole_calls.specs.Refusing.{FillsOnly, is_full_vacuum}
 use Rattle.whole_calls.specs.Sweeping.{of_sweep, of_cleanup, IsCountedAs, IsCountedIn, removed_of}
@@ -66,9 +68,9 @@ module _ {S : Type 0} (g : Ghosts S) (laws : Laws g) (start : Entry → Bool) (s
   removed_low : (now : Snapshot S) (number : ℕ) (call : Call) (dead : Row → Bool) (effects : List Effect) → IsRunningCall now.calls session number call → call.ask ≡ AskBulkDelete dead
       → now.history ≡ first.history ++ acts_by number effects → Fits g start now → length (removed_of effects) ≤ 3276800
   removed_low now number call dead effects is asks history then_fits =
-      let apt = remove_there start number now.calls call dead is.found asks first.history now.history effects history then_fits.owned in
+      let apt = remove_there start number now.calls call dead is.found asks first.history now.history effects history then_fits.explains.owned in
       let most = removed_few (g.state first.store).limits (g.state first.store).pages (removed_of effects) are.items_to (laws.stored first.store) (all_once start number first.history effects apt)
-      (λ e h. fits.matches.contents e ∙ all_were start number first.history effects apt e h) in
+      (λ e h. fits.explains.contents e ∙ all_were start number first.history effects apt e h) in
       let few = laws.few first.store in
       let low = are.pages_to in
       omega (arith, most, few, low)

@@ -4,10 +4,11 @@ use Rattle.std.proofs.lemmas.List.{append-nil}
 use Rattle.index_model.specs.Actions.{Effect, Action}
 use Rattle.index_model.specs.Calls.{Ask, Call}
 use Rattle.index_model.specs.declared.fault.Fault.{Fault}
-use Rattle.session_calls.specs.Sessions.{Told, acts_of, noted}
+use Rattle.session_calls.specs.TheoremCalls.{acts_of}
+use Rattle.session_calls.specs.Sessions.{Told, noted}
 use Rattle.session_calls.specs.declared.answer.Answer.{Answer}
 use Rattle.session_calls.specs.declared.answer.Answer.TheVariants.{Going}
-use Rattle.schedule.specs.Snapshots.{Snapshot, IsRunningCall}
+use Rattle.schedule.specs.TheoremMoments.{Snapshot, IsRunningCall}
 use Rattle.schedule.proofs.Lists.{get_set_same, get_within}
 use Rattle.whole_calls.specs.Telling.{IsSilent, MayAnswer, acts_by, noted_behind, AreOwnEffects, IsOwnEffect, HasGoneOn, IsTold, IsHeldUp, StepTold, TellsStep}
 

@@ -9,12 +9,15 @@ use Rattle.index_model.specs.declared.fault.Fault.{Fault}
 use Rattle.index_model.specs.declared.fault.Fault.TheVariants.{NoSession, Exists}
 use Rattle.page_action.specs.declared.page_store.PageStore.{Ghosts}
 use Rattle.session_calls.specs.Ops.{ends_call}
-use Rattle.session_calls.specs.Sessions.{act_count, acts_of, noted, ended, slot_add}
+use Rattle.session_calls.specs.TheoremCalls.{acts_of}
+use Rattle.session_calls.specs.Sessions.{act_count, noted, ended, slot_add}
 use Rattle.session_calls.specs.declared.answer.Answer.{Answer}
 use Rattle.session_calls.specs.declared.answer.Answer.TheVariants.{Begun, Going, Added, Ready, Done, Finished, Gave, Ended, Forced, Flushed, Checkpointed, Refused}
 use Rattle.session_calls.specs.declared.op.Op.{Op}
 use Rattle.session_calls.specs.declared.request.Request.TheVariants.{Insert as ToInsert}
-use Rattle.schedule.specs.Snapshots.{StoreAndSlots, Snapshot, slot_of, IsRunningCall, Fits}
+use Rattle.schedule.specs.TheoremMoments.{StoreAndSlots, Snapshot, IsRunningCall}
+use Rattle.schedule.specs.TheoremRuns.{Fits}
+use Rattle.schedule.specs.Snapshots.{slot_of}
 use Rattle.schedule.proofs.Lists.{get_append_new, get_append_cases}
 use Rattle.whole_calls.specs.Going.{CallGoes}
 use Rattle.whole_calls.specs.Inserting.{InsertGoes}
@@ -206,7 +209,7 @@ module _ {S : Type 0} (g : Ghosts S) (start : Entry → Bool) (session : ℕ) (e
       let no_add : (noted_behind request_call (length x.history) l.effects).added ≡ None = elim l.after_is [
         | inl is ↦ same_add fault l is ∙ none
         | inr is ↦ (
-            let failed : l.after.added ≡ None = failed_has_none start y.history insert_number entry fault l.after (fits.meets insert_number l.after (found_last fault l))
+            let failed : l.after.added ≡ None = failed_has_none start y.history insert_number entry fault l.after (fits.explains.meets insert_number l.after (found_last fault l))
             (ap (λ (c : Call). c.ask) is ∙ same_ask request_call (length x.history) l.effects) (ap (λ (c : Call). c.ending) is) in
             ap (λ (c : Call). c.added) (sym is) ∙ failed)
       ] in

@@ -38,20 +38,26 @@ use Rattle.vacuum.specs.declared.steps.BulkDeleteOp.{BulkDeleteOp}
 use Rattle.page_delete.specs.Cleanups.{CleanupFits, where_cleaning}
 use Rattle.page_delete.specs.Ops.{is_counted_out as is_cleanup_full}
 use Rattle.page_delete.specs.declared.steps.CleanupOp.{CleanupOp}
-use Rattle.session_calls.specs.Ops.{DeadSets, OpFits, IsCaused, where_stepped, asked_of, session_of}
-use Rattle.session_calls.specs.Sessions.{Told, acts_of, is_busy, AnswersNext}
+use Rattle.session_calls.specs.TheoremCalls.{DeadSets, acts_of}
+use Rattle.session_calls.specs.Ops.{OpFits, IsCaused, where_stepped, asked_of, session_of}
+use Rattle.session_calls.specs.Sessions.{Told, is_busy, AnswersNext}
 use Rattle.session_calls.specs.declared.answer.Answer.{Answer}
 use Rattle.session_calls.specs.declared.answer.Answer.TheVariants.{Begun, Going, Added, Ready, Done, Finished, Gave, Ended, Forced, Flushed, Checkpointed, Refused}
 use Rattle.session_calls.specs.declared.op.Op.{Op}
 use Rattle.session_calls.specs.declared.op.Op.TheVariants.{Insert, Scan, Bulk, Cleanup}
 use Rattle.session_calls.specs.declared.request.Request.{Request}
 use Rattle.session_calls.specs.declared.request.Request.TheVariants.{Insert as ToInsert}
-use Rattle.schedule.specs.Snapshots.{StoreAndSlots, Snapshot, snapshot_of, here_at, slot_of, IsRunningCall, Fits, one_vacuums}
-use Rattle.schedule.specs.Events.{MovesCall, Steps, CallGoesOn, MovesOn, EventDoes, where_moving, where_begun_at, is_of_sets, OthersStay}
+use Rattle.schedule.specs.TheoremMoments.{StoreAndSlots, Snapshot, snapshot_of, IsRunningCall}
+use Rattle.schedule.specs.Making.{EventDoes}
+use Rattle.schedule.specs.TheoremRuns.{Fits}
+use Rattle.schedule.specs.Snapshots.{here_at, slot_of, one_vacuums}
+use Rattle.schedule.specs.TheoremKinds.{MovesCall, Steps}
+use Rattle.schedule.specs.Events.{CallMoves, MovesOn, where_moving, where_begun_at, is_of_sets, OthersStay}
 use Rattle.whole_calls.specs.Refusing.{others_run, another_runs, is_full_vacuum, where_gone, where_inserted, is_used_up, is_tall, InsertIsCaused, CameIsCaused, AskIsCaused, AsksToCount, FillsOnly, where_called, InsertCallIsCaused}
 use Rattle.whole_calls.specs.Giving.{AnswersSeek, given_of}
 use Rattle.whole_calls.specs.Telling.{RoomIsMade, MayAnswer, StepTold, left_behind, outcome_of}
 use Rattle.whole_calls.proofs.Tellings.{runs_in_slot, runs_has_call, one_runs, true_false}
+use Rattle.schedule.proofs.Fitting.{beyond_of, running_of}
 
 pub or_left : (a b : Bool) → a ≡ true → (a || b) ≡ true
 or_left true b h = refl
@@ -123,8 +129,8 @@ holds_none : {S : Type 0} (g : Ghosts S) (start : Entry → Bool) (now : Snapsho
 holds_none g start now fits other empty = of (slice_get now.slots other) refl
   where
     of : (o : Option (Option Op)) → slice_get now.slots other ≡ o → holding_of (g.state now.store).table other ≡ nothing_held
-    of None at = (fits.beyond other (beyond_at now.slots other at)).holds
-    of (Some None) at = (fits.running other None at).idle.holds
+    of None at = (beyond_of fits other (beyond_at now.slots other at)).holds
+    of (Some None) at = (running_of fits other None at).idle.holds
     of (Some (Some op)) at = absurd (let is : slot_of now.slots other ≡ Some op = ap (λ (o : Option (Option Op)). unwrap_or o None) at in cc)
 
 nothing_excludes : (block : ℕ) (mode : Mode) → holding_excludes nothing_held block mode ≡ false
@@ -355,16 +361,16 @@ module _ {S : Type 0} (g : Ghosts S) (start : Entry → Bool) (session least_roo
 -- a step of the session's call, by its event
 module _ {S : Type 0} (g : Ghosts S) (start : Entry → Bool) (session least_room : ℕ) (answer : Answer) (x y : Snapshot S) (fits : Fits g start x) (room : 5 ≤ least_room → 5 ≤ (g.backing x.store).promised)
     (does : EventDoes g start (MovesCall session Steps) answer x y) (number : ℕ) (call : Call) (is : IsRunningCall x.calls session number call) where
-  goes_on : CallGoesOn g start session answer x y
-  goes_on = subst (λ (b : Bool). MovesOn g start b session answer x y) (runs_has_call g start x fits session number call is) does.happens
+  goes_on : CallMoves g start session answer x y
+  goes_on = subst (λ (b : Bool). MovesOn g start b session answer x y) (runs_has_call g start x fits session number call is) does.also.happens
 
   pages_stay : (fault : Fault) → answer ≡ Refused fault → (g.state y.store).pages ≡ (g.state x.store).pages
   pages_stay fault refused =
       let none : goes_on.effect ≡ None = (subst (λ (a : Answer). Told a (length x.history) goes_on.effect goes_on.call goes_on.after) refused goes_on.told).0 in
-      does.quiet.pages (goes_on.history_is ∙ ap (λ (o : Option Effect). x.history ++ acts_of goes_on.number o) none ∙ append-nil x.history)
+      does.also.quiet.pages (goes_on.history_is ∙ ap (λ (o : Option Effect). x.history ++ acts_of goes_on.number o) none ∙ append-nil x.history)
 
   acts_on : (g.state x.store).acts ≤ (g.state y.store).acts
-  acts_on = elim does.always.kept.acts [
+  acts_on = elim does.also.always.kept.acts [
     | inl same ↦ omega (arith, same)
     | inr more ↦ omega (arith, more)
   ]
@@ -375,9 +381,9 @@ module _ {S : Type 0} (g : Ghosts S) (start : Entry → Bool) (session least_roo
       let same : r.2.call ≡ call = (one_runs g start x fits session number r.2.number call r.2.call is r.2.is).1 in
       let slot : slot_of x.slots session ≡ Some r.0 = ap (λ (o : Option (Option Op)). unwrap_or o None) r.1 in
       let ask : asked_of x.sets r.0 ≡ call.ask = sym r.2.runs.ask ∙ ap (λ (c : Call). c.ask) same in
-      let caused : IsCaused (where_stepped r.0 (g.state x.store) (g.backing x.store) (g.backing y.store)) answer = subst (λ (o : Option (Option Op)). IsCaused (where_moving g x.sets x.store y.store Steps o) answer) r.1 does.caused in
+      let caused : IsCaused (where_stepped r.0 (g.state x.store) (g.backing x.store) (g.backing y.store)) answer = subst (λ (o : Option (Option Op)). IsCaused (where_moving g x.sets x.store y.store Steps o) answer) r.1 does.also.caused in
       let came : AskIsCaused g session least_room (is_full_vacuum (Some r.0)) (here_at x) y.store (asked_of x.sets r.0) (Ok answer) =
-      op_came g start session least_room x y fits room does.quiet.frames acts_on does.quiet.limits r.0 (r.2.runs.session ∙ r.2.is.session_is) r.2.runs.fits answer pages_stay caused in
+      op_came g start session least_room x y fits room does.also.quiet.frames acts_on does.also.quiet.limits r.0 (r.2.runs.session ∙ r.2.is.session_is) r.2.runs.fits answer pages_stay caused in
       subst (λ (o : Option Op). AskIsCaused g session least_room (is_full_vacuum o) (here_at x) y.store call.ask (Ok answer)) (sym slot)
       (subst (λ (a : Ask). AskIsCaused g session least_room (is_full_vacuum (Some r.0)) (here_at x) y.store a (Ok answer)) ask came)
 

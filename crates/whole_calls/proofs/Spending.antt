@@ -12,15 +12,20 @@ use Rattle.page_codec.specs.declared.page.Page.{Page}
 use Rattle.tree_shape.specs.Nodes.{Node, nodes_of}
 use Rattle.tree_acts.specs.Weights.{weight_of, weight_up_to, weight}
 use Rattle.descent.specs.Shared.{MovesFlags}
-use Rattle.session_calls.specs.Ops.{DeadSets, asked_of, add_of}
-use Rattle.session_calls.specs.Sessions.{IsAsked, MovesShape, acts_of, add_after, work_in, OwesLess}
+use Rattle.session_calls.specs.TheoremCalls.{DeadSets, acts_of}
+use Rattle.session_calls.specs.Ops.{asked_of, add_of}
+use Rattle.session_calls.specs.Sessions.{IsAsked, MovesShape, add_after, work_in, OwesLess}
 use Rattle.session_calls.specs.declared.answer.Answer.{Answer}
 use Rattle.session_calls.specs.declared.answer.Answer.TheVariants.{Going}
 use Rattle.session_calls.specs.declared.op.Op.{Op}
 use Rattle.session_calls.specs.declared.op.Op.TheVariants.{Insert, Scan, Bulk, Cleanup}
-use Rattle.schedule.specs.Snapshots.{StoreAndSlots, Snapshot, snapshot_of, slot_of, IsRunningCall, Fits, has_call}
-use Rattle.schedule.specs.Events.{MovesCall, Steps, CallGoesOn, MovesOn, EventDoes}
-use Rattle.schedule.specs.Runs.{Carries, Runs}
+use Rattle.schedule.specs.TheoremMoments.{StoreAndSlots, Snapshot, snapshot_of, IsRunningCall}
+use Rattle.schedule.specs.Making.{EventDoes}
+use Rattle.schedule.specs.TheoremRuns.{Fits}
+use Rattle.schedule.specs.Snapshots.{slot_of, has_call}
+use Rattle.schedule.specs.TheoremKinds.{MovesCall, Steps}
+use Rattle.schedule.specs.Events.{CallMoves, MovesOn}
+use Rattle.schedule.specs.TheoremRuns.{Carries, Runs}
 use Rattle.schedule.specs.declared.event.Event.TheVariants.{Step}
 use Rattle.schedule.proofs.Bounds.{work_bounded}
 use Rattle.schedule.proofs.Keeping.{Laws}
@@ -29,6 +34,7 @@ use Rattle.whole_calls.specs.Spending.{brought_by, acts_left, steps_left, TakesF
 use Rattle.whole_calls.proofs.Composing.{event_of}
 use Rattle.whole_calls.proofs.Given.{owes}
 use Rattle.whole_calls.proofs.Tellings.{runs_in_slot, one_runs}
+use Rattle.schedule.proofs.Fitting.{fits_behind}
 
 weight_low : (split : Bool) (level : ℕ) → weight_of split level ≤ 32
 weight_low true level = omega arith
@@ -125,20 +131,20 @@ module _ {S : Type 0} (g : Ghosts S) (start : Entry → Bool) (session : ℕ) (x
   fewer_left = steps_left now (slot_of y.slots session) < steps_left old (slot_of x.slots session)
 
   low_now : now.limits.pages ≤ 65536
-  low_now = subst (λ (l : Limits). l.pages ≤ 65536) (sym does.quiet.limits) low
+  low_now = subst (λ (l : Limits). l.pages ≤ 65536) (sym does.also.quiet.limits) low
 
   -- the step leaves less
   less_by : OwesLess (slot_of x.slots session) old now → work_in now (slot_of y.slots session) < work_in old (slot_of x.slots session)
-  less_by owed = does.always.less honest owed
+  less_by owed = does.also.always.less honest owed
 
-  goes_by : (c : CallGoesOn g start session Going x y) (op : Op) (effect : Option Effect) → IsCountedAnew op → c.call.ask ≡ asked_of x.sets op → y.history ≡ x.history ++ acts_of c.number effect
+  goes_by : (c : CallMoves g start session Going x y) (op : Op) (effect : Option Effect) → IsCountedAnew op → c.call.ask ≡ asked_of x.sets op → y.history ≡ x.history ++ acts_of c.number effect
       → IsAsked (contents_after start x.history) c.call.ask c.call.added effect → MovesFlags effect old now
       → acts_left old (slot_of x.slots session) ≡ left_by old c.call.ask c.call.added → acts_left now (slot_of y.slots session) ≡ left_by now c.call.ask (add_after c.call.added (suc (length x.history)) effect)
       → fewer_left
   goes_by c op None anew ask history asked flags before behind =
       let same : y.history ≡ x.history = history ∙ append-nil x.history in
-      let acts : now.acts ≡ old.acts = does.fits.matches.count ∙ ap (λ (l : List Action). length l) same ∙ sym fits.matches.count in
-      let weighs : weight now ≡ weight old = ap (λ (ps : List Page). weight_up_to (nodes_of ps) (length ps)) (does.quiet.pages same) in
+      let acts : now.acts ≡ old.acts = does.means.explains.count ∙ ap (λ (l : List Action). length l) same ∙ sym fits.explains.count in
+      let weighs : weight now ≡ weight old = ap (λ (ps : List Page). weight_up_to (nodes_of ps) (length ps)) (does.also.quiet.pages same) in
       let left : left_by now c.call.ask c.call.added ≡ left_by old c.call.ask c.call.added = same_left old now c.call.ask c.call.added weighs in
       let less = less_by (owes (slot_of x.slots session) old now acts) in
       omega (arith, left, less, before, behind)
@@ -146,10 +152,10 @@ module _ {S : Type 0} (g : Ghosts S) (start : Entry → Bool) (session : ℕ) (x
       let fewer = acts_fewer (contents_after start x.history) x.sets op c.call.added (length x.history) e old now anew (subst (λ (a : Ask). IsAsked (contents_after start x.history) a c.call.added (Some e)) ask asked) flags in
       let was : acts_left old (slot_of x.slots session) ≡ left_by old (asked_of x.sets op) c.call.added = before ∙ ap (λ (a : Ask). left_by old a c.call.added) ask in
       let is : acts_left now (slot_of y.slots session) ≡ left_by now (asked_of x.sets op) (add_after c.call.added (suc (length x.history)) (Some e)) = behind ∙ ap (λ (a : Ask). left_by now a (add_after c.call.added (suc (length x.history)) (Some e))) ask in
-      let work = work_bounded g start y does.fits low_now session in
+      let work = work_bounded g start y (fits_behind does) low_now session in
       omega (arith, fewer, was, is, work)
 
-  goes_on : CallGoesOn g start session Going x y → fewer_left
+  goes_on : CallMoves g start session Going x y → fewer_left
   goes_on c =
       let runs : IsRunningCall y.calls session c.number c.after = record {
         found = ap (λ (l : List Call). slice_get l c.number) c.calls_is ∙ get_set_same x.calls c.number c.after (get_within x.calls c.number c.call c.is.found);
@@ -161,7 +167,7 @@ module _ {S : Type 0} (g : Ghosts S) (start : Entry → Bool) (session : ℕ) (x
       let ask : c.call.ask ≡ asked_of x.sets r.0 = ap (λ (k : Call). k.ask) (sym same) ∙ r.2.runs.ask in
       let slot : slot_of x.slots session ≡ Some r.0 = ap (λ (o : Option (Option Op)). unwrap_or o None) r.1 in
       let before : acts_left old (slot_of x.slots session) ≡ left_by old c.call.ask c.call.added = slot_left g start x session c.number c.call old fits c.is in
-      let behind : acts_left now (slot_of y.slots session) ≡ left_by now c.call.ask (add_after c.call.added (suc (length x.history)) c.effect) = slot_left g start y session c.number c.after now does.fits runs ∙ ap (λ (k : Call). left_by now k.ask k.added) c.told in
+      let behind : acts_left now (slot_of y.slots session) ≡ left_by now c.call.ask (add_after c.call.added (suc (length x.history)) c.effect) = slot_left g start y session c.number c.after now (fits_behind does) runs ∙ ap (λ (k : Call). left_by now k.ask k.added) c.told in
       by r.0 slot ask before behind
     where
       by : (op : Op) → slot_of x.slots session ≡ Some op → c.call.ask ≡ asked_of x.sets op → acts_left old (slot_of x.slots session) ≡ left_by old c.call.ask c.call.added
@@ -182,7 +188,7 @@ module _ {S : Type 0} (g : Ghosts S) (start : Entry → Bool) (session : ℕ) (x
   goes_or_not false s = absurd (let e = s.refused in cc)
 
   step_fewer : fewer_left
-  step_fewer = goes_or_not (has_call x.slots session) does.happens
+  step_fewer = goes_or_not (has_call x.slots session) does.also.happens
 
 -- so does a step that is the one event of a run
 pub run_fewer : {S : Type 0} (g : Ghosts S) (session : ℕ) (answer : Answer) (a b : StoreAndSlots S) → Carries g a b (Runs g a b (Step session ∷ []) (answer ∷ []))

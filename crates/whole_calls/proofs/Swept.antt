@@ -8,13 +8,14 @@ use Rattle.index_model.specs.Calls.{Vacuumed, Call}
 use Rattle.index_model.specs.declared.fault.Fault.{Fault}
 use Rattle.index_model.specs.declared.stats.VacuumStats.{VacuumStats}
 use Rattle.index_model.specs.declared.entry.Entry.{Entry}
-use Rattle.session_calls.specs.Ops.{DeadSets, asked_by, asks_vacuum}
+use Rattle.session_calls.specs.TheoremCalls.{DeadSets, asked_by}
+use Rattle.session_calls.specs.Ops.{asks_vacuum}
 use Rattle.session_calls.specs.Sessions.{MayDo, ended}
 use Rattle.session_calls.specs.declared.answer.Answer.{Answer}
 use Rattle.session_calls.specs.declared.answer.Answer.TheVariants.{Begun, Going, Added, Ready, Done, Finished, Gave, Ended, Forced, Flushed, Checkpointed, Refused}
 use Rattle.session_calls.specs.declared.request.Request.{Request}
 use Rattle.session_calls.specs.declared.request.Request.TheVariants.{Insert as ToInsert, Scan as ToScan, Bulk as ToBulk, Cleanup as ToCleanup}
-use Rattle.schedule.specs.Snapshots.{Snapshot}
+use Rattle.schedule.specs.TheoremMoments.{Snapshot}
 use Rattle.whole_calls.specs.Going.{CameBy}
 use Rattle.whole_calls.specs.Refusing.{CameIsCaused}
 use Rattle.whole_calls.specs.Sweeping.{swept_of, swept_came, IsSweptNow, IsSweptSoFar, SweepTold}

@@ -11,18 +11,24 @@ use Rattle.index_model.specs.declared.fault.Fault.TheVariants.{Exists, NoSession
 use Rattle.page_action.specs.Causes.{where_forced}
 use Rattle.page_action.specs.States.{Backing}
 use Rattle.page_action.specs.declared.page_store.PageStore.{Ghosts}
-use Rattle.session_calls.specs.Ops.{DeadSets, asked_of, IsCaused}
-use Rattle.session_calls.specs.Sessions.{Told, IsAsked, acts_of, ended, AnswersStep, AnswersNext, AnswersEnd}
+use Rattle.session_calls.specs.TheoremCalls.{DeadSets, acts_of}
+use Rattle.session_calls.specs.Ops.{asked_of, IsCaused}
+use Rattle.session_calls.specs.Sessions.{Told, IsAsked, ended, AnswersStep, AnswersNext, AnswersEnd}
 use Rattle.session_calls.specs.declared.answer.Answer.{Answer}
 use Rattle.session_calls.specs.declared.answer.Answer.TheVariants.{Begun, Going, Added, Ready, Done, Finished, Gave, Ended, Forced, Flushed, Checkpointed, Refused}
 use Rattle.session_calls.specs.declared.op.Op.{Op}
 use Rattle.session_calls.specs.declared.op.Op.TheVariants.{Insert as Inserts, Scan as Scans, Bulk as Bulks, Cleanup as Cleanups}
 use Rattle.session_calls.specs.declared.request.Request.{Request}
-use Rattle.schedule.specs.Snapshots.{Snapshot, slot_of, IsRunningCall, SlotRuns, SlotMatches, Fits, has_call, one_vacuums}
-use Rattle.schedule.specs.Events.{Move, Steps, Takes, Upkeep, KeepsStore, BeginsCall, MovesCall, GivesUp, CallGoesOn, CallBegins, Stays, MovesOn, MayBegin, where_begun_at, EventDoes, AnswersMove}
+use Rattle.schedule.specs.TheoremMoments.{Snapshot, IsRunningCall}
+use Rattle.schedule.specs.Making.{EventDoes}
+use Rattle.schedule.specs.TheoremRuns.{Fits}
+use Rattle.schedule.specs.Snapshots.{slot_of, SlotRuns, SlotMatches, has_call, one_vacuums}
+use Rattle.schedule.specs.TheoremKinds.{Move, Steps, Takes, Upkeep, KeepsStore, BeginsCall, MovesCall, GivesUp}
+use Rattle.schedule.specs.Events.{CallMoves, CallBegins, Stays, MovesOn, MayBegin, where_begun_at, AnswersMove}
 use Rattle.schedule.proofs.Lists.{get_some, get_within, get_append_new, get_append_some, same_some}
 use Rattle.whole_calls.specs.Telling.{IsSilent, MayAnswer, IsOwnEffect, IsTold, TellsStep, HasNone, HasBegun, begun_of, BeginTold, TellsEnd, with_call, first_call, NextTold, HasCome}
 use Rattle.whole_calls.proofs.Gone.{silent_then}
+use Rattle.schedule.proofs.Fitting.{running_of}
 
 pub true_false : true ≡ false → ⊥
 true_false h = cc
@@ -31,9 +37,9 @@ module _ {S : Type 0} (g : Ghosts S) (start : Entry → Bool) (now : Snapshot S)
   -- a session with a running call has it in its slot
   pub runs_in_slot : (number : ℕ) (call : Call) → IsRunningCall now.calls session number call → (op : Op) × (slice_get now.slots session ≡ Some (Some op)) × SlotRuns g start now session op
   runs_in_slot number call is =
-      let within : session < length now.slots = (let k : call.session < length now.slots = fits.known number call is.found in let e : call.session ≡ session = is.session_is in omega arith) in
+      let within : session < length now.slots = (let k : call.session < length now.slots = fits.explains.known number call is.found in let e : call.session ≡ session = is.session_is in omega arith) in
       let at = get_some now.slots session within in
-      of at.0 at.1 (fits.running session at.0 at.1)
+      of at.0 at.1 (running_of fits session at.0 at.1)
     where
       of : (o : Option Op) → slice_get now.slots session ≡ Some o → SlotMatches g start now session o → (op : Op) × (slice_get now.slots session ≡ Some (Some op)) × SlotRuns g start now session op
       of None at m = absurd (m.none number call is)
@@ -53,7 +59,7 @@ module _ {S : Type 0} (g : Ghosts S) (start : Entry → Bool) (now : Snapshot S)
       of : (o : Option (Option Op)) → slice_get now.slots session ≡ o → unwrap_or o None ≡ None
       of None at = refl
       of (Some None) at = refl
-      of (Some (Some op)) at = let m : SlotRuns g start now session op = fits.running session (Some op) at in absurd (none m.number m.call m.is)
+      of (Some (Some op)) at = let m : SlotRuns g start now session op = running_of fits session (Some op) at in absurd (none m.number m.call m.is)
 
   -- there is one running call of a session at most
   pub one_runs : (number other : ℕ) (call c : Call) → IsRunningCall now.calls session number call → IsRunningCall now.calls session other c → (other ≡ number) × (c ≡ call)
@@ -178,12 +184,12 @@ may_of sets GivesUp of op after answer h = absurd of
 pub moves_tells : {S : Type 0} (g : Ghosts S) (start : Entry → Bool) (x y : Snapshot S) (session : ℕ) (move : Move) (answer : Answer) → GoesOnBy move → Fits g start x → EventDoes g start (MovesCall session move) answer x y
     → (number : ℕ) (call : Call) → IsRunningCall x.calls session number call → IsTold number call answer x y
 moves_tells g start x y session move answer of fits does number call is =
-    let goes : CallGoesOn g start session answer x y = subst (λ (b : Bool). MovesOn g start b session answer x y) (runs_has_call g start x fits session number call is) does.happens in
+    let goes : CallMoves g start session answer x y = subst (λ (b : Bool). MovesOn g start b session answer x y) (runs_has_call g start x fits session number call is) does.also.happens in
     let same = one_runs g start x fits session number goes.number call goes.call is goes.is in
     let r = runs_in_slot g start x fits session number call is in
     let asks = one_runs g start x fits session number r.2.number call r.2.call is r.2.is in
     let was : slot_of x.slots session ≡ Some r.0 = ap (λ (o : Option (Option Op)). unwrap_or o None) r.1 in
-    let kind = subst (λ (o : Option Op). AnswersMove move o (slot_of y.slots session) answer) was does.always.answers in
+    let kind = subst (λ (o : Option Op). AnswersMove move o (slot_of y.slots session) answer) was does.also.always.answers in
     record {
       before = [];
       last = goes.effect;
@@ -218,12 +224,12 @@ begins_at g session request x = where_begun_at g x.store (one_vacuums x.slots) x
 
 -- a beginning
 pub begins_told : {S : Type 0} (g : Ghosts S) (start : Entry → Bool) (session : ℕ) (request : Request) (answer : Answer) (x y : Snapshot S) → EventDoes g start (BeginsCall session request) answer x y → BeginTold session request (begun_of answer) x y
-begins_told {S} g start session request answer x y does = of (slice_get x.slots session) does.happens (begin_not_exists g x.store (one_vacuums x.slots) x.sets request (slice_get x.slots session))
+begins_told {S} g start session request answer x y does = of (slice_get x.slots session) does.also.happens (begin_not_exists g x.store (one_vacuums x.slots) x.sets request (slice_get x.slots session))
   where
     stays : ((fault : Fault) → HasCause (begins_at g session request x) fault → fault ≢ Exists) → Stays g answer x y → BeginTold session request (begun_of answer) x y
     stays why s = subst (λ (a : Answer). BeginTold session request (begun_of a) x y) (sym s.refused) (record {
       silent = record { history_is = s.still.history_is; calls_is = s.still.calls_is };
-      not_exists = why s.fault (subst (λ (a : Answer). IsCaused (begins_at g session request x) a) s.refused does.caused);
+      not_exists = why s.fault (subst (λ (a : Answer). IsCaused (begins_at g session request x) a) s.refused does.also.caused);
     })
 
     begun : CallBegins g session request answer x y → BeginTold session request (begun_of answer) x y
@@ -236,14 +242,14 @@ begins_told {S} g start session request answer x y does = of (slice_get x.slots 
 
 -- what is done for the store tells nothing
 pub keeps_silent : {S : Type 0} (g : Ghosts S) (start : Entry → Bool) (upkeep : Upkeep) (answer : Answer) (x y : Snapshot S) → EventDoes g start (KeepsStore upkeep) answer x y → IsSilent x y
-keeps_silent g start upkeep answer x y does = elim does.happens [
+keeps_silent g start upkeep answer x y does = elim does.also.happens [
   | inl kept ↦ record { history_is = kept.still.history_is; calls_is = kept.still.calls_is }
   | inr stays ↦ record { history_is = stays.still.history_is; calls_is = stays.still.calls_is }
 ]
 
 -- an end
 pub ends_tells : {S : Type 0} (g : Ghosts S) (start : Entry → Bool) (x y : Snapshot S) (session : ℕ) (answer : Answer) → Fits g start x → EventDoes g start (MovesCall session GivesUp) answer x y → TellsEnd session x y
-ends_tells {S} g start x y session answer fits does = of (has_call x.slots session) refl does.happens
+ends_tells {S} g start x y session answer fits does = of (has_call x.slots session) refl does.also.happens
   where
     ended_of : (o : Option Op) → AnswersEnd o answer → (answer ≡ Ended) ⊎ (answer ≡ Refused NoSession)
     ended_of None h = inr h
@@ -257,12 +263,12 @@ ends_tells {S} g start x y session answer fits does = of (has_call x.slots sessi
     given_up number call is =
         let r = runs_in_slot g start x fits session number call is in
         let was : slot_of x.slots session ≡ Some r.0 = ap (λ (o : Option (Option Op)). unwrap_or o None) r.1 in
-        subst (λ (o : Option Op). AnswersEnd o answer) was does.always.answers
+        subst (λ (o : Option Op). AnswersEnd o answer) was does.also.always.answers
 
     of : (b : Bool) → has_call x.slots session ≡ b → MovesOn g start b session answer x y → TellsEnd session x y
     of true is goes = record {
       history_is = goes.history_is ∙ ap (λ (o : Option Effect). x.history ++ acts_of goes.number o)
-          (no_effect answer (length x.history) goes.effect goes.call goes.after (ended_of (slot_of x.slots session) does.always.answers) goes.told) ∙ append-nil x.history;
+          (no_effect answer (length x.history) goes.effect goes.call goes.after (ended_of (slot_of x.slots session) does.also.always.answers) goes.told) ∙ append-nil x.history;
       calls_is = λ free. absurd (free goes.number goes.call goes.is);
       ended_is = λ number call runs. (
           let same = one_runs g start x fits session number goes.number call goes.call runs goes.is in

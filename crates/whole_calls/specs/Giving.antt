@@ -10,7 +10,7 @@ use Rattle.session_calls.specs.Sessions.{work_in, LeavesLess, given_one, ended}
 use Rattle.session_calls.specs.declared.answer.Answer.{Answer}
 use Rattle.session_calls.specs.declared.answer.Answer.TheVariants.{Going, Ready, Done, Gave, Refused}
 use Rattle.session_calls.specs.declared.op.Op.{Op}
-use Rattle.schedule.specs.Snapshots.{Snapshot, IsRunningCall}
+use Rattle.schedule.specs.TheoremMoments.{Snapshot, IsRunningCall}
 use Rattle.whole_calls.specs.Telling.{IsSilent, StepTold}
 
 -- where the scan is to go on, or has given an entry, less is left to do

@@ -5,9 +5,9 @@ use Rattle.index_model.specs.Calls.{Call}
 use Rattle.index_model.specs.declared.entry.Entry.{Entry}
 use Rattle.page_action.specs.declared.page_store.PageStore.{Ghosts}
 use Rattle.session_calls.specs.declared.answer.Answer.{Answer}
-use Rattle.schedule.specs.Snapshots.{StoreAndSlots, Snapshot, snapshot_of}
+use Rattle.schedule.specs.TheoremMoments.{StoreAndSlots, Snapshot, snapshot_of}
 use Rattle.schedule.specs.Events.{AreOf}
-use Rattle.schedule.specs.Runs.{Ran, Carries}
+use Rattle.schedule.specs.TheoremRuns.{Ran, Carries}
 use Rattle.schedule.specs.declared.event.Event.{Event}
 
 -- the answer is one of these

@@ -4,7 +4,7 @@ use Rattle.index_model.specs.declared.entry.Entry.{Entry}
 use Rattle.index_model.specs.declared.fault.Fault.{Fault}
 use Rattle.page_action.specs.declared.page_store.PageStore.{Ghosts}
 use Rattle.session_calls.specs.declared.answer.Answer.TheVariants.{Added, Refused}
-use Rattle.schedule.specs.Snapshots.{StoreAndSlots}
+use Rattle.schedule.specs.TheoremMoments.{StoreAndSlots}
 use Rattle.whole_calls.specs.Going.{CallGoes}
 use Rattle.whole_calls.specs.Telling.{InsertTold}
 use Rattle.whole_calls.specs.declared.inserted.Inserted.{Inserted}

@@ -12,14 +12,15 @@ use Rattle.tree_acts.specs.Deletions.{state_in}
 use Rattle.vacuum.specs.Counts.{IsCounted, entries_below}
 use Rattle.page_delete.specs.Counts.{IsCleaned, AllIsCleaned}
 use Rattle.page_delete.specs.Spares.{IsAlone, IsSparing, OnlyNeededStay}
-use Rattle.session_calls.specs.Ops.{DeadSets, set_at}
+use Rattle.session_calls.specs.Ops.{set_at}
+use Rattle.session_calls.specs.TheoremCalls.{DeadSets}
 use Rattle.session_calls.specs.Sessions.{ended}
 use Rattle.session_calls.specs.declared.answer.Answer.{Answer}
 use Rattle.session_calls.specs.declared.answer.Answer.TheVariants.{Going, Finished, Refused}
 use Rattle.session_calls.specs.declared.op.Op.{Op}
 use Rattle.session_calls.specs.declared.op.Op.TheVariants.{Insert, Scan, Bulk, Cleanup}
 use Rattle.session_calls.specs.declared.request.Request.{Request}
-use Rattle.schedule.specs.Snapshots.{Snapshot}
+use Rattle.schedule.specs.TheoremMoments.{Snapshot}
 use Rattle.whole_calls.specs.Telling.{acts_by, AreOwnEffects, first_call}
 
 -- what a bulk delete or a cleanup answers that came to this

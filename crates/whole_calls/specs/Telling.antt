@@ -8,12 +8,12 @@ use Rattle.index_model.specs.declared.entry.Entry.{Entry}
 use Rattle.index_model.specs.declared.limits.Limits.{Limits}
 use Rattle.page_action.specs.Room.{HasWholeRoom}
 use Rattle.page_action.specs.States.{Backing}
-use Rattle.session_calls.specs.Ops.{asked_by}
-use Rattle.session_calls.specs.Sessions.{Told, MayDo, acts_of, noted, begun_call, ended}
+use Rattle.session_calls.specs.TheoremCalls.{asked_by, acts_of, begun_call}
+use Rattle.session_calls.specs.Sessions.{Told, MayDo, noted, ended}
 use Rattle.session_calls.specs.declared.answer.Answer.{Answer}
 use Rattle.session_calls.specs.declared.answer.Answer.TheVariants.{Begun, Going, Added, Ready, Done, Finished, Gave, Refused}
 use Rattle.session_calls.specs.declared.request.Request.{Request}
-use Rattle.schedule.specs.Snapshots.{Snapshot, IsRunningCall}
+use Rattle.schedule.specs.TheoremMoments.{Snapshot, IsRunningCall}
 use Rattle.whole_calls.specs.declared.inserted.Inserted.{Inserted}
 
 -- the history and the calls are as they were

@@ -7,7 +7,7 @@ ghost use Rattle.session_calls.specs.Ops.{op_before, RunsOn};
 ghost use Rattle.session_calls.specs.declared.request.Request.TheVariants.{Scan as ToScan};
 ghost use Rattle.schedule.specs.Snapshots.{here_with, slot_of, one_vacuums};
 ghost use Rattle.schedule.specs.Events.{OthersStay, IsUnchanged, where_begun_at};
-ghost use Rattle.schedule.specs.Runs.{Carries};
+ghost use Rattle.schedule.specs.TheoremRuns.{Carries};
 ghost use Rattle.whole_calls.specs.Telling.{BeginTold, step_came, begin_came};
 ghost use Rattle.whole_calls.specs.Giving.{GoesDownBy, AnswersAdvance, AnswersSeek, EndsUnlessGiven, GiveLeavesLess, TellsScan, TellsGiven, given_of, give_came};
 ghost use Rattle.whole_calls.specs.Going.{CallGoes};

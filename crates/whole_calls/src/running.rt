@@ -6,12 +6,14 @@ ghost use Rattle.std.specs.Prelude.{◌≡◌, ◌≢◌, ◌≤◌, Bool, true,
 ghost use Rattle.index_model.specs.Faults.{HasCause};
 ghost use Rattle.page_action.specs.Causes.{where_forced};
 ghost use Rattle.page_action.specs.States.{Continues};
-ghost use Rattle.session_calls.specs.Ops.{DeadSets, RunsOn};
+ghost use Rattle.session_calls.specs.TheoremCalls.{DeadSets};
+ghost use Rattle.session_calls.specs.Ops.{RunsOn};
 ghost use Rattle.session_calls.specs.Sessions.{AnswersStep, OnlyWritersAct, slot_add};
 ghost use Rattle.session_calls.specs.declared.request.Request.TheVariants.{Insert as ToInsert};
-ghost use Rattle.schedule.specs.Snapshots.{here_with, slot_of, snapshot_of, one_vacuums};
+ghost use Rattle.schedule.specs.TheoremMoments.{snapshot_of};
+ghost use Rattle.schedule.specs.Snapshots.{here_with, slot_of, one_vacuums};
 ghost use Rattle.schedule.specs.Events.{OthersStay, IsUnchanged, where_begun_at};
-ghost use Rattle.schedule.specs.Runs.{Carries};
+ghost use Rattle.schedule.specs.TheoremRuns.{Carries};
 ghost use Rattle.whole_calls.specs.Going.{CallGoes};
 ghost use Rattle.whole_calls.specs.Giving.{StepLeavesLess};
 ghost use Rattle.whole_calls.specs.Inserting.{InsertGoes};

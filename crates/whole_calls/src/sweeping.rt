@@ -6,7 +6,7 @@ ghost use Rattle.page_action.specs.States.{Continues};
 ghost use Rattle.session_calls.specs.declared.request.Request.TheVariants.{Bulk as ToBulk, Cleanup as ToCleanup};
 ghost use Rattle.schedule.specs.Snapshots.{here_with, slot_of, one_vacuums};
 ghost use Rattle.schedule.specs.Events.{OthersStay, IsUnchanged, where_begun_at};
-ghost use Rattle.schedule.specs.Runs.{Carries};
+ghost use Rattle.schedule.specs.TheoremRuns.{Carries};
 ghost use Rattle.whole_calls.specs.Going.{CallGoes};
 ghost use Rattle.whole_calls.specs.Refusing.{where_called, where_gone};
 ghost use Rattle.whole_calls.specs.Telling.{BeginTold, begin_came};

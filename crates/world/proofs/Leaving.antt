@@ -10,7 +10,7 @@ use Rattle.page_store.specs.Following.{Follows}
 use Rattle.page_store.specs.Stores.{state_of, held_by, store_history, IsOwnStore}
 use Rattle.page_store.specs.Histories.{pages_after}
 use Rattle.page_store.specs.declared.store.Store.{Store}
-use Rattle.schedule.specs.Crashes.{ArePagesAfter}
+use Rattle.schedule.specs.TheoremCrashes.{ArePagesAfter}
 use Rattle.world.specs.Reopening.{IsIndexAfterFirstPart}
 use Rattle.world.proofs.Opened.{tree_has_pages}
 

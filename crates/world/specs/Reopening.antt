@@ -11,7 +11,7 @@ use Rattle.page_codec.specs.declared.page.Page.{Page}
 use Rattle.page_store.specs.Stores.{state_of, device_of}
 use Rattle.page_store.specs.declared.store.Store.{Store}
 use Rattle.recovery.specs.Index.{HasIndex}
-use Rattle.schedule.specs.Crashes.{ArePagesAfter}
+use Rattle.schedule.specs.TheoremCrashes.{ArePagesAfter}
 use Rattle.world.specs.Worlds.{WorldFits, WorldKeeps}
 use Rattle.world.specs.declared.opening.NotOpened.{NotOpened}
 use Rattle.world.specs.declared.world.World.{World}

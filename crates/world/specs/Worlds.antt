@@ -6,9 +6,9 @@ use Rattle.index_model.specs.declared.entry.Entry.{Entry}
 use Rattle.index_model.specs.declared.dead_rows.DeadRows.{Ghosts as SetGhosts}
 use Rattle.page_action.specs.declared.page_store.PageStore.{Ghosts}
 use Rattle.session_calls.specs.declared.answer.Answer.{Answer}
-use Rattle.schedule.specs.Crashes.{KeepsHistory, IsCrashSafe}
-use Rattle.schedule.specs.Runs.{Carries, Runs}
-use Rattle.schedule.specs.Snapshots.{StoreAndSlots, Snapshot, snapshot_of, Fits}
+use Rattle.schedule.specs.TheoremCrashes.{KeepsHistory, IsCrashSafe}
+use Rattle.schedule.specs.TheoremRuns.{Carries, Runs, Fits}
+use Rattle.schedule.specs.TheoremMoments.{StoreAndSlots, Snapshot, snapshot_of}
 use Rattle.schedule.specs.declared.event.Event.{Event}
 use Rattle.whole_calls.specs.Going.{CallGoes}
 use Rattle.world.specs.declared.world.World.{World}

@@ -39,13 +39,14 @@ pub struct NotMade<S, T> {
 }
 
 impl<S: PageStore, T: DeadRows + Drop> World<S, T> {
-    ghost use Rattle.std.specs.Prelude.{◌≡◌, ◌⊎◌, ◌<◌, ◌≤◌, ◌∷◌, [], true, IfOk, IfErr, OnOk, OnErr, length, slice_get, Some, ◌+◌, take, IsOk, vec_len, vec_capacity};
+    ghost use Rattle.std.specs.Prelude.{◌≡◌, ◌⊎◌, ◌<◌, ◌≤◌, ◌∷◌, [], true, IfOk, IfErr, OnOk, OnErr, length, slice_get, Some, ◌+◌, drop, take, IsOk, vec_len, vec_capacity};
     ghost use Rattle.index_model.specs.Faults.{HasCause};
     ghost use Rattle.page_action.specs.Causes.{where_read};
     ghost use Rattle.page_action.specs.Contents.{entry_on_live_leaf};
     ghost use Rattle.page_action.specs.States.{Continues};
-    ghost use Rattle.schedule.specs.Events.{MovesCall, GivesUp, EventAlways, IsUnchanged, kind_of};
-    ghost use Rattle.schedule.specs.Runs.{answers_behind};
+    ghost use Rattle.schedule.specs.TheoremKinds.{MovesCall, GivesUp, kind_of};
+    ghost use Rattle.schedule.specs.Events.{EventAlways, IsUnchanged};
+    ghost use Rattle.schedule.specs.TheoremRuns.{Carries, Runs};
     ghost use Rattle.schedule.specs.Snapshots.{IsUnused, has_call};
     ghost use Rattle.world.specs.Worlds.{WorldFits, WorldKeeps, WorldIsSafe, WorldRuns, WorldCarries, inside};
 
@@ -114,9 +115,10 @@ impl<S: PageStore, T: DeadRows + Drop> World<S, T> {
         ensures steps { Continues S.follows self.old.store self.new.store }
         ensures sessions { length self.new.slots.items ≡ length self.old.slots.items }
         ensures sets { self.new.sets ≡ self.old.sets }
-        ensures runs { OnOk result (WorldCarries S.PageStore T.DeadRows self.old self.new
-            (WorldRuns S.PageStore T.DeadRows self.old self.new events.now
-            (answers_behind answers.old.items answers.new.items))) }
+        ensures runs { OnOk result (let old = inside T.DeadRows self.old in
+            let new = inside T.DeadRows self.new in
+            Carries S.PageStore old new (Runs S.PageStore old new events.now
+            (drop (length answers.old.items) answers.new.items))) }
         ensures each { OnOk result
             (length answers.new.items ≡ length answers.old.items + length events.now) }
         ensures kept { take (length answers.old.items) answers.new.items ≡ answers.old.items }

@@ -2,7 +2,7 @@ use Rattle.std.proofs.Common.{sym, ◌∙◌}
 use Rattle.schedule.proofs.Events.{slot_of_call, slot_read}
 use Rattle.schedule.proofs.Idling.{idle_makes}
 use Rattle.schedule.proofs.Making.{end_makes}
-use Rattle.schedule.specs.Events.{GivesUp}
+use Rattle.schedule.specs.TheoremKinds.{GivesUp}
 use Rattle.schedule.proofs.happening.end.Goals as goal
 
 pub returns-clause-makes : goal.returns-clause-makes

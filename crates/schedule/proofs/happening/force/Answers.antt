@@ -1,4 +1,5 @@
-use Rattle.schedule.specs.Snapshots.{here_with, snapshot_of}
+use Rattle.schedule.specs.TheoremMoments.{snapshot_of}
+use Rattle.schedule.specs.Snapshots.{here_with}
 use Rattle.schedule.specs.declared.event.Event.TheVariants.{Force}
 use Rattle.schedule.proofs.Running.{event_goes, one_ran}
 use Rattle.schedule.proofs.happening.force.Goals as goal

@@ -1,6 +1,6 @@
 use Rattle.std.proofs.Common.{refl, sym, ◌∙◌}
 use Rattle.session_calls.specs.declared.answer.Answer.TheVariants.{Checkpointed}
-use Rattle.schedule.specs.Events.{Checkpoints}
+use Rattle.schedule.specs.TheoremKinds.{Checkpoints}
 use Rattle.schedule.proofs.Making.{kept_makes, not_kept_makes}
 use Rattle.schedule.proofs.happening.make_checkpoint.Goals as goal
 

@@ -1,5 +1,5 @@
 use Rattle.std.proofs.Common.{sym, ◌∙◌}
-use Rattle.schedule.specs.Events.{Flushes}
+use Rattle.schedule.specs.TheoremKinds.{Flushes}
 use Rattle.schedule.proofs.Making.{flush_makes, not_kept_makes}
 use Rattle.schedule.proofs.happening.make_flush.Goals as goal
 

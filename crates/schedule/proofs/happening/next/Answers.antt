@@ -2,7 +2,7 @@ use Rattle.std.proofs.Common.{sym, ◌∙◌}
 use Rattle.schedule.proofs.Events.{slot_of_call, slot_read}
 use Rattle.schedule.proofs.Idling.{idle_makes}
 use Rattle.schedule.proofs.Making.{next_makes}
-use Rattle.schedule.specs.Events.{Takes}
+use Rattle.schedule.specs.TheoremKinds.{Takes}
 use Rattle.schedule.proofs.happening.next.Goals as goal
 
 pub returns : goal.returns

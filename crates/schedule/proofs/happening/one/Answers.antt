@@ -1,5 +1,6 @@
 use Rattle.std.specs.Prelude.{map}
-use Rattle.schedule.specs.Snapshots.{here_with, snapshot_of}
+use Rattle.schedule.specs.TheoremMoments.{snapshot_of}
+use Rattle.schedule.specs.Snapshots.{here_with}
 use Rattle.schedule.proofs.Running.{event_goes, one_ran}
 use Rattle.schedule.proofs.happening.one.Goals as goal
 

@@ -4,8 +4,10 @@ use Rattle.std.proofs.lemmas.List.{take_all, take_more, take-append-le, drop-app
 use Rattle.std.proofs.Math.ListN.{drop_of_length-le}
 use Rattle.session_calls.specs.declared.answer.Answer.{Answer}
 use Rattle.schedule.specs.declared.event.Event.{Event}
-use Rattle.schedule.specs.Snapshots.{Snapshot, here_with, snapshot_of}
-use Rattle.schedule.specs.Runs.{Ran, answers_behind}
+use Rattle.schedule.specs.TheoremMoments.{Snapshot, snapshot_of}
+use Rattle.schedule.specs.Snapshots.{here_with}
+use Rattle.schedule.specs.Making.{answers_behind}
+use Rattle.schedule.specs.TheoremRuns.{Ran}
 use Rattle.schedule.proofs.Running.{none_ran, ran_more}
 use Rattle.schedule.proofs.happening.run.Goals as goal
 

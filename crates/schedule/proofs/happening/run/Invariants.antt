@@ -3,7 +3,8 @@ use Rattle.std.proofs.Common.{◌≡◌, ◌+◌, ◌≤◌, length, take}
 use Rattle.std.specs.Vec.{vec_capacity}
 use Rattle.page_action.specs.States.{Continues}
 use Rattle.schedule.specs.Snapshots.{here_with}
-use Rattle.schedule.specs.Runs.{Carries, Runs, answers_behind}
+use Rattle.schedule.specs.Making.{answers_behind}
+use Rattle.schedule.specs.TheoremRuns.{Carries, Runs}
 use Rattle.schedule.proofs.happening.run.Given as goal
 
 abbrev pub invariant-loop-event : goal.invariant-loop-event

@@ -4,7 +4,7 @@ use Rattle.schedule.proofs.Events.{slot_of_call, slot_read}
 use Rattle.schedule.proofs.Idling.{idle_makes}
 use Rattle.schedule.proofs.Making.{step_makes}
 use Rattle.session_calls.specs.Sessions.{no_call}
-use Rattle.schedule.specs.Events.{Steps}
+use Rattle.schedule.specs.TheoremKinds.{Steps}
 use Rattle.schedule.proofs.happening.step.Goals as goal
 
 pub returns-clause-makes : goal.returns-clause-makes

@@ -7,8 +7,9 @@ use Rattle.session_calls.specs.Sessions.{AnswersNext, GivesLess}
 use Rattle.session_calls.specs.declared.op.Op.{Op}
 use Rattle.session_calls.specs.declared.answer.Answer.{Answer}
 use Rattle.session_calls.specs.declared.answer.Answer.TheVariants.{Gave}
-use Rattle.schedule.specs.Events.{Takes}
-use Rattle.schedule.specs.Snapshots.{here_with, slot_of, snapshot_of, IsRunningCall}
+use Rattle.schedule.specs.TheoremKinds.{Takes}
+use Rattle.schedule.specs.TheoremMoments.{snapshot_of, IsRunningCall}
+use Rattle.schedule.specs.Snapshots.{here_with, slot_of}
 use Rattle.schedule.specs.declared.event.Event.TheVariants.{Next}
 use Rattle.whole_calls.specs.Telling.{TellsStep, step_came}
 use Rattle.whole_calls.specs.Giving.{GoesDownBy, TellsScan}

@@ -5,8 +5,9 @@ use Rattle.index_model.specs.declared.limits.Limits.{Limits}
 use Rattle.session_calls.specs.Sessions.{work_in}
 use Rattle.session_calls.specs.declared.answer.Answer.{Answer}
 use Rattle.index_model.specs.Calls.{Call}
-use Rattle.schedule.specs.Runs.{Carries}
-use Rattle.schedule.specs.Snapshots.{here_with, slot_of, snapshot_of, IsRunningCall}
+use Rattle.schedule.specs.TheoremRuns.{Carries}
+use Rattle.schedule.specs.TheoremMoments.{snapshot_of, IsRunningCall}
+use Rattle.schedule.specs.Snapshots.{here_with, slot_of}
 use Rattle.schedule.proofs.Bounds.{work_bounded}
 use Rattle.whole_calls.specs.Going.{CallGoes}
 use Rattle.whole_calls.specs.Giving.{AnswersAdvance, GoesDownBy, TellsScan, ScanStays}

@@ -5,7 +5,8 @@ use Rattle.index_model.specs.declared.fault.Fault.{Fault}
 use Rattle.index_model.specs.declared.limits.Limits.{Limits}
 use Rattle.session_calls.specs.declared.answer.Answer.{Answer}
 use Rattle.session_calls.specs.declared.answer.Answer.TheVariants.{Going}
-use Rattle.schedule.specs.Snapshots.{here_with, slot_of, snapshot_of}
+use Rattle.schedule.specs.TheoremMoments.{snapshot_of}
+use Rattle.schedule.specs.Snapshots.{here_with, slot_of}
 use Rattle.whole_calls.specs.Going.{CallGoes}
 use Rattle.whole_calls.specs.Refusing.{CallIsCaused, AskIsCaused, FillsOnly, is_full_vacuum}
 use Rattle.whole_calls.specs.Telling.{TellsStep, step_came, noted_behind}
@@ -15,7 +16,7 @@ use Rattle.whole_calls.proofs.Refusing.{ask_wider, others_before}
 use Rattle.whole_calls.proofs.Spending.{steps_few}
 use Rattle.whole_calls.proofs.Counting.{counts_behind}
 use Rattle.whole_calls.specs.Sweeping.{Followed, CountsThrough}
-use Rattle.schedule.specs.Runs.{Carries}
+use Rattle.schedule.specs.TheoremRuns.{Carries}
 use Rattle.session_calls.proofs.RunningOn.{runs_on_same, runs_on_then}
 use Rattle.whole_calls.proofs.running.finish.Goals as goal
 use Rattle.whole_calls.proofs.running.finish.Given.{Over}

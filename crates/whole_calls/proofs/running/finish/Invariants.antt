@@ -4,7 +4,7 @@ use Rattle.page_action.specs.States.{Continues}
 use Rattle.session_calls.specs.Ops.{RunsOn}
 use Rattle.schedule.specs.Snapshots.{here_with, slot_of}
 use Rattle.schedule.specs.Events.{OthersStay}
-use Rattle.schedule.specs.Runs.{Carries}
+use Rattle.schedule.specs.TheoremRuns.{Carries}
 use Rattle.whole_calls.specs.Going.{CallGoes}
 use Rattle.whole_calls.specs.Spending.{steps_left}
 use Rattle.whole_calls.specs.Sweeping.{Followed, IsCountedAs}

@@ -6,7 +6,8 @@ use Rattle.index_model.specs.declared.fault.Fault.TheVariants.{Exists}
 use Rattle.session_calls.specs.Sessions.{slot_add}
 use Rattle.session_calls.specs.declared.op.Op.{Op}
 use Rattle.session_calls.specs.declared.request.Request.TheVariants.{Insert as ToInsert}
-use Rattle.schedule.specs.Snapshots.{here_with, slot_of, snapshot_of}
+use Rattle.schedule.specs.TheoremMoments.{snapshot_of}
+use Rattle.schedule.specs.Snapshots.{here_with, slot_of}
 use Rattle.whole_calls.specs.Refusing.{InsertCallIsCaused}
 use Rattle.whole_calls.specs.Telling.{first_call, HasBegun, TellsStep, TellsEnd, BeginTold, InsertTold, NextTold, outcome_of, begin_came, step_came}
 use Rattle.session_calls.specs.declared.answer.Answer.{Answer}

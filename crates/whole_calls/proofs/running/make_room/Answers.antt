@@ -4,7 +4,8 @@ use Rattle.index_model.specs.declared.fault.Fault.{Fault}
 use Rattle.index_model.specs.declared.limits.Limits.{Limits}
 use Rattle.session_calls.specs.declared.answer.Answer.{Answer}
 use Rattle.session_calls.specs.declared.answer.Answer.TheVariants.{Begun, Going, Added, Ready, Done, Finished, Gave, Ended, Forced, Flushed, Checkpointed, Refused}
-use Rattle.schedule.specs.Events.{Checkpoints, AnswersUpkeep}
+use Rattle.schedule.specs.TheoremKinds.{Checkpoints}
+use Rattle.schedule.specs.Events.{AnswersUpkeep}
 use Rattle.schedule.specs.Snapshots.{here_with}
 use Rattle.schedule.specs.declared.event.Event.TheVariants.{Checkpoint}
 use Rattle.whole_calls.specs.Going.{CameBy}

@@ -1,9 +1,10 @@
 use Rattle.std.specs.Prelude.{map}
 use Rattle.std.proofs.Common.{Some, Ok, Err, List, [], refl, sym, subst}
-use Rattle.schedule.specs.Events.{Steps}
+use Rattle.schedule.specs.TheoremKinds.{Steps}
 use Rattle.page_action.specs.States.{State}
 use Rattle.index_model.specs.Calls.{Call}
-use Rattle.schedule.specs.Snapshots.{here_with, slot_of, snapshot_of, IsRunningCall}
+use Rattle.schedule.specs.TheoremMoments.{snapshot_of, IsRunningCall}
+use Rattle.schedule.specs.Snapshots.{here_with, slot_of}
 use Rattle.whole_calls.specs.Refusing.{is_full_vacuum}
 use Rattle.whole_calls.specs.Spending.{TakesFewer}
 use Rattle.schedule.specs.declared.event.Event.TheVariants.{Step}

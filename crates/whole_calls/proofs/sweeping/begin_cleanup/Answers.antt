@@ -1,6 +1,7 @@
 use Rattle.std.specs.Prelude.{map}
 use Rattle.std.proofs.Common.{refl, subst}
-use Rattle.schedule.specs.Snapshots.{here_with, slot_of, snapshot_of}
+use Rattle.schedule.specs.TheoremMoments.{snapshot_of}
+use Rattle.schedule.specs.Snapshots.{here_with, slot_of}
 use Rattle.schedule.specs.declared.event.Event.TheVariants.{Cleanup}
 use Rattle.session_calls.specs.declared.request.Request.TheVariants.{Cleanup as ToCleanup}
 use Rattle.whole_calls.specs.Sweeping.{of_cleanup, BeginsToCount, of_leaves}
@@ -19,7 +20,7 @@ returns-clause-entries g c honest start history calls fits =
     let r = c.one.ensures.runs honest start history calls fits in
     let sets = map g.T.DeadRows.is_in c.args.sets.now in
     subst (λ (b : Result (Unit {0}) Fault). BeginsToCount of_cleanup sets (g.S.PageStore.state c.one.new.store) (slot_of c.one.new.slots c.args.session) b) (sym c.begun.ensures)
-    (begins_clean sets (g.S.PageStore.state c.one.new.store) c.args.session (slot_of c.one.new.slots c.args.session) c.one.result r.ran.fits.matches.order c.one.ensures.always.fresh)
+    (begins_clean sets (g.S.PageStore.state c.one.new.store) c.args.session (slot_of c.one.new.slots c.args.session) c.one.result r.ran.fits.invariant.order c.one.ensures.always.fresh)
 
 pub returns-clause-spares : goal.returns-clause-spares
 returns-clause-spares g c honest start history calls fits calm =

@@ -9,7 +9,8 @@ use Rattle.index_model.specs.declared.fault.Fault.{Fault}
 use Rattle.index_model.specs.declared.stats.VacuumStats.{VacuumStats}
 use Rattle.session_calls.specs.declared.answer.Answer.TheVariants.{Refused}
 use Rattle.session_calls.specs.declared.request.Request.TheVariants.{Bulk as ToBulk}
-use Rattle.schedule.specs.Snapshots.{here_with, slot_of, snapshot_of}
+use Rattle.schedule.specs.TheoremMoments.{snapshot_of}
+use Rattle.schedule.specs.Snapshots.{here_with, slot_of}
 use Rattle.whole_calls.specs.Refusing.{where_called, where_gone}
 use Rattle.whole_calls.specs.Going.{CallGoes}
 use Rattle.whole_calls.specs.Telling.{first_call, HasBegun, TellsStep, TellsEnd, BeginTold, begin_came, step_came}

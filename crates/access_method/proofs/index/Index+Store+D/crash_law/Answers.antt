@@ -3,4 +3,4 @@ use Rattle.access_method.proofs.index.Index+Store+D.crash_law.Goals as goal
 
 pub returns : goal.returns
 returns g c first own follows start history calls fits keeps image left =
-    left_index g.D.Device first c.args.self.now.store own follows start history fits.matches.count keeps.parts image left
+    left_index g.D.Device first c.args.self.now.store own follows start history fits.explains.count keeps.parts image left

@@ -9,8 +9,10 @@ use Rattle.index_model.specs.Actions.{Action}
 use Rattle.index_model.specs.Calls.{Call}
 use Rattle.index_model.specs.Row.{Row}
 use Rattle.index_model.specs.declared.entry.Entry.{Entry}
-use Rattle.schedule.specs.Snapshots.{here_with, snapshot_of, Fits}
-use Rattle.schedule.specs.Runs.{Carries}
+use Rattle.schedule.specs.TheoremMoments.{snapshot_of}
+use Rattle.schedule.specs.TheoremRuns.{Fits}
+use Rattle.schedule.specs.Snapshots.{here_with}
+use Rattle.schedule.specs.TheoremRuns.{Carries}
 use Rattle.schedule.proofs.Unused.{fits_with, no_set_runs}
 use Rattle.whole_calls.specs.Going.{CallGoes}
 use Rattle.whole_calls.specs.Sweeping.{SweepTold, swept_came, TellsEntries}

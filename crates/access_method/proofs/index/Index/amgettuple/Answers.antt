@@ -1,7 +1,8 @@
 use Rattle.access_method.proofs.Refusals.{give_cause, run_unhindered, frames_stay}
 use Rattle.std.specs.Prelude.{[]}
 use Rattle.std.proofs.Common.{true, false, Ok, Some, sym, ◌∙◌}
-use Rattle.schedule.specs.Snapshots.{here_with, snapshot_of}
+use Rattle.schedule.specs.TheoremMoments.{snapshot_of}
+use Rattle.schedule.specs.Snapshots.{here_with}
 use Rattle.whole_calls.proofs.Tellings.{runs_has_call, true_false}
 use Rattle.access_method.specs.Indexes.{slots_within}
 use Rattle.access_method.proofs.Results.{gives_right}

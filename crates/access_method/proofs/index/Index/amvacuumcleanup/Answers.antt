@@ -1,6 +1,7 @@
 use Rattle.std.specs.Prelude.{[]}
 use Rattle.std.proofs.Common.{rules}
-use Rattle.schedule.specs.Snapshots.{here_with, snapshot_of}
+use Rattle.schedule.specs.TheoremMoments.{snapshot_of}
+use Rattle.schedule.specs.Snapshots.{here_with}
 use Rattle.access_method.specs.Indexes.{slots_within}
 use Rattle.access_method.proofs.Cleanups.{cleaned_up}
 use Rattle.access_method.proofs.Refusals.{all_alone, calm_slots, cleaned_cause, finishes, frames_stay}

@@ -1,6 +1,8 @@
-use Rattle.schedule.specs.Snapshots.{here_with, snapshot_of}
+use Rattle.schedule.specs.TheoremMoments.{snapshot_of}
+use Rattle.schedule.specs.Snapshots.{here_with}
 use Rattle.schedule.proofs.Keeping.{no_growth, keeps_on, safe}
 use Rattle.schedule.proofs.Events.{fits_still}
+use Rattle.schedule.proofs.Fitting.{matches_of}
 use Rattle.world.specs.Worlds.{snapshot_in}
 use Rattle.world.proofs.world.World.page.Goals as goal
 
@@ -15,5 +17,5 @@ returns-clause-crash g c honest start history calls fits keeps =
     let new = snapshot_of (here_with c.page.new.self old.slots old.sets) history calls in
     let now = fits_still g.S.PageStore start old c.page.new.self c.page.ensures.state fits in
     let follows = c.page.ensures.steps c.args.self.now.store (laws.follows_same c.args.self.now.store) in
-    safe g.S.PageStore laws start old new follows keeps.own now.matches
-    (keeps_on g.S.PageStore laws start old new follows (no_growth history) fits.matches.count now.matches keeps)
+    safe g.S.PageStore laws start old new follows keeps.own (matches_of now)
+    (keeps_on g.S.PageStore laws start old new follows (no_growth history) fits.explains.count (matches_of now) keeps)

@@ -5,8 +5,10 @@ use Rattle.index_model.specs.declared.fault.Fault.{Fault}
 use Rattle.page_action.specs.declared.page_store.PageStore.{Ghosts}
 use Rattle.session_calls.specs.declared.answer.Answer.{Answer}
 use Rattle.session_calls.specs.declared.op.Op.{Op}
-use Rattle.schedule.specs.Runs.{Carries, Runs, answers_behind}
-use Rattle.schedule.specs.Snapshots.{StoreAndSlots, here_with}
+use Rattle.schedule.specs.Making.{answers_behind}
+use Rattle.schedule.specs.TheoremRuns.{Carries, Runs}
+use Rattle.schedule.specs.TheoremMoments.{StoreAndSlots}
+use Rattle.schedule.specs.Snapshots.{here_with}
 use Rattle.schedule.specs.declared.event.Event.{Event}
 use Rattle.world.specs.Worlds.{inside}
 use Rattle.world.proofs.world.World.run.Goals as goal

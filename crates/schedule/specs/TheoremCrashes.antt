@@ -1,4 +1,4 @@
--- What a crash at any moment leaves of a history.
+-- The theorem's words: what a crash at any moment leaves of a history.
 use Rattle.std.specs.Prelude.{◌≡◌, ℕ, ◌≤◌, Bool, List, length, take}
 use Rattle.index_model.specs.Actions.{Action, contents_after}
 use Rattle.index_model.specs.declared.entry.Entry.{Entry}
@@ -6,7 +6,7 @@ use Rattle.page_codec.specs.declared.page.Page.{Page}
 use Rattle.page_action.specs.Contents.{entry_on_live_leaf}
 use Rattle.page_action.specs.declared.page_store.PageStore.{Ghosts}
 use Rattle.tree_acts.specs.Trees.{IsTree}
-use Rattle.schedule.specs.Snapshots.{Snapshot}
+use Rattle.schedule.specs.TheoremMoments.{Snapshot}
 
 -- the pages are a B-link tree whose contents are those after this history
 pub record ArePagesAfter (start : Entry → Bool) (history : List Action) (pages : List Page) : Type 0 where

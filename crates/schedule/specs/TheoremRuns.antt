@@ -1,24 +1,33 @@
--- Runs of events.
-use Rattle.std.specs.Prelude.{◌≡◌, ℕ, Bool, true, List, [], ◌∷◌, ◌++◌, drop, length}
+-- The theorem's words: runs of events.
+use Rattle.std.specs.Prelude.{◌≡◌, ℕ, Bool, true, List, [], ◌∷◌, ◌++◌, length}
 use Rattle.index_model.specs.Actions.{Action}
 use Rattle.index_model.specs.Calls.{Call}
 use Rattle.index_model.specs.declared.entry.Entry.{Entry}
-use Rattle.page_action.specs.States.{IsLater}
 use Rattle.page_action.specs.declared.page_store.PageStore.{Ghosts}
 use Rattle.session_calls.specs.declared.answer.Answer.{Answer}
-use Rattle.schedule.specs.Snapshots.{StoreAndSlots, Snapshot, snapshot_of, Fits}
-use Rattle.schedule.specs.Events.{Kind, kind_of, IsDurable, EventAlways, EventDoes}
-use Rattle.schedule.specs.Crashes.{KeepsHistory, IsCrashSafe}
+use Rattle.schedule.specs.TheoremMoments.{StoreAndSlots, Snapshot, snapshot_of, Explains}
+use Rattle.schedule.specs.TheoremEvents.{IsDurable, EventMeans}
+use Rattle.schedule.specs.TheoremKinds.{kind_of}
+use Rattle.schedule.specs.Snapshots.{Invariant}
+use Rattle.schedule.specs.Events.{EventAlso}
+use Rattle.schedule.specs.TheoremCrashes.{KeepsHistory, IsCrashSafe}
 use Rattle.schedule.specs.declared.event.Event.{Event}
+
+-- the history and the calls fit the moment: they explain it, and what keeps them so is known
+pub record Fits {S : Type 0} (g : Ghosts S) (start : Entry → Bool) (now : Snapshot S) : Type 0 where
+  pub explains : Explains g start now
+  pub invariant : Invariant g start now
 
 -- each number of actions that was answered as durable is not above this
 abbrev pub AreDurable : ℕ → List Answer → Type 0
 AreDurable durable [] = Unit {0}
 AreDurable durable (answer ∷ answers) = IsDurable durable answer × AreDurable durable answers
 
--- one event, and what a crash at any moment of it leaves, where the history was kept before
+-- One event with its answer: what it means, and what it also leaves; and what a crash at any moment of it leaves, where the history was
+-- kept before.
 pub record EventGoes {S : Type 0} (g : Ghosts S) (start : Entry → Bool) (event : Event) (answer : Answer) (old new : Snapshot S) : Type 0 where
-  pub does : EventDoes g start (kind_of event) answer old new
+  pub means : EventMeans g start (kind_of event) answer old new
+  pub also : EventAlso g start (kind_of event) answer old new
   pub crash : KeepsHistory g start old → IsCrashSafe g start old new
 
 -- A run behind these answers: events with an answer each, from one moment to another, each store following the one before.
@@ -38,7 +47,6 @@ pub record Ran {S : Type 0} (g : Ghosts S) (start : Entry → Bool) (events : Li
   -- what was acknowledged is durable
   pub acknowledged : AreDurable (g.backing last.store).durable answers
   pub follows : g.follows first.store last.store
-  pub later : IsLater (g.backing first.store) (g.backing last.store)
   -- what a crash at any moment of the run leaves, where the history was kept before
   pub crash : KeepsHistory g start first → IsCrashSafe g start first last
 
@@ -48,24 +56,8 @@ Carries g old new goes =
     (g.backing new.store).honest ≡ true → (start : Entry → Bool) (history : List Action) (calls : List Call)
     → Fits g start (snapshot_of old history calls) → goes start history calls
 
--- there is a continuation of the history and of the calls, as an event of this kind with this answer makes it
-pub record EventRuns {S : Type 0} (g : Ghosts S) (old new : StoreAndSlots S) (kind : Kind) (answer : Answer) (start : Entry → Bool) (history : List Action) (calls : List Call) : Type 0 where
-  pub then_history : List Action
-  pub then_calls : List Call
-  pub does : EventDoes g start kind answer (snapshot_of old history calls) (snapshot_of new then_history then_calls)
-
--- an event of this kind with this answer: what always holds of it, and what it does to whatever fitted before
-pub record Makes {S : Type 0} (g : Ghosts S) (kind : Kind) (answer : Answer) (old new : StoreAndSlots S) : Type 0 where
-  pub sessions : length new.slots ≡ length old.slots
-  pub always : EventAlways g kind answer old new
-  pub does : Carries g old new (EventRuns g old new kind answer)
-
 -- there is a continuation of the history and of the calls that fits now, by a run of these events with these answers
 pub record Runs {S : Type 0} (g : Ghosts S) (old new : StoreAndSlots S) (events : List Event) (answers : List Answer) (start : Entry → Bool) (history : List Action) (calls : List Call) : Type 0 where
   pub then_history : List Action
   pub then_calls : List Call
   pub ran : Ran g start events answers (snapshot_of old history calls) (snapshot_of new then_history then_calls)
-
--- the answers that a run has put behind those that were there
-abbrev pub answers_behind : List Answer → List Answer → List Answer
-answers_behind before after = drop (length before) after
