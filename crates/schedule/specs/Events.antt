@@ -283,23 +283,31 @@ abbrev pub MoveRunsOn : Kind → Option Op → Option Op → Type 0
 MoveRunsOn (MovesCall session move) before after = RunsOn before after
 MoveRunsOn kind before after = Unit {0}
 
--- What holds of an event whatever the pages are: what it may answer; that a refusal changes nothing; that a stopped log
--- refuses it first; what is left to do for its call, over a device that keeps its model; that it does one act at most, and
--- only a step of an insert, of a bulk delete or of a cleanup does one; that no other session's slot is changed; what it leaves; that a
--- beginning that is refused has its cause, the first that there is of a log that has failed, no such session or set, and a
--- session with a call; what a beginning begins; and that a call stays of its kind.
+-- what holds of an event whatever the pages are
 pub record EventAlways {S : Type 0} (g : Ghosts S) (kind : Kind) (answer : Answer) (old new : StoreAndSlots S) : Type 0 where
+  -- it answers what its kind may
   pub answers : AnswersEvent kind answer old.slots new.slots
+  -- a refusal changes nothing, but that a step ends its call unless it was refused with Blocked or NoSession
   pub refused : RefusalKeeps g kind answer old new
+  -- on a log that has failed, a beginning, a step, a force, a flush and a checkpoint are refused for that before all else
   pub stopped : StopsFirst kind (g.backing old.store).stopped answer old.slots
+  -- while no act is done, a step that goes on and an entry that is given leave less to do, over a device that keeps its model
   pub less : IsLessLeft (g.backing new.store).honest kind answer (g.state old.store) (g.state new.store) (slot_of old.slots (session_at kind)) (slot_of new.slots (session_at kind))
+  -- it does one act at most
   pub kept : DoesOneAct (g.state old.store) (g.state new.store)
+  -- only a step of an insert, of a bulk delete or of a cleanup does one
   pub calm : OnlyStepsAct kind (slot_of old.slots (session_at kind)) (g.state old.store) (g.state new.store)
+  -- no other session's slot is changed
   pub others : (session : ℕ) → IsOfSession session kind → OthersStay session old.slots new.slots
+  -- behind an end its session runs nothing, and the log is as it was
   pub left : IsLeft g kind old new
+  -- a beginning that is refused has its cause
   pub causes : BeginningIsCaused g kind answer old
+  -- ... the first that there is of a log that has failed, no such session or set, and a session with a call
   pub order : RefusesInOrder g kind answer old
+  -- what has begun is the call that was asked for, before its first step
   pub fresh : StartsFresh kind answer (slot_of new.slots (session_at kind))
+  -- behind a move of its call a session runs nothing, or a call of the same kind
   pub runs_on : MoveRunsOn kind (slot_of old.slots (session_at kind)) (slot_of new.slots (session_at kind))
 
 -- A step: a call that was due comes to what is awaited at its last step, and each step before leaves one fewer. While no
@@ -364,24 +372,36 @@ pub record GrowsByOne (old new : List Action) : Type 0 where
   pub is : new ≡ old ++ acts
   pub few : length acts ≤ 1
 
--- What an event also leaves: what always holds of it; what it does to the history and to the calls, step by step; why it is refused, as
--- its operation tells it; how many steps its call takes, which pages it leaves flagged, which pins a bulk delete waits for and what it
--- or a cleanup counts, which empty leaves a cleanup spares; that pinned leaves stay and no low rises; what it leaves as it was; that the
--- store follows the one before, so that no count goes back; and what is known then.
+-- What an event also leaves, beside what it means. It needs no reading: each event leaves it.
 pub record EventAlso {S : Type 0} (g : Ghosts S) (start : Entry → Bool) (kind : Kind) (answer : Answer) (old new : Snapshot S) : Type 0 where
+  -- what holds of it whatever the pages are
   pub always : EventAlways g kind answer (here_at old) (here_at new)
+  -- what it does to the history and to the calls, step by step
   pub happens : Happens g start kind answer old new
+  -- it appends one action at most
   pub grows : GrowsByOne old.history new.history
+  -- why it is refused, as its operation tells it
   pub caused : IsCaused (where_happening g kind (here_at old) (here_at new)) answer
+  -- what has begun is due after so many steps, and bounded; a step counts down; asking for an entry costs none
   pub counts : CountsSteps kind answer (g.state old.store) (g.state new.store) (slot_of old.slots (session_at kind)) (slot_of new.slots (session_at kind))
+  -- which pages it leaves flagged
   pub flagged : KeepsFlags kind answer (g.state old.store) (g.state new.store) (slot_of old.slots (session_at kind)) (slot_of new.slots (session_at kind))
+  -- a step of a bulk delete doesn't come past a leaf that another session has pinned, nor to its end
   pub waits : WaitsForPins kind answer (g.state old.store) (slot_of old.slots (session_at kind)) (slot_of new.slots (session_at kind))
+  -- where nobody else acts, what a bulk delete or a cleanup has counted are the entries that it has left
   pub entries : CountsOnEntries kind old.sets answer (g.state old.store) (g.state new.store) (slot_of old.slots (session_at kind)) (slot_of new.slots (session_at kind))
+  -- where nobody else holds a page, a cleanup leaves no empty leaf that might leave the tree
   pub spares : SparesOn kind answer (g.state old.store) (g.state new.store) (slot_of old.slots (session_at kind)) (slot_of new.slots (session_at kind))
+  -- a live leaf that another session has pinned stays one
   pub leaves : KeepsPinnedLeaves kind (g.state old.store) (g.state new.store)
+  -- no low of a page that isn't deleted rises
   pub lows : NoLowRises (g.state old.store).pages (g.state new.store).pages
+  -- the limits and the number of frames are as they were; so are the pages, where it appends no action
   pub quiet : LeavesBe g kind old new
+  -- a number that it answers as durable is
   pub durable : IsDurable (g.backing new.store).durable answer
+  -- its store follows the one before, and no count goes back
   pub follows : g.follows old.store new.store
   pub later : IsLater (g.backing old.store) (g.backing new.store)
+  -- what is known behind it
   pub invariant : Invariant g start new
