@@ -38,7 +38,7 @@ use Rattle.schedule.specs.TheoremRuns.{Fits}
 use Rattle.schedule.specs.Snapshots.{here_at, slot_of, SlotRuns, IsFree, SlotMatches, slot_vacuums, slot_sweeps, one_vacuums, OneVacuums, slot_has_call, has_call}
 use Rattle.schedule.specs.TheoremKinds.{Move, Steps, Takes, GivesUp, Upkeep, Forces, Flushes, Checkpoints, Kind, BeginsCall, MovesCall, KeepsStore}
 use Rattle.schedule.specs.TheoremEvents.{IsDurable}
-use Rattle.schedule.specs.Events.{UpkeepIsTold, IsToldDurable, IsOfSession, Stays, kept_answer, MovesOn, MayBegin, is_of_sets, session_to_begin, where_begun_at, where_moving, Happens, where_happening, OthersStay, session_at, EventAlways, CountsSteps, KeepsFlags, WaitsForPins, CountsOnEntries, SparesOn, LeavesBe}
+use Rattle.schedule.specs.Events.{UpkeepIsTold, IsToldDurable, IsOfSession, Stays, kept_answer, MovesOn, MayBegin, is_of_sets, session_to_begin, where_begun_at, where_moving, Happens, where_happening, OthersStay, session_at, EventAlways, CallIsFollowed, LeavesBe}
 use Rattle.schedule.specs.Making.{EventRuns}
 use Rattle.schedule.proofs.Frames.{began_within, slot_is, goes_fits}
 use Rattle.schedule.proofs.Keeping.{no_growth}
@@ -134,10 +134,7 @@ module _ {S : Type 0} (g : Ghosts S) (start : Entry → Bool) (old : Snapshot S)
     (goes : (number : ℕ) (call : Call) → SlotFits (g.state old.store) old.sets start old.history number call (Some op) → SessionGoes at (g.state old.store) (g.state store) old.sets start old.history number call slot answer)
     (where_is : where_moving g old.sets old.store store move (Some (Some op)) ≡ at)
     (always : EventAlways g (MovesCall session move) answer (here_at old) (record { store = store; slots = slice_set old.slots session slot; sets = old.sets }))
-    (counts : (start' : Entry → Bool) (l : List Action) (n : ℕ) (c : Call) → SlotFits (g.state old.store) old.sets start' l n c (Some op) → CountsSteps (MovesCall session move) answer (g.state old.store) (g.state store) (Some op) slot)
-    (flagged : (start' : Entry → Bool) (l : List Action) (n : ℕ) (c : Call) → SlotFits (g.state old.store) old.sets start' l n c (Some op) → KeepsFlags (MovesCall session move) answer (g.state old.store) (g.state store) (Some op) slot)
-    (waits : WaitsForPins (MovesCall session move) answer (g.state old.store) (Some op) slot) (entries : CountsOnEntries (MovesCall session move) old.sets answer (g.state old.store) (g.state store) (Some op) slot)
-    (spares : SparesOn (MovesCall session move) answer (g.state old.store) (g.state store) (Some op) slot) where
+    (followed : (start' : Entry → Bool) (l : List Action) (n : ℕ) (c : Call) → SlotFits (g.state old.store) old.sets start' l n c (Some op) → CallIsFollowed (MovesCall session move) old.sets answer (g.state old.store) (g.state store) (Some op) slot) where
   runs : SlotRuns g start old session op
   runs = running_of fits session (Some op) found
 
@@ -185,11 +182,7 @@ module _ {S : Type 0} (g : Ghosts S) (start : Entry → Bool) (old : Snapshot S)
     });
     grows = record { acts = acts_of runs.number one.effect; is = refl; few = acts_few runs.number one.effect };
     caused = subst (λ (o : Option (Option Op)). IsCaused (where_moving g old.sets old.store store move o) answer) (sym found) (subst (λ (x : Circumstances). IsCaused x answer) (sym where_is) one.caused);
-    counts = at_slots old.slots session (Some op) slot (λ x y. CountsSteps (MovesCall session move) answer (g.state old.store) (g.state store) x y) found (counts start old.history runs.number runs.call fit);
-    flagged = at_slots old.slots session (Some op) slot (λ x y. KeepsFlags (MovesCall session move) answer (g.state old.store) (g.state store) x y) found (flagged start old.history runs.number runs.call fit);
-    waits = at_slots old.slots session (Some op) slot (λ x y. WaitsForPins (MovesCall session move) answer (g.state old.store) x y) found waits;
-    entries = at_slots old.slots session (Some op) slot (λ x y. CountsOnEntries (MovesCall session move) old.sets answer (g.state old.store) (g.state store) x y) found entries;
-    spares = at_slots old.slots session (Some op) slot (λ x y. SparesOn (MovesCall session move) answer (g.state old.store) (g.state store) x y) found spares;
+    followed = at_slots old.slots session (Some op) slot (λ x y. CallIsFollowed (MovesCall session move) old.sets answer (g.state old.store) (g.state store) x y) found (followed start old.history runs.number runs.call fit);
     leaves = λ other block page apart there held. pinned other block page (λ e. apart (sym e)) there held;
     lows = lows_relied session (g.state old.store) (g.state store) others;
     quiet = leaves_be g (MovesCall session move) old new one.limits one.frames (λ same. one.pages (no_effect one.effect same)) (others_stay_set old.slots session slot);
@@ -213,41 +206,19 @@ module _ {S : Type 0} (g : Ghosts S) (start : Entry → Bool) (old : Snapshot S)
   stays : Stays g (Refused fault) old then_now
   stays = record { fault = fault; refused = refl; still = record { state_is = same; slots_is = refl; history_is = refl; calls_is = refl } }
 
-  not_counted : (kind : Kind) (before : Option Op) → (move : (session : ℕ) → kind ≡ MovesCall session Steps → before ≡ None) → CountsSteps kind (Refused fault) (g.state old.store) (g.state store) before before
-  not_counted (BeginsCall session request) before move = λ begun. absurd cc
-  not_counted (MovesCall session Steps) before move = subst (λ (slot : Option Op). CountsSteps (MovesCall session Steps) (Refused fault) (g.state old.store) (g.state store) slot slot) (sym (move session refl))
-      (record { due = λ left due. absurd due; no_more = λ acts. omega arith })
-  not_counted (MovesCall session Takes) before move = λ steps due. due_still (g.state old.store) (g.state store) before steps (ap (λ (st : State). st.limits) same) (ap (λ (st : State). st.pages) same) due
-  not_counted (MovesCall session GivesUp) before move = tt
-  not_counted (KeepsStore upkeep) before move = tt
-
-  flags_stay : (kind : Kind) (before : Option Op) → KeepsFlags kind (Refused fault) (g.state old.store) (g.state store) before before
-  flags_stay (BeginsCall session request) before = tt
-  flags_stay (MovesCall session Steps) before = λ only. subst (λ (st : State). OnlyOwnAreFlagged st before) (sym same) only
-  flags_stay (MovesCall session Takes) before = tt
-  flags_stay (MovesCall session GivesUp) before = tt
-  flags_stay (KeepsStore upkeep) before = tt
-
-  waits_stay : (kind : Kind) (before : Option Op) → ((session : ℕ) → kind ≡ MovesCall session Steps → before ≡ None) → WaitsForPins kind (Refused fault) (g.state old.store) before before
-  waits_stay (BeginsCall session request) before idle = tt
-  waits_stay (MovesCall session Steps) before idle = subst (λ (o : Option Op). WaitsForPins (MovesCall session Steps) (Refused fault) (g.state old.store) o o) (sym (idle session refl)) tt
-  waits_stay (MovesCall session Takes) before idle = tt
-  waits_stay (MovesCall session GivesUp) before idle = tt
-  waits_stay (KeepsStore upkeep) before idle = tt
-
-  entries_stay : (kind : Kind) (before : Option Op) → ((session : ℕ) → kind ≡ MovesCall session Steps → before ≡ None) → CountsOnEntries kind old.sets (Refused fault) (g.state old.store) (g.state store) before before
-  entries_stay (BeginsCall session request) before idle = tt
-  entries_stay (MovesCall session Steps) before idle = subst (λ (o : Option Op). CountsOnEntries (MovesCall session Steps) old.sets (Refused fault) (g.state old.store) (g.state store) o o) (sym (idle session refl)) tt
-  entries_stay (MovesCall session Takes) before idle = tt
-  entries_stay (MovesCall session GivesUp) before idle = tt
-  entries_stay (KeepsStore upkeep) before idle = tt
-
-  spares_stay : (kind : Kind) (before : Option Op) → ((session : ℕ) → kind ≡ MovesCall session Steps → before ≡ None) → SparesOn kind (Refused fault) (g.state old.store) (g.state store) before before
-  spares_stay (BeginsCall session request) before idle = tt
-  spares_stay (MovesCall session Steps) before idle = subst (λ (o : Option Op). SparesOn (MovesCall session Steps) (Refused fault) (g.state old.store) (g.state store) o o) (sym (idle session refl)) tt
-  spares_stay (MovesCall session Takes) before idle = tt
-  spares_stay (MovesCall session GivesUp) before idle = tt
-  spares_stay (KeepsStore upkeep) before idle = tt
+  follows_on : (kind : Kind) (before : Option Op) → ((session : ℕ) → kind ≡ MovesCall session Steps → before ≡ None) → CallIsFollowed kind old.sets (Refused fault) (g.state old.store) (g.state store) before before
+  follows_on (BeginsCall session request) before idle = λ begun. absurd cc
+  follows_on (MovesCall session Steps) before idle = subst (λ (o : Option Op). CallIsFollowed (MovesCall session Steps) old.sets (Refused fault) (g.state old.store) (g.state store) o o) (sym (idle session refl)) (record {
+    due = λ left due. absurd due;
+    no_more = λ acts. omega arith;
+    flagged = λ only. subst (λ (st : State). OnlyOwnAreFlagged st None) (sym same) only;
+    waits = tt;
+    entries = tt;
+    spares = tt;
+  })
+  follows_on (MovesCall session Takes) before idle = λ steps due. due_still (g.state old.store) (g.state store) before steps (ap (λ (st : State). st.limits) same) (ap (λ (st : State). st.pages) same) due
+  follows_on (MovesCall session GivesUp) before idle = tt
+  follows_on (KeepsStore upkeep) before idle = tt
 
   stay_with : (kind : Kind) → Happens g start kind (Refused fault) old then_now → EventAlways g kind (Refused fault) (here_at old) (here_at then_now) → IsCaused (where_happening g kind (here_at old) (here_at then_now)) (Refused fault)
       → ((session : ℕ) → kind ≡ MovesCall session Steps → slot_of old.slots (session_at kind) ≡ None)
@@ -257,11 +228,7 @@ module _ {S : Type 0} (g : Ghosts S) (start : Entry → Bool) (old : Snapshot S)
     happens = happens;
     grows = no_growth old.history;
     caused = caused;
-    counts = not_counted kind (slot_of old.slots (session_at kind)) idle;
-    flagged = flags_stay kind (slot_of old.slots (session_at kind));
-    waits = waits_stay kind (slot_of old.slots (session_at kind)) idle;
-    entries = entries_stay kind (slot_of old.slots (session_at kind)) idle;
-    spares = spares_stay kind (slot_of old.slots (session_at kind)) idle;
+    followed = follows_on kind (slot_of old.slots (session_at kind)) idle;
     leaves = λ other block page apart there pinned. leaf_same (g.state old.store) (g.state store) (ap (λ (st : State). st.pages) same) block page there;
     lows = lows_still (g.state old.store) (g.state store) (ap (λ (st : State). st.pages) same);
     quiet = stays_be g kind old then_now same refl;
@@ -317,11 +284,7 @@ module _ {S : Type 0} (g : Ghosts S) (start : Entry → Bool) (old : Snapshot S)
           });
           grows = no_growth old.history;
           caused = kept_caused upkeep count (where_forced (g.backing old.store) (g.backing store)) answer told;
-          counts = tt;
-          flagged = tt;
-          waits = tt;
-          entries = tt;
-          spares = tt;
+          followed = tt;
           leaves = λ other block page apart there pinned. leaf_same (g.state old.store) (g.state store) (ap (λ (st : State). st.pages) same) block page there;
           lows = lows_still (g.state old.store) (g.state store) (ap (λ (st : State). st.pages) same);
           quiet = stays_be g (KeepsStore upkeep) old then same refl;
@@ -347,11 +310,7 @@ flushes_on_store {S} g start old store fits same follows later block first alway
         happens = inl (record { tells = ap Flushed first; still = record { state_is = same; slots_is = refl; history_is = refl; calls_is = refl } });
         grows = no_growth old.history;
         caused = tt;
-        counts = tt;
-        flagged = tt;
-        waits = tt;
-        entries = tt;
-        spares = tt;
+        followed = tt;
         leaves = λ other block page apart there pinned. leaf_same (g.state old.store) (g.state store) (ap (λ (st : State). st.pages) same) block page there;
         lows = lows_still (g.state old.store) (g.state store) (ap (λ (st : State). st.pages) same);
         quiet = stays_be g (KeepsStore Flushes) old then same refl;
@@ -513,11 +472,7 @@ module _ {S : Type 0} (g : Ghosts S) (start : Entry → Bool) (old : Snapshot S)
           (inl (record { told = refl; history_is = refl; calls_is = refl; others = begins.others }));
       grows = no_growth old.history;
       caused = tt;
-      counts = λ told. subst (λ (x : Option Op). HasSteps (g.state old.store) (g.state store) request x) (sym (slot_set old.slots session (Some op) (get_within old.slots session None free))) counts;
-      flagged = tt;
-      waits = tt;
-      entries = tt;
-      spares = tt;
+      followed = λ told. subst (λ (x : Option Op). HasSteps (g.state old.store) (g.state store) request x) (sym (slot_set old.slots session (Some op) (get_within old.slots session None free))) counts;
       leaves = λ other block page apart there pinned. leaf_same (g.state old.store) (g.state store) same_pages block page there;
       lows = lows_still (g.state old.store) (g.state store) same_pages;
       quiet = leaves_be g (BeginsCall session request) old begun (ap (λ (st : State). st.limits) state ∙ request_limits (asks_sweep request) session (g.state old.store)) (ap (λ (st : State). st.frames) state ∙ request_frames (asks_sweep request) session (g.state old.store))

@@ -10,7 +10,8 @@ use Rattle.index_model.specs.declared.fault.Fault.TheVariants.{Stopped}
 use Rattle.page_action.specs.Causes.{nothing_wrong, where_forced}
 use Rattle.page_action.specs.States.{State}
 use Rattle.page_action.specs.declared.page_store.PageStore.{Ghosts}
-use Rattle.session_calls.specs.Due.{IsDueIn, CountsDown, HasSteps}
+use Rattle.session_calls.specs.Due.{IsDueIn, HasSteps}
+use Rattle.session_calls.specs.Following.{StepAlways, IsFitted, StepFollows}
 use Rattle.session_calls.specs.TheoremCalls.{DeadSets}
 use Rattle.session_calls.specs.Ops.{op_before, asks_vacuum, asks_sweep, is_sweep, session_of, asked_of, where_slot_stepped, where_asked_next, where_requesting, where_beginning, RunsOn, AnswersStopped}
 use Rattle.session_calls.specs.Sessions.{Matches, IsIdle, SlotFits, KeepsPages, SessionGoes, SessionBegins, IsBegun, BeginsBy, after_call, let_go, is_busy, slot_add, LeavesLess, LeavesNoMore, GivesLess, AnswersStep, AnswersNext, AnswersEnd, RefusalChangesNothing, OnlyWritersAct, OnlyOwnAreFlagged, LeavesOwnFlagged, KeepsBeforePins, CountsEntries, SparesLeaves}
@@ -23,7 +24,7 @@ use Rattle.schedule.specs.TheoremMoments.{snapshot_of}
 use Rattle.schedule.specs.TheoremRuns.{Fits}
 use Rattle.schedule.specs.Snapshots.{here_with, slot_of, one_vacuums}
 use Rattle.schedule.specs.TheoremKinds.{Steps, Takes, GivesUp, Upkeep, Forces, Flushes, Checkpoints, BeginsCall, MovesCall, KeepsStore}
-use Rattle.schedule.specs.Events.{kept_answer, is_of_sets, session_to_begin, where_begun_at, DoesOneAct, EventAlways, AnswersUpkeep}
+use Rattle.schedule.specs.Events.{kept_answer, is_of_sets, session_to_begin, where_begun_at, DoesOneAct, EventAlways, CallIsFollowed, AnswersUpkeep}
 use Rattle.schedule.specs.Making.{EventRuns, Makes}
 use Rattle.schedule.proofs.Events.{at_slots, others_stay_set, moves_on, stays_on, refused_stay, keeps_on_store, flushes_on_store, begins_on, named_of, request_pages, request_limits, request_frames, request_acts, not_begun, not_found_why, not_found_first, set_same}
 use Rattle.schedule.proofs.Keeping.{Laws}
@@ -61,7 +62,7 @@ over_begun true session st = refl
 over_begun false session st = refl
 
 -- a step of a session's running call
-module _ {S : Type 0} (g : Ghosts S) (laws : Laws g) (old new : S) (follows : g.follows old new) (slots : List (Option Op)) (sets : DeadSets) (session : ℕ) (before slot : Option Op) (op : Op) (answer : Answer)
+module _ {S : Type 0} (g : Ghosts S) (laws : Laws g) (old new : S) (follows_store : g.follows old new) (slots : List (Option Op)) (sets : DeadSets) (session : ℕ) (before slot : Option Op) (op : Op) (answer : Answer)
     (is : before ≡ Some op) (found_at : slice_get slots session ≡ Some before) where
   slot_was : slot_of slots session ≡ before
   slot_was = ap (λ (o : Option (Option Op)). unwrap_or o None) found_at
@@ -69,53 +70,41 @@ module _ {S : Type 0} (g : Ghosts S) (laws : Laws g) (old new : S) (follows : g.
   found_op : slice_get slots session ≡ Some (Some op)
   found_op = found_at ∙ ap (λ (o : Option Op). Some o) is
 
-  pub step_makes : AnswersStep before slot answer → RefusalChangesNothing (g.state old) (g.state new) before slot answer → ((g.backing old).stopped ≡ true → AnswersStopped (slot_add before) answer)
-      → ((g.backing new).honest ≡ true → LeavesLess (g.state old) (g.state new) before slot answer) → KeepsPages (g.state old) (g.state new) → OnlyWritersAct before (g.state old) (g.state new)
-      → ((g.backing new).honest ≡ true → LeavesNoMore (g.state old) (g.state new) before slot)
+  pub step_makes : StepAlways g old new before slot answer
       → ((g.backing new).honest ≡ true → (start : Entry → Bool) (history : List Action) (number : ℕ) (call : Call) → SlotFits (g.state old) sets start history number call before
       → SessionGoes (where_slot_stepped before (g.state old) (g.backing old) (g.backing new)) (g.state old) (g.state new) sets start history number call slot answer)
-      → ((g.backing new).honest ≡ true → (start : Entry → Bool) (history : List Action) (number : ℕ) (call : Call) → SlotFits (g.state old) sets start history number call before
-      → (left : ℕ) → IsDueIn (g.state old) before (suc left) → CountsDown (g.state old) (g.state new) before slot left answer)
-      → ((g.backing new).honest ≡ true → (start : Entry → Bool) (history : List Action) (number : ℕ) (call : Call) → SlotFits (g.state old) sets start history number call before
-      → OnlyOwnAreFlagged (g.state old) before → LeavesOwnFlagged (g.state new) before slot answer)
-      → ((g.backing new).honest ≡ true → KeepsBeforePins (g.state old) before slot answer)
-      → ((g.backing new).honest ≡ true → CountsEntries sets (g.state old) (g.state new) before slot answer)
-      → ((g.backing new).honest ≡ true → SparesLeaves (g.state old) (g.state new) before slot answer)
-      → RunsOn before slot
+      → ((g.backing new).honest ≡ true → StepFollows sets (g.state old) (g.state new) before slot answer)
       → Makes g (MovesCall session Steps) answer (here_with old slots sets) (here_with new (slice_set slots session slot) sets)
-  step_makes kind refused stopped less kept calm no_more goes due flagged pins entries spares runs_on = record {
+  step_makes made goes follows = record {
     sessions = length_set slots session slot;
     always = always;
     does = λ honest start history calls fits.
-        moves_on g start (snapshot_of (here_with old slots sets) history calls) new session op slot Steps (where_slot_stepped (Some op) (g.state old) (g.backing old) (g.backing new)) answer fits found_op follows (laws.follows_later old new follows)
+        moves_on g start (snapshot_of (here_with old slots sets) history calls) new session op slot Steps (where_slot_stepped (Some op) (g.state old) (g.backing old) (g.backing new)) answer fits found_op follows_store (laws.follows_later old new follows_store)
         (λ number call runs. subst (λ (x : Option Op). SessionGoes (where_slot_stepped x (g.state old) (g.backing old) (g.backing new)) (g.state old) (g.state new) sets start history number call slot answer) is
         (goes honest start history number call (subst (λ (x : Option Op). SlotFits (g.state old) sets start history number call x) (sym is) runs))) refl always
-        (λ s l n c runs. record {
-          due = λ left h. subst (λ (x : Option Op). CountsDown (g.state old) (g.state new) x slot left answer) is
-              (due honest s l n c (subst (λ (x : Option Op). SlotFits (g.state old) sets s l n c x) (sym is) runs) left (subst (λ (x : Option Op). IsDueIn (g.state old) x (suc left)) (sym is) h));
-          no_more = subst (λ (x : Option Op). LeavesNoMore (g.state old) (g.state new) x slot) is (no_more honest);
-        })
-        (λ s l n c runs. subst (λ (x : Option Op). OnlyOwnAreFlagged (g.state old) x → LeavesOwnFlagged (g.state new) x slot answer) is
-        (flagged honest s l n c (subst (λ (x : Option Op). SlotFits (g.state old) sets s l n c x) (sym is) runs)))
-        (subst (λ (x : Option Op). KeepsBeforePins (g.state old) x slot answer) is (pins honest))
-        (subst (λ (x : Option Op). CountsEntries sets (g.state old) (g.state new) x slot answer) is (entries honest))
-        (subst (λ (x : Option Op). SparesLeaves (g.state old) (g.state new) x slot answer) is (spares honest));
+        (λ s l n c runs. subst (λ (x : Option Op). CallIsFollowed (MovesCall session Steps) sets answer (g.state old) (g.state new) x slot) is
+        (followed honest (record { start = s; history = l; number = n; call = c; fits = subst (λ (x : Option Op). SlotFits (g.state old) sets s l n c x) (sym is) runs })));
   }
     where
+      followed : (g.backing new).honest ≡ true → IsFitted (g.state old) sets before → CallIsFollowed (MovesCall session Steps) sets answer (g.state old) (g.state new) before slot
+      followed honest fitted =
+          let told = follows honest in
+          record { due = told.due fitted; no_more = made.no_more honest; flagged = told.flagged fitted; waits = told.waits; entries = told.entries; spares = told.spares }
+
       always : EventAlways g (MovesCall session Steps) answer (here_with old slots sets) (here_with new (slice_set slots session slot) sets)
       always = record {
-        answers = at_slots slots session before slot (λ x y. AnswersStep x y answer) found_at kind;
-        refused = at_slots slots session before slot (λ x y. RefusalChangesNothing (g.state old) (g.state new) x y answer) found_at refused;
-        stopped = λ h. subst (λ (x : Option Op). AnswersStopped (slot_add x) answer) (sym slot_was) (stopped h);
-        less = λ honest. at_slots slots session before slot (λ x y. LeavesLess (g.state old) (g.state new) x y answer) found_at (less honest);
-        kept = record { acts = kept.acts; quiet = kept.quiet; limits = kept.limits; frames = kept.frames };
-        calm = subst (λ (x : Option Op). OnlyWritersAct x (g.state old) (g.state new)) (sym slot_was) calm;
+        answers = at_slots slots session before slot (λ x y. AnswersStep x y answer) found_at made.kind;
+        refused = at_slots slots session before slot (λ x y. RefusalChangesNothing (g.state old) (g.state new) x y answer) found_at made.refused;
+        stopped = λ h. subst (λ (x : Option Op). AnswersStopped (slot_add x) answer) (sym slot_was) (made.stopped h);
+        less = λ honest. at_slots slots session before slot (λ x y. LeavesLess (g.state old) (g.state new) x y answer) found_at (made.less honest);
+        kept = record { acts = made.kept.acts; quiet = made.kept.quiet; limits = made.kept.limits; frames = made.kept.frames };
+        calm = subst (λ (x : Option Op). OnlyWritersAct x (g.state old) (g.state new)) (sym slot_was) made.calm;
         others = others_stay_set slots session slot;
         left = tt;
         causes = tt;
         order = tt;
         fresh = tt;
-        runs_on = at_slots slots session before slot (λ x y. RunsOn x y) found_at runs_on;
+        runs_on = at_slots slots session before slot (λ x y. RunsOn x y) found_at made.runs_on;
       }
 
   pub end_makes : AnswersEnd before answer → slot ≡ None → g.backing new ≡ g.backing old → g.state new ≡ after_call op (g.state old)
@@ -125,9 +114,9 @@ module _ {S : Type 0} (g : Ghosts S) (laws : Laws g) (old new : S) (follows : g.
     sessions = length_set slots session slot;
     always = always;
     does = λ honest start history calls fits.
-        moves_on g start (snapshot_of (here_with old slots sets) history calls) new session op slot GivesUp nothing_wrong answer fits found_op follows (laws.follows_later old new follows)
+        moves_on g start (snapshot_of (here_with old slots sets) history calls) new session op slot GivesUp nothing_wrong answer fits found_op follows_store (laws.follows_later old new follows_store)
         (λ number call runs. goes start history number call (subst (λ (x : Option Op). SlotFits (g.state old) sets start history number call x) (sym is) runs)) refl always
-        (λ s l n c runs. tt) (λ s l n c runs. tt) tt tt tt;
+        (λ s l n c runs. tt);
   }
     where
       ended : answer ≡ Ended
@@ -179,8 +168,7 @@ module _ {S : Type 0} (g : Ghosts S) (laws : Laws g) (store : S) (slots : List (
         (laws.follows_later store store (laws.follows_same store))
         (λ number call runs. subst (λ (a : Ask). SessionGoes (where_asked_next a) (g.state store) (g.state store) sets start history number call slot answer) runs.runs.ask
         (goes (g.state store) start history number call (subst (λ (x : Option Op). SlotFits (g.state store) sets start history number call x) (sym is) runs))) refl always
-        (λ s l n c runs steps h. due (g.state store) steps (subst (λ (x : Option Op). IsDueIn (g.state store) x steps) (sym is) h))
-        (λ s l n c runs. tt) tt tt tt;
+        (λ s l n c runs steps h. due (g.state store) steps (subst (λ (x : Option Op). IsDueIn (g.state store) x steps) (sym is) h));
   }
     where
       always : EventAlways g (MovesCall session Takes) answer (here_with store slots sets) (here_with store (slice_set slots session slot) sets)

@@ -310,52 +310,40 @@ pub record EventAlways {S : Type 0} (g : Ghosts S) (kind : Kind) (answer : Answe
   -- behind a move of its call a session runs nothing, or a call of the same kind
   pub runs_on : MoveRunsOn kind (slot_of old.slots (session_at kind)) (slot_of new.slots (session_at kind))
 
--- A step: a call that was due comes to what is awaited at its last step, and each step before leaves one fewer. While no
--- action is logged, no more is left to do than before, whether it was due or not.
-pub record StepIsCounted (old new : State) (before after : Option Op) (answer : Answer) : Type 0 where
-  pub due : (left : ℕ) → IsDueIn old before (suc left) → CountsDown old new before after left answer
-  pub no_more : LeavesNoMore old new before after
-
 -- a call that was due is due after as many steps
 abbrev pub StaysAsDue : State → State → Option Op → Option Op → Type 0
 StaysAsDue old new before after = (steps : ℕ) → IsDueIn old before steps → IsDueIn new after steps
 
--- how many steps a call takes, by its event: a beginning says after how many it is due, each step is counted, and a `next`
--- costs none
-abbrev pub CountsSteps : Kind → Answer → State → State → Option Op → Option Op → Type 0
-CountsSteps (BeginsCall session request) answer old new before after = answer ≡ Begun → HasSteps old new request after
-CountsSteps (MovesCall session Steps) answer old new before after = StepIsCounted old new before after answer
-CountsSteps (MovesCall session Takes) answer old new before after = StaysAsDue old new before after
-CountsSteps (MovesCall session GivesUp) answer old new before after = Unit {0}
-CountsSteps (KeepsStore upkeep) answer old new before after = Unit {0}
+-- what is followed of a running call, from one step to the next
+pub record StepIsFollowed (sets : DeadSets) (old new : State) (before after : Option Op) (answer : Answer) : Type 0 where
+  -- a call that was due comes to what is awaited at its last step, and each step before leaves one fewer
+  pub due : (left : ℕ) → IsDueIn old before (suc left) → CountsDown old new before after left answer
+  -- while no action is logged, no more is left to do than before, whether it was due or not
+  pub no_more : LeavesNoMore old new before after
+  -- where only pages were flagged whose splits its insert is to finish, only such are; and none behind its end, unless it tells of a fault
+  pub flagged : OnlyOwnAreFlagged old before → LeavesOwnFlagged new before after answer
+  -- a bulk delete doesn't come past a leaf that another session has pinned, nor to its end
+  pub waits : KeepsBeforePins old before after answer
+  -- where nobody else acts, what a bulk delete or a cleanup has counted are the entries that it has left; at its end it tells how many
+  -- there are, and a cleanup leaves no half-dead page
+  pub entries : CountsEntries sets old new before after answer
+  -- where nobody else holds a page, a cleanup leaves no empty leaf behind it that might leave the tree
+  pub spares : SparesLeaves old new before after answer
 
--- behind a step only those pages are flagged whose splits its insert is to finish yet, where that was so before; and none
--- behind its end, unless that tells of a fault
-abbrev pub KeepsFlags : Kind → Answer → State → State → Option Op → Option Op → Type 0
-KeepsFlags (MovesCall session Steps) answer old new before after = OnlyOwnAreFlagged old before → LeavesOwnFlagged new before after answer
-KeepsFlags kind answer old new before after = Unit {0}
-
--- a step of a bulk delete doesn't come past a leaf that another session has pinned, nor to its end
-abbrev pub WaitsForPins : Kind → Answer → State → Option Op → Option Op → Type 0
-WaitsForPins (MovesCall session Steps) answer st before after = KeepsBeforePins st before after answer
-WaitsForPins kind answer st before after = Unit {0}
+-- what is followed of a session's call, by its event: a beginning says after how many steps it is due, each step follows on, and asking
+-- for the next entry costs no step
+abbrev pub CallIsFollowed : Kind → DeadSets → Answer → State → State → Option Op → Option Op → Type 0
+CallIsFollowed (BeginsCall session request) sets answer old new before after = answer ≡ Begun → HasSteps old new request after
+CallIsFollowed (MovesCall session Steps) sets answer old new before after = StepIsFollowed sets old new before after answer
+CallIsFollowed (MovesCall session Takes) sets answer old new before after = StaysAsDue old new before after
+CallIsFollowed (MovesCall session GivesUp) sets answer old new before after = Unit {0}
+CallIsFollowed (KeepsStore upkeep) sets answer old new before after = Unit {0}
 
 -- a live leaf that another session has pinned stays one
 abbrev pub KeepsPinnedLeaves : Kind → State → State → Type 0
 KeepsPinnedLeaves kind old new =
     (session block : ℕ) (page : Page) → (IsOfSession session kind → ⊥) → IsLeafAt old.pages block page
     → has_pin (holding_of old.table session).pins block ≡ true → WasLeaf new.pages block
-
--- a step of a bulk delete or of a cleanup, beside which nobody has acted, counts on; at its end it tells how many entries there
--- are; and a cleanup leaves no half-dead page
-abbrev pub CountsOnEntries : Kind → DeadSets → Answer → State → State → Option Op → Option Op → Type 0
-CountsOnEntries (MovesCall session Steps) sets answer old new before after = CountsEntries sets old new before after answer
-CountsOnEntries kind sets answer old new before after = Unit {0}
-
--- a cleanup, beside which nobody else holds a page, leaves no empty leaf behind it that might leave the tree
-abbrev pub SparesOn : Kind → Answer → State → State → Option Op → Option Op → Type 0
-SparesOn (MovesCall session Steps) answer old new before after = SparesLeaves old new before after answer
-SparesOn kind answer old new before after = Unit {0}
 
 -- What an event leaves as it was: the limits and the number of frames; and where it appends no action, the pages. So an event
 -- of others that appends no action costs a call that is due no step.
@@ -382,16 +370,8 @@ pub record EventAlso {S : Type 0} (g : Ghosts S) (start : Entry → Bool) (kind 
   pub grows : GrowsByOne old.history new.history
   -- why it is refused, as its operation tells it
   pub caused : IsCaused (where_happening g kind (here_at old) (here_at new)) answer
-  -- what has begun is due after so many steps, and bounded; a step counts down; asking for an entry costs none
-  pub counts : CountsSteps kind answer (g.state old.store) (g.state new.store) (slot_of old.slots (session_at kind)) (slot_of new.slots (session_at kind))
-  -- which pages it leaves flagged
-  pub flagged : KeepsFlags kind answer (g.state old.store) (g.state new.store) (slot_of old.slots (session_at kind)) (slot_of new.slots (session_at kind))
-  -- a step of a bulk delete doesn't come past a leaf that another session has pinned, nor to its end
-  pub waits : WaitsForPins kind answer (g.state old.store) (slot_of old.slots (session_at kind)) (slot_of new.slots (session_at kind))
-  -- where nobody else acts, what a bulk delete or a cleanup has counted are the entries that it has left
-  pub entries : CountsOnEntries kind old.sets answer (g.state old.store) (g.state new.store) (slot_of old.slots (session_at kind)) (slot_of new.slots (session_at kind))
-  -- where nobody else holds a page, a cleanup leaves no empty leaf that might leave the tree
-  pub spares : SparesOn kind answer (g.state old.store) (g.state new.store) (slot_of old.slots (session_at kind)) (slot_of new.slots (session_at kind))
+  -- what is followed of its session's call
+  pub followed : CallIsFollowed kind old.sets answer (g.state old.store) (g.state new.store) (slot_of old.slots (session_at kind)) (slot_of new.slots (session_at kind))
   -- a live leaf that another session has pinned stays one
   pub leaves : KeepsPinnedLeaves kind (g.state old.store) (g.state new.store)
   -- no low of a page that isn't deleted rises

@@ -5,3 +5,4 @@ pub mod Sessions
 pub mod Due
 pub mod Undisturbed
 pub mod Bounds
+pub mod Following

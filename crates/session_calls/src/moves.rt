@@ -1,15 +1,16 @@
 //! Events of a running call.
 
-ghost use Rattle.std.specs.Prelude.{◌≡◌, true, false, Bool, List, ℕ, suc, None, Some, map};
+ghost use Rattle.std.specs.Prelude.{◌≡◌, true, false, Bool, List, ℕ, None, Some, map};
 ghost use Rattle.index_model.specs.Actions.{Action};
 ghost use Rattle.index_model.specs.Calls.{Call};
 ghost use Rattle.index_model.specs.declared.entry.Entry.{Entry};
 ghost use Rattle.page_action.specs.Causes.{nothing_wrong};
 ghost use Rattle.page_action.specs.States.{State, Continues};
-ghost use Rattle.session_calls.specs.Due.{IsDueIn, CountsDown};
+ghost use Rattle.session_calls.specs.Due.{IsDueIn};
+ghost use Rattle.session_calls.specs.Following.{StepAlways, StepFollows};
 ghost use Rattle.session_calls.specs.TheoremCalls.{DeadSets};
-ghost use Rattle.session_calls.specs.Ops.{where_slot_stepped, where_asked_next, is_last, RunsOn, AnswersStopped};
-ghost use Rattle.session_calls.specs.Sessions.{SlotFits, SessionGoes, KeepsPages, OnlyWritersAct, OnlyOwnAreFlagged, LeavesOwnFlagged, KeepsBeforePins, CountsEntries, SparesLeaves, LeavesLess, LeavesNoMore, GivesLess, AnswersStep, AnswersNext, AnswersEnd, RefusalChangesNothing, no_call, slot_add, after_call};
+ghost use Rattle.session_calls.specs.Ops.{where_slot_stepped, where_asked_next, is_last, RunsOn};
+ghost use Rattle.session_calls.specs.Sessions.{SlotFits, SessionGoes, GivesLess, AnswersNext, AnswersEnd, no_call, after_call};
 ghost use Rattle.session_calls.specs.declared.op.Op.{Op};
 
 use crate::answer::Answer;
@@ -24,20 +25,9 @@ use page_action::PageStore;
 /// A call that was asked for the rows of a set knows it by its place among the sets. These are the same at each of its steps.
 pub fn step<S: PageStore, T: DeadRows>(store: &mut S, slot: &mut Option<Op>, sets: &[T]) -> Answer
     ensures steps { Continues S.follows store.old store.new }
-    ensures idle { slot.old ≡ None → (result ≡ no_call (S.backing store.old).stopped)
-        × (store.new ≡ store.old) }
-    ensures refused { RefusalChangesNothing (S.state store.old)
-        (S.state store.new) slot.old slot.new result }
-    ensures stopped { (S.backing store.old).stopped ≡ true
-        → AnswersStopped (slot_add slot.old) result }
-    ensures kind { AnswersStep slot.old slot.new result }
-    ensures runs_on { RunsOn slot.old slot.new }
-    ensures kept { KeepsPages (S.state store.old) (S.state store.new) }
-    ensures calm { OnlyWritersAct slot.old (S.state store.old) (S.state store.new) }
-    ensures less { (S.backing store.new).honest ≡ true
-        → LeavesLess (S.state store.old) (S.state store.new) slot.old slot.new result }
-    ensures no_more { (S.backing store.new).honest ≡ true
-        → LeavesNoMore (S.state store.old) (S.state store.new) slot.old slot.new }
+    // Whatever the pages are: what it may answer, what a refusal leaves, that less is left to do.
+    ensures always { StepAlways S.PageStore store.old store.new slot.old slot.new result }
+    // Of each history that fits: the call goes on, by one action at most.
     ensures goes { (S.backing store.new).honest ≡ true
         → (start : Entry → Bool) (history : List Action) (number : ℕ) (call : Call)
         → SlotFits (S.state store.old) (map T.is_in sets.now) start history number call slot.old
@@ -45,23 +35,10 @@ pub fn step<S: PageStore, T: DeadRows>(store: &mut S, slot: &mut Option<Op>, set
         (S.backing store.new))
         (S.state store.old) (S.state store.new) (map T.is_in sets.now) start history number call
         slot.new result }
-    ensures flagged { (S.backing store.new).honest ≡ true
-        → (start : Entry → Bool) (history : List Action) (number : ℕ) (call : Call)
-        → SlotFits (S.state store.old) (map T.is_in sets.now) start history number call slot.old
-        → OnlyOwnAreFlagged (S.state store.old) slot.old
-        → LeavesOwnFlagged (S.state store.new) slot.old slot.new result }
-    ensures pins { (S.backing store.new).honest ≡ true
-        → KeepsBeforePins (S.state store.old) slot.old slot.new result }
-    ensures entries { (S.backing store.new).honest ≡ true
-        → CountsEntries (map T.is_in sets.now) (S.state store.old) (S.state store.new) slot.old
+    // What is followed of the call it follows still, or tells at its end.
+    ensures follows { (S.backing store.new).honest ≡ true
+        → StepFollows (map T.is_in sets.now) (S.state store.old) (S.state store.new) slot.old
         slot.new result }
-    ensures spares { (S.backing store.new).honest ≡ true
-        → SparesLeaves (S.state store.old) (S.state store.new) slot.old slot.new result }
-    ensures due { (S.backing store.new).honest ≡ true
-        → (start : Entry → Bool) (history : List Action) (number : ℕ) (call : Call)
-        → SlotFits (S.state store.old) (map T.is_in sets.now) start history number call slot.old
-        → (left : ℕ) → IsDueIn (S.state store.old) slot.old (suc left)
-        → CountsDown (S.state store.old) (S.state store.new) slot.old slot.new left result }
 {
     let Some(op) = slot else {
         return idle(store.is_stopped());

@@ -109,8 +109,8 @@ module _ {S : Type 0} (g : Ghosts S) (start : Entry → Bool) (session : ℕ) (x
     order = fits.invariant.order;
     starts = fits.invariant.starts;
     fits = runs_fits op is;
-    entries = subst (λ (o : Option Op). CountsEntries x.sets old now o (slot_of y.slots session) answer) is does.also.entries;
-    spares = subst (λ (o : Option Op). SparesLeaves old now o (slot_of y.slots session) answer) is does.also.spares;
+    entries = subst (λ (o : Option Op). CountsEntries x.sets old now o (slot_of y.slots session) answer) is does.also.followed.entries;
+    spares = subst (λ (o : Option Op). SparesLeaves old now o (slot_of y.slots session) answer) is does.also.followed.spares;
   }
 
   -- ... that goes on

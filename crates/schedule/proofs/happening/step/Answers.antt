@@ -15,7 +15,7 @@ returns-clause-makes g c =
     let at = slot_of_call slots c.args.session c.index-slots-session.result within c.index-slots-session.is (sym c.is_running.ensures.value ∙ c.if-not-is_running.false) in
     step_makes g.S.PageStore laws c.args.store.now c.step.new.store (c.step.ensures.steps _ (laws.follows_same _)) slots (map g.T.DeadRows.is_in c.args.sets.now) c.args.session _ c.step.new.slot at.0 c.step.result at.1
     (slot_read slots c.args.session c.index-slots-session.result within c.index-slots-session.is)
-    c.step.ensures.kind c.step.ensures.refused c.step.ensures.stopped c.step.ensures.less c.step.ensures.kept c.step.ensures.calm c.step.ensures.no_more c.step.ensures.goes c.step.ensures.due c.step.ensures.flagged c.step.ensures.pins c.step.ensures.entries c.step.ensures.spares c.step.ensures.runs_on
+    c.step.ensures.always c.step.ensures.goes c.step.ensures.follows
 
 pub returns-then-not-is_running-clause-makes : goal.returns-then-not-is_running-clause-makes
 returns-then-not-is_running-clause-makes g c =

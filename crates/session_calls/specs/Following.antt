@@ -1,0 +1,52 @@
+-- What a step of a session's call promises whatever the pages are, and what is followed of the call, step by step.
+use Rattle.std.specs.Prelude.{◌≡◌, ℕ, suc, Bool, true, Option, None, List}
+use Rattle.index_model.specs.Actions.{Action}
+use Rattle.index_model.specs.Calls.{Call}
+use Rattle.index_model.specs.declared.entry.Entry.{Entry}
+use Rattle.page_action.specs.States.{State}
+use Rattle.page_action.specs.declared.page_store.PageStore.{Ghosts}
+use Rattle.session_calls.specs.TheoremCalls.{DeadSets}
+use Rattle.session_calls.specs.Due.{IsDueIn, CountsDown}
+use Rattle.session_calls.specs.Ops.{RunsOn, AnswersStopped}
+use Rattle.session_calls.specs.Sessions.{SlotFits, KeepsPages, OnlyWritersAct, OnlyOwnAreFlagged, LeavesOwnFlagged, KeepsBeforePins, CountsEntries, SparesLeaves, LeavesLess, LeavesNoMore, AnswersStep, RefusalChangesNothing, no_call, slot_add}
+use Rattle.session_calls.specs.declared.answer.Answer.{Answer}
+use Rattle.session_calls.specs.declared.op.Op.{Op}
+
+-- a step, whatever the pages are
+pub record StepAlways {S : Type 0} (g : Ghosts S) (old new : S) (before after : Option Op) (answer : Answer) : Type 0 where
+  -- without a call nothing is done
+  pub idle : before ≡ None → (answer ≡ no_call (g.backing old).stopped) × (new ≡ old)
+  -- a refusal changes nothing, but that the call is over, unless it was refused with Blocked or NoSession
+  pub refused : RefusalChangesNothing (g.state old) (g.state new) before after answer
+  -- on a stopped log it is refused for that, or an insert whose entry is logged ends so
+  pub stopped : (g.backing old).stopped ≡ true → AnswersStopped (slot_add before) answer
+  -- it answers what its call may, and stays a call of its kind
+  pub kind : AnswersStep before after answer
+  pub runs_on : RunsOn before after
+  -- it does one act at most, and only a call that writes does one
+  pub kept : KeepsPages (g.state old) (g.state new)
+  pub calm : OnlyWritersAct before (g.state old) (g.state new)
+  -- over a device that keeps its model less is left to do, where it goes on, and no more in any case
+  pub less : (g.backing new).honest ≡ true → LeavesLess (g.state old) (g.state new) before after answer
+  pub no_more : (g.backing new).honest ≡ true → LeavesNoMore (g.state old) (g.state new) before after
+
+-- some history fits what the session runs
+pub record IsFitted (st : State) (sets : DeadSets) (slot : Option Op) : Type 0 where
+  pub start : Entry → Bool
+  pub history : List Action
+  pub number : ℕ
+  pub call : Call
+  pub fits : SlotFits st sets start history number call slot
+
+-- what is followed of a call, from one step to the next
+pub record StepFollows (sets : DeadSets) (old new : State) (before after : Option Op) (answer : Answer) : Type 0 where
+  -- the steps that it is due after: each counts down
+  pub due : IsFitted old sets before → (left : ℕ) → IsDueIn old before (suc left) → CountsDown old new before after left answer
+  -- the pages that it leaves flagged: those whose splits it is to finish
+  pub flagged : IsFitted old sets before → OnlyOwnAreFlagged old before → LeavesOwnFlagged new before after answer
+  -- the leaves that others have pinned, before which a bulk delete waits
+  pub waits : KeepsBeforePins old before after answer
+  -- the entries that it has counted, where nobody else acts
+  pub entries : CountsEntries sets old new before after answer
+  -- the empty leaves that a cleanup leaves, where nobody else holds a page
+  pub spares : SparesLeaves old new before after answer
