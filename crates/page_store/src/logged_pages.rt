@@ -38,7 +38,7 @@ pub(crate) struct LoggedPages<D: Device> {
     pub(crate) promised: u32,
     pub(crate) history: History,
     /// Where a page is decoded before a frame gets it. Between calls it has no meaning.
-    pub(crate) decoded: Page,
+    pub(crate) decoded: Box<Page>,
     ghost allowed: { AreLimits limits },
     ghost log_limits: { limits_of log ≡ limits } by { Coded-set limits-code (limits_of log) limits },
     ghost sized: { place limits limits.pages ≤ length (D.trace device).now.seen },
@@ -81,6 +81,7 @@ impl<D: Device> LoggedPages<D> {
         pool: Pool,
         used: u32,
         history: History,
+        decoded: Box<Page>,
     ) -> LoggedPages<D>
         requires allowed { AreLimits limits }
         requires log_limits { limits_of log ≡ limits }
@@ -121,7 +122,7 @@ impl<D: Device> LoggedPages<D> {
             room,
             promised: room,
             history,
-            decoded: Page::blank(),
+            decoded,
         }
     }
 

@@ -10,7 +10,7 @@ ghost use Rattle.page_action.specs.Props.{AreStored-prop};
 use crate::history::History;
 use buffer_pool::Pool;
 use index_model::{Fault, Limits};
-use page_action::{DeletionNumbers, is_storable};
+use page_action::{CallRoom, DeletionNumbers, is_storable};
 use page_codec::Page;
 use std::alloc::Global;
 use std::slice;
@@ -22,7 +22,10 @@ pub struct StoreRoom {
     pub(crate) pool: Pool,
     pub(crate) used: u32,
     pub(crate) numbers: DeletionNumbers,
+    pub(crate) calls: CallRoom,
     pub(crate) history: History,
+    /// Where a page is decoded before a frame gets it.
+    pub(crate) decoded: Box<Page>,
     ghost allowed: { AreLimits limits },
     ghost stored: { AreStored limits 0 history.start } by { AreStored-prop limits 0 history.start },
     ghost used_is: { used ≡ length history.start },
@@ -56,12 +59,18 @@ impl StoreRoom {
         }
         let pool = Pool::new(alloc, frames, limits.pages)?;
         let numbers = DeletionNumbers::new(alloc, limits.pages)?;
+        let calls = CallRoom::new(alloc)?;
+        let Ok(decoded) = Box::new(alloc, Page::blank()) else {
+            return Err(Fault::NoMemory);
+        };
         Ok(StoreRoom {
             limits,
             pool,
             used: 0,
             numbers,
+            calls,
             history: History::new(),
+            decoded,
         })
     }
 

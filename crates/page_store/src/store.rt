@@ -69,8 +69,16 @@ impl<D: Device> Store<D> {
             → IsOwnStore D.Device result }
     {
         Store {
-            held: LoggedPages::new(room.limits, device, log, room.pool, room.used, room.history),
-            calls: CallTable::new(room.numbers, counter),
+            held: LoggedPages::new(
+                room.limits,
+                device,
+                log,
+                room.pool,
+                room.used,
+                room.history,
+                room.decoded,
+            ),
+            calls: CallTable::new(room.numbers, room.calls, counter),
         }
     }
 

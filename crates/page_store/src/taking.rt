@@ -79,14 +79,14 @@ impl<D: Device> LoggedPages<D> {
     // of a block that is not in use.
     fn put(&mut self, at: usize)
         requires free { CanBeTaken self.old.pool at }
-        requires stored { IsStored self.old.limits self.old.decoded.block self.old.decoded }
-        requires below { self.old.decoded.block < self.old.limits.pages }
-        requires absent { frame_of self.old.pool self.old.decoded.block ≡ None }
+        requires stored { IsStored self.old.limits self.old.decoded.value.block self.old.decoded.value }
+        requires below { self.old.decoded.value.block < self.old.limits.pages }
+        requires absent { frame_of self.old.pool self.old.decoded.value.block ≡ None }
         requires right { D.is_honest self.old.device ≡ true → (there : Page)
-            → slice_get (pages_now self.old.history) self.old.decoded.block ≡ Some there
-            → self.old.decoded ≡ there }
+            → slice_get (pages_now self.old.history) self.old.decoded.value.block ≡ Some there
+            → self.old.decoded.value ≡ there }
         ensures quiet { IsQuiet D.Device self.old self.new }
-        ensures pool { IsPut self.old.pool self.new.pool at self.old.decoded }
+        ensures pool { IsPut self.old.pool self.new.pool at self.old.decoded.value }
         ensures log { self.new.log ≡ self.old.log }
         ensures device { self.new.device ≡ self.old.device }
     {
@@ -102,9 +102,9 @@ impl<D: Device> LoggedPages<D> {
         ensures quiet { IsQuiet D.Device self.old self.new }
         ensures pool { self.new.pool ≡ self.old.pool }
         ensures log { self.new.log ≡ self.old.log }
-        ensures stored { OnOk result (IsStored self.old.limits block self.new.decoded) }
+        ensures stored { OnOk result (IsStored self.old.limits block self.new.decoded.value) }
         ensures right { OnOk result (D.is_honest self.new.device ≡ true
-            → slice_get (pages_now self.old.history) block ≡ Some self.new.decoded) }
+            → slice_get (pages_now self.old.history) block ≡ Some self.new.decoded.value) }
         ensures honest { D.is_honest self.new.device ≡ true
             → OnErr result (result ≡ Err Fault.Io) }
         ensures cause { ReadingFails block result

@@ -4,7 +4,7 @@ use crate::plain::add;
 use crate::trees::{change, emptied, limits, marked, meta, stored};
 use index_model::{Fault, Session};
 use latch_table::Mode;
-use page_action::{CallTable, DeletionNumbers, MapStore, PageStore};
+use page_action::{CallRoom, CallTable, DeletionNumbers, MapStore, PageStore};
 use page_codec::{Page, PageState};
 use std::test::{Fail, *};
 
@@ -92,7 +92,7 @@ fn blocks_that_are_pinned(rt: HostRuntime) -> Result<(), Fail> {
     let numbers = DeletionNumbers::new(rt.alloc(), 8)?;
     let one = Session::new(1)?;
     let other = Session::new(2)?;
-    let mut calls = CallTable::new(numbers, 0);
+    let mut calls = CallTable::new(numbers, CallRoom::new(rt.alloc())?, 0);
     calls.pin(one, 5);
     calls.pin(one, 3);
     calls.pin(other, 5);

@@ -21,8 +21,8 @@ returns-clause-quiet g c =
 
 pub returns-clause-kept : goal.returns-clause-kept
 returns-clause-kept g c =
-    kept_put c.args.self.now.pool c.free_frame.new.self.pool c.put.new.self.pool c.args.pinned.now c.in_ok-at.at c.read.new.self.decoded c.free_frame.ensures.same c.in_ok-at.ensures.unpinned
-    (subst (λ (p : Pool). IsPut p c.put.new.self.pool c.in_ok-at.at c.read.new.self.decoded) c.read.ensures.pool c.put.ensures.pool)
+    kept_put c.args.self.now.pool c.free_frame.new.self.pool c.put.new.self.pool c.args.pinned.now c.in_ok-at.at c.read.new.self.decoded.value c.free_frame.ensures.same c.in_ok-at.ensures.unpinned
+    (subst (λ (p : Pool). IsPut p c.put.new.self.pool c.in_ok-at.at c.read.new.self.decoded.value) c.read.ensures.pool c.put.ensures.pool)
 
 pub returns-then-holds-clause-quiet : goal.returns-then-holds-clause-quiet
 returns-then-holds-clause-quiet g c = quiet_same g.D.Device c.args.self.now

@@ -1,4 +1,6 @@
-use Rattle.std.proofs.Common.{inl, refl}
+use Rattle.std.proofs.Common.{inl, refl, subst}
+use Rattle.buffer_pool.specs.Pools.{IsPut}
+use Rattle.page_codec.specs.declared.page.Page.{Page}
 use Rattle.page_store.specs.Histories.{pages_now}
 use Rattle.page_store.specs.Logged.{held_of}
 use Rattle.page_store.proofs.Keeping.{holds_put}
@@ -11,8 +13,8 @@ use Rattle.page_store.proofs.logged_pages.LoggedPages.put.Goals as goal
 pub invariant_of-self-clause-holds : goal.invariant_of-self-clause-holds
 invariant_of-self-clause-holds g c =
     let held = c.args.self.now in
-    holds_put held.limits (pages_now held.history) held.acts held.pool c.put.new.self _ _ _ c.args.at c.args.self.now.decoded held.holds c.put.ensures (λ h. h) (λ used. c.requires.stored) c.requires.right
-    (clean_of_absent held.pool c.law.ensures c.args.self.now.decoded.block c.requires.absent)
+    holds_put held.limits (pages_now held.history) held.acts held.pool c.put.new.self _ _ _ c.args.at c.args.self.now.decoded.value held.holds (subst (λ (page : Page). IsPut held.pool c.put.new.self c.args.at page) c.deref.ensures c.put.ensures) (λ h. h) (λ used. c.requires.stored) c.requires.right
+    (clean_of_absent held.pool c.law.ensures c.args.self.now.decoded.value.block c.requires.absent)
 
 pub returns-clause-quiet : goal.returns-clause-quiet
 returns-clause-quiet g c =
