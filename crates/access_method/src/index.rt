@@ -423,7 +423,7 @@ impl<D: Device> Index<Store<D>> {
     ghost use Rattle.recovery.specs.Calls.{IsIoOr};
     ghost use Rattle.recovery.specs.Index.{HasIndex};
     ghost use Rattle.recovery.specs.Opening.{AreFrames, IsNoMemoryOrIo, IsRefusal};
-    ghost use Rattle.tree_acts.specs.Trees.{IsTree};
+    ghost use Rattle.tree_acts.specs.TheoremTree.{IsTree};
     ghost use Rattle.world.specs.Reopening.{IsIndexAfterFirstPart};
     ghost use Rattle.access_method.specs.Indexes.{IndexFits, IndexKeeps, IndexBegins, index_device};
 

@@ -10,7 +10,7 @@ use Rattle.page_action.specs.Stored.{AreStored}
 use Rattle.page_action.proofs.StoredPages.{stored_page}
 use Rattle.tree_shape.specs.Nodes.{nodes_of}
 use Rattle.tree_shape.specs.Chains.{IsTreeOf, IsRootLevel, IsIn}
-use Rattle.tree_acts.specs.Trees.{IsTree}
+use Rattle.tree_acts.specs.TheoremTree.{IsTree}
 use Rattle.amcheck.specs.Levels.{NamesRoot, AreWalked, IsStray, HasLevels}
 use Rattle.amcheck.specs.Marks.{IsMet}
 use Rattle.amcheck.specs.Places.{StandAtTheirBlocks}

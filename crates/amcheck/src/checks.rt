@@ -3,7 +3,7 @@
 ghost use Rattle.std.specs.Prelude.{◌≡◌, true, IfOk, IfErr, OnOk};
 ghost use Rattle.page_action.specs.Room.{KeepsRoom};
 ghost use Rattle.page_action.specs.States.{Continues};
-ghost use Rattle.tree_acts.specs.Trees.{IsTree};
+ghost use Rattle.tree_acts.specs.TheoremTree.{IsTree};
 ghost use Rattle.amcheck.specs.Checks.{IsCheckFault};
 ghost use Rattle.amcheck.specs.Levels.{HasLevels};
 ghost use Rattle.amcheck.specs.Reports.{IsReport};

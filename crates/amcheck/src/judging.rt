@@ -1,7 +1,7 @@
 //! All pages of an index are judged: the chains of its levels, and its parents and children.
 
 ghost use Rattle.std.specs.Prelude.{◌≡◌, ◌≤◌, ◌<◌, ℕ, true, [], IfOk, OnOk, OnErr, length, vec_capacity};
-ghost use Rattle.tree_acts.specs.Trees.{IsTree};
+ghost use Rattle.tree_acts.specs.TheoremTree.{IsTree};
 ghost use Rattle.amcheck.specs.Levels.{NamesRoot, AreWalked, HasLevels};
 ghost use Rattle.amcheck.specs.Marks.{IsMet};
 ghost use Rattle.amcheck.specs.Places.{StandAtTheirBlocks};

@@ -12,7 +12,7 @@ use Rattle.page_codec.specs.declared.page.Page.{Page}
 use Rattle.page_codec.specs.declared.page.PageState.{PageState}
 use Rattle.page_codec.specs.declared.page.PageState.TheVariants.{Live, HalfDead, Deleted}
 use Rattle.recovery.specs.Fresh.{IsFirstMeta, IsFirstLeaf}
-use Rattle.tree_acts.specs.Trees.{IsTree}
+use Rattle.tree_acts.specs.TheoremTree.{IsTree}
 use Rattle.tree_shape.specs.Chains.{IsTreeOf}
 use Rattle.tree_shape.specs.Nodes.{links_of, node_of, no_node, nodes_of}
 use Rattle.tree_shape.proofs.First.{first_is_a_tree}

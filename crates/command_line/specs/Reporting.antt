@@ -8,7 +8,7 @@ use Rattle.command_line.specs.Printing.{numbered}
 use Rattle.command_line.specs.declared.end.End.{End}
 use Rattle.command_line.specs.declared.end.End.TheVariants.{Done, Damaged, Said, Refused}
 use Rattle.page_codec.specs.declared.page.Page.{Page}
-use Rattle.tree_acts.specs.Trees.{IsTree}
+use Rattle.tree_acts.specs.TheoremTree.{IsTree}
 
 abbrev pub report_text : Report → List ℕ
 report_text report =

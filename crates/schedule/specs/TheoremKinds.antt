@@ -23,6 +23,7 @@ pub data Kind : Type 0 where
   MovesCall : ℕ → Move → Kind
   KeepsStore : Upkeep → Kind
 
+-- the kind of an event
 abbrev pub kind_of : Event → Kind
 kind_of (Insert session e) = BeginsCall session (ToInsert e)
 kind_of (Scan session range) = BeginsCall session (ToScan range)

@@ -5,7 +5,7 @@ use Rattle.index_model.specs.Calls.{Running, Call, Meets, ActionsAreOwned}
 use Rattle.index_model.specs.declared.entry.Entry.{Entry}
 use Rattle.page_action.specs.Contents.{entry_on_live_leaf}
 use Rattle.page_action.specs.declared.page_store.PageStore.{Ghosts}
-use Rattle.tree_acts.specs.Trees.{IsTree}
+use Rattle.tree_acts.specs.TheoremTree.{IsTree}
 use Rattle.session_calls.specs.TheoremCalls.{DeadSets}
 use Rattle.session_calls.specs.declared.op.Op.{Op}
 

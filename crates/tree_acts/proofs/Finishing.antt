@@ -22,7 +22,8 @@ use Rattle.tree_shape.proofs.Keeps.{finish_keeps, parent_split_keeps, root_split
 use Rattle.tree_shape.proofs.Members.{in_append_right}
 use Rattle.tree_shape.proofs.Places.{cover_at}
 use Rattle.tree_shape.proofs.Told.{only_the_root_is_clear}
-use Rattle.tree_acts.specs.Trees.{IsTree, HasTree, HasCover}
+use Rattle.tree_acts.specs.TheoremTree.{IsTree}
+use Rattle.tree_acts.specs.Trees.{HasTree, HasCover}
 use Rattle.tree_acts.specs.Acts.{IsUnfinished, IsClear, SplitIsFinished, ParentIsSplit, RootIsSplit, TreeLasts, ContentsStay, FinishLasts, ParentSplitLasts, RootSplitLasts}
 use Rattle.tree_acts.proofs.Overlays.{pages_length, pages_other, pages_first, pages_second, pages_third, counts_other, node_there, node_same, inside}
 use Rattle.tree_acts.proofs.Gone.{AreInUse, in_use_append, live_in_use}

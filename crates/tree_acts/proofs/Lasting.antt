@@ -22,7 +22,8 @@ use Rattle.tree_shape.proofs.Members.{in_append_right, member}
 use Rattle.tree_shape.proofs.Runs.{run_back, split_at}
 use Rattle.tree_shape.proofs.Trails.{trail_stays}
 use Rattle.tree_shape.proofs.Told.{places_stay, live_places_stand, places_keep_their_level}
-use Rattle.tree_acts.specs.Trees.{IsTree, HasTree, HasPlace, IsStart, GoneLeadOn}
+use Rattle.tree_acts.specs.TheoremTree.{IsTree}
+use Rattle.tree_acts.specs.Trees.{HasTree, HasPlace, IsStart, GoneLeadOn}
 use Rattle.tree_acts.specs.Acts.{TreeLasts}
 use Rattle.tree_acts.proofs.Gone.{AreInUse, CountUpTo, in_use_count, gone_lead_on, counts_within}
 use Rattle.tree_acts.proofs.Lows.{lows_of}

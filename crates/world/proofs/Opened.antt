@@ -7,7 +7,8 @@ use Rattle.latch_table.specs.Holdings.{Holding, nothing_held, holding_of, latche
 use Rattle.latch_table.specs.declared.mode.Mode.TheVariants.{Exclusive}
 use Rattle.page_codec.specs.declared.page.Page.{Page}
 use Rattle.page_store.specs.Stores.{opened_state}
-use Rattle.tree_acts.specs.Trees.{IsTree, IsStart}
+use Rattle.tree_acts.specs.TheoremTree.{IsTree}
+use Rattle.tree_acts.specs.Trees.{IsStart}
 use Rattle.page_action.specs.Contents.{entry_on_live_leaf}
 use Rattle.page_action.specs.States.{State}
 use Rattle.page_action.specs.Stored.{AreStored}

@@ -7,7 +7,7 @@ ghost use Rattle.page_codec.specs.declared.page.Page.{Page};
 ghost use Rattle.page_store.specs.Restart.{LeavesPages};
 ghost use Rattle.recovery.specs.Index.{HasIndex};
 ghost use Rattle.recovery.specs.Opening.{AreFrames, IsNoMemoryOrIo, IsRefusal};
-ghost use Rattle.tree_acts.specs.Trees.{IsTree};
+ghost use Rattle.tree_acts.specs.TheoremTree.{IsTree};
 ghost use Rattle.world.specs.Reopening.{BeginsWith, world_device};
 
 use crate::world::{NotMade, World};

@@ -1,7 +1,7 @@
 use Rattle.page_action.specs.States.{State}
 use Rattle.std.proofs.Common.{sym, ap, subst, ◌∙◌, IsTrue}
 use Rattle.page_store.specs.Stores.{state_of, device_of}
-use Rattle.tree_acts.specs.Trees.{IsTree}
+use Rattle.tree_acts.specs.TheoremTree.{IsTree}
 use Rattle.schedule.specs.Snapshots.{IsUnused}
 use Rattle.world.proofs.Opened.{freshly_unused}
 use Rattle.access_method.proofs.Seats.{same_start, same_kept}

@@ -1,6 +1,6 @@
 use Rattle.std.proofs.Common.{arith, inl, inr, sym, ap, subst, ◌∙◌, ⊎_elim, IsTrue}
 use Rattle.page_store.specs.Stores.{state_of, device_of}
-use Rattle.tree_acts.specs.Trees.{IsTree}
+use Rattle.tree_acts.specs.TheoremTree.{IsTree}
 use Rattle.schedule.specs.Snapshots.{IsUnused}
 use Rattle.world.proofs.Opened.{freshly_unused, same_start, same_kept}
 use Rattle.world.proofs.opening.World+Store+D+T.open.Goals as goal
