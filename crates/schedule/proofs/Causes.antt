@@ -1,7 +1,7 @@
 -- Why an event is refused, in the theorem's words: each cause that an operation tells is one of these.
 use Rattle.std.proofs.Common.{◌≡◌, ◌≢◌, ◌⊎◌, ℕ, zero, suc, ◌+◌, ◌<◌, ◌≤◌, ◌&&◌, ◌||◌, ◌==◌, not, Bool, true, false, Option, Some, None, List, [], ◌∷◌, ◌++◌, length, slice_get, slice_index, refl, sym, ap, subst, arith, inl, inr, ◌∙◌, length-append}
 use Rattle.std.specs.Prelude.{nat_lt, nat_le, map, unwrap_or}
-use Rattle.std.proofs.lemmas.Bool.{and_parts, or_cases, or_parts, eqb-true, eq-eqb, ltb-true, leb-true, leb-false, cases_eq}
+use Rattle.std.proofs.lemmas.Bool.{true≢false, false≢true, and_parts, or_cases, or_parts, eqb-true, eq-eqb, ltb-true, leb-true, leb-false, cases_eq}
 use Rattle.index_model.specs.Calls.{Ask, AskInsert, AskScan, AskBulkDelete, AskCleanup}
 use Rattle.index_model.specs.Faults.{Circumstances, HasCause}
 use Rattle.index_model.specs.declared.entry.Entry.{Entry}
@@ -41,9 +41,6 @@ use Rattle.schedule.specs.TheoremKinds.{Steps}
 use Rattle.schedule.proofs.Lists.{get_within}
 use Rattle.schedule.specs.TheoremRefusals.{StandsInWay, IsHeldByAnother, HasNoBlock, HasFullCount, MoveFails}
 
-true_false : true ≡ false → ⊥
-true_false h = cc
-
 -- circumstances of which five may be so, as there are where no step is made
 abbrev pub few_circumstances : Bool → Bool → Bool → Bool → Bool → Circumstances
 few_circumstances d s v n b = record nothing_wrong { device_failed = d; is_stopped = s; vacuum_runs = v; no_such_session = n; session_has_a_call = b }
@@ -57,43 +54,43 @@ pub record FewReasons (d s v n b : Bool) (Fails : Fault → Type 0) : Type 0 whe
   pub busy : b ≡ true → Fails SessionBusy
 
 pub one_of_few : (d s v n b : Bool) (Fails : Fault → Type 0) → FewReasons d s v n b Fails → (fault : Fault) → HasCause (few_circumstances d s v n b) fault → Fails fault
-one_of_few d s v n b Fails r NoMemory h = absurd (true_false (sym h))
+one_of_few d s v n b Fails r NoMemory h = absurd (false≢true h)
 one_of_few d s v n b Fails r Io h = r.device h
 one_of_few d s v n b Fails r Stopped h = r.stopped h
-one_of_few d s v n b Fails r (Blocked k) h = absurd (true_false (sym h))
-one_of_few d s v n b Fails r Exists h = absurd (true_false (sym h))
+one_of_few d s v n b Fails r (Blocked k) h = absurd (false≢true h)
+one_of_few d s v n b Fails r Exists h = absurd (false≢true h)
 one_of_few d s v n b Fails r KeyTooLong h = absurd h
 one_of_few d s v n b Fails r BadRow h = absurd h
-one_of_few d s v n b Fails r IndexFull h = absurd (true_false (sym h))
-one_of_few d s v n b Fails r LogFull h = absurd (true_false (sym h))
-one_of_few d s v n b Fails r NoFrame h = absurd (true_false (sym h))
+one_of_few d s v n b Fails r IndexFull h = absurd (false≢true h)
+one_of_few d s v n b Fails r LogFull h = absurd (false≢true h)
+one_of_few d s v n b Fails r NoFrame h = absurd (false≢true h)
 one_of_few d s v n b Fails r VacuumRunning h = r.vacuum h
 one_of_few d s v n b Fails r NoSession h = r.session h
 one_of_few d s v n b Fails r SessionBusy h = r.busy h
 one_of_few d s v n b Fails r BadSuper h = absurd h
 one_of_few d s v n b Fails r BadVersion h = absurd h
 one_of_few d s v n b Fails r LogDamaged h = absurd h
-one_of_few d s v n b Fails r (PageDamaged k) h = absurd (true_false (sym h))
+one_of_few d s v n b Fails r (PageDamaged k) h = absurd (false≢true h)
 one_of_few d s v n b Fails r BadLimits h = absurd h
-one_of_few d s v n b Fails r TooTall h = absurd (true_false (sym h))
+one_of_few d s v n b Fails r TooTall h = absurd (false≢true h)
 one_of_few d s v n b Fails r DeviceTooSmall h = absurd h
 
 -- a latch that stands in the way is one of the block
 latch_in : (latches : List Latch) (block : ℕ) (asked : Mode) → latches_exclude latches block asked ≡ true → IsIn block (map (λ (latch : Latch). latch.block) latches)
-latch_in [] block asked h = absurd (true_false (sym h))
+latch_in [] block asked h = absurd (false≢true h)
 latch_in (held ∷ latches) block asked h = elim (or_cases ((held.block == block) && excludes held.mode asked) (latches_exclude latches block asked) h) [
   | inl here ↦ inl (sym (eqb-true held.block block (and_parts (held.block == block) (excludes held.mode asked) here).0))
   | inr later ↦ inr (latch_in latches block asked later)
 ]
 
 pin_in : (pins : List ℕ) (block : ℕ) → has_pin pins block ≡ true → IsIn block pins
-pin_in [] block h = absurd (true_false (sym h))
+pin_in [] block h = absurd (false≢true h)
 pin_in (pinned ∷ pins) block h = elim (or_cases (pinned == block) (has_pin pins block) h) [ inl here ↦ inl (sym (eqb-true pinned block here)) | inr later ↦ inr (pin_in pins block later) ]
 
 -- some other session's holding excludes the latch
 other_excludes : (from : ℕ) (table : Table) (session block : ℕ) (asked : Mode) → others_exclude from table session block asked ≡ true
     → (i : ℕ) × (holding : Holding) × (slice_get table i ≡ Some holding) × (from + i ≢ session) × (holding_excludes holding block asked ≡ true)
-other_excludes from [] session block asked h = absurd (true_false (sym h))
+other_excludes from [] session block asked h = absurd (false≢true h)
 other_excludes from (holding ∷ table) session block asked h =
     elim (or_cases (not (from == session) && holding_excludes holding block asked) (others_exclude (suc from) table session block asked) h) [
       | inl here ↦ (
@@ -105,8 +102,8 @@ other_excludes from (holding ∷ table) session block asked h =
     ]
   where
     not_same : (b : Bool) → not b ≡ true → b ≡ true → ⊥
-    not_same true h k = true_false (sym h)
-    not_same false h k = true_false (sym k)
+    not_same true h k = false≢true h
+    not_same false h k = false≢true k
 
 -- ... so it stands in the way of a call
 module _ (table : Table) (session block : ℕ) where
@@ -119,10 +116,10 @@ module _ (table : Table) (session block : ℕ) where
       record { other = found.0; apart = λ same. found.3 (let e : found.0 ≡ session = same in omega arith); holding = found.1; held = found.2; stands = stands found.1 found.4 }
 
   held_shared : (ask : Ask) → ((holding : Holding) → IsIn block (map (λ (latch : Latch). latch.block) holding.latches) → StandsInWay ask holding block) → is_held_by_another table session block Shared ≡ true → IsHeldByAnother table session ask block
-  held_shared ask stands h = held_by ask Shared (λ holding excludes. stands holding (no_pin holding Shared (λ pin. true_false (sym pin)) excludes)) h
+  held_shared ask stands h = held_by ask Shared (λ holding excludes. stands holding (no_pin holding Shared false≢true excludes)) h
 
   held_exclusive : (ask : Ask) → ((holding : Holding) → IsIn block (map (λ (latch : Latch). latch.block) holding.latches) → StandsInWay ask holding block) → is_held_by_another table session block Exclusive ≡ true → IsHeldByAnother table session ask block
-  held_exclusive ask stands h = held_by ask Exclusive (λ holding excludes. stands holding (no_pin holding Exclusive (λ pin. true_false (sym pin)) excludes)) h
+  held_exclusive ask stands h = held_by ask Exclusive (λ holding excludes. stands holding (no_pin holding Exclusive false≢true excludes)) h
 
   held_for_cleanup : (dead : _) → is_held_by_another table session block CleanupMode ≡ true → IsHeldByAnother table session (AskBulkDelete dead) block
   held_for_cleanup dead h = held_by (AskBulkDelete dead) CleanupMode
@@ -130,11 +127,11 @@ module _ (table : Table) (session block : ℕ) where
 
 -- a call that began before the page was deleted runs
 kept_by : (number from : ℕ) (running : List (Option ℕ)) → others_began_after number from None running ≡ false → (session start : ℕ) × (slice_get running session ≡ Some (Some start)) × (start < number)
-kept_by number from [] h = absurd (true_false h)
+kept_by number from [] h = absurd (true≢false h)
 kept_by number from (call ∷ running) h = by (began_after number call) refl (λ more. kept_by number (suc from) running more)
   where
     of : (c : Option ℕ) → began_after number c ≡ false → (session start : ℕ) × (slice_get (c ∷ running) session ≡ Some (Some start)) × (start < number)
-    of None e = absurd (true_false e)
+    of None e = absurd (true≢false e)
     of (Some begun) e = (zero, begun, refl, leb-false number begun e)
 
     by : (b : Bool) → began_after number call ≡ b
@@ -158,7 +155,7 @@ no_block st h =
     no_reuse k = of (any_is_reusable st (length st.pages)) k
       where
         of : (b : Bool) → not b ≡ true → b ≡ false
-        of true k = absurd (true_false (sym k))
+        of true k = absurd (false≢true k)
         of false k = refl
 
     none_below : (n : ℕ) → any_is_reusable st n ≡ false → (b : ℕ) → b < n → is_reusable st b ≡ false
@@ -275,9 +272,6 @@ module _ {S : Type 0} (g : Ghosts S) (old : Snapshot S) (new : S) where
   st : State
   st = g.state old.store
 
-  never : false ≡ true → ⊥
-  never h = cc
-
   failed : has_failed (g.backing old.store) (g.backing new) ≡ true → (g.backing old.store).failures < (g.backing new).failures
   failed h = ltb-true (g.backing old.store).failures (g.backing new).failures h
 
@@ -298,7 +292,7 @@ module _ {S : Type 0} (g : Ghosts S) (old : Snapshot S) (new : S) where
   pub step_fails : (sets : DeadSets) (op : Op) (fault : Fault) → HasCause (where_stepped op (g.state old.store) (g.backing old.store) (g.backing new)) fault
       → MoveFails g Steps (session_of op) (asked_of sets op) op old new fault
   step_fails sets (Insert op) fault h = fails_by (where_stepped (Insert op) (g.state old.store) (g.backing old.store) (g.backing new)) op.session (AskInsert op.entry) (Insert op) (record {
-    growth = never;
+    growth = false≢true;
     device = failed;
     stopped = λ k. elim (or_cases (g.backing old.store).stopped (is_at_end (g.state old.store).acts) k) [ inl a ↦ inl a | inr b ↦ inr (inl (at_end (g.state old.store).acts b)) ];
     held = λ b k. elim (or_cases (is_held_by_another (g.state old.store).table op.session b Shared) (is_held_by_another (g.state old.store).table op.session b Exclusive) k) [
@@ -309,29 +303,29 @@ module _ {S : Type 0} (g : Ghosts S) (old : Snapshot S) (new : S) where
     block = λ k. no_block (g.state old.store) (and_parts (takes_block_at (g.state old.store) op.at) (is_out_of_blocks (g.state old.store)) k).1;
     log = λ k. few_images (images_at (g.state old.store) op.at) (insert_images_few (g.state old.store) op.at) k;
     frames = λ k. few_frames (frames_at (g.state old.store) op.at) (insert_frames_few (g.state old.store) op.at) k;
-    vacuum = never;
-    session_is = never;
-    busy = never;
-    damaged = λ b. never;
+    vacuum = false≢true;
+    session_is = false≢true;
+    busy = false≢true;
+    damaged = λ b. false≢true;
     root = λ k. tall (g.state old.store).pages (leb-true 31 (root_level (g.state old.store).pages) (and_parts (splits_root_at op.at) (nat_le 31 (root_level (g.state old.store).pages)) k).1);
   }) fault h
   step_fails sets (Scan op) fault h = fails_by (where_stepped (Scan op) (g.state old.store) (g.backing old.store) (g.backing new)) op.session (AskScan op.range) (Scan op) (record {
-    growth = never;
+    growth = false≢true;
     device = failed;
     stopped = λ k. inl k;
     held = λ b k. held_shared (g.state old.store).table op.session b (AskScan op.range) (λ holding i. i) k;
-    entry = λ k. absurd (never k);
-    block = λ k. absurd (never k);
-    log = λ k. absurd (never k);
+    entry = λ k. absurd (false≢true k);
+    block = λ k. absurd (false≢true k);
+    log = λ k. absurd (false≢true k);
     frames = λ k. few_frames 1 (omega arith) k;
-    vacuum = never;
-    session_is = never;
-    busy = never;
-    damaged = λ b. never;
-    root = λ k. absurd (never k);
+    vacuum = false≢true;
+    session_is = false≢true;
+    busy = false≢true;
+    damaged = λ b. false≢true;
+    root = λ k. absurd (false≢true k);
   }) fault h
   step_fails sets (Bulk set op) fault h = fails_by (where_stepped (Bulk set op) (g.state old.store) (g.backing old.store) (g.backing new)) op.session (asked_of sets (Bulk set op)) (Bulk set op) (record {
-    growth = never;
+    growth = false≢true;
     device = failed;
     stopped = λ k. elim (or_cases (g.backing old.store).stopped (is_at_end (g.state old.store).acts || is_counted_out op) k) [
       | inl a ↦ inl a
@@ -341,18 +335,18 @@ module _ {S : Type 0} (g : Ghosts S) (old : Snapshot S) (new : S) where
       ]
     ];
     held = λ b k. held_for_cleanup (g.state old.store).table op.session b _ k;
-    entry = λ k. absurd (never k);
-    block = λ k. absurd (never k);
+    entry = λ k. absurd (false≢true k);
+    block = λ k. absurd (false≢true k);
     log = λ k. few_images 1 (omega arith) k;
     frames = λ k. few_frames 1 (omega arith) k;
-    vacuum = never;
-    session_is = never;
-    busy = never;
-    damaged = λ b. never;
-    root = λ k. absurd (never k);
+    vacuum = false≢true;
+    session_is = false≢true;
+    busy = false≢true;
+    damaged = λ b. false≢true;
+    root = λ k. absurd (false≢true k);
   }) fault h
   step_fails sets (Cleanup op) fault h = fails_by (where_stepped (Cleanup op) (g.state old.store) (g.backing old.store) (g.backing new)) op.session AskCleanup (Cleanup op) (record {
-    growth = never;
+    growth = false≢true;
     device = failed;
     stopped = λ k. elim (or_cases (g.backing old.store).stopped (is_at_end (g.state old.store).acts || is_cleanup_full op) k) [
       | inl a ↦ inl a
@@ -368,13 +362,13 @@ module _ {S : Type 0} (g : Ghosts S) (old : Snapshot S) (new : S) where
       | inl a ↦ held_shared (g.state old.store).table op.session b AskCleanup (λ holding i. i) a
       | inr e ↦ held_exclusive (g.state old.store).table op.session b AskCleanup (λ holding i. i) e
     ];
-    entry = λ k. absurd (never k);
-    block = λ k. absurd (never k);
+    entry = λ k. absurd (false≢true k);
+    block = λ k. absurd (false≢true k);
     log = λ k. few_images 3 (omega arith) k;
     frames = λ k. few_frames 3 (omega arith) k;
-    vacuum = never;
-    session_is = never;
-    busy = never;
-    damaged = λ b. never;
-    root = λ k. absurd (never k);
+    vacuum = false≢true;
+    session_is = false≢true;
+    busy = false≢true;
+    damaged = λ b. false≢true;
+    root = λ k. absurd (false≢true k);
   }) fault h

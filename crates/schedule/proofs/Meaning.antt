@@ -1,7 +1,7 @@
 -- What an event means follows from what its operation tells of it.
 use Rattle.std.proofs.Common.{◌≡◌, ◌≢◌, ◌⊎◌, ℕ, zero, suc, ◌+◌, ◌<◌, ◌≤◌, ◌&&◌, ◌||◌, ◌==◌, not, Bool, true, false, Option, Some, None, List, [], ◌∷◌, ◌++◌, length, slice_get, slice_set, refl, sym, ap, subst, arith, inl, inr, ◌∙◌, length-append}
 use Rattle.std.specs.Prelude.{if◌then◌else◌, nat_lt, unwrap_or}
-use Rattle.std.proofs.lemmas.Bool.{and_parts, or_cases, eqb-true, eq-eqb, ne_eqb, ltb-true, ltb-false}
+use Rattle.std.proofs.lemmas.Bool.{true≢false, false≢true, and_parts, or_cases, eqb-true, eq-eqb, ne_eqb, ltb-true, ltb-false}
 use Rattle.index_model.specs.Actions.{Effect, Add, Remove, Shape, Action}
 use Rattle.index_model.specs.Calls.{Ask, AskInsert, AskScan, AskBulkDelete, AskCleanup, Ending, Added as EndsAdded, Failed, Call}
 use Rattle.index_model.specs.Faults.{Circumstances, HasCause}
@@ -36,12 +36,6 @@ use Rattle.schedule.proofs.Causes.{one_of_few, step_fails}
 use Rattle.schedule.proofs.Fitting.{none_beyond, running_of}
 use Rattle.schedule.proofs.Lists.{same_some}
 use Rattle.schedule.proofs.Vacuums.{any_true}
-
-true_false : true ≡ false → ⊥
-true_false h = cc
-
-never : false ≡ true → ⊥
-never h = cc
 
 -- a call that differs in its Add alone from one that an answer makes
 with_added : (base after : Call) (added : Option ℕ) → after ≡ record base { added = added } → after ≡ record base { added = after.added }
@@ -138,11 +132,11 @@ finishes_one old new h = by h.raised h.higher h.moves
       was = h.was;
       is = moves h.cleared ∙ ap (λ (b : Bool). if b then false else is_flagged old h.cleared) cleared_true;
       raised = h.cleared;
-      higher = λ not_flagged flagged. absurd (true_false (sym h.was ∙ not_flagged));
+      higher = λ not_flagged flagged. absurd (true≢false (sym h.was ∙ not_flagged));
       others = λ block apart same. moves block ∙ ap (λ (b : Bool). if b then false else is_flagged old block) (ne_eqb block h.cleared apart);
     }
     by (Some raised) higher moves =
-        let differs : h.cleared ≢ raised = λ e. true_false (sym h.was ∙ (ap (is_flagged old) e ∙ higher.0)) in
+        let differs : h.cleared ≢ raised = λ e. true≢false (sym h.was ∙ (ap (is_flagged old) e ∙ higher.0)) in
         record {
           cleared = h.cleared;
           was = h.was;
@@ -177,12 +171,12 @@ shape_moves AskCleanup (Some Shape) old new h = deletes_one old new h
 
 -- nothing is wrong: no refusal has a cause
 no_cause : (fault : Fault) → HasCause nothing_wrong fault → ⊥
-no_cause fault h = one_of_few false false false false false (λ f. ⊥) (record { device = never; stopped = never; vacuum = never; session = never; busy = never }) fault h
+no_cause fault h = one_of_few false false false false false (λ f. ⊥) (record { device = false≢true; stopped = false≢true; vacuum = false≢true; session = false≢true; busy = false≢true }) fault h
 
 -- there is no such session, or no call in it, and the log may have failed
 no_session : (s : Bool) (Fails : Fault → Type 0) → (s ≡ true → Fails Stopped) → Fails NoSession → (fault : Fault) → HasCause (record nothing_wrong { is_stopped = s; no_such_session = true }) fault → Fails fault
 no_session s Fails stopped session fault h =
-    one_of_few false s false true false Fails (record { device = λ k. absurd (never k); stopped = stopped; vacuum = λ k. absurd (never k); session = λ k. session; busy = λ k. absurd (never k) }) fault h
+    one_of_few false s false true false Fails (record { device = λ k. absurd (false≢true k); stopped = stopped; vacuum = λ k. absurd (false≢true k); session = λ k. session; busy = λ k. absurd (false≢true k) }) fault h
 
 -- an insert whose entry is logged is never refused because it was there
 not_there : (at : Circumstances) (fault : Fault) → HasCause (once_added at) fault → HasCause at fault × (fault ≢ Exists)
@@ -190,7 +184,7 @@ not_there at NoMemory h = (h, λ e. cc)
 not_there at Io h = (h, λ e. cc)
 not_there at Stopped h = (h, λ e. cc)
 not_there at (Blocked b) h = (h, λ e. cc)
-not_there at Exists h = absurd (never h)
+not_there at Exists h = absurd (false≢true h)
 not_there at KeyTooLong h = absurd h
 not_there at BadRow h = absurd h
 not_there at IndexFull h = (h, λ e. cc)
@@ -226,9 +220,9 @@ module _ {S : Type 0} (g : Ghosts S) (start : Entry → Bool) (old : Snapshot S)
   -- asking for the next entry is refused where the call is no scan
   next_fails : (session : ℕ) (ask : Ask) (op : Op) (fault : Fault) → HasCause (where_asked_next ask) fault → MoveFails g Takes session ask op old new.store fault
   next_fails session (AskScan range) op fault h = absurd (no_cause fault h)
-  next_fails session (AskInsert e) op fault h = no_session false (MoveFails g Takes session (AskInsert e) op old new.store) (λ k. absurd (never k)) tt fault h
-  next_fails session (AskBulkDelete dead) op fault h = no_session false (MoveFails g Takes session (AskBulkDelete dead) op old new.store) (λ k. absurd (never k)) tt fault h
-  next_fails session AskCleanup op fault h = no_session false (MoveFails g Takes session AskCleanup op old new.store) (λ k. absurd (never k)) tt fault h
+  next_fails session (AskInsert e) op fault h = no_session false (MoveFails g Takes session (AskInsert e) op old new.store) (λ k. absurd (false≢true k)) tt fault h
+  next_fails session (AskBulkDelete dead) op fault h = no_session false (MoveFails g Takes session (AskBulkDelete dead) op old new.store) (λ k. absurd (false≢true k)) tt fault h
+  next_fails session AskCleanup op fault h = no_session false (MoveFails g Takes session AskCleanup op old new.store) (λ k. absurd (false≢true k)) tt fault h
 
   move_fails : (move : Move) (op : Op) (fault : Fault) → HasCause (where_moving g old.sets old.store new.store move (Some (Some op))) fault → MoveFails g move (session_of op) (asked_of old.sets op) op old new.store fault
   move_fails Steps op fault h = step_fails g old new.store old.sets op fault h
@@ -272,10 +266,10 @@ module _ {S : Type 0} (g : Ghosts S) (start : Entry → Bool) (old : Snapshot S)
   no_step session fault h = no_session (g.backing old.store).stopped (EventFails g (MovesCall session Steps) old new.store) (λ k. k) tt fault h
 
   not_asked : (session : ℕ) (move : Move) (fault : Fault) → HasCause (where_no_call false) fault → EventFails g (MovesCall session move) old new.store fault
-  not_asked session move fault h = no_session false (EventFails g (MovesCall session move) old new.store) (λ k. absurd (never k)) tt fault h
+  not_asked session move fault h = no_session false (EventFails g (MovesCall session move) old new.store) (λ k. absurd (false≢true k)) tt fault h
 
   idle_fails : (session : ℕ) (move : Move) (o : Option (Option Op)) → slot_has_call o ≡ false → (fault : Fault) → HasCause (where_moving g old.sets old.store new.store move o) fault → EventFails g (MovesCall session move) old new.store fault
-  idle_fails session move (Some (Some op)) idle fault h = absurd (true_false idle)
+  idle_fails session move (Some (Some op)) idle fault h = absurd (true≢false idle)
   idle_fails session Steps None idle fault h = no_step session fault h
   idle_fails session Steps (Some None) idle fault h = no_step session fault h
   idle_fails session Takes None idle fault h = not_asked session Takes fault h
@@ -316,14 +310,14 @@ module _ {S : Type 0} (g : Ghosts S) (start : Entry → Bool) (old : Snapshot S)
 
   -- a request of a bulk delete or a cleanup, and a session that runs one
   vacuums_asked : (request : Request) → asks_vacuum request ≡ true → Vacuums (asked_by old.sets request)
-  vacuums_asked (ToInsert e) h = never h
-  vacuums_asked (ToScan range) h = never h
+  vacuums_asked (ToInsert e) h = false≢true h
+  vacuums_asked (ToScan range) h = false≢true h
   vacuums_asked (ToBulk set) h = tt
   vacuums_asked ToCleanup h = tt
 
   vacuums_op : (op : Op) → is_vacuum op ≡ true → Vacuums (asked_of old.sets op)
-  vacuums_op (Insert op) h = never h
-  vacuums_op (Scan op) h = never h
+  vacuums_op (Insert op) h = false≢true h
+  vacuums_op (Scan op) h = false≢true h
   vacuums_op (Bulk set op) h = tt
   vacuums_op (Cleanup op) h = tt
 
@@ -334,26 +328,26 @@ module _ {S : Type 0} (g : Ghosts S) (start : Entry → Bool) (old : Snapshot S)
     where
       of : (session : ℕ) (o : Option (Option Op)) → slice_get old.slots session ≡ o → slot_vacuums (slot_of old.slots session) ≡ true
           → (other number : ℕ) × (call : Call) × IsRunningCall old.calls other number call × Vacuums call.ask
-      of session None at is = absurd (never (sym (ap (λ (x : Option (Option Op)). slot_vacuums (unwrap_or x None)) at) ∙ is))
-      of session (Some None) at is = absurd (never (sym (ap (λ (x : Option (Option Op)). slot_vacuums (unwrap_or x None)) at) ∙ is))
+      of session None at is = absurd (false≢true (sym (ap (λ (x : Option (Option Op)). slot_vacuums (unwrap_or x None)) at) ∙ is))
+      of session (Some None) at is = absurd (false≢true (sym (ap (λ (x : Option (Option Op)). slot_vacuums (unwrap_or x None)) at) ∙ is))
       of session (Some (Some op)) at is =
           let runs : SlotRuns g start old session op = running_of fits session (Some op) at in
           let vacuum : is_vacuum op ≡ true = sym (ap (λ (x : Option (Option Op)). slot_vacuums (unwrap_or x None)) at) ∙ is in
           (session, runs.number, runs.call, runs.is, subst Vacuums (sym runs.runs.ask) (vacuums_op op vacuum))
 
   no_set : (request : Request) → not (is_of_sets old.sets request) ≡ true → (set : ℕ) × (request ≡ ToBulk set) × (length old.sets ≤ set)
-  no_set (ToInsert e) h = absurd (never h)
-  no_set (ToScan range) h = absurd (never h)
+  no_set (ToInsert e) h = absurd (false≢true h)
+  no_set (ToScan range) h = absurd (false≢true h)
   no_set (ToBulk set) h = (set, refl, ltb-false set (length old.sets) (not_so (nat_lt set (length old.sets)) h))
     where
       not_so : (b : Bool) → not b ≡ true → b ≡ false
-      not_so true k = absurd (never k)
+      not_so true k = absurd (false≢true k)
       not_so false k = refl
-  no_set ToCleanup h = absurd (never h)
+  no_set ToCleanup h = absurd (false≢true h)
 
   -- a beginning that is refused
   busy_runs : (session : ℕ) (slot : Option Op) → slice_get old.slots session ≡ Some slot → is_busy slot ≡ true → RunsOne old.slots session
-  busy_runs session None at h = absurd (never h)
+  busy_runs session None at h = absurd (false≢true h)
   busy_runs session (Some op) at h = (op, at)
 
   begin_fails : (session : ℕ) (request : Request) (o : Option (Option Op)) → slice_get old.slots session ≡ o → (fault : Fault)
@@ -363,7 +357,7 @@ module _ {S : Type 0} (g : Ghosts S) (start : Entry → Bool) (old : Snapshot S)
   begin_fails session request (Some slot) at fault h =
       one_of_few false ((g.backing old.store).stopped || is_at_end (g.state old.store).begun) (asks_vacuum request && one_vacuums old.slots) (not (is_of_sets old.sets request)) (is_busy slot)
       (EventFails g (BeginsCall session request) old new.store) (record {
-        device = λ k. absurd (never k);
+        device = λ k. absurd (false≢true k);
         stopped = λ k. elim (or_cases (g.backing old.store).stopped (is_at_end (g.state old.store).begun) k) [ inl a ↦ inl a | inr b ↦ inr (eqb-true (g.state old.store).begun 18446744073709551615 b) ];
         vacuum = λ k. let both = and_parts (asks_vacuum request) (one_vacuums old.slots) k in (vacuums_asked request both.0, one_runs both.1);
         session = λ k. inr (no_set request k);
@@ -395,9 +389,9 @@ module _ {S : Type 0} (g : Ghosts S) (start : Entry → Bool) (old : Snapshot S)
       one_of_few (has_failed (g.backing old.store) (g.backing new.store)) (g.backing old.store).stopped false false false (EventFails g (KeepsStore upkeep) old new.store) (record {
         device = λ k. ltb-true (g.backing old.store).failures (g.backing new.store).failures k;
         stopped = λ k. k;
-        vacuum = λ k. absurd (never k);
-        session = λ k. absurd (never k);
-        busy = λ k. absurd (never k);
+        vacuum = λ k. absurd (false≢true k);
+        session = λ k. absurd (false≢true k);
+        busy = λ k. absurd (false≢true k);
       }) fault h
 
   durable_mean : (count : ℕ) (u : Upkeep) (answer : Answer) (is : Answer) → IsStill g old new → IsToldDurable g u answer old new → kept_answer u (length old.history) ≡ Some is
