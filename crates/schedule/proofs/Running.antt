@@ -5,12 +5,12 @@ use Rattle.index_model.specs.declared.entry.Entry.{Entry}
 use Rattle.page_action.specs.declared.page_store.PageStore.{Ghosts}
 use Rattle.session_calls.specs.declared.answer.Answer.{Answer}
 use Rattle.session_calls.specs.declared.answer.Answer.TheVariants.{Begun, Going, Added, Ready, Done, Finished, Gave, Ended, Forced, Flushed, Checkpointed, Refused}
-use Rattle.schedule.specs.TheoremMoments.{Snapshot}
-use Rattle.schedule.specs.Making.{EventDoes}
+use Rattle.schedule.specs.TheoremMoments.{StoreAndSlots, Snapshot, snapshot_of}
+use Rattle.schedule.specs.Making.{EventDoes, Makes}
 use Rattle.schedule.specs.TheoremRuns.{Fits}
 use Rattle.schedule.specs.TheoremKinds.{kind_of}
 use Rattle.schedule.specs.TheoremEvents.{IsDurable}
-use Rattle.schedule.specs.TheoremRuns.{AreDurable, EventGoes, IsRun, Ran}
+use Rattle.schedule.specs.TheoremRuns.{AreDurable, EventGoes, IsRun, Ran, Carries, Runs}
 use Rattle.schedule.specs.declared.event.Event.{Event}
 use Rattle.schedule.proofs.Keeping.{Laws, safe, keeps_on}
 use Rattle.schedule.proofs.Fitting.{fits_behind, goes_does, matches_of}
@@ -69,6 +69,19 @@ one_ran g start event answer old new goes = record {
   follows = goes.also.follows;
   crash = goes.crash;
 }
+
+-- what an event of a kind makes is a run of it
+pub makes_runs : {S : Type 0} (g : Ghosts S) (laws : Laws g) (event : Event) (answer : Answer) (old new : StoreAndSlots S) → Makes g (kind_of event) answer old new
+    → Carries g old new (Runs g old new (event ∷ []) (answer ∷ []))
+makes_runs g laws event answer old new makes honest start history calls fits =
+    let d = makes.does honest start history calls fits in
+    let first = snapshot_of old history calls in
+    let last = snapshot_of new d.then_history d.then_calls in
+    record {
+      then_history = d.then_history;
+      then_calls = d.then_calls;
+      ran = one_ran g start event answer first last (event_goes g laws start event answer first last fits d.does);
+    }
 
 -- a run goes on by one event
 pub ran_more : {S : Type 0} (g : Ghosts S) (laws : Laws g) (start : Entry → Bool) (events : List Event) (answers : List Answer) (event : Event) (answer : Answer) (first mid last : Snapshot S)

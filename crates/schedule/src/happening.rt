@@ -1,6 +1,6 @@
 //! One event of a store with its sessions.
 
-ghost use Rattle.std.specs.Prelude.{◌≡◌, ◌<◌, ◌≤◌, ◌+◌, ◌∷◌, ◌&&◌, [], true, List, Option, ℕ, IfErr, IsOk, OnOk, OnErr, length, map, slice_get, take, vec_len, vec_capacity};
+ghost use Rattle.std.specs.Prelude.{◌≡◌, ◌<◌, ◌≤◌, ◌+◌, ◌&&◌, true, List, Option, ℕ, IfErr, IsOk, OnOk, OnErr, length, map, slice_get, take, vec_len, vec_capacity};
 ghost use Rattle.page_action.specs.Room.{HasWholeRoom};
 ghost use Rattle.page_action.specs.States.{Continues};
 ghost use Rattle.session_calls.specs.TheoremCalls.{DeadSets};
@@ -9,7 +9,7 @@ ghost use Rattle.session_calls.specs.Sessions.{no_call};
 ghost use Rattle.session_calls.specs.declared.op.Op.{Op};
 ghost use Rattle.schedule.specs.Snapshots.{here_with, has_call, slot_vacuums, one_vacuums};
 ghost use Rattle.schedule.specs.TheoremKinds.{BeginsCall, MovesCall, Steps, Takes, GivesUp, KeepsStore, Forces, Flushes, Checkpoints, kind_of};
-ghost use Rattle.schedule.specs.Events.{is_of_sets, session_to_begin, AnswersUpkeep, StoreIsKept, EventAlways};
+ghost use Rattle.schedule.specs.Events.{is_of_sets, session_to_begin, AnswersUpkeep, StoreIsKept};
 ghost use Rattle.schedule.specs.Making.{Makes, answers_behind};
 ghost use Rattle.schedule.specs.TheoremRuns.{Carries, Runs};
 
@@ -32,15 +32,22 @@ pub fn one<S: PageStore, T: DeadRows>(
 ) -> Answer
     requires few { length slots.old ≤ 64 }
     ensures steps { Continues S.follows store.old store.new }
-    ensures sessions { length slots.new ≡ length slots.old }
-    ensures always { EventAlways S.PageStore (kind_of event) result
+    ensures makes { Makes S.PageStore (kind_of event) result
         (here_with store.old slots.old (map T.is_in sets.now))
         (here_with store.new slots.new (map T.is_in sets.now)) }
-    ensures runs { let old = here_with store.old slots.old (map T.is_in sets.now) in
-        let new = here_with store.new slots.new (map T.is_in sets.now) in
-        Carries S.PageStore old new (Runs S.PageStore old new (event ∷ []) (result ∷ [])) }
 {
-    pick(store, slots, sets, event)
+    match event {
+        Event::Insert(session, entry) => begin(store, slots, sets, session, Request::Insert(entry)),
+        Event::Scan(session, range) => begin(store, slots, sets, session, Request::Scan(range)),
+        Event::Bulk(session, set) => begin(store, slots, sets, session, Request::Bulk(set)),
+        Event::Cleanup(session) => begin(store, slots, sets, session, Request::Cleanup),
+        Event::Step(session) => step(store, slots, sets, session),
+        Event::Next(session) => next(store, slots, session),
+        Event::End(session) => end(store, slots, session),
+        Event::Force => force(store, slots),
+        Event::Flush => flush(store, slots),
+        Event::Checkpoint => checkpoint(store, slots),
+    }
 }
 
 /// Does these events one after the other, each as `one` does, and puts an answer for each behind the answers that are
@@ -78,33 +85,6 @@ pub fn run<S: PageStore, T: DeadRows>(
         answers.push_reserved(answer);
     }
     Ok(())
-}
-
-// The call of each event.
-fn pick<S: PageStore, T: DeadRows>(
-    store: &mut S,
-    slots: &mut [Option<Op>],
-    sets: &[T],
-    event: Event,
-) -> Answer
-    requires few { length slots.old ≤ 64 }
-    ensures steps { Continues S.follows store.old store.new }
-    ensures makes { Makes S.PageStore (kind_of event) result
-        (here_with store.old slots.old (map T.is_in sets.now))
-        (here_with store.new slots.new (map T.is_in sets.now)) }
-{
-    match event {
-        Event::Insert(session, entry) => begin(store, slots, sets, session, Request::Insert(entry)),
-        Event::Scan(session, range) => begin(store, slots, sets, session, Request::Scan(range)),
-        Event::Bulk(session, set) => begin(store, slots, sets, session, Request::Bulk(set)),
-        Event::Cleanup(session) => begin(store, slots, sets, session, Request::Cleanup),
-        Event::Step(session) => step(store, slots, sets, session),
-        Event::Next(session) => next(store, slots, session),
-        Event::End(session) => end(store, slots, session),
-        Event::Force => make_force(store, slots),
-        Event::Flush => make_flush(store, slots),
-        Event::Checkpoint => make_checkpoint(store, slots),
-    }
 }
 
 fn begin<S: PageStore, T: DeadRows>(
@@ -182,39 +162,10 @@ fn end<S: PageStore>(store: &mut S, slots: &mut [Option<Op>], session: u32) -> A
 /// and `Io` (2). The slots are those of the store's sessions.
 pub fn force<S: PageStore>(store: &mut S, slots: &[Option<Op>]) -> Answer
     ensures steps { Continues S.follows store.old store.new }
-    ensures answers { AnswersUpkeep Forces result }
-    ensures kept { StoreIsKept S.PageStore Forces result store.old store.new }
-    ensures runs { (sets : DeadSets) → let old = here_with store.old slots.now sets in
-        let new = here_with store.new slots.now sets in
-        Carries S.PageStore old new
-        (Runs S.PageStore old new (Event.Force ∷ []) (result ∷ [])) }
-{
-    make_force(store, slots)
-}
-
-/// Makes all actions durable, writes each changed page to its place and closes the log, as the event `Checkpoint` does, and
-/// answers `Checkpointed` with the number of actions. Refused with `Stopped` (3) and `Io` (2). The slots are those of the
-/// store's sessions.
-pub fn checkpoint<S: PageStore>(store: &mut S, slots: &[Option<Op>]) -> Answer
-    ensures steps { Continues S.follows store.old store.new }
-    ensures answers { AnswersUpkeep Checkpoints result }
-    ensures kept { StoreIsKept S.PageStore Checkpoints result store.old store.new }
-    ensures room { (count : ℕ) → result ≡ Answer.Checkpointed count
-        → HasWholeRoom (S.state store.old).limits (S.backing store.new) }
-    ensures runs { (sets : DeadSets) → let old = here_with store.old slots.now sets in
-        let new = here_with store.new slots.now sets in
-        Carries S.PageStore old new
-        (Runs S.PageStore old new (Event.Checkpoint ∷ []) (result ∷ [])) }
-{
-    make_checkpoint(store, slots)
-}
-
-fn make_force<S: PageStore>(store: &mut S, slots: &[Option<Op>]) -> Answer
-    ensures steps { Continues S.follows store.old store.new }
     ensures makes { (sets : DeadSets) → Makes S.PageStore (KeepsStore Forces) result
         (here_with store.old slots.now sets) (here_with store.new slots.now sets) }
-    ensures kept { StoreIsKept S.PageStore Forces result store.old store.new }
     ensures answers { AnswersUpkeep Forces result }
+    ensures kept { StoreIsKept S.PageStore Forces result store.old store.new }
 {
     match store.force() {
         Ok(count) => Answer::Forced(count),
@@ -222,28 +173,31 @@ fn make_force<S: PageStore>(store: &mut S, slots: &[Option<Op>]) -> Answer
     }
 }
 
-fn make_flush<S: PageStore>(store: &mut S, slots: &[Option<Op>]) -> Answer
+/// Makes all actions durable, writes each changed page to its place and closes the log, as the event `Checkpoint` does, and
+/// answers `Checkpointed` with the number of actions. Refused with `Stopped` (3) and `Io` (2). The slots are those of the
+/// store's sessions.
+pub fn checkpoint<S: PageStore>(store: &mut S, slots: &[Option<Op>]) -> Answer
+    ensures steps { Continues S.follows store.old store.new }
+    ensures makes { (sets : DeadSets) → Makes S.PageStore (KeepsStore Checkpoints) result
+        (here_with store.old slots.now sets) (here_with store.new slots.now sets) }
+    ensures answers { AnswersUpkeep Checkpoints result }
+    ensures kept { StoreIsKept S.PageStore Checkpoints result store.old store.new }
+    ensures room { (count : ℕ) → result ≡ Answer.Checkpointed count
+        → HasWholeRoom (S.state store.old).limits (S.backing store.new) }
+{
+    match store.checkpoint() {
+        Ok(count) => Answer::Checkpointed(count),
+        Err(fault) => Answer::Refused(fault),
+    }
+}
+
+fn flush<S: PageStore>(store: &mut S, slots: &[Option<Op>]) -> Answer
     ensures steps { Continues S.follows store.old store.new }
     ensures makes { (sets : DeadSets) → Makes S.PageStore (KeepsStore Flushes) result
         (here_with store.old slots.now sets) (here_with store.new slots.now sets) }
 {
     match store.flush() {
         Ok(block) => Answer::Flushed(block),
-        Err(fault) => Answer::Refused(fault),
-    }
-}
-
-fn make_checkpoint<S: PageStore>(store: &mut S, slots: &[Option<Op>]) -> Answer
-    ensures steps { Continues S.follows store.old store.new }
-    ensures makes { (sets : DeadSets) → Makes S.PageStore (KeepsStore Checkpoints) result
-        (here_with store.old slots.now sets) (here_with store.new slots.now sets) }
-    ensures kept { StoreIsKept S.PageStore Checkpoints result store.old store.new }
-    ensures answers { AnswersUpkeep Checkpoints result }
-    ensures room { (count : ℕ) → result ≡ Answer.Checkpointed count
-        → HasWholeRoom (S.state store.old).limits (S.backing store.new) }
-{
-    match store.checkpoint() {
-        Ok(count) => Answer::Checkpointed(count),
         Err(fault) => Answer::Refused(fault),
     }
 }

@@ -1,16 +1,17 @@
-use Rattle.schedule.specs.TheoremMoments.{snapshot_of}
-use Rattle.schedule.specs.Snapshots.{here_with}
-use Rattle.schedule.specs.declared.event.Event.TheVariants.{Force}
-use Rattle.schedule.proofs.Running.{event_goes, one_ran}
+use Rattle.std.proofs.Common.{refl, sym, ◌∙◌}
+use Rattle.session_calls.specs.declared.answer.Answer.TheVariants.{Forced}
+use Rattle.schedule.specs.TheoremKinds.{Forces}
+use Rattle.schedule.proofs.Making.{kept_makes, not_kept_makes}
 use Rattle.schedule.proofs.happening.force.Goals as goal
 
-pub returns-clause-runs : goal.returns-clause-runs
-returns-clause-runs g c sets honest start history calls fits =
-    let d = (c.make_force.ensures.makes sets).does honest start history calls fits in
-    let old = snapshot_of (here_with c.args.store.now c.args.slots.now sets) history calls in
-    let new = snapshot_of (here_with c.make_force.new.store c.args.slots.now sets) d.then_history d.then_calls in
-    record {
-      then_history = d.then_history;
-      then_calls = d.then_calls;
-      ran = one_ran g.S.PageStore start Force c.make_force.result old new (event_goes g.S.PageStore g.met.S.PageStore.laws start Force c.make_force.result old new fits d.does);
-    }
+pub returns-in-Ok-clause-makes : goal.returns-in-Ok-clause-makes
+returns-in-Ok-clause-makes g c sets =
+    let laws = g.met.S.PageStore.laws in
+    kept_makes g.S.PageStore laws c.args.store.now c.force.new.self (c.force.ensures.steps _ (laws.follows_same _)) c.args.slots.now sets Forces c.force.ensures.state c.in-Ok.count (Forced c.in-Ok.count) refl c.in-Ok.ensures.number c.in-Ok.ensures.durable
+    (λ stopped. (let e = sym c.in-Ok.is ∙ c.force.ensures.stopped stopped in cc))
+
+pub returns-in-Err-clause-makes : goal.returns-in-Err-clause-makes
+returns-in-Err-clause-makes g c sets =
+    let laws = g.met.S.PageStore.laws in
+    not_kept_makes g.S.PageStore laws c.args.store.now c.force.new.self (c.force.ensures.steps _ (laws.follows_same _)) c.args.slots.now sets Forces c.force.ensures.state c.in-Err.fault
+    (λ stopped. (let e = sym c.in-Err.is ∙ c.force.ensures.stopped stopped in cc)) c.in-Err.ensures.cause

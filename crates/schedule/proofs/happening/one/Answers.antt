@@ -1,17 +1,29 @@
 use Rattle.std.specs.Prelude.{map}
-use Rattle.schedule.specs.TheoremMoments.{snapshot_of}
-use Rattle.schedule.specs.Snapshots.{here_with}
-use Rattle.schedule.proofs.Running.{event_goes, one_ran}
 use Rattle.schedule.proofs.happening.one.Goals as goal
 
-pub returns-clause-runs : goal.returns-clause-runs
-returns-clause-runs g c honest start history calls fits =
-    let sets = map g.T.DeadRows.is_in c.args.sets.now in
-    let d = c.pick.ensures.makes.does honest start history calls fits in
-    let old = snapshot_of (here_with c.args.store.now c.args.slots.now sets) history calls in
-    let new = snapshot_of (here_with c.pick.new.store c.pick.new.slots sets) d.then_history d.then_calls in
-    record {
-      then_history = d.then_history;
-      then_calls = d.then_calls;
-      ran = one_ran g.S.PageStore start c.args.event c.pick.result old new (event_goes g.S.PageStore g.met.S.PageStore.laws start c.args.event c.pick.result old new fits d.does);
-    }
+pub returns-in-Insert-clause-makes : goal.returns-in-Insert-clause-makes
+returns-in-Insert-clause-makes g c = rw c.in-Insert.is c.begin.ensures.makes
+
+pub returns-in-Scan-clause-makes : goal.returns-in-Scan-clause-makes
+returns-in-Scan-clause-makes g c = rw c.in-Scan.is c.begin-in-Scan.ensures.makes
+
+pub returns-in-Bulk-clause-makes : goal.returns-in-Bulk-clause-makes
+returns-in-Bulk-clause-makes g c = rw c.in-Bulk.is c.begin-in-Bulk.ensures.makes
+
+pub returns-in-Cleanup-clause-makes : goal.returns-in-Cleanup-clause-makes
+returns-in-Cleanup-clause-makes g c = rw c.in-Cleanup.is c.begin-in-Cleanup.ensures.makes
+
+pub returns-in-Next-clause-makes : goal.returns-in-Next-clause-makes
+returns-in-Next-clause-makes g c = rw c.in-Next.is (c.next.ensures.makes (map g.T.DeadRows.is_in c.args.sets.now))
+
+pub returns-in-End-clause-makes : goal.returns-in-End-clause-makes
+returns-in-End-clause-makes g c = rw c.in-End.is (c.end.ensures.makes (map g.T.DeadRows.is_in c.args.sets.now))
+
+pub returns-in-Force-clause-makes : goal.returns-in-Force-clause-makes
+returns-in-Force-clause-makes g c = rw c.in-Force.is (c.force.ensures.makes (map g.T.DeadRows.is_in c.args.sets.now))
+
+pub returns-in-Flush-clause-makes : goal.returns-in-Flush-clause-makes
+returns-in-Flush-clause-makes g c = rw c.in-Flush.is (c.flush.ensures.makes (map g.T.DeadRows.is_in c.args.sets.now))
+
+pub returns-in-Checkpoint-clause-makes : goal.returns-in-Checkpoint-clause-makes
+returns-in-Checkpoint-clause-makes g c = rw c.in-Checkpoint.is (c.checkpoint.ensures.makes (map g.T.DeadRows.is_in c.args.sets.now))

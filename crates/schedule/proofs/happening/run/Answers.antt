@@ -8,7 +8,7 @@ use Rattle.schedule.specs.TheoremMoments.{Snapshot, snapshot_of}
 use Rattle.schedule.specs.Snapshots.{here_with}
 use Rattle.schedule.specs.Making.{answers_behind}
 use Rattle.schedule.specs.TheoremRuns.{Ran}
-use Rattle.schedule.proofs.Running.{none_ran, ran_more}
+use Rattle.schedule.proofs.Running.{none_ran, makes_runs, ran_more}
 use Rattle.schedule.proofs.happening.run.Goals as goal
 
 -- what was answered behind some answers, with one answer more
@@ -51,14 +51,14 @@ loop-event-preserved g c =
       each = ap (λ (xs : List Answer). length xs) pushed ∙ (let n : length (answers ++ answer ∷ []) ≡ length answers + 1 = length-append answers (answer ∷ []) in omega arith);
       kept = ap (λ (xs : List Answer). take (length before) xs) pushed ∙ take-append-le (length before) answers (answer ∷ []) le ∙ c.loop-event.invariant.kept;
       steps = λ first h. c.one-answer.ensures.steps first (c.loop-event.invariant.steps first h);
-      sessions = c.one-answer.ensures.sessions ∙ c.loop-event.invariant.sessions;
+      sessions = c.one-answer.ensures.makes.sessions ∙ c.loop-event.invariant.sessions;
       runs = λ honest start history calls fits.
           let mid = here_with c.loop-event.store c.loop-event.slots (map g.T.DeadRows.is_in c.args.sets.now) in
           let new = here_with c.one-answer.new.store c.one-answer.new.slots (map g.T.DeadRows.is_in c.args.sets.now) in
           let later = g.met.S.PageStore.laws.follows_later mid.store new.store (c.one-answer.ensures.steps mid.store (g.met.S.PageStore.laws.follows_same mid.store)) in
           let follows = c.one-answer.ensures.steps c.args.store.now (c.loop-event.invariant.steps c.args.store.now (g.met.S.PageStore.laws.follows_same c.args.store.now)) in
           let ran = c.loop-event.invariant.runs (later.honest honest) start history calls fits in
-          let one = c.one-answer.ensures.runs honest start ran.then_history ran.then_calls ran.ran.fits in
+          let one = makes_runs g.S.PageStore laws event answer mid new c.one-answer.ensures.makes honest start ran.then_history ran.then_calls ran.ran.fits in
           let first : Snapshot g.row.S.Denot = snapshot_of (here_with c.args.store.now c.args.slots.now (map g.T.DeadRows.is_in c.args.sets.now)) history calls in
           let between : Snapshot g.row.S.Denot = snapshot_of mid ran.then_history ran.then_calls in
           let last : Snapshot g.row.S.Denot = snapshot_of new one.then_history one.then_calls in

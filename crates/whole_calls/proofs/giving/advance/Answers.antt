@@ -11,6 +11,7 @@ use Rattle.schedule.specs.TheoremKinds.{Takes}
 use Rattle.schedule.specs.TheoremMoments.{snapshot_of, IsRunningCall}
 use Rattle.schedule.specs.Snapshots.{here_with, slot_of}
 use Rattle.schedule.specs.declared.event.Event.TheVariants.{Next}
+use Rattle.schedule.proofs.Running.{makes_runs}
 use Rattle.whole_calls.specs.Telling.{TellsStep, step_came}
 use Rattle.whole_calls.specs.Giving.{GoesDownBy, TellsScan}
 use Rattle.whole_calls.proofs.Composing.{goes_then, goes_by, goes_told}
@@ -27,14 +28,14 @@ returns-in_default-clause-goes g c =
     let answer = c.one-answer.result in
     let here = here_with c.args.store.now c.args.slots.now (map g.T.DeadRows.is_in c.args.sets.now) in
     let there = here_with c.one-answer.new.store c.one-answer.new.slots (map g.T.DeadRows.is_in c.args.sets.now) in
-    goes_by g.S.PageStore g.met.S.PageStore.laws session (TellsScan session (Ok answer)) (Next session) answer here there refl c.one-answer.ensures.runs
+    goes_by g.S.PageStore g.met.S.PageStore.laws session (TellsScan session (Ok answer)) (Next session) answer here there refl (makes_runs g.S.PageStore g.met.S.PageStore.laws _ _ _ _ c.one-answer.ensures.makes)
     (λ start x y from to fits does. scan_told session (Ok answer) x y (moves_tells g.S.PageStore start x y session Takes answer tt fits does))
 
 pub returns-in_default-clause-less : goal.returns-in_default-clause-less
-returns-in_default-clause-less g c honest = next_down (g.S.PageStore.state c.args.store.now) (g.S.PageStore.state c.one-answer.new.store) _ _ c.one-answer.result c.one-answer.ensures.always.answers c.one-answer.ensures.always.less c.one-answer.ensures.always.left
+returns-in_default-clause-less g c honest = next_down (g.S.PageStore.state c.args.store.now) (g.S.PageStore.state c.one-answer.new.store) _ _ c.one-answer.result c.one-answer.ensures.makes.always.answers c.one-answer.ensures.makes.always.less c.one-answer.ensures.makes.always.left
 
 pub returns-in_default-clause-kind : goal.returns-in_default-clause-kind
-returns-in_default-clause-kind g c = next_kind _ c.one-answer.result c.one-answer.ensures.always.answers (search rules)
+returns-in_default-clause-kind g c = next_kind _ c.one-answer.result c.one-answer.ensures.makes.always.answers (search rules)
 
 pub returns-clause-goes : goal.returns-clause-goes
 returns-clause-goes g c =
@@ -46,7 +47,7 @@ returns-clause-goes g c =
     let there = here_with c.step.new.store c.step.new.slots (map g.T.DeadRows.is_in c.args.sets.now) in
     let whole : c.one-answer.result ≡ Gave None = search rules in
     goes_then g.S.PageStore g.met.S.PageStore.laws session (TellsScan session (Ok answer)) (TellsScan session result) (TellsScan session result) (Some answer) (step_came result) start here there c.one-answer.ensures.steps c.step.ensures.steps
-    (goes_by g.S.PageStore g.met.S.PageStore.laws session (TellsScan session (Ok answer)) (Next session) answer start here refl c.one-answer.ensures.runs
+    (goes_by g.S.PageStore g.met.S.PageStore.laws session (TellsScan session (Ok answer)) (Next session) answer start here refl (makes_runs g.S.PageStore g.met.S.PageStore.laws _ _ _ _ c.one-answer.ensures.makes)
     (λ s x y from to fits does. scan_told session (Ok answer) x y (moves_tells g.S.PageStore s x y session Takes answer tt fits does)))
     (goes_told g.S.PageStore session (TellsStep session result) (TellsScan session result) (step_came result) (step_came result) here there (λ s answers x y at fits came told. (came, scan_told session result x y told)) c.step.ensures.goes)
     (λ s x y z at then_at fx fy fz one two. scan_then session result x y z (none_stays session x y (subst (λ (a : Answer). TellsScan session (Ok a) x y) whole one)) two)
@@ -55,18 +56,18 @@ pub returns-clause-less : goal.returns-clause-less
 returns-clause-less g c honest =
     let session = c.args.session in
     let whole : c.one-answer.result ≡ Gave None = search rules in
-    let gives = subst (λ (a : Answer). GivesLess (slot_of c.args.slots.now session) (slot_of c.one-answer.new.slots session) a) whole c.one-answer.ensures.always.less in
-    let gave = subst (λ (a : Answer). AnswersNext (slot_of c.args.slots.now session) a) whole c.one-answer.ensures.always.answers in
+    let gives = subst (λ (a : Answer). GivesLess (slot_of c.args.slots.now session) (slot_of c.one-answer.new.slots session) a) whole c.one-answer.ensures.makes.always.less in
+    let gave = subst (λ (a : Answer). AnswersNext (slot_of c.args.slots.now session) a) whole c.one-answer.ensures.makes.always.answers in
     let calm = calm_scan (g.S.PageStore.state c.one-answer.new.store) (g.S.PageStore.state c.step.new.store) (slot_of c.args.slots.now session) (slot_of c.one-answer.new.slots session) gave gives.0 c.step.ensures.calm in
-    subst (λ (st : State). GoesDownBy st (g.S.PageStore.state c.step.new.store) (slot_of c.args.slots.now session) (slot_of c.step.new.slots session) c.step.result) c.one-answer.ensures.always.left
+    subst (λ (st : State). GoesDownBy st (g.S.PageStore.state c.step.new.store) (slot_of c.args.slots.now session) (slot_of c.step.new.slots session) c.step.result) c.one-answer.ensures.makes.always.left
     (step_down (g.S.PageStore.state c.one-answer.new.store) (g.S.PageStore.state c.step.new.store) (slot_of c.args.slots.now session) (slot_of c.one-answer.new.slots session) (slot_of c.step.new.slots session) c.step.result gives calm (c.step.ensures.less honest) c.step.ensures.kind)
 
 pub returns-clause-kind : goal.returns-clause-kind
 returns-clause-kind g c =
     let session = c.args.session in
     let whole : c.one-answer.result ≡ Gave None = search rules in
-    let gives = subst (λ (a : Answer). GivesLess (slot_of c.args.slots.now session) (slot_of c.one-answer.new.slots session) a) whole c.one-answer.ensures.always.less in
-    let gave = subst (λ (a : Answer). AnswersNext (slot_of c.args.slots.now session) a) whole c.one-answer.ensures.always.answers in
+    let gives = subst (λ (a : Answer). GivesLess (slot_of c.args.slots.now session) (slot_of c.one-answer.new.slots session) a) whole c.one-answer.ensures.makes.always.less in
+    let gave = subst (λ (a : Answer). AnswersNext (slot_of c.args.slots.now session) a) whole c.one-answer.ensures.makes.always.answers in
     step_kind (slot_of c.args.slots.now session) (slot_of c.one-answer.new.slots session) (slot_of c.step.new.slots session) c.step.result gave gives.0 c.step.ensures.kind
 
 pub returns-in_default-clause-cause : goal.returns-in_default-clause-cause
@@ -77,7 +78,7 @@ returns-in_default-clause-cause g c honest start history calls fits number call 
     let same : r.2.call ≡ call = (one_runs g.S.PageStore start x fits c.args.session number r.2.number call r.2.call is r.2.is).1 in
     let asks : asked_of sets r.0 ≡ AskScan range = sym r.2.runs.ask ∙ ap (λ (k : Call). k.ask) same ∙ ask in
     let slot : slot_of c.args.slots.now c.args.session ≡ Some r.0 = ap (λ (o : Option (Option Op)). unwrap_or o None) r.1 in
-    next_caused _ sets r.0 range c.one-answer.result asks (subst (λ (o : Option Op). AnswersNext o c.one-answer.result) slot c.one-answer.ensures.always.answers)
+    next_caused _ sets r.0 range c.one-answer.result asks (subst (λ (o : Option Op). AnswersNext o c.one-answer.result) slot c.one-answer.ensures.makes.always.answers)
 
 pub returns-clause-cause : goal.returns-clause-cause
 returns-clause-cause g c honest start history calls fits number call range is ask =
@@ -91,7 +92,7 @@ returns-clause-cause g c honest start history calls fits number call range is as
     let first = laws.follows_later c.args.store.now c.one-answer.new.store (c.one-answer.ensures.steps _ (laws.follows_same _)) in
     let later = laws.follows_later c.one-answer.new.store c.step.new.store (c.step.ensures.steps _ (laws.follows_same _)) in
     let whole : c.one-answer.result ≡ Gave None = search rules in
-    let next = goes_by g.S.PageStore laws session (TellsScan session (Ok answer)) (Next session) answer old here refl c.one-answer.ensures.runs
+    let next = goes_by g.S.PageStore laws session (TellsScan session (Ok answer)) (Next session) answer old here refl (makes_runs g.S.PageStore g.met.S.PageStore.laws _ _ _ _ c.one-answer.ensures.makes)
     (λ s x y from to fits does. scan_told session (Ok answer) x y (moves_tells g.S.PageStore s x y session Takes answer tt fits does)) in
     let r = next (later.honest honest) start history calls fits in
     let x = snapshot_of old history calls in
@@ -100,8 +101,8 @@ returns-clause-cause g c honest start history calls fits number call range is as
     let runs = subst (λ (cs : List Call). IsRunningCall cs session number call) (sym silent.calls_is) is in
     let full = is_full_vacuum (slot_of c.one-answer.new.slots session) in
     let came = subst (λ (a : Ask). AskIsCaused g.S.PageStore session c.args.least_room full here c.step.new.store a result) ask (c.step.ensures.cause honest start r.then_history r.then_calls r.ran.fits number call runs) in
-    ask_wider g.S.PageStore session c.args.least_room old here c.step.new.store first later.failures (others_before c.args.slots.now c.one-answer.new.slots session (c.one-answer.ensures.always.others session refl)) full full (AskScan range) (λ counts h. h) result came
+    ask_wider g.S.PageStore session c.args.least_room old here c.step.new.store first later.failures (others_before c.args.slots.now c.one-answer.new.slots session (c.one-answer.ensures.makes.always.others session refl)) full full (AskScan range) (λ counts h. h) result came
 
 pub returns-clause-runs_on : goal.returns-clause-runs_on
 returns-clause-runs_on g c =
-    runs_on_then (slot_of c.args.slots.now c.args.session) (slot_of c.one-answer.new.slots c.args.session) (slot_of c.step.new.slots c.args.session) c.one-answer.ensures.always.runs_on c.step.ensures.runs_on
+    runs_on_then (slot_of c.args.slots.now c.args.session) (slot_of c.one-answer.new.slots c.args.session) (slot_of c.step.new.slots c.args.session) c.one-answer.ensures.makes.always.runs_on c.step.ensures.runs_on

@@ -1,17 +1,18 @@
 use Rattle.std.proofs.Common.{refl}
 use Rattle.schedule.specs.declared.event.Event.TheVariants.{Scan}
 use Rattle.session_calls.specs.declared.request.Request.TheVariants.{Scan as ToScan}
+use Rattle.schedule.proofs.Running.{makes_runs}
 use Rattle.whole_calls.proofs.Beginning.{goes_begun, caused_by, refused_by, begins_by}
 use Rattle.whole_calls.proofs.giving.open.Goals as goal
 
 pub returns-clause-goes : goal.returns-clause-goes
-returns-clause-goes g c = goes_begun g.S.PageStore g.met.S.PageStore.laws c.args.session (ToScan c.args.range) (Scan c.args.session c.args.range) c.one.result c.begun.result _ _ refl c.begun.ensures c.one.ensures.always.answers c.one.ensures.runs
+returns-clause-goes g c = goes_begun g.S.PageStore g.met.S.PageStore.laws c.args.session (ToScan c.args.range) (Scan c.args.session c.args.range) c.one.result c.begun.result _ _ refl c.begun.ensures c.one.ensures.makes.always.answers (makes_runs g.S.PageStore g.met.S.PageStore.laws _ _ _ _ c.one.ensures.makes)
 
 pub returns-clause-refused : goal.returns-clause-refused
-returns-clause-refused g c = refused_by _ c.one.result _ c.begun.ensures c.one.ensures.always.answers c.one.ensures.always.refused
+returns-clause-refused g c = refused_by _ c.one.result _ c.begun.ensures c.one.ensures.makes.always.answers c.one.ensures.makes.always.refused
 
 pub returns-clause-cause : goal.returns-clause-cause
-returns-clause-cause g c = caused_by _ c.one.result _ c.begun.ensures c.one.ensures.always.answers c.one.ensures.always.causes
+returns-clause-cause g c = caused_by _ c.one.result _ c.begun.ensures c.one.ensures.makes.always.answers c.one.ensures.makes.always.causes
 
 pub returns-clause-begins : goal.returns-clause-begins
-returns-clause-begins g c = begins_by _ c.one.result _ c.begun.ensures c.one.ensures.always.answers c.one.ensures.always.fresh
+returns-clause-begins g c = begins_by _ c.one.result _ c.begun.ensures c.one.ensures.makes.always.answers c.one.ensures.makes.always.fresh

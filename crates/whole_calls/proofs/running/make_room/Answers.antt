@@ -8,6 +8,7 @@ use Rattle.schedule.specs.TheoremKinds.{Checkpoints}
 use Rattle.schedule.specs.Events.{AnswersUpkeep}
 use Rattle.schedule.specs.Snapshots.{here_with}
 use Rattle.schedule.specs.declared.event.Event.TheVariants.{Checkpoint}
+use Rattle.schedule.proofs.Running.{makes_runs}
 use Rattle.whole_calls.specs.Going.{CameBy}
 use Rattle.whole_calls.specs.Telling.{IsSilent}
 use Rattle.whole_calls.proofs.Composing.{goes_nowhere, goes_by, goes_told}
@@ -23,13 +24,13 @@ pub returns-in-Refused-clause-goes : goal.returns-in-Refused-clause-goes
 returns-in-Refused-clause-goes g c session sets =
     goes_told g.S.PageStore session IsSilent IsSilent (Some c.checkpoint.result) (Some (Refused c.in-Refused.fault)) _ _
     (λ start answers x y at fits came silent. (subst (λ (a : Answer). CameBy answers (Some a)) c.in-Refused.is came, silent))
-    (goes_by g.S.PageStore g.met.S.PageStore.laws session IsSilent Checkpoint c.checkpoint.result (here_with c.args.store.now c.args.slots.now sets) (here_with c.checkpoint.new.store c.args.slots.now sets) tt (c.checkpoint.ensures.runs sets)
+    (goes_by g.S.PageStore g.met.S.PageStore.laws session IsSilent Checkpoint c.checkpoint.result (here_with c.args.store.now c.args.slots.now sets) (here_with c.checkpoint.new.store c.args.slots.now sets) tt (makes_runs g.S.PageStore g.met.S.PageStore.laws _ _ _ _ (c.checkpoint.ensures.makes sets))
     (λ start x y from to fits does. keeps_silent g.S.PageStore start Checkpoints c.checkpoint.result x y does))
 
 pub returns-in_default-clause-goes : goal.returns-in_default-clause-goes
 returns-in_default-clause-goes g c session sets =
     goes_told g.S.PageStore session IsSilent IsSilent (Some c.checkpoint.result) None _ _ (λ start answers x y at fits came silent. (tt, silent))
-    (goes_by g.S.PageStore g.met.S.PageStore.laws session IsSilent Checkpoint c.checkpoint.result (here_with c.args.store.now c.args.slots.now sets) (here_with c.checkpoint.new.store c.args.slots.now sets) tt (c.checkpoint.ensures.runs sets)
+    (goes_by g.S.PageStore g.met.S.PageStore.laws session IsSilent Checkpoint c.checkpoint.result (here_with c.args.store.now c.args.slots.now sets) (here_with c.checkpoint.new.store c.args.slots.now sets) tt (makes_runs g.S.PageStore g.met.S.PageStore.laws _ _ _ _ (c.checkpoint.ensures.makes sets))
     (λ start x y from to fits does. keeps_silent g.S.PageStore start Checkpoints c.checkpoint.result x y does))
 
 made : (Room : Type 0) (answer : Answer) → AnswersUpkeep Checkpoints answer → ((fault : Fault) → answer ≡ Refused fault → ⊥) → ((count : ℕ) → answer ≡ Checkpointed count → Room) → Room

@@ -5,6 +5,7 @@ use Rattle.page_action.specs.States.{State}
 use Rattle.index_model.specs.Calls.{Call}
 use Rattle.schedule.specs.TheoremMoments.{snapshot_of, IsRunningCall}
 use Rattle.schedule.specs.Snapshots.{here_with, slot_of}
+use Rattle.schedule.proofs.Running.{makes_runs}
 use Rattle.whole_calls.specs.Refusing.{is_full_vacuum}
 use Rattle.whole_calls.specs.Spending.{TakesFewer}
 use Rattle.schedule.specs.declared.event.Event.TheVariants.{Step}
@@ -29,7 +30,7 @@ returns-in-Ok-clause-goes g c =
     let there = here_with c.one.new.store c.one.new.slots (map g.T.DeadRows.is_in c.args.sets.now) in
     goes_then g.S.PageStore laws session IsSilent (TellsStep session (Ok answer)) (TellsStep session (Ok answer)) (room_came c.make_room.result) (Some answer) (here_with c.args.store.now c.args.slots.now (map g.T.DeadRows.is_in c.args.sets.now)) here there c.make_room.ensures.steps c.one.ensures.steps
     (c.make_room.ensures.goes session (map g.T.DeadRows.is_in c.args.sets.now))
-    (goes_by g.S.PageStore laws session (TellsStep session (Ok answer)) (Step session) answer here there refl c.one.ensures.runs
+    (goes_by g.S.PageStore laws session (TellsStep session (Ok answer)) (Step session) answer here there refl (makes_runs g.S.PageStore g.met.S.PageStore.laws _ _ _ _ c.one.ensures.makes)
     (λ start x y from to fits does. moves_tells g.S.PageStore start x y session Steps answer tt fits does))
     (λ start x y z at then_at fx fy fz one two. silent_then session (Ok answer) x y z one two)
 
@@ -52,7 +53,7 @@ returns-in-Ok-clause-fewer g c honest start history calls fits =
     let later = laws.follows_later c.make_room.new.store c.one.new.store (c.one.ensures.steps _ (laws.follows_same _)) in
     let r = c.make_room.ensures.goes session (map g.T.DeadRows.is_in c.args.sets.now) (later.honest honest) start history calls fits in
     subst (λ (st : State). TakesFewer st (g.S.PageStore.state c.one.new.store) (slot_of c.args.slots.now session) (slot_of c.one.new.slots session) (Ok c.one.result)) c.make_room.ensures.state
-    (run_fewer g.S.PageStore session c.one.result here there c.one.ensures.runs honest start r.then_history r.then_calls r.ran.fits)
+    (run_fewer g.S.PageStore session c.one.result here there (makes_runs g.S.PageStore g.met.S.PageStore.laws _ _ _ _ c.one.ensures.makes) honest start r.then_history r.then_calls r.ran.fits)
 
 pub returns-in-Err-clause-fewer : goal.returns-in-Err-clause-fewer
 returns-in-Err-clause-fewer g c honest start history calls fits low is = absurd cc
@@ -67,7 +68,7 @@ returns-in-Ok-clause-entries g c honest start history calls fits what =
     let later = laws.follows_later c.make_room.new.store c.one.new.store (c.one.ensures.steps _ (laws.follows_same _)) in
     let r = c.make_room.ensures.goes session sets (later.honest honest) start history calls fits in
     subst (λ (st : State). CountsThrough what sets st (g.S.PageStore.state c.one.new.store) (slot_of c.args.slots.now session) (slot_of c.one.new.slots session) (Ok c.one.result)) c.make_room.ensures.state
-    (run_counts g.S.PageStore session c.one.result here there c.one.ensures.runs honest start r.then_history r.then_calls r.ran.fits what)
+    (run_counts g.S.PageStore session c.one.result here there (makes_runs g.S.PageStore g.met.S.PageStore.laws _ _ _ _ c.one.ensures.makes) honest start r.then_history r.then_calls r.ran.fits what)
 
 pub returns-in-Ok-clause-cause : goal.returns-in-Ok-clause-cause
 returns-in-Ok-clause-cause g c honest start history calls fits number call is =
@@ -80,7 +81,7 @@ returns-in-Ok-clause-cause g c honest start history calls fits number call is =
     let first = laws.follows_later c.args.store.now c.make_room.new.store (c.make_room.ensures.steps _ (laws.follows_same _)) in
     let later = laws.follows_later c.make_room.new.store c.one.new.store (c.one.ensures.steps _ (laws.follows_same _)) in
     let r = c.make_room.ensures.goes session sets (later.honest honest) start history calls fits in
-    let e = event_of g.S.PageStore (Step session) c.one.result here there start r.then_history r.then_calls (c.one.ensures.runs honest start r.then_history r.then_calls r.ran.fits) in
+    let e = event_of g.S.PageStore (Step session) c.one.result here there start r.then_history r.then_calls (makes_runs g.S.PageStore g.met.S.PageStore.laws (Step session) c.one.result here there c.one.ensures.makes honest start r.then_history r.then_calls r.ran.fits) in
     let runs = subst (λ (cs : List Call). IsRunningCall cs session number call) (sym r.tells.calls_is) is in
     let full = is_full_vacuum (slot_of c.args.slots.now session) in
     ask_wider g.S.PageStore session c.args.least_room old here c.one.new.store first later.failures (λ busy. busy) full full call.ask (λ counts out. out) (Ok c.one.result)

@@ -1,7 +1,7 @@
 use Rattle.std.proofs.Common.{sym, ◌∙◌}
 use Rattle.schedule.specs.TheoremKinds.{Flushes}
 use Rattle.schedule.proofs.Making.{flush_makes, not_kept_makes}
-use Rattle.schedule.proofs.happening.make_flush.Goals as goal
+use Rattle.schedule.proofs.happening.flush.Goals as goal
 
 pub returns-in-Ok-clause-makes : goal.returns-in-Ok-clause-makes
 returns-in-Ok-clause-makes g c sets =
