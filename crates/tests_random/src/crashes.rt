@@ -3,12 +3,13 @@
 use crate::dead::{Blocks, sets_of};
 use crate::dice::Dice;
 use crate::judge::Judge;
+use crate::plain::{fail_at, left, left_by, open_world, stop_at};
 use crate::runs::{Outcome, Run, are_right, ends_right, judge_of};
+use crate::small::made_with;
 use crate::tally::Tally;
 use device::{CrashImage, MemDevice};
 use index_model::Fault;
 use page_store::Store;
-use recovery::create;
 use std::alloc::AllocError;
 use std::test::Fail;
 use world::{NotOpened, World};
@@ -21,13 +22,8 @@ pub type OverDevice = World<Store<MemDevice>, Blocks>;
 
 /// Opens the index that the device holds, with so many frames.
 pub fn opened(run: Run, frames: u32, device: MemDevice) -> Result<OverDevice, Fault> {
-    match World::open(
-        run.alloc,
-        device,
-        frames,
-        run.space.sessions,
-        sets_of(run.alloc, run.space)?,
-    ) {
+    let sets = sets_of(run.alloc, run.space)?;
+    match open_world(run.alloc, device, frames, run.space.sessions, sets) {
         Ok(world) => Ok(world),
         Err(not_opened) => Err(not_opened.fault),
     }
@@ -35,10 +31,7 @@ pub fn opened(run: Run, frames: u32, device: MemDevice) -> Result<OverDevice, Fa
 
 /// An empty index on a device in memory, with so many frames.
 pub fn on_a_device(run: Run, frames: u32) -> Result<OverDevice, Fault> {
-    let pages = u64::from(run.limits.pages) * 4_096;
-    let mut device = MemDevice::new(run.alloc, 4_096 + u64::from(run.limits.log_bytes) + pages)?;
-    create(&mut device, &run.limits)?;
-    opened(run, frames, device)
+    opened(run, frames, made_with(run.alloc, &run.limits)?)
 }
 
 /// What a crash leaves.
@@ -59,13 +52,13 @@ pub fn opened_again(
     dice: &mut Dice,
     tally: &mut Tally,
 ) -> Result<OverDevice, Fault> {
-    let mut left = world.crash(run.alloc, image(dice))?;
+    let mut found = left_by(run.alloc, world, image(dice))?;
     if dice.roll(2) == 0 {
-        left.stop_at(u64::from(dice.roll(20)) + 1);
+        found.stop_at(u64::from(dice.roll(20)) + 1);
     }
     let sets = sets_of(run.alloc, run.space)?;
-    match World::open(run.alloc, left, frames, run.space.sessions, sets) {
-        Ok(world) => opened(run, frames, world.crash(run.alloc, image(dice))?),
+    match open_world(run.alloc, found, frames, run.space.sessions, sets) {
+        Ok(world) => opened(run, frames, left_by(run.alloc, &world, image(dice))?),
         Err(
             NotOpened {
                 fault: Fault::Io,
@@ -74,7 +67,7 @@ pub fn opened_again(
             },
         ) => {
             tally.crash_opening();
-            opened(run, frames, device.crash(run.alloc, image(dice))?)
+            opened(run, frames, left(run.alloc, &device, image(dice))?)
         }
         Err(not_opened) => Err(not_opened.fault),
     }
@@ -85,9 +78,9 @@ fn will_fail(world: &mut OverDevice, judge: &mut Judge, dice: &mut Dice) {
     let calls = u64::from(dice.roll(40)) + 1;
     judge.expects_failures();
     if dice.roll(2) == 0 {
-        world.stop_at(calls);
+        stop_at(world, calls);
     } else {
-        world.fail_at(calls);
+        fail_at(world, calls);
     }
 }
 
@@ -106,22 +99,51 @@ fn fails_right(
     are_right(run, world, judge, dice, 100)
 }
 
+/// Random events, a crash, and what is opened behind it, of which the judge hears from then on: whether all is right.
+fn crashes_right(
+    run: Run,
+    world: &mut OverDevice,
+    judge: &mut Judge,
+    dice: &mut Dice,
+    tally: &mut Tally,
+    events: u32,
+) -> Result<bool, Fail> {
+    if !fails_right(run, world, judge, dice, events)? {
+        return Ok(false);
+    }
+    *world = opened_again(run, FOR_ALL, world, dice, tally)?;
+    let next = judge_of(run, world)?;
+    let is_right = judge.crashes(&next);
+    tally.join(judge.tally());
+    *judge = next;
+    Ok(is_right)
+}
+
+/// So many crashes, each behind so many events, and the end of the run: whether all is right.
+fn runs_right(
+    run: Run,
+    world: &mut OverDevice,
+    dice: &mut Dice,
+    tally: &mut Tally,
+    crashes: u32,
+    events: u32,
+) -> Result<bool, Fail> {
+    let mut judge = judge_of(run, world)?;
+    for _ in 0..crashes {
+        if !crashes_right(run, world, &mut judge, dice, tally, events)? {
+            return Ok(false);
+        }
+    }
+    let is_right = ends_right(run, world, &mut judge, dice)?;
+    tally.join(judge.tally());
+    Ok(is_right)
+}
+
 /// A run over a device with so many crashes, each behind so many events.
 pub fn crashed(run: Run, seed: u64, crashes: u32, events: u32) -> Result<Outcome, Fail> {
     let mut dice = Dice::new(seed);
-    let mut world = on_a_device(run, FOR_ALL)?;
-    let mut judge = judge_of(run, &mut world)?;
     let mut tally = Tally::default();
-    let mut is_right = true;
-    for _ in 0..crashes {
-        is_right = is_right && fails_right(run, &mut world, &mut judge, &mut dice, events)?;
-        world = opened_again(run, FOR_ALL, &world, &mut dice, &mut tally)?;
-        let next = judge_of(run, &mut world)?;
-        is_right = is_right && judge.crashes(&next);
-        tally.join(judge.tally());
-        judge = next;
-    }
-    is_right = is_right && ends_right(run, &mut world, &mut judge, &mut dice)?;
-    tally.join(judge.tally());
+    let mut world = on_a_device(run, FOR_ALL)?;
+    let is_right = runs_right(run, &mut world, &mut dice, &mut tally, crashes, events)?;
     Ok(Outcome { is_right, tally })
 }

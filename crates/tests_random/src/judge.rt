@@ -227,8 +227,14 @@ impl Judge {
             .changes(&self.pages, &pages, self.history.len())?;
         self.pages = pages;
         self.history.push(PlainAction { by, effect })?;
+        let is_known = self.counts(by, adds, removes, cleans);
+        Ok(is_known && self.are_contents(entries, self.history.len()))
+    }
+
+    /// Counts the last action, of the call of this number, by what it has done; false where there is no such call.
+    fn counts(&mut self, by: usize, adds: bool, removes: bool, cleans: bool) -> bool {
         let Some(call) = self.calls.get_mut(by) else {
-            return Ok(false);
+            return false;
         };
         if adds {
             self.tally.add();
@@ -240,7 +246,7 @@ impl Judge {
         } else {
             self.tally.reshape(call.added.is_none());
         }
-        Ok(self.are_contents(entries, self.history.len()))
+        true
     }
 
     /// Keeps the answer of an event, and says whether it is right. The event's action is kept before.

@@ -17,7 +17,11 @@ mod pairs;
 #[cfg(test)]
 mod past;
 #[cfg(test)]
+mod plain;
+#[cfg(test)]
 mod runs;
+#[cfg(test)]
+mod small;
 #[cfg(test)]
 mod stores;
 #[cfg(test)]

@@ -1,5 +1,6 @@
 //! All pages of a world.
 
+use crate::plain::page_in;
 use index_model::{DeadRows, Entry};
 use page_action::PageStore;
 use page_codec::{Items, Page, PageState};
@@ -14,7 +15,7 @@ pub fn copies<S: PageStore, T: DeadRows + Drop>(
 ) -> Result<Vec<Page>, AllocError> {
     let mut pages = Vec::new(alloc);
     for block in 0..world.used() {
-        if let Ok(page) = world.page(block) {
+        if let Ok(page) = page_in(world, block) {
             pages.push(page)?;
         }
     }
@@ -50,7 +51,7 @@ pub fn are_kept<S: PageStore, T: DeadRows + Drop>(world: &mut World<S, T>, pages
         return false;
     }
     for page in pages {
-        match world.page(page.block) {
+        match page_in(world, page.block) {
             Ok(now) => {
                 if !is_same(&now, page) {
                     return false;

@@ -5,11 +5,12 @@ use crate::dice::Dice;
 use crate::judge::Judge;
 use crate::pages::{are_kept, copies};
 use crate::past::Past;
+use crate::plain::{fail_at, left_by, one, put, stop_at};
 use crate::runs::{
     Outcome, Run, acts, are_running, ends_right, fault_of, is_full, judge_of, session_of,
 };
 use crate::tally::Tally;
-use device::CrashImage;
+use device::{CrashImage, MemDevice};
 use index_model::Fault;
 use schedule::Event;
 use session_calls::Answer;
@@ -45,22 +46,39 @@ fn event_behind(event: Event, answer: &Answer) -> Option<Event> {
 /// The index of this world, which has no calls, opened again with some entries more.
 fn filled(run: Run, few: OverDevice, dice: &mut Dice, entries: u32) -> Result<OverDevice, Fault> {
     let mut few = few;
+    let left = fill(run, &mut few, dice, entries)?;
+    opened(run, FEW, left)
+}
+
+/// Puts some entries and makes a checkpoint: what a crash leaves then.
+fn fill(run: Run, few: &mut OverDevice, dice: &mut Dice, entries: u32) -> Result<MemDevice, Fault> {
     for _ in 0..entries {
-        few.put(0, dice.entry(run.space), 8)?;
+        put(few, 0, dice.entry(run.space), 8)?;
     }
-    few.one(Event::Checkpoint);
-    opened(run, FEW, few.crash(run.alloc, CrashImage::Drop)?)
+    one(few, Event::Checkpoint);
+    left_by(run.alloc, few, CrashImage::Drop)
+}
+
+/// A world with frames for all, over what the device of this one holds.
+fn beside(run: Run, few: &OverDevice) -> Result<OverDevice, Fault> {
+    opened(run, FOR_ALL, left_by(run.alloc, few, CrashImage::Keep)?)
+}
+
+/// What is kept of a world with few frames from now on.
+fn watched(run: Run, few: &mut OverDevice) -> Result<(Past, Judge), AllocError> {
+    let mut judge = judge_of(run, few)?;
+    judge.expects_failures();
+    judge.expects_frames(FEW);
+    let past = Past::new(run.alloc, copies(run.alloc, few)?)?;
+    Ok((past, judge))
 }
 
 impl Pair {
     /// Over what the device of this world holds, which has no calls.
     fn new(run: Run, few: OverDevice) -> Result<Pair, Fail> {
         let mut few = few;
-        let all = opened(run, FOR_ALL, few.crash(run.alloc, CrashImage::Keep)?)?;
-        let mut judge = judge_of(run, &mut few)?;
-        judge.expects_failures();
-        judge.expects_frames(FEW);
-        let past = Past::new(run.alloc, copies(run.alloc, &mut few)?)?;
+        let all = beside(run, &few)?;
+        let (past, judge) = watched(run, &mut few)?;
         Ok(Pair {
             few,
             all,
@@ -69,16 +87,21 @@ impl Pair {
         })
     }
 
-    /// Has the second do what the first has answered so: whether that has changed the pages as is right.
-    fn follows(&mut self, run: Run, event: Event, answer: &Answer) -> Result<bool, AllocError> {
+    /// Has the second do what the first has answered so: whether it has made an action.
+    fn does(&mut self, event: Event, answer: &Answer) -> bool {
         if self.all.room() < 8 {
-            let _ = self.all.one(Event::Checkpoint);
+            let _ = one(&mut self.all, Event::Checkpoint);
         }
         let before = self.all.actions();
         if let Some(same) = event_behind(event, answer) {
-            let _ = self.all.one(same);
+            let _ = one(&mut self.all, same);
         }
-        if self.all.actions() == before {
+        self.all.actions() != before
+    }
+
+    /// Has the second do what the first has answered so: whether that has changed the pages as is right.
+    fn follows(&mut self, run: Run, event: Event, answer: &Answer) -> Result<bool, AllocError> {
+        if !self.does(event, answer) {
             return Ok(are_kept(&mut self.all, self.judge.pages()));
         }
         let is_right = acts(
@@ -93,22 +116,24 @@ impl Pair {
 
     /// An event: whether it is right.
     fn one(&mut self, run: Run, event: Event) -> Result<bool, AllocError> {
-        let answer = self.few.one(event);
-        Ok(
-            self.follows(run, event, &answer)?
-                && self.judge.hears(&event, &answer)?
-                && self.few.actions() == self.all.actions()
-                && self.few.actions() == self.judge.actions() as u64
-                && are_running(&self.few, &self.judge, run.space.sessions)
-                && are_running(&self.all, &self.judge, run.space.sessions)
-                && is_full(&self.few, run.limits, &answer),
-        )
+        let answer = one(&mut self.few, event);
+        let is_right = self.follows(run, event, &answer)? && self.judge.hears(&event, &answer)?;
+        Ok(is_right && self.agree(run) && is_full(&self.few, run.limits, &answer))
+    }
+
+    /// Whether both worlds have made the actions and run the calls that the judge knows.
+    fn agree(&self, run: Run) -> bool {
+        let actions = self.judge.actions() as u64;
+        self.few.actions() == actions
+            && self.all.actions() == actions
+            && are_running(&self.few, &self.judge, run.space.sessions)
+            && are_running(&self.all, &self.judge, run.space.sessions)
     }
 
     /// A force, which tells whether the log has failed: whether it is right, and whether all pages of the first are as they
     /// should be, if its log has not failed.
     fn looks(&mut self, run: Run) -> Result<bool, AllocError> {
-        self.few.fail_at(0);
+        fail_at(&mut self.few, 0);
         Ok(
             self.one(run, Event::Force)?
                 && (self.judge.is_stopped() || are_kept(&mut self.few, self.judge.pages())),
@@ -120,7 +145,7 @@ impl Pair {
     fn runs(&mut self, run: Run, dice: &mut Dice, events: u32) -> Result<bool, AllocError> {
         for _ in 0..events {
             if dice.roll(48) == 0 {
-                self.few.fail_at(u64::from(dice.roll(20)) + 1);
+                fail_at(&mut self.few, u64::from(dice.roll(20)) + 1);
             }
             let event = dice.event(run.space);
             if !self.one(run, event)? || dice.roll(64) == 0 && !self.looks(run)? {
@@ -138,7 +163,7 @@ impl Pair {
         if dice.roll(2) == 0 {
             return Ok(true);
         }
-        self.few.stop_at(u64::from(dice.roll(40)) + 1);
+        stop_at(&mut self.few, u64::from(dice.roll(40)) + 1);
         for _ in 0..40 {
             let event = dice.event(run.space);
             if !self.one(run, event)? {
@@ -148,21 +173,77 @@ impl Pair {
         Ok(true)
     }
 
-    /// What is opened behind a crash; None where its entries aren't the contents, or its pages not those, after some first part
-    /// of the actions that holds every forced one.
+    /// Whether this world, opened behind a crash, has the entries and the pages after some first part of the actions that holds
+    /// every forced one.
+    fn leads_to(&mut self, run: Run, few: &mut OverDevice) -> Result<bool, AllocError> {
+        let next = judge_of(run, few)?;
+        let part = self.past.part_of(next.pages(), self.judge.forced())?;
+        Ok(self.judge.crashes(&next) && part.is_some())
+    }
+
+    /// Random events and a crash, and what is opened behind it; None where something isn't right.
     fn crashes(
         &mut self,
         run: Run,
         dice: &mut Dice,
         tally: &mut Tally,
+        events: u32,
     ) -> Result<Option<OverDevice>, Fail> {
+        if !self.runs(run, dice, events)? || !self.stops(run, dice)? {
+            return Ok(None);
+        }
         let mut few = opened_again(run, FEW, &self.few, dice, tally)?;
-        let next = judge_of(run, &mut few)?;
-        let part = self.past.part_of(next.pages(), self.judge.forced())?;
-        let is_right = self.judge.crashes(&next) && part.is_some();
+        let is_right = self.leads_to(run, &mut few)?;
         tally.join(self.judge.tally());
         Ok(if is_right { Some(few) } else { None })
     }
+}
+
+/// Random events over this world, a crash, and what is opened behind it, with some entries more; None where something isn't
+/// right.
+fn crashed(
+    run: Run,
+    few: OverDevice,
+    dice: &mut Dice,
+    tally: &mut Tally,
+    events: u32,
+) -> Result<Option<OverDevice>, Fail> {
+    let mut pair = Pair::new(run, few)?;
+    match pair.crashes(run, dice, tally, events)? {
+        Some(left) => Ok(Some(filled(run, left, dice, 60)?)),
+        None => Ok(None),
+    }
+}
+
+/// The end of a run: whether it is right.
+fn ends(
+    run: Run,
+    few: &mut OverDevice,
+    dice: &mut Dice,
+    tally: &mut Tally,
+) -> Result<bool, AllocError> {
+    let mut judge = judge_of(run, few)?;
+    let is_right = ends_right(run, few, &mut judge, dice)?;
+    tally.join(judge.tally());
+    Ok(is_right)
+}
+
+/// So many crashes, each behind at most so many events, and the end of the run: whether all is right.
+fn runs_right(
+    run: Run,
+    dice: &mut Dice,
+    tally: &mut Tally,
+    crashes: u32,
+    events: u32,
+) -> Result<bool, Fail> {
+    let mut few = filled(run, on_a_device(run, FEW)?, dice, 200)?;
+    for _ in 0..crashes {
+        match crashed(run, few, dice, tally, events)? {
+            Some(left) => few = left,
+            None => return Ok(false),
+        }
+    }
+    Ok(ends(run, &mut few, dice, tally)?)
 }
 
 /// A run with few frames over a device with so many crashes, each behind at most so many events. Before them, and behind each
@@ -170,21 +251,6 @@ impl Pair {
 pub fn crashed_with_few(run: Run, seed: u64, crashes: u32, events: u32) -> Result<Outcome, Fail> {
     let mut dice = Dice::new(seed);
     let mut tally = Tally::default();
-    let mut few = filled(run, on_a_device(run, FEW)?, &mut dice, 200)?;
-    let mut is_right = true;
-    for _ in 0..crashes {
-        let mut pair = Pair::new(run, few)?;
-        is_right = is_right && pair.runs(run, &mut dice, events)? && pair.stops(run, &mut dice)?;
-        let Some(left) = pair.crashes(run, &mut dice, &mut tally)? else {
-            return Ok(Outcome {
-                is_right: false,
-                tally,
-            });
-        };
-        few = filled(run, left, &mut dice, 60)?;
-    }
-    let mut judge = judge_of(run, &mut few)?;
-    is_right = is_right && ends_right(run, &mut few, &mut judge, &mut dice)?;
-    tally.join(judge.tally());
+    let is_right = runs_right(run, &mut dice, &mut tally, crashes, events)?;
     Ok(Outcome { is_right, tally })
 }

@@ -4,6 +4,7 @@ use crate::dead::Blocks;
 use crate::dice::{Dice, Space};
 use crate::judge::Judge;
 use crate::pages::{are_kept, contents, copies};
+use crate::plain;
 use crate::tally::Tally;
 use index_model::{Fault, Limits, Range};
 use page_action::PageStore;
@@ -83,6 +84,13 @@ pub fn are_running<S: PageStore>(world: &World<S, Blocks>, judge: &Judge, sessio
     (0..sessions).all(|session| world.is_running(session) == judge.is_running(session))
 }
 
+/// Whether the world has made the actions and runs the calls that the judge knows, and what the answer calls full is full.
+fn agree<S: PageStore>(run: Run, world: &World<S, Blocks>, judge: &Judge, answer: &Answer) -> bool {
+    world.actions() == judge.actions() as u64
+        && are_running(world, judge, run.space.sessions)
+        && is_full(world, run.limits, answer)
+}
+
 /// Does one event: its answer, or None where that is wrong, or what it has done.
 fn one<S: PageStore>(
     run: Run,
@@ -91,17 +99,13 @@ fn one<S: PageStore>(
     event: Event,
 ) -> Result<Option<Answer>, AllocError> {
     let before = world.actions();
-    let answer = world.one(event);
+    let answer = plain::one(world, event);
     let is_kept = if world.actions() == before {
         are_kept(world, judge.pages())
     } else {
         acts(run.alloc, world, judge, session_of(&event))?
     };
-    let is_right = is_kept
-        && judge.hears(&event, &answer)?
-        && world.actions() == judge.actions() as u64
-        && are_running(world, judge, run.space.sessions)
-        && is_full(world, run.limits, &answer);
+    let is_right = is_kept && judge.hears(&event, &answer)? && agree(run, world, judge, &answer);
     Ok(if is_right { Some(answer) } else { None })
 }
 

@@ -3,13 +3,14 @@
 use crate::dice::Dice;
 use crate::pages::is_same;
 use crate::past::Past;
-use arrayvec::ArrayVec;
+use crate::plain::{act, checkpoint, flush, force, left, left_of, open, page};
+use crate::small::{made_with, marked};
 use device::{CrashImage, MemDevice};
 use index_model::{Fault, Limits};
 use page_action::{PageStore, find_misplaced};
-use page_codec::{Items, Page, PageState};
+use page_codec::Page;
 use page_store::Store;
-use recovery::{Refused, create, open};
+use recovery::Refused;
 use std::alloc::{AllocError, Global};
 use std::test::Fail;
 
@@ -21,8 +22,6 @@ const LIMITS: Limits = Limits {
     pages: 64,
     log_bytes: 131_072,
 };
-
-const LEN: u64 = 4_096 + 131_072 + 4_096 * 64;
 
 const IMAGES: [CrashImage; 3] = [CrashImage::Drop, CrashImage::Keep, CrashImage::Tear];
 
@@ -73,30 +72,14 @@ struct Watched {
     is_full: bool,
 }
 
-/// A leaf of a block, told from others by a number.
-fn leaf(block: u32, number: u32) -> Page {
-    Page {
-        block,
-        level: 0,
-        state: PageState::Live,
-        split: false,
-        left: None,
-        right: None,
-        high: None,
-        cycle: number,
-        deletion: 0,
-        items: Items::Entries(ArrayVec::new()),
-    }
-}
-
 /// One to four leaves of this number at blocks in use, or the first at the next unused one.
 fn leaves(alloc: Global, dice: &mut Dice, used: u32, number: u32) -> Result<Vec<Page>, AllocError> {
     let mut pages = Vec::new(alloc);
     if dice.roll(2) == 0 && used < LIMITS.pages {
-        pages.push(leaf(used, number))?;
+        pages.push(marked(used, number))?;
     }
     for _ in 0..dice.roll(3) + 1 {
-        pages.push(leaf(dice.pick(used).max(1), number))?;
+        pages.push(marked(dice.pick(used).max(1), number))?;
     }
     Ok(pages)
 }
@@ -105,7 +88,7 @@ fn leaves(alloc: Global, dice: &mut Dice, used: u32, number: u32) -> Result<Vec<
 fn pages_of(alloc: Global, store: &mut Store<MemDevice>) -> Result<Vec<Page>, Fault> {
     let mut pages = Vec::new(alloc);
     for block in 0..store.used() {
-        let page = store.page(block)?;
+        let page = page(store, block)?;
         if pages.push(page).is_err() {
             return Err(Fault::NoMemory);
         }
@@ -116,16 +99,16 @@ fn pages_of(alloc: Global, store: &mut Store<MemDevice>) -> Result<Vec<Page>, Fa
 /// Opens what a crash has left. Half of the times the device stops inside of a first open, and crashes again.
 fn opened(
     alloc: Global,
-    left: MemDevice,
+    found: MemDevice,
     dice: &mut Dice,
     tally: &mut StoreTally,
 ) -> Result<Store<MemDevice>, Fault> {
-    let mut device = left;
+    let mut device = found;
     if dice.roll(2) == 0 {
         device.stop_at(u64::from(dice.roll(12)) + 1);
     }
     let again = match open(alloc, device, FRAMES) {
-        Ok(store) => store.crash(alloc, image(dice))?,
+        Ok(store) => left_of(alloc, &store, image(dice))?,
         Err(
             Refused {
                 fault: Fault::Io,
@@ -133,7 +116,7 @@ fn opened(
             },
         ) => {
             count(&mut tally.opening);
-            device.crash(alloc, image(dice))?
+            left(alloc, &device, image(dice))?
         }
         Err(refused) => return Err(refused.fault),
     };
@@ -185,7 +168,7 @@ impl Watched {
         if pages.is_empty() || pages.len() > 4 || find_misplaced(&pages, used, limits).is_some() {
             return Ok(true);
         }
-        match self.store.act(&pages) {
+        match act(&mut self.store, &pages) {
             Ok(number) => {
                 count(&mut tally.acts);
                 self.past.adds(pages)?;
@@ -217,7 +200,7 @@ impl Watched {
 
     /// Whether the page of a block is as it was acted last.
     fn reads(&mut self, block: u32, tally: &mut StoreTally) -> bool {
-        match self.store.page(block) {
+        match page(&mut self.store, block) {
             Ok(page) => match self.past.page(block) {
                 Some(there) => is_same(&page, there),
                 None => false,
@@ -228,14 +211,14 @@ impl Watched {
     }
 
     fn forces(&mut self, tally: &mut StoreTally) -> bool {
-        match self.store.force() {
+        match force(&mut self.store) {
             Ok(acts) => acts == self.past.acts() as u64 && self.store.durable() == acts,
             Err(fault) => self.hears(fault, tally) && self.store.is_stopped(),
         }
     }
 
     fn flushes(&mut self, tally: &mut StoreTally) -> bool {
-        match self.store.flush() {
+        match flush(&mut self.store) {
             Ok(Some(block)) => {
                 count(&mut tally.flushed);
                 block < self.store.used()
@@ -246,7 +229,7 @@ impl Watched {
     }
 
     fn checkpoints(&mut self, tally: &mut StoreTally) -> bool {
-        match self.store.checkpoint() {
+        match checkpoint(&mut self.store) {
             Ok(acts) => {
                 count(&mut tally.checkpoints);
                 self.is_full = false;
@@ -340,27 +323,61 @@ impl Watched {
     /// every durable one.
     fn crashes(
         &self,
-        left: CrashImage,
+        image: CrashImage,
         dice: &mut Dice,
         tally: &mut StoreTally,
     ) -> Result<Option<Watched>, Fail> {
-        let device = self.store.crash(self.alloc, left)?;
+        let device = left_of(self.alloc, &self.store, image)?;
         let again = Watched::new(self.alloc, opened(self.alloc, device, dice, tally)?)?;
         count(&mut tally.images);
+        let is_right = self.leads_to(&again, tally)?;
+        Ok(if is_right { Some(again) } else { None })
+    }
+
+    /// Whether the other began with the pages after some first part of the acts that holds every durable one.
+    fn leads_to(&self, again: &Watched, tally: &mut StoreTally) -> Result<bool, AllocError> {
         let durable = self.store.durable() as usize;
-        match self.past.part_of(again.past.start(), durable)? {
-            Some(part) => {
-                if part < self.past.acts() {
-                    count(&mut tally.losing);
-                }
-                if part > durable {
-                    count(&mut tally.more);
-                }
-                Ok(Some(again))
-            }
-            None => Ok(None),
+        let Some(part) = self.past.part_of(again.past.start(), durable)? else {
+            return Ok(false);
+        };
+        if part < self.past.acts() {
+            count(&mut tally.losing);
+        }
+        if part > durable {
+            count(&mut tally.more);
+        }
+        Ok(true)
+    }
+}
+
+/// Random calls and three crashes: what is opened again behind one of them, or None where something isn't right.
+fn next_of(
+    watched: &mut Watched,
+    dice: &mut Dice,
+    calls: u32,
+    tally: &mut StoreTally,
+) -> Result<Option<Watched>, Fail> {
+    if !watched.runs(dice, calls, tally)? {
+        return Ok(None);
+    }
+    let next = dice.roll(3) as usize;
+    let mut chosen = None;
+    for at in 0..3usize {
+        let again = watched.crashes(IMAGES[at], dice, tally)?;
+        if again.is_none() {
+            return Ok(None);
+        }
+        if at == next {
+            chosen = again;
         }
     }
+    Ok(chosen)
+}
+
+/// A store over a new index of 64 pages.
+fn fresh(alloc: Global, dice: &mut Dice, tally: &mut StoreTally) -> Result<Watched, Fault> {
+    let device = made_with(alloc, &LIMITS)?;
+    Watched::new(alloc, opened(alloc, device, dice, tally)?)
 }
 
 /// A store of 16 frames over a new index of 64 pages, with so many crashes, each behind at most so many calls: whether all is
@@ -373,25 +390,11 @@ pub fn store_crashed(
     tally: &mut StoreTally,
 ) -> Result<bool, Fail> {
     let mut dice = Dice::new(seed);
-    let mut device = MemDevice::new(alloc, LEN)?;
-    create(&mut device, &LIMITS)?;
-    let mut watched = Watched::new(alloc, opened(alloc, device, &mut dice, tally)?)?;
+    let mut watched = fresh(alloc, &mut dice, tally)?;
     for _ in 0..crashes {
-        if !watched.runs(&mut dice, calls, tally)? {
-            return Ok(false);
-        }
-        let next = dice.roll(3) as usize;
-        let mut chosen = None;
-        for at in 0..3usize {
-            let Some(again) = watched.crashes(IMAGES[at], &mut dice, tally)? else {
-                return Ok(false);
-            };
-            if at == next {
-                chosen = Some(again);
-            }
-        }
-        if let Some(again) = chosen {
-            watched = again;
+        match next_of(&mut watched, &mut dice, calls, tally)? {
+            Some(again) => watched = again,
+            None => return Ok(false),
         }
     }
     Ok(true)

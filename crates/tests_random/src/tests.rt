@@ -2,60 +2,50 @@ use crate::crashes::crashed;
 use crate::dead::{Blocks, sets_of};
 use crate::dice::{Dice, Space};
 use crate::pairs::crashed_with_few;
+use crate::plain::world;
 use crate::runs::{Outcome, Run, are_right, ends_right, judge_of};
+use crate::small::pages;
 use crate::stores::{StoreTally, store_crashed};
 use crate::tally::Tally;
-use arrayvec::ArrayVec;
 use index_model::{Fault, Limits};
 use page_action::MapStore;
-use page_codec::{Items, Page, PageState};
-use std::alloc::Global;
+use std::alloc::{AllocError, Global};
 use std::test::{Fail, *};
 use world::World;
 
-fn page(block: u32, right: Option<u32>, items: Items) -> Page {
-    Page {
-        block,
-        level: 0,
-        state: PageState::Live,
-        split: false,
-        left: None,
-        right,
-        high: None,
-        cycle: 0,
-        deletion: 0,
-        items,
-    }
+/// An empty index in memory.
+fn in_memory(run: Run) -> Result<World<MapStore, Blocks>, Fault> {
+    let sets = sets_of(run.alloc, run.space)?;
+    world(
+        run.alloc,
+        pages(run.alloc, run.limits)?,
+        run.space.sessions,
+        sets,
+    )
 }
 
-/// An empty index in memory: the metapage, and an empty leaf as the root.
-fn in_memory(run: Run) -> Result<World<MapStore, Blocks>, Fault> {
-    let mut store = MapStore::new(run.alloc, run.limits)?;
-    store.add(page(0, Some(1), Items::Meta))?;
-    store.add(page(1, None, Items::Entries(ArrayVec::new())))?;
-    match World::new(
-        run.alloc,
-        store,
-        run.space.sessions,
-        sets_of(run.alloc, run.space)?,
-    ) {
-        Ok(world) => Ok(world),
-        Err(not_made) => Err(not_made.fault),
-    }
+/// A run over an index in memory.
+fn run_over(
+    run: Run,
+    world: &mut World<MapStore, Blocks>,
+    seed: u64,
+    events: u32,
+) -> Result<Outcome, AllocError> {
+    let mut judge = judge_of(run, world)?;
+    judge.expects_no_writes();
+    let mut dice = Dice::new(seed);
+    let is_right = are_right(run, world, &mut judge, &mut dice, events)?
+        && ends_right(run, world, &mut judge, &mut dice)?;
+    Ok(Outcome {
+        is_right,
+        tally: judge.tally(),
+    })
 }
 
 /// A run over an empty index in memory.
 fn ran(run: Run, seed: u64, events: u32) -> Result<Outcome, Fail> {
     let mut world = in_memory(run)?;
-    let mut judge = judge_of(run, &mut world)?;
-    judge.expects_no_writes();
-    let mut dice = Dice::new(seed);
-    let is_right = are_right(run, &mut world, &mut judge, &mut dice, events)?
-        && ends_right(run, &mut world, &mut judge, &mut dice)?;
-    Ok(Outcome {
-        is_right,
-        tally: judge.tally(),
-    })
+    Ok(run_over(run, &mut world, seed, events)?)
 }
 
 /// A run of so many sessions that has room for all its entries, on pages of so many items.
