@@ -1,6 +1,6 @@
 //! A store of pages with its sessions.
 
-ghost use Rattle.std.specs.Prelude.{◌≡◌, ◌≤◌, IfOk, IfErr, length, None, replicate};
+ghost use Rattle.std.specs.Prelude.{◌≡◌, ◌⊎◌, ◌≤◌, ◌<◌, IfOk, IfErr, OnOk, length, None, replicate};
 
 use index_model::{DeadRows, Fault};
 use page_action::PageStore;
@@ -81,13 +81,6 @@ impl<S: PageStore, T: DeadRows + Drop> World<S, T> {
         ensures memory { IfErr result (λ not_made.
             (not_made.fault ≡ Fault.BadLimits) ⊎ (not_made.fault ≡ Fault.NoMemory)) }
     {
-        if sessions == 0 || sessions > 64 {
-            return Err(NotMade {
-                fault: Fault::BadLimits,
-                store,
-                sets,
-            });
-        }
         match empty_slots(alloc, sessions) {
             Ok(slots) => Ok(World { store, slots, sets }),
             Err(fault) => Err(NotMade { fault, store, sets }),
@@ -210,11 +203,20 @@ impl<S: PageStore, T: DeadRows + Drop> World<S, T> {
     }
 }
 
-// A slot for each session, none with a call.
+// A slot for each session, none with a call. Refused with `BadLimits` unless it is 1 to 64 sessions, and with `NoMemory`.
 fn empty_slots(alloc: Global, sessions: u32) -> Result<Vec<Option<Op>>, Fault>
     ensures slots { IfOk result (λ slots. slots.items ≡ replicate sessions None) }
-    ensures fault { IfErr result (λ fault. fault ≡ Fault.NoMemory) }
+    ensures few { OnOk result ((1 ≤ sessions) × (sessions ≤ 64)) }
+    ensures first { IfErr result (λ fault.
+        (sessions ≡ 0) ⊎ (64 < sessions) → fault ≡ Fault.BadLimits) }
+    ensures limits { IfErr result (λ fault.
+        fault ≡ Fault.BadLimits → (sessions ≡ 0) ⊎ (64 < sessions)) }
+    ensures memory { IfErr result (λ fault.
+        (fault ≡ Fault.BadLimits) ⊎ (fault ≡ Fault.NoMemory)) }
 {
+    if sessions == 0 || sessions > 64 {
+        return Err(Fault::BadLimits);
+    }
     let Ok(mut slots) = Vec::with_capacity(alloc, sessions as usize) else {
         return Err(Fault::NoMemory);
     };
