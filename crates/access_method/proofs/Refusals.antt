@@ -26,7 +26,8 @@ use Rattle.session_calls.specs.Ops.{IsFaultCaused, is_vacuum}
 use Rattle.session_calls.specs.Sessions.{is_busy}
 use Rattle.session_calls.specs.declared.request.Request.TheVariants.{Insert as ToInsert, Bulk as ToBulk, Cleanup as ToCleanup}
 use Rattle.schedule.specs.TheoremMoments.{StoreAndSlots, Snapshot, snapshot_of}
-use Rattle.schedule.specs.Snapshots.{IsFree, slot_of, slot_vacuums, one_vacuums}
+use Rattle.session_calls.specs.Slots.{slot_of, slot_vacuums, one_vacuums}
+use Rattle.schedule.specs.Snapshots.{IsFree}
 use Rattle.schedule.proofs.Lists.{get_some}
 use Rattle.whole_calls.specs.Refusing.{another_runs, where_inserted, where_called, is_used_up, is_tall, InsertCallIsCaused, where_gone}
 use Rattle.whole_calls.specs.declared.inserted.Inserted.{Inserted}
@@ -47,8 +48,8 @@ or_right : (a b : Bool) → b ≡ true → (a || b) ≡ true
 or_right true b h = refl
 or_right false b h = h
 
-there_at : {S : Type 0} (old : Index S) → length old.slots ≡ 64 → is_none (slice_get old.slots 63) ≡ false
-there_at old slots = (let at = get_some old.slots 63 (omega (arith, slots)) in ap is_none at.1)
+there_at : {S : Type 0} (old : Index S) → length old.calls.slots.items ≡ 64 → is_none (slice_get old.calls.slots.items 63) ≡ false
+there_at old slots = (let at = get_some old.calls.slots.items 63 (omega (arith, slots)) in ap is_none at.1)
 
 -- the log failed, or a counter is at its end
 module _ {S : Type 0} (g : Ghosts S) (old : Index S) (new : S) where
@@ -80,11 +81,11 @@ module _ {S : Type 0} (g : Ghosts S) (old : Index S) (new : S) where
   ]
 
   -- there is a session for inserts, which runs nothing
-  module _ (inserts : slot_of old.slots 63 ≡ None) (slots : length old.slots ≡ 64) (entry : Entry) where
-    free : is_busy (slot_of old.slots 63) ≡ false
+  module _ (inserts : slot_of old.calls.slots.items 63 ≡ None) (slots : length old.calls.slots.items ≡ 64) (entry : Entry) where
+    free : is_busy (slot_of old.calls.slots.items 63) ≡ false
     free = ap is_busy inserts
 
-    there : is_none (slice_get old.slots 63) ≡ false
+    there : is_none (slice_get old.calls.slots.items 63) ≡ false
     there = there_at old slots
 
     refused_cause : (was_there used_up tall : Bool) (fault : Fault) → (fault ≡ Exists → was_there ≡ true)
@@ -141,8 +142,8 @@ module _ {S : Type 0} (g : Ghosts S) (session : ℕ) (old : Index S) (new : S) (
     ]
   ]
 
-  none_pinned : (another_runs old.slots session || nat_lt (g.state new).frames 4) ≡ true → ⊥
-  none_pinned h = elim (or_cases (another_runs old.slots session) (nat_lt (g.state new).frames 4) h) [
+  none_pinned : (another_runs old.calls.slots.items session || nat_lt (g.state new).frames 4) ≡ true → ⊥
+  none_pinned h = elim (or_cases (another_runs old.calls.slots.items session) (nat_lt (g.state new).frames 4) h) [
     | inl busy ↦ true_false (sym busy ∙ un.alone)
     | inr few ↦ (let k = ltb-true (g.state new).frames 4 few in let many = un.frames in omega (arith, k, many, same_frames))
   ]
@@ -219,9 +220,9 @@ all_alone g start now fits idle other differ = by (slice_get now.slots other) re
     by (Some (Some op)) at = absurd (let same : Some op ≡ None = sym (ap (λ (o : Option (Option Op)). unwrap_or o None) at) ∙ none in cc)
 
 -- why a bulk delete is refused
-module _ {S : Type 0} (g : Ghosts S) (dead : Row → Bool) (old : Index S) (new : S) (inserts : slot_of old.slots 63 ≡ None) (slots : length old.slots ≡ 64) (none : one_vacuums old.slots ≡ false) where
-  no_sets : (not (nat_lt 0 (length (dead ∷ []))) || is_none (slice_get old.slots 63)) ≡ true → ⊥
-  no_sets h = elim (or_cases (not (nat_lt 0 (length (dead ∷ [])))) (is_none (slice_get old.slots 63)) h) [
+module _ {S : Type 0} (g : Ghosts S) (dead : Row → Bool) (old : Index S) (new : S) (inserts : slot_of old.calls.slots.items 63 ≡ None) (slots : length old.calls.slots.items ≡ 64) (none : one_vacuums old.calls.slots.items ≡ false) where
+  no_sets : (not (nat_lt 0 (length (dead ∷ []))) || is_none (slice_get old.calls.slots.items 63)) ≡ true → ⊥
+  no_sets h = elim (or_cases (not (nat_lt 0 (length (dead ∷ [])))) (is_none (slice_get old.calls.slots.items 63)) h) [
     | inl no_set ↦ true_false (sym no_set ∙ ap not (lt-ltb 0 1 (omega arith)))
     | inr no_session ↦ true_false (sym no_session ∙ there_at old slots)
   ]
@@ -238,7 +239,7 @@ module _ {S : Type 0} (g : Ghosts S) (dead : Row → Bool) (old : Index S) (new 
   swept_cause (Err fault) h = sweep_cause fault h
 
 -- why a cleanup is refused
-module _ {S : Type 0} (g : Ghosts S) (old : Index S) (new : S) (inserts : slot_of old.slots 63 ≡ None) (slots : length old.slots ≡ 64) (none : one_vacuums old.slots ≡ false) where
+module _ {S : Type 0} (g : Ghosts S) (old : Index S) (new : S) (inserts : slot_of old.calls.slots.items 63 ≡ None) (slots : length old.calls.slots.items ≡ 64) (none : one_vacuums old.calls.slots.items ≡ false) where
   clean_cause : (fault : Fault) → HasCause (where_called g 63 ToCleanup (slots_within old) (where_gone g 63 5 false (slots_within old) new)) fault → HasCause (where_run g 63 old new) fault
   clean_cause Stopped h = stopped_called g old new h
   clean_cause VacuumRunning h = absurd (true_false (sym h ∙ none))

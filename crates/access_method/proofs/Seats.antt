@@ -19,7 +19,7 @@ use Rattle.session_calls.proofs.RunningOn.{stays_vacuum}
 use Rattle.session_calls.specs.declared.request.Request.TheVariants.{Scan as ToScan}
 use Rattle.session_calls.specs.declared.op.Op.{Op}
 use Rattle.schedule.specs.TheoremMoments.{Snapshot}
-use Rattle.schedule.specs.Snapshots.{slot_of, slot_vacuums}
+use Rattle.session_calls.specs.Slots.{slot_of, slot_vacuums}
 use Rattle.schedule.specs.Events.{OthersStay, where_begun_at}
 use Rattle.schedule.proofs.Unused.{in_replicate}
 use Rattle.schedule.proofs.Lists.{get_set_same, get_set_other, get_some}

@@ -22,7 +22,7 @@ use Rattle.schedule.specs.TheoremCrashes.{KeepsHistory, IsCrashSafe}
 use Rattle.schedule.specs.Events.{OthersStay}
 use Rattle.schedule.specs.TheoremMoments.{StoreAndSlots, Snapshot, snapshot_of}
 use Rattle.schedule.specs.TheoremRuns.{Fits}
-use Rattle.schedule.specs.Snapshots.{slot_of}
+use Rattle.session_calls.specs.Slots.{slot_of}
 use Rattle.schedule.proofs.Lists.{get_append_new}
 use Rattle.whole_calls.specs.Going.{CallRuns}
 use Rattle.whole_calls.specs.Sweeping.{SweepTold, swept_came, TellsEntries, removed_of}

@@ -38,7 +38,7 @@ use Rattle.access_method.specs.declared.token.Seat.{Seat}
 
 -- the store of an index, and what its sessions run; between its calls none names a set of dead rows
 abbrev pub slots_within : {S : Type 0} → Index S → StoreAndSlots S
-slots_within index = record { store = index.store; slots = index.slots; sets = [] }
+slots_within index = record { store = index.store; slots = index.calls.slots.items; sets = [] }
 
 -- these contents at the start, this history and these calls fit the index
 abbrev pub IndexFits : {S : Type 0} → Ghosts S → Index S → (Entry → Bool) → List Action → List Call → Type 0
@@ -63,7 +63,7 @@ IndexCarries g old new goes = Carries g (slots_within old) (slots_within new) go
 
 -- the same, with one set of dead rows
 abbrev pub slots_with : {S : Type 0} → (Row → Bool) → Index S → StoreAndSlots S
-slots_with dead index = record { store = index.store; slots = index.slots; sets = dead ∷ [] }
+slots_with dead index = record { store = index.store; slots = index.calls.slots.items; sets = dead ∷ [] }
 
 -- A bulk delete of this set goes, run to its end: there is a run of events over the index with this set, of which one answered
 -- what the call came to. The index is fitted by what comes behind it; where the history was kept, it is so still, and a crash in

@@ -26,8 +26,8 @@ abbrev pub where_run : {S : Type 0} → Ghosts S → ℕ → Index S → S → C
 where_run g session old new = record nothing_wrong {
   device_failed = has_failed (g.backing old.store) (g.backing new);
   is_stopped = ((g.backing old.store).stopped || has_failed (g.backing old.store) (g.backing new)) || (is_at_end (g.state old.store).begun || nat_le 18446744073709551615 (g.state new).acts);
-  is_held_by_another = λ b. another_runs old.slots session;
-  frames_are_pinned = another_runs old.slots session || nat_lt (g.state new).frames 4;
+  is_held_by_another = λ b. another_runs old.calls.slots.items session;
+  frames_are_pinned = another_runs old.calls.slots.items session || nat_lt (g.state new).frames 4;
 }
 
 -- ... of an insert also that its entry was there, that each block is in use, or that the root is on level 31, as far as these say so
@@ -46,7 +46,7 @@ InsertHasCause g entry (Err fault) old new = HasCause (where_inserting g (has_en
 -- Nothing hinders a call of this session between these moments: no other open scan's call runs, the log hasn't failed before and no
 -- device call meanwhile, no counter is at its end, and there are 16 frames.
 pub record IsUnhindered {S : Type 0} (g : Ghosts S) (session : ℕ) (old : Index S) (new : S) : Type 0 where
-  pub alone : another_runs old.slots session ≡ false
+  pub alone : another_runs old.calls.slots.items session ≡ false
   pub alive : (g.backing old.store).stopped ≡ false
   pub failures : (g.backing new).failures ≡ (g.backing old.store).failures
   pub begun : (g.state old.store).begun < 18446744073709551615
@@ -55,7 +55,7 @@ pub record IsUnhindered {S : Type 0} (g : Ghosts S) (session : ℕ) (old : Index
 
 -- no open scan's call runs, and no page is half-dead
 pub record IsCalm {S : Type 0} (g : Ghosts S) (index : Index S) : Type 0 where
-  pub alone : another_runs index.slots 63 ≡ false
+  pub alone : another_runs index.calls.slots.items 63 ≡ false
   pub none_dead : (block : ℕ) → state_in (g.state index.store) block ≢ HalfDead
 
 -- why an insert is refused that nothing hinders: its entry was there, each block is in use, or the root is on level 31

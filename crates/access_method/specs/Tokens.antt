@@ -1,7 +1,7 @@
 -- Tokens, and which of them are open.
 use Rattle.std.specs.Prelude.{◌≡◌, ◌≢◌, ℕ, false, ◌==◌, if◌then◌else◌, Option, Some, None, List, slice_get}
 use Rattle.session_calls.specs.declared.op.Op.{Op}
-use Rattle.schedule.specs.Snapshots.{slot_of, slot_vacuums}
+use Rattle.session_calls.specs.Slots.{slot_of, slot_vacuums}
 use Rattle.access_method.specs.declared.token.ScanToken.{ScanToken}
 use Rattle.access_method.specs.declared.token.Seat.{Seat}
 

@@ -1,6 +1,6 @@
 //! The index.
 
-ghost use Rattle.std.specs.Prelude.{◌≡◌, ◌<◌, None, IfSome, length, replicate};
+ghost use Rattle.std.specs.Prelude.{◌≡◌, ◌<◌, IfSome, length};
 ghost use Rattle.access_method.specs.Counted.{counted};
 ghost use Rattle.access_method.specs.Tokens.{SeatsAgree, NoneVacuums, IsFreeSeat};
 
@@ -10,10 +10,9 @@ use index_model::{DeadRows, Entry, Fault, Range, RowAddr, VacuumStats};
 use page_action::PageStore;
 use page_store::Store;
 use recovery::Refused;
-use schedule::{checkpoint, force, is_running};
-use session_calls::{Answer, Op};
+use schedule::{checkpoint, force};
+use session_calls::{Answer, Calls};
 use std::alloc::Global;
-use std::array;
 use whole_calls::{Inserted, bulk_delete, clean_up, give, give_up, insert, open};
 
 // How many images of pages the log has room for before a step: an act takes four at most, and a force that it makes one more.
@@ -24,18 +23,19 @@ const LEAST_ROOM: u32 = 5;
 #[derive(Drop)]
 pub struct Index<S> {
     store: S,
-    slots: [Option<Op>; 64],
+    calls: Calls,
     seats: [Option<Seat>; 63],
     given: u64,
-    ghost agree: { SeatsAgree slots seats },
-    ghost none_vacuums: { NoneVacuums slots },
+    ghost sessions: { length calls.slots.items ≡ 64 },
+    ghost agree: { SeatsAgree calls.slots.items seats },
+    ghost none_vacuums: { NoneVacuums calls.slots.items },
 }
 
-// No session runs anything.
-fn empty_slots() -> [Option<Op>; 64]
-    ensures { result ≡ replicate 64 None }
-{
-    array::from_fn(|_| None)
+/// Why an index was not made, with the store as it was.
+#[derive(Drop)]
+pub struct NotMade<S> {
+    pub fault: Fault,
+    pub store: S,
 }
 
 // A set of dead rows without rows.
@@ -103,7 +103,8 @@ impl<S: PageStore> Index<S> {
     ghost use Rattle.session_calls.specs.declared.answer.Answer.TheVariants.{Begun};
     ghost use Rattle.session_calls.specs.declared.request.Request.TheVariants.{Scan as ToScan, Cleanup as ToCleanup};
     ghost use Rattle.schedule.specs.TheoremKinds.{Forces, Checkpoints};
-    ghost use Rattle.schedule.specs.Snapshots.{IsUnused, slot_of};
+    ghost use Rattle.schedule.specs.Sessions.{op_of};
+    ghost use Rattle.schedule.specs.Snapshots.{IsUnused};
     ghost use Rattle.whole_calls.specs.Telling.{IsSilent, HasBegun, TellsEnd};
     ghost use Rattle.whole_calls.specs.Sweeping.{SweepTold, swept_came, LeavesOnlyNeeded};
     ghost use Rattle.whole_calls.specs.Giving.{TellsGiven, EndsUnlessGiven, give_came};
@@ -114,20 +115,26 @@ impl<S: PageStore> Index<S> {
 
     /// An index over the store, with no call and no open scan. Where the store's pages are in order and it has made no
     /// act, the index is fitted by the contents of its pages, no actions and no calls; over an own device it keeps them
-    /// over crashes.
-    pub fn new(store: S) -> Index<S>
-        ensures store { result.store ≡ store }
-        ensures fits { IsUnused (S.state store)
-            → IndexFits S.PageStore result (entry_on_live_leaf (S.state store).pages) [] [] }
-        ensures keeps { IsUnused (S.state store) → S.own store
-            → IndexKeeps S.PageStore result (entry_on_live_leaf (S.state store).pages) [] [] }
-        ensures closed { (token : ScanToken) → seat_of result.seats token ≡ None }
+    /// over crashes. Refused with `NoMemory` (1), with the store given back.
+    pub fn new(alloc: Global, store: S) -> Result<Index<S>, NotMade<S>>
+        ensures store { IfOk result (λ index. index.store ≡ store) }
+        ensures fits { IsUnused (S.state store) → IfOk result (λ index.
+            IndexFits S.PageStore index (entry_on_live_leaf (S.state store).pages) [] []) }
+        ensures keeps { IsUnused (S.state store) → S.own store → IfOk result (λ index.
+            IndexKeeps S.PageStore index (entry_on_live_leaf (S.state store).pages) [] []) }
+        ensures closed { IfOk result (λ index.
+            (token : ScanToken) → seat_of index.seats token ≡ None) }
+        ensures given_back { IfErr result (λ not_made. not_made.store ≡ store) }
+        ensures fault { IfErr result (λ not_made. not_made.fault ≡ Fault.NoMemory) }
     {
-        Index {
-            store,
-            slots: empty_slots(),
-            seats: [None; 63],
-            given: 0,
+        match Calls::new(alloc, 64) {
+            Ok(calls) => Ok(Index {
+                store,
+                calls,
+                seats: [None; 63],
+                given: 0,
+            }),
+            Err(fault) => Err(NotMade { fault, store }),
         }
     }
 
@@ -152,7 +159,7 @@ impl<S: PageStore> Index<S> {
     {
         insert(
             &mut self.store,
-            &mut self.slots,
+            &mut self.calls,
             &NO_SETS,
             63,
             entry,
@@ -180,7 +187,7 @@ impl<S: PageStore> Index<S> {
     {
         bulk_delete(
             &mut self.store,
-            &mut self.slots,
+            &mut self.calls,
             &[Lent { rows: dead }],
             63,
             0,
@@ -211,7 +218,7 @@ impl<S: PageStore> Index<S> {
             IsUnhindered S.PageStore 63 self.old self.new.store → IsOk result) }
         ensures tokens { KeepsTokens self.old self.new }
     {
-        clean_up(&mut self.store, &mut self.slots, &NO_SETS, 63, LEAST_ROOM)
+        clean_up(&mut self.store, &mut self.calls, &NO_SETS, 63, LEAST_ROOM)
     }
 
     /// Makes all actions durable and answers their number. Refused with `Stopped` (3) and `Io` (2).
@@ -226,7 +233,7 @@ impl<S: PageStore> Index<S> {
             (HasCause (where_forced (S.backing self.old.store) (S.backing self.new.store))) }
         ensures tokens { KeepsTokens self.old self.new }
     {
-        count(force(&mut self.store, &self.slots))
+        count(force(&mut self.store))
     }
 
     /// Makes all actions durable, writes each changed page to its place and closes the log; answers the number of
@@ -244,7 +251,7 @@ impl<S: PageStore> Index<S> {
             (HasCause (where_forced (S.backing self.old.store) (S.backing self.new.store))) }
         ensures tokens { KeepsTokens self.old self.new }
     {
-        count(checkpoint(&mut self.store, &self.slots))
+        count(checkpoint(&mut self.store))
     }
 
     // The seat of an open token.
@@ -269,7 +276,7 @@ impl<S: PageStore> Index<S> {
     pub fn amgettuple(&mut self, token: ScanToken) -> Result<Option<Entry>, Fault>
         ensures steps { Continues S.follows self.old.store self.new.store }
         ensures runs { seat_of self.old.seats token ≡ seat_with token false
-            → slot_of self.old.slots token.session ≢ None
+            → op_of self.old.calls token.session ≢ None
             → IndexGoes S.PageStore token.session (TellsGiven token.session result)
             (give_came result) self.old self.new }
         ensures answers { IndexCarries S.PageStore self.old self.new
@@ -286,10 +293,10 @@ impl<S: PageStore> Index<S> {
         ensures refused { seat_of self.old.seats token ≡ seat_with token true
             → (result ≡ Err Fault.NoSession) × (self.new ≡ self.old) }
         ensures over { seat_of self.old.seats token ≡ seat_with token false
-            → slot_of self.old.slots token.session ≡ None
+            → op_of self.old.calls token.session ≡ None
             → (result ≡ Ok None) × (self.new ≡ self.old) }
         ensures ends { seat_of self.old.seats token ≡ seat_with token false
-            → EndsUnlessGiven result (slot_of self.new.slots token.session) }
+            → EndsUnlessGiven result (op_of self.new.calls token.session) }
         ensures tokens { seat_of self.old.seats token ≡ seat_with token false
             → TokenAfter token result self.old self.new }
     {
@@ -299,12 +306,12 @@ impl<S: PageStore> Index<S> {
         if seat.is_refused {
             return Err(Fault::NoSession);
         }
-        if !is_running(&self.slots, token.session) {
+        if !self.calls.is_running(token.session) {
             return Ok(None);
         }
         match give(
             &mut self.store,
-            &mut self.slots,
+            &mut self.calls,
             &NO_SETS,
             token.session,
             LEAST_ROOM,
@@ -335,7 +342,7 @@ impl<S: PageStore> Index<S> {
         let Some(_seat) = self.find(token) else {
             return Err(Fault::NoSession);
         };
-        give_up(&mut self.store, &mut self.slots, &NO_SETS, token.session);
+        give_up(&mut self.store, &mut self.calls, &NO_SETS, token.session);
         self.seats[token.session as usize] = None;
         Ok(())
     }
@@ -365,7 +372,7 @@ impl<S: PageStore> Index<S> {
             return Err(Fault::NoSession);
         };
         let session = at as u32;
-        open(&mut self.store, &mut self.slots, &NO_SETS, session, range)?;
+        open(&mut self.store, &mut self.calls, &NO_SETS, session, range)?;
         let number = self.given;
         self.seats[at] = Some(Seat {
             number,
@@ -392,10 +399,10 @@ impl<S: PageStore> Index<S> {
         if self.is_at_end() {
             return Err(Fault::Stopped);
         }
-        give_up(&mut self.store, &mut self.slots, &NO_SETS, token.session);
+        give_up(&mut self.store, &mut self.calls, &NO_SETS, token.session);
         open(
             &mut self.store,
-            &mut self.slots,
+            &mut self.calls,
             &NO_SETS,
             token.session,
             range,
@@ -450,7 +457,13 @@ impl<D: Device> Index<Store<D>> {
             (D.failures device) (D.failures refused.device) refused.fault) }
     {
         match recovery::open(alloc, device, frames) {
-            Ok(store) => Ok(Index::new(store)),
+            Ok(store) => match Index::new(alloc, store) {
+                Ok(index) => Ok(index),
+                Err(NotMade { fault, store }) => Err(Refused {
+                    fault,
+                    device: store.into_device(),
+                }),
+            },
             Err(refused) => Err(refused),
         }
     }

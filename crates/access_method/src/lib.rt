@@ -4,6 +4,6 @@
 mod index;
 mod token;
 
-pub use index::Index;
+pub use index::{Index, NotMade};
 pub use token::ScanToken;
 pub use whole_calls::Inserted;

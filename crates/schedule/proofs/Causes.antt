@@ -1,10 +1,9 @@
 -- Why an event is refused, in the theorem's words: each cause that an operation tells is one of these.
-use Rattle.std.proofs.Common.{◌≡◌, ◌≢◌, ◌⊎◌, ℕ, zero, suc, ◌+◌, ◌<◌, ◌≤◌, ◌&&◌, ◌||◌, ◌==◌, not, Bool, true, false, Option, Some, None, List, [], ◌∷◌, ◌++◌, length, slice_get, slice_index, refl, sym, ap, subst, arith, inl, inr, ◌∙◌, length-append}
-use Rattle.std.specs.Prelude.{nat_lt, nat_le, map, unwrap_or}
+use Rattle.std.proofs.Common.{◌≡◌, ◌≢◌, ℕ, zero, suc, ◌+◌, ◌<◌, ◌≤◌, ◌&&◌, ◌||◌, ◌==◌, not, Bool, true, false, Option, Some, None, List, [], ◌∷◌, length, slice_get, slice_index, refl, sym, ap, subst, arith, inl, inr, ◌∙◌}
+use Rattle.std.specs.Prelude.{nat_lt, nat_le, map}
 use Rattle.std.proofs.lemmas.Bool.{true≢false, false≢true, and_parts, or_cases, or_parts, eqb-true, eq-eqb, ltb-true, leb-true, leb-false, cases_eq}
 use Rattle.index_model.specs.Calls.{Ask, AskInsert, AskScan, AskBulkDelete, AskCleanup}
 use Rattle.index_model.specs.Faults.{Circumstances, HasCause}
-use Rattle.index_model.specs.declared.entry.Entry.{Entry}
 use Rattle.index_model.specs.declared.fault.Fault.{Fault}
 use Rattle.index_model.specs.declared.fault.Fault.TheVariants.{NoMemory, Io, Stopped, Blocked, Exists, KeyTooLong, BadRow, IndexFull, LogFull, NoFrame, VacuumRunning, NoSession, SessionBusy, BadSuper, BadVersion, LogDamaged, PageDamaged, BadLimits, TooTall, DeviceTooSmall}
 use Rattle.latch_table.specs.Holdings.{Holding, Table, excludes, latches_exclude, has_pin, pins_exclude, holding_excludes, others_exclude, is_held_by_another, pinned_blocks}
@@ -13,15 +12,14 @@ use Rattle.latch_table.specs.declared.mode.Mode.{Mode}
 use Rattle.latch_table.specs.declared.mode.Mode.TheVariants.{Shared, Exclusive, Cleanup as CleanupMode}
 use Rattle.page_action.specs.Causes.{nothing_wrong, count_apart, has_failed, is_at_end}
 use Rattle.page_action.specs.Reuse.{is_deleted, is_deleted_state, is_deleted_page, began_after, others_began_after, is_reusable}
-use Rattle.page_action.specs.States.{State, Backing}
+use Rattle.page_action.specs.States.{State}
 use Rattle.page_action.specs.declared.page_store.PageStore.{Ghosts}
 use Rattle.page_codec.specs.declared.page.Items.{Items}
 use Rattle.page_codec.specs.declared.page.Items.TheVariants.{Meta, Entries, Downlinks}
 use Rattle.page_codec.specs.declared.page.Page.{Page}
-use Rattle.page_codec.specs.declared.page.PageState.{PageState}
-use Rattle.page_codec.specs.declared.page.PageState.TheVariants.{Live, HalfDead, Deleted}
+use Rattle.page_codec.specs.declared.page.PageState.TheVariants.{Live, Deleted}
 use Rattle.tree_shape.specs.Chains.{IsIn}
-use Rattle.tree_shape.specs.Nodes.{Node, node_from, nodes_of}
+use Rattle.tree_shape.specs.Nodes.{node_from, nodes_of}
 use Rattle.descent.specs.Shared.{any_is_reusable, is_out_of_blocks}
 use Rattle.descent.specs.Ways.{level_with, level_of, root_level}
 use Rattle.split_finish.specs.Finishes.{images_of, frames_of}
@@ -39,7 +37,7 @@ use Rattle.session_calls.specs.declared.op.Op.TheVariants.{Insert, Scan, Bulk, C
 use Rattle.schedule.specs.TheoremMoments.{Snapshot}
 use Rattle.schedule.specs.TheoremKinds.{Steps}
 use Rattle.schedule.proofs.Lists.{get_within}
-use Rattle.schedule.specs.TheoremRefusals.{StandsInWay, IsHeldByAnother, HasNoBlock, HasFullCount, MoveFails}
+use Rattle.schedule.specs.TheoremRefusals.{StandsInWay, IsHeldByAnother, HasNoBlock, MoveFails}
 
 -- circumstances of which five may be so, as there are where no step is made
 abbrev pub few_circumstances : Bool → Bool → Bool → Bool → Bool → Circumstances

@@ -1,8 +1,7 @@
 -- Each event of a world that is fitted, by its kind.
-use Rattle.std.proofs.Common.{◌≡◌, ◌≢◌, ℕ, zero, suc, ◌<◌, ◌≤◌, ◌⊎◌, Bool, true, false, Option, Some, None, Ok, Err, List, [], ◌∷◌, ◌++◌, length, slice_get, slice_set, slice_index_or, refl, sym, ap, subst, arith, inl, inr, ◌∙◌}
+use Rattle.std.proofs.Common.{◌≡◌, ◌≢◌, ℕ, zero, suc, ◌<◌, ◌≤◌, ◌⊎◌, Bool, true, false, Option, Some, None, Err, List, [], ◌∷◌, ◌++◌, length, slice_get, slice_set, refl, sym, ap, subst, arith, inl, inr, ◌∙◌}
 use Rattle.std.specs.Prelude.{unwrap_or}
 use Rattle.std.proofs.lemmas.List.{append-nil, append_cancel_left}
-use Rattle.std.proofs.lemmas.Option.{slice_get_read}
 use Rattle.std.proofs.lemmas.Bool.{cases_eq, ltb-true}
 use Rattle.index_model.specs.Actions.{Effect, Action}
 use Rattle.index_model.specs.Calls.{Call, Meets, IsOwned}
@@ -35,10 +34,11 @@ use Rattle.session_calls.proofs.Undisturbed.{undisturbed, idle_undisturbed}
 use Rattle.schedule.specs.TheoremMoments.{Snapshot, IsRunningCall}
 use Rattle.schedule.specs.Making.{EventDoes}
 use Rattle.schedule.specs.TheoremRuns.{Fits}
-use Rattle.schedule.specs.Snapshots.{here_at, slot_of, SlotRuns, IsFree, SlotMatches, slot_vacuums, slot_sweeps, one_vacuums, OneVacuums, slot_has_call, has_call}
+use Rattle.session_calls.specs.Slots.{slot_of, slot_vacuums, one_vacuums, slot_has_call, is_of_sets, session_to_begin}
+use Rattle.schedule.specs.Snapshots.{here_at, SlotRuns, IsFree, SlotMatches, slot_sweeps, OneVacuums}
 use Rattle.schedule.specs.TheoremKinds.{Move, Steps, Takes, GivesUp, Upkeep, Forces, Flushes, Checkpoints, Kind, BeginsCall, MovesCall, KeepsStore}
 use Rattle.schedule.specs.TheoremEvents.{IsDurable}
-use Rattle.schedule.specs.Events.{UpkeepIsTold, IsToldDurable, IsOfSession, Stays, kept_answer, MovesOn, MayBegin, is_of_sets, session_to_begin, where_begun_at, where_moving, Happens, where_happening, OthersStay, session_at, EventAlways, CallIsFollowed, LeavesBe}
+use Rattle.schedule.specs.Events.{UpkeepIsTold, IsToldDurable, IsOfSession, Stays, kept_answer, MovesOn, MayBegin, where_begun_at, where_moving, Happens, where_happening, OthersStay, session_at, EventAlways, CallIsFollowed, LeavesBe}
 use Rattle.schedule.specs.Making.{EventRuns}
 use Rattle.schedule.proofs.Frames.{began_within, slot_is, goes_fits}
 use Rattle.schedule.proofs.Keeping.{no_growth}
@@ -51,19 +51,6 @@ use Rattle.schedule.proofs.Fitting.{fits_from, beyond_of, matches_of, running_of
 
 true_false : true ≡ false → ⊥
 true_false h = cc
-
--- a session with a call has a slot with an operation
-pub slot_of_call : (slots : List (Option Op)) (session : ℕ) (x : Option Op) → session < length slots → x ≡ slice_index_or slots session x → has_call slots session ≡ true
-    → (op : Op) × (slice_index_or slots session x ≡ Some op) × (slice_get slots session ≡ Some (Some op))
-slot_of_call slots session x lt read has = of x read (slice_get_read slots (length slots) session x refl lt read)
-  where
-    of : (y : Option Op) → y ≡ slice_index_or slots session y → slice_get slots session ≡ Some y → (op : Op) × (slice_index_or slots session y ≡ Some op) × (slice_get slots session ≡ Some (Some op))
-    of None r g = absurd (true_false (sym has ∙ ap slot_has_call g))
-    of (Some op) r g = (op, sym r, g)
-
--- a slot as an access reads it
-pub slot_read : (slots : List (Option Op)) (session : ℕ) (x : Option Op) → session < length slots → x ≡ slice_index_or slots session x → slice_get slots session ≡ Some (slice_index_or slots session x)
-slot_read slots session x lt read = slice_get_read slots (length slots) session x refl lt read ∙ ap (λ (y : Option Op). Some y) read
 
 -- what an event leaves as it was: a call is due after as many steps on the same pages, within the same limits
 leaves_be : {S : Type 0} (g : Ghosts S) (kind : Kind) (old new : Snapshot S) → (g.state new.store).limits ≡ (g.state old.store).limits → (g.state new.store).frames ≡ (g.state old.store).frames
@@ -483,14 +470,6 @@ module _ {S : Type 0} (g : Ghosts S) (start : Entry → Bool) (old : Snapshot S)
       invariant = begun_fits.invariant;
     });
   }
-
--- the session that was found
-pub found : (is_stopped has_set : Bool) (o : Option (Option Op)) (session known : ℕ) → Ok known ≡ session_to_begin is_stopped has_set o session → (is_stopped ≡ false) × (has_set ≡ true) × (o ≡ Some None) × (known ≡ session)
-found true has_set o session known h = absurd cc
-found false has_set None session known h = absurd cc
-found false false (Some slot) session known h = absurd cc
-found false true (Some None) session known h = (refl, refl, refl, cc)
-found false true (Some (Some op)) session known h = absurd cc
 
 -- a set that is found is there
 pub named_of : (sets : DeadSets) (request : Request) → is_of_sets sets request ≡ true → IsOfSets sets request

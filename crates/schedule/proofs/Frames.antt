@@ -21,7 +21,8 @@ use Rattle.session_calls.proofs.Telling.{IsSameCall}
 use Rattle.session_calls.proofs.Undisturbed.{undisturbed, idle_undisturbed}
 use Rattle.schedule.specs.TheoremMoments.{Snapshot, IsRunningCall}
 use Rattle.schedule.specs.TheoremRuns.{Fits}
-use Rattle.schedule.specs.Snapshots.{slot_of, SlotRuns, SlotMatches, slot_vacuums}
+use Rattle.session_calls.specs.Slots.{slot_of, slot_vacuums}
+use Rattle.schedule.specs.Snapshots.{SlotRuns, SlotMatches}
 use Rattle.schedule.proofs.Leaves.{leaves_last}
 use Rattle.schedule.proofs.Lists.{get_set_same, get_set_other, length_set, get_within, get_append, get_append_right, same_some}
 use Rattle.schedule.proofs.Owners.{add_stays, own_action}

@@ -13,7 +13,8 @@ use Rattle.session_calls.specs.declared.answer.Answer.{Answer}
 use Rattle.session_calls.specs.declared.answer.Answer.TheVariants.{Refused}
 use Rattle.session_calls.specs.declared.op.Op.{Op}
 use Rattle.schedule.specs.TheoremMoments.{snapshot_of}
-use Rattle.schedule.specs.Snapshots.{here_with, slot_of, slot_has_call, has_call}
+use Rattle.session_calls.specs.Slots.{slot_of, slot_has_call, has_call}
+use Rattle.schedule.specs.Snapshots.{here_with}
 use Rattle.schedule.specs.TheoremKinds.{Move, Steps, Takes, GivesUp, MovesCall}
 use Rattle.schedule.specs.Events.{MovesOn, where_moving, EventAlways, DoesOneAct}
 use Rattle.schedule.specs.Making.{Makes}

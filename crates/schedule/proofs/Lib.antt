@@ -11,6 +11,7 @@ pub mod Keeping
 pub mod Events
 pub mod Making
 pub mod Idling
+pub mod Moving
 pub mod Running
 pub mod Joining
 pub mod Bounds

@@ -1,5 +1,5 @@
 -- What each kind of event makes, by what the call behind it promises.
-use Rattle.std.proofs.Common.{◌≡◌, ℕ, suc, ◌&&◌, not, Bool, true, false, Option, Some, None, Ok, Err, List, length, slice_get, slice_set, refl, sym, ap, subst, inl, inr, ◌∙◌}
+use Rattle.std.proofs.Common.{◌≡◌, ℕ, ◌&&◌, not, Bool, true, false, Option, Some, None, Ok, Err, List, length, slice_get, slice_set, refl, sym, ap, subst, inl, inr, ◌∙◌}
 use Rattle.std.specs.Prelude.{unwrap_or}
 use Rattle.index_model.specs.Actions.{Action}
 use Rattle.index_model.specs.Calls.{Ask, Call}
@@ -14,7 +14,7 @@ use Rattle.session_calls.specs.Due.{IsDueIn, HasSteps}
 use Rattle.session_calls.specs.Following.{StepAlways, IsFitted, StepFollows}
 use Rattle.session_calls.specs.TheoremCalls.{DeadSets}
 use Rattle.session_calls.specs.Ops.{op_before, asks_vacuum, asks_sweep, is_sweep, session_of, asked_of, where_slot_stepped, where_asked_next, where_requesting, where_beginning, RunsOn, AnswersStopped}
-use Rattle.session_calls.specs.Sessions.{Matches, IsIdle, SlotFits, KeepsPages, SessionGoes, SessionBegins, IsBegun, BeginsBy, after_call, let_go, is_busy, slot_add, LeavesLess, LeavesNoMore, GivesLess, AnswersStep, AnswersNext, AnswersEnd, RefusalChangesNothing, OnlyWritersAct, OnlyOwnAreFlagged, LeavesOwnFlagged, KeepsBeforePins, CountsEntries, SparesLeaves}
+use Rattle.session_calls.specs.Sessions.{Matches, IsIdle, SlotFits, SessionGoes, SessionBegins, IsBegun, BeginsBy, after_call, let_go, is_busy, slot_add, LeavesLess, GivesLess, AnswersStep, AnswersNext, AnswersEnd, RefusalChangesNothing, OnlyWritersAct}
 use Rattle.session_calls.specs.declared.answer.Answer.{Answer}
 use Rattle.session_calls.specs.declared.answer.Answer.TheVariants.{Begun, Going, Added, Ready, Done, Finished, Gave, Ended, Forced, Flushed, Checkpointed, Refused}
 use Rattle.session_calls.specs.declared.op.Op.{Op}
@@ -22,9 +22,10 @@ use Rattle.session_calls.specs.declared.request.Request.{Request}
 use Rattle.session_calls.proofs.RunningOn.{runs_over}
 use Rattle.schedule.specs.TheoremMoments.{snapshot_of}
 use Rattle.schedule.specs.TheoremRuns.{Fits}
-use Rattle.schedule.specs.Snapshots.{here_with, slot_of, one_vacuums}
+use Rattle.session_calls.specs.Slots.{slot_of, one_vacuums, is_of_sets, session_to_begin}
+use Rattle.schedule.specs.Snapshots.{here_with}
 use Rattle.schedule.specs.TheoremKinds.{Steps, Takes, GivesUp, Upkeep, Forces, Flushes, Checkpoints, BeginsCall, MovesCall, KeepsStore}
-use Rattle.schedule.specs.Events.{kept_answer, is_of_sets, session_to_begin, where_begun_at, DoesOneAct, EventAlways, CallIsFollowed, AnswersUpkeep}
+use Rattle.schedule.specs.Events.{kept_answer, where_begun_at, DoesOneAct, EventAlways, CallIsFollowed, AnswersUpkeep}
 use Rattle.schedule.specs.Making.{EventRuns, Makes}
 use Rattle.schedule.proofs.Events.{at_slots, others_stay_set, moves_on, stays_on, refused_stay, keeps_on_store, flushes_on_store, begins_on, named_of, request_pages, request_limits, request_frames, request_acts, not_begun, not_found_why, not_found_first, set_same}
 use Rattle.schedule.proofs.Keeping.{Laws}

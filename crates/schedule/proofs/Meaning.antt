@@ -1,9 +1,9 @@
 -- What an event means follows from what its operation tells of it.
-use Rattle.std.proofs.Common.{◌≡◌, ◌≢◌, ◌⊎◌, ℕ, zero, suc, ◌+◌, ◌<◌, ◌≤◌, ◌&&◌, ◌||◌, ◌==◌, not, Bool, true, false, Option, Some, None, List, [], ◌∷◌, ◌++◌, length, slice_get, slice_set, refl, sym, ap, subst, arith, inl, inr, ◌∙◌, length-append}
+use Rattle.std.proofs.Common.{◌≡◌, ◌≢◌, ◌⊎◌, ℕ, suc, ◌+◌, ◌≤◌, ◌&&◌, ◌||◌, ◌==◌, not, Bool, true, false, Option, Some, None, List, [], ◌∷◌, ◌++◌, length, slice_get, slice_set, refl, sym, ap, subst, arith, inl, inr, ◌∙◌, length-append}
 use Rattle.std.specs.Prelude.{if◌then◌else◌, nat_lt, unwrap_or}
 use Rattle.std.proofs.lemmas.Bool.{true≢false, false≢true, and_parts, or_cases, eqb-true, eq-eqb, ne_eqb, ltb-true, ltb-false}
 use Rattle.index_model.specs.Actions.{Effect, Add, Remove, Shape, Action}
-use Rattle.index_model.specs.Calls.{Ask, AskInsert, AskScan, AskBulkDelete, AskCleanup, Ending, Added as EndsAdded, Failed, Call}
+use Rattle.index_model.specs.Calls.{Ask, AskInsert, AskScan, AskBulkDelete, AskCleanup, Added as EndsAdded, Failed, Call}
 use Rattle.index_model.specs.Faults.{Circumstances, HasCause}
 use Rattle.index_model.specs.declared.entry.Entry.{Entry}
 use Rattle.index_model.specs.declared.fault.Fault.{Fault}
@@ -11,12 +11,11 @@ use Rattle.index_model.specs.declared.fault.Fault.TheVariants.{NoMemory, Io, Sto
 use Rattle.page_action.specs.Causes.{nothing_wrong, is_at_end, has_failed, where_forced}
 use Rattle.page_action.specs.States.{State}
 use Rattle.page_action.specs.declared.page_store.PageStore.{Ghosts}
-use Rattle.page_codec.specs.declared.page.PageState.TheVariants.{Live, HalfDead, Deleted}
-use Rattle.tree_shape.specs.Nodes.{Node, nodes_of}
-use Rattle.tree_acts.specs.Flags.{FlagsMove, is_block, flag_after}
-use Rattle.descent.specs.Shared.{MovesFlags, FinishesASplit, DeletesLeaves, DeletesALeaf, IsRaised, is_flagged, level_in}
-use Rattle.session_calls.specs.TheoremCalls.{DeadSets, asked_by, begun_call, acts_of, becomes, MayComeWith}
-use Rattle.session_calls.specs.Ops.{asked_of, session_of, asks_vacuum, is_vacuum, where_stepped, where_asked_next, once_added, IsCaused, ends_call}
+use Rattle.tree_shape.specs.Nodes.{nodes_of}
+use Rattle.tree_acts.specs.Flags.{FlagsMove}
+use Rattle.descent.specs.Shared.{FinishesASplit, DeletesALeaf, IsRaised, is_flagged, level_in}
+use Rattle.session_calls.specs.TheoremCalls.{asked_by, acts_of, becomes, MayComeWith}
+use Rattle.session_calls.specs.Ops.{asked_of, session_of, asks_vacuum, is_vacuum, where_asked_next, once_added, IsCaused, ends_call}
 use Rattle.session_calls.specs.Sessions.{Told, MovesShape, act_count, noted, ended, is_busy}
 use Rattle.session_calls.specs.declared.answer.Answer.{Answer}
 use Rattle.session_calls.specs.declared.answer.Answer.TheVariants.{Begun, Going, Added, Ready, Done, Finished, Gave, Ended, Forced, Flushed, Checkpointed, Refused}
@@ -27,11 +26,12 @@ use Rattle.session_calls.specs.declared.request.Request.TheVariants.{Insert as T
 use Rattle.schedule.specs.TheoremMoments.{Snapshot, RunsOne, IsRunningCall}
 use Rattle.schedule.specs.TheoremKinds.{Move, Steps, Takes, GivesUp, Upkeep, Forces, Flushes, Checkpoints, Kind, BeginsCall, MovesCall, KeepsStore}
 use Rattle.schedule.specs.TheoremRefusals.{MoveFails, Vacuums, EventFails}
-use Rattle.schedule.specs.TheoremEvents.{IsStill, CallIsBegun, ClearsOneSplit, DeletesOneLeaf, ShapeMoves, IsRefusedFor, CallGoesOn, AllAreDurable, Means}
+use Rattle.schedule.specs.TheoremEvents.{IsStill, ClearsOneSplit, DeletesOneLeaf, ShapeMoves, IsRefusedFor, CallGoesOn, AllAreDurable, Means}
 use Rattle.schedule.specs.TheoremRuns.{Fits}
 use Rattle.schedule.specs.Making.{EventDoes}
-use Rattle.schedule.specs.Snapshots.{SlotRuns, here_at, slot_of, slot_vacuums, one_vacuums, slot_has_call, has_call}
-use Rattle.schedule.specs.Events.{CallMoves, CallBegins, Stays, kept_answer, IsToldDurable, UpkeepIsTold, UpkeepIsDone, MovesOn, MayBegin, Happens, where_no_call, is_of_sets, where_moved, where_begun_at, where_moving, where_happening, EventAlso}
+use Rattle.session_calls.specs.Slots.{slot_of, slot_vacuums, one_vacuums, slot_has_call, has_call, is_of_sets}
+use Rattle.schedule.specs.Snapshots.{SlotRuns, here_at}
+use Rattle.schedule.specs.Events.{CallMoves, Stays, kept_answer, IsToldDurable, UpkeepIsDone, MovesOn, MayBegin, Happens, where_no_call, where_begun_at, where_moving, where_happening, EventAlso}
 use Rattle.schedule.proofs.Causes.{one_of_few, step_fails}
 use Rattle.schedule.proofs.Fitting.{none_beyond, running_of}
 use Rattle.schedule.proofs.Lists.{same_some}

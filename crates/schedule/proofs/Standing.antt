@@ -27,7 +27,8 @@ use Rattle.session_calls.proofs.Telling.{IsSameCall, told_same}
 use Rattle.schedule.specs.TheoremMoments.{Snapshot}
 use Rattle.schedule.specs.Making.{EventDoes}
 use Rattle.schedule.specs.TheoremRuns.{Fits}
-use Rattle.schedule.specs.Snapshots.{slot_of, SlotRuns, slot_vacuums, slot_sweeps, slot_has_call}
+use Rattle.session_calls.specs.Slots.{slot_of, slot_vacuums, slot_has_call}
+use Rattle.schedule.specs.Snapshots.{SlotRuns, slot_sweeps}
 use Rattle.vacuum.specs.declared.steps.BulkDeleteOp.{BulkDeleteOp}
 use Rattle.schedule.specs.TheoremKinds.{Move, Steps, Takes, GivesUp, Upkeep, Kind, BeginsCall, MovesCall, KeepsStore, kind_of}
 use Rattle.schedule.specs.Events.{CallMoves, Stays, MovesOn, AnswersBeginning}

@@ -12,7 +12,8 @@ use Rattle.session_calls.specs.declared.op.Op.{Op}
 use Rattle.session_calls.specs.declared.op.Op.TheVariants.{Insert, Scan, Bulk, Cleanup}
 use Rattle.schedule.specs.TheoremMoments.{Snapshot, snapshot_of}
 use Rattle.schedule.specs.TheoremRuns.{Fits}
-use Rattle.schedule.specs.Snapshots.{SlotRuns, SlotMatches, IsUnused, here_with, slot_of, slot_vacuums, one_sweeps}
+use Rattle.session_calls.specs.Slots.{slot_of, slot_vacuums}
+use Rattle.schedule.specs.Snapshots.{SlotRuns, SlotMatches, IsUnused, here_with, one_sweeps}
 use Rattle.schedule.proofs.Fitting.{fits_from, beyond_of, matches_of, running_of}
 
 -- what stands in a list of one thing

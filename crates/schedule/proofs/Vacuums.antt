@@ -12,7 +12,8 @@ use Rattle.session_calls.specs.declared.op.Op.{Op}
 use Rattle.session_calls.specs.declared.op.Op.TheVariants.{Insert, Scan, Bulk, Cleanup}
 use Rattle.session_calls.specs.declared.request.Request.{Request}
 use Rattle.session_calls.specs.declared.request.Request.TheVariants.{Insert as ToInsert, Scan as ToScan, Bulk as ToBulk, Cleanup as ToCleanup}
-use Rattle.schedule.specs.Snapshots.{slot_of, slot_vacuums, slot_sweeps, one_vacuums, one_sweeps, OneVacuums}
+use Rattle.session_calls.specs.Slots.{slot_of, slot_vacuums, one_vacuums}
+use Rattle.schedule.specs.Snapshots.{slot_sweeps, one_sweeps, OneVacuums}
 use Rattle.schedule.proofs.Lists.{get_set_same, get_set_other}
 
 true_false : true ≡ false → ⊥

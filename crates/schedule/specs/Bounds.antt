@@ -5,7 +5,7 @@ use Rattle.page_action.specs.declared.page_store.PageStore.{Ghosts}
 use Rattle.session_calls.specs.Sessions.{work_in}
 use Rattle.schedule.specs.TheoremMoments.{Snapshot}
 use Rattle.schedule.specs.TheoremRuns.{Fits}
-use Rattle.schedule.specs.Snapshots.{slot_of}
+use Rattle.session_calls.specs.Slots.{slot_of}
 
 -- so many steps at most, and entries to give, while the pages stay as they are
 abbrev pub WorkIsBounded : {S : Type 0} → Ghosts S → Type 0

@@ -1,11 +1,11 @@
 -- What an event does beside what it means: what keeps the theorem, and what holds of an event whatever the pages are.
-use Rattle.std.specs.Prelude.{◌≡◌, ◌≢◌, ◌⊎◌, ℕ, suc, ◌≤◌, ◌&&◌, nat_lt, not, Bool, true, false, Option, Some, None, Result, Ok, Err, List, [], ◌∷◌, ◌++◌, length, slice_get, slice_set}
+use Rattle.std.specs.Prelude.{◌≡◌, ◌≢◌, ◌⊎◌, ℕ, suc, ◌≤◌, ◌&&◌, not, Bool, true, false, Option, Some, None, Err, List, [], ◌∷◌, ◌++◌, length, slice_get, slice_set}
 use Rattle.index_model.specs.Actions.{Effect, Action, contents_after}
 use Rattle.index_model.specs.Calls.{Call}
 use Rattle.index_model.specs.Faults.{Circumstances, HasCause}
 use Rattle.index_model.specs.declared.entry.Entry.{Entry}
 use Rattle.index_model.specs.declared.fault.Fault.{Fault}
-use Rattle.index_model.specs.declared.fault.Fault.TheVariants.{Stopped, NoSession, SessionBusy}
+use Rattle.index_model.specs.declared.fault.Fault.TheVariants.{Stopped}
 use Rattle.page_action.specs.Causes.{nothing_wrong, where_forced}
 use Rattle.page_action.specs.States.{State, IsLater}
 use Rattle.page_action.specs.declared.page_store.PageStore.{Ghosts}
@@ -22,13 +22,12 @@ use Rattle.session_calls.specs.declared.answer.Answer.{Answer}
 use Rattle.session_calls.specs.declared.answer.Answer.TheVariants.{Begun, Forced, Flushed, Checkpointed, Refused}
 use Rattle.session_calls.specs.declared.op.Op.{Op}
 use Rattle.session_calls.specs.declared.request.Request.{Request}
-use Rattle.session_calls.specs.declared.request.Request.TheVariants.{Insert as ToInsert, Scan as ToScan, Bulk as ToBulk, Cleanup as ToCleanup}
 use Rattle.schedule.specs.TheoremMoments.{StoreAndSlots, Snapshot, IsRunningCall}
 use Rattle.schedule.specs.TheoremKinds.{Move, Steps, Takes, GivesUp, Upkeep, Forces, Flushes, Checkpoints, Kind, BeginsCall, MovesCall, KeepsStore, kind_of}
 use Rattle.schedule.specs.TheoremEvents.{IsStill, IsDurable}
-use Rattle.schedule.specs.Snapshots.{here_at, slot_of, has_call, one_vacuums, Invariant}
+use Rattle.session_calls.specs.Slots.{slot_of, has_call, one_vacuums, is_of_sets, session_to_begin}
+use Rattle.schedule.specs.Snapshots.{here_at, Invariant}
 use Rattle.schedule.specs.declared.event.Event.{Event}
-use Rattle.schedule.specs.declared.event.Event.TheVariants.{Insert, Scan, Bulk, Cleanup, Step, Next, End, Force, Flush, Checkpoint}
 
 -- the kind is of this session, or of no session
 abbrev pub IsOfSession : ℕ → Kind → Type 0
@@ -123,22 +122,6 @@ Happens g start (KeepsStore upkeep) answer old new = UpkeepIsDone g upkeep answe
 -- the circumstances where there is no such session, or no call in it
 abbrev pub where_no_call : Bool → Circumstances
 where_no_call is_stopped = record nothing_wrong { is_stopped = is_stopped; no_such_session = true }
-
--- the set that a request names is there
-abbrev pub is_of_sets : DeadSets → Request → Bool
-is_of_sets sets (ToInsert e) = true
-is_of_sets sets (ToScan range) = true
-is_of_sets sets (ToBulk set) = nat_lt set (length sets)
-is_of_sets sets ToCleanup = true
-
--- the session that may begin a call, where the log hasn't failed, there is such a session and the set that is named, and it
--- has no call: refused for the first of these that isn't so
-abbrev pub session_to_begin : Bool → Bool → Option (Option Op) → ℕ → Result ℕ Fault
-session_to_begin true has_set slot session = Err Stopped
-session_to_begin false has_set None session = Err NoSession
-session_to_begin false false (Some slot) session = Err NoSession
-session_to_begin false true (Some None) session = Ok session
-session_to_begin false true (Some (Some op)) session = Err SessionBusy
 
 -- the circumstances of an event of a call: of one that runs, or of none
 abbrev pub where_moved : Circumstances → (Op → Circumstances) → Option (Option Op) → Circumstances

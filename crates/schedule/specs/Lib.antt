@@ -3,6 +3,7 @@ pub mod TheoremKinds
 pub mod TheoremRefusals
 pub mod TheoremEvents
 pub mod Snapshots
+pub mod Sessions
 pub mod TheoremCrashes
 pub mod Events
 pub mod TheoremRuns

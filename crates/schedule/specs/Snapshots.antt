@@ -1,17 +1,17 @@
 -- What keeps the theorem: what is known of a moment between its events. It needs no reading, since a world begins with it and each event
 -- keeps it.
-use Rattle.std.specs.Prelude.{◌≡◌, ℕ, ◌<◌, ◌≤◌, Bool, true, false, Option, Some, None, List, length, slice_get, unwrap_or}
+use Rattle.std.specs.Prelude.{◌≡◌, ℕ, Bool, true, false, Option, Some, None, List, slice_get}
 use Rattle.std.specs.List.{list_any}
-use Rattle.index_model.specs.Actions.{Action}
-use Rattle.index_model.specs.Calls.{Running, Call, Meets, ActionsAreOwned}
+use Rattle.index_model.specs.Calls.{Call}
 use Rattle.index_model.specs.declared.entry.Entry.{Entry}
 use Rattle.page_action.specs.States.{State}
 use Rattle.page_action.specs.declared.page_store.PageStore.{Ghosts}
 use Rattle.tree_acts.specs.Deletions.{StartsAreBelow}
 use Rattle.descent.specs.Shared.{IsInOrder}
 use Rattle.session_calls.specs.TheoremCalls.{DeadSets}
-use Rattle.session_calls.specs.Ops.{is_vacuum, is_sweep, is_sweeping}
-use Rattle.session_calls.specs.Sessions.{Matches, OpRuns, IsIdle, is_busy}
+use Rattle.session_calls.specs.Ops.{is_sweep, is_sweeping}
+use Rattle.session_calls.specs.Sessions.{OpRuns, IsIdle}
+use Rattle.session_calls.specs.Slots.{slot_of, slot_vacuums}
 use Rattle.session_calls.specs.Sweeps.{OpSweeps}
 use Rattle.session_calls.specs.declared.op.Op.{Op}
 use Rattle.schedule.specs.TheoremMoments.{StoreAndSlots, Snapshot, RunsOne, IsRunningCall}
@@ -19,10 +19,6 @@ use Rattle.schedule.specs.TheoremMoments.{StoreAndSlots, Snapshot, RunsOne, IsRu
 -- this store with these slots and sets
 abbrev pub here_with : {S : Type 0} → S → List (Option Op) → DeadSets → StoreAndSlots S
 here_with store slots sets = record { store = store; slots = slots; sets = sets }
-
--- what the session runs
-abbrev pub slot_of : List (Option Op) → ℕ → Option Op
-slot_of slots session = unwrap_or (slice_get slots session) None
 
 -- the store of a moment with its slots and sets
 abbrev pub here_at : {S : Type 0} → Snapshot S → StoreAndSlots S
@@ -48,19 +44,10 @@ abbrev pub SlotMatches : {S : Type 0} → Ghosts S → (Entry → Bool) → Snap
 SlotMatches g start now session None = IsFree g now session
 SlotMatches g start now session (Some op) = SlotRuns g start now session op
 
--- what a session runs is a bulk delete or a cleanup
-abbrev pub slot_vacuums : Option Op → Bool
-slot_vacuums None = false
-slot_vacuums (Some op) = is_vacuum op
-
--- ... is a bulk delete
+-- what a session runs is a bulk delete
 abbrev pub slot_sweeps : Option Op → Bool
 slot_sweeps None = false
 slot_sweeps (Some op) = is_sweep op
-
--- some session runs a bulk delete or a cleanup
-abbrev pub one_vacuums : List (Option Op) → Bool
-one_vacuums slots = list_any slot_vacuums slots
 
 -- some session runs a bulk delete
 abbrev pub one_sweeps : List (Option Op) → Bool
@@ -81,14 +68,6 @@ pub record Invariant {S : Type 0} (g : Ghosts S) (start : Entry → Bool) (now :
       → OpRuns (g.state now.store) now.sets start now.history call op × OpSweeps (g.state now.store) now.sets start now.history number call.began op
   pub idle : (session : ℕ) → (RunsOne now.slots session → ⊥) → IsIdle (g.state now.store) session
   pub vacuums : OneVacuums (g.state now.store) now.slots
-
--- the session of this number has a call
-abbrev pub slot_has_call : Option (Option Op) → Bool
-slot_has_call None = false
-slot_has_call (Some slot) = is_busy slot
-
-abbrev pub has_call : List (Option Op) → ℕ → Bool
-has_call slots session = slot_has_call (slice_get slots session)
 
 -- pages in order, no act since opening, no cycle number, and no session that holds anything or has a start number
 pub record IsUnused (st : State) : Type 0 where

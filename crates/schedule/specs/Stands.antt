@@ -11,7 +11,8 @@ use Rattle.session_calls.specs.declared.op.Op.{Op}
 use Rattle.session_calls.specs.declared.op.Op.TheVariants.{Insert, Scan, Bulk, Cleanup}
 use Rattle.schedule.specs.TheoremMoments.{Snapshot}
 use Rattle.schedule.specs.TheoremRuns.{Fits}
-use Rattle.schedule.specs.Snapshots.{slot_of, slot_sweeps}
+use Rattle.session_calls.specs.Slots.{slot_of}
+use Rattle.schedule.specs.Snapshots.{slot_sweeps}
 use Rattle.schedule.specs.TheoremKinds.{Steps, Kind, MovesCall, kind_of}
 use Rattle.schedule.specs.TheoremRuns.{IsRun}
 use Rattle.schedule.specs.declared.event.Event.{Event}

@@ -1,10 +1,10 @@
 -- The theorem's words: what an event means: what it does to the history and to the calls, by what it answers.
-use Rattle.std.specs.Prelude.{◌≡◌, ◌≢◌, ◌⊎◌, ℕ, suc, ◌≤◌, Bool, true, false, Option, Some, None, List, [], ◌∷◌, ◌++◌, length, slice_get, slice_set}
-use Rattle.index_model.specs.Actions.{Effect, Add, Remove, Shape}
-use Rattle.index_model.specs.Calls.{Ask, AskInsert, AskScan, AskBulkDelete, AskCleanup, Call}
+use Rattle.std.specs.Prelude.{◌≡◌, ◌≢◌, ◌⊎◌, ℕ, suc, ◌≤◌, Bool, true, false, Option, Some, None, [], ◌∷◌, ◌++◌, length, slice_get, slice_set}
+use Rattle.index_model.specs.Actions.{Effect, Shape}
+use Rattle.index_model.specs.Calls.{Ask, AskInsert, AskCleanup, Call}
 use Rattle.index_model.specs.declared.entry.Entry.{Entry}
 use Rattle.index_model.specs.declared.fault.Fault.{Fault}
-use Rattle.index_model.specs.declared.fault.Fault.TheVariants.{Stopped, Exists, NoSession}
+use Rattle.index_model.specs.declared.fault.Fault.TheVariants.{Exists}
 use Rattle.page_action.specs.declared.page_store.PageStore.{Ghosts}
 use Rattle.page_codec.specs.declared.page.PageState.TheVariants.{Live, HalfDead, Deleted}
 use Rattle.tree_shape.specs.Nodes.{Node, nodes_of}
@@ -13,7 +13,6 @@ use Rattle.session_calls.specs.declared.answer.Answer.{Answer}
 use Rattle.session_calls.specs.declared.answer.Answer.TheVariants.{Begun, Added, Forced, Flushed, Checkpointed, Refused}
 use Rattle.session_calls.specs.declared.op.Op.{Op}
 use Rattle.session_calls.specs.declared.request.Request.{Request}
-use Rattle.session_calls.specs.declared.request.Request.TheVariants.{Insert as ToInsert, Scan as ToScan, Bulk as ToBulk, Cleanup as ToCleanup}
 use Rattle.schedule.specs.TheoremMoments.{Snapshot, RunsOne, IsRunningCall, Explains}
 use Rattle.schedule.specs.TheoremKinds.{Move, Forces, Flushes, Checkpoints, Kind, BeginsCall, MovesCall, KeepsStore}
 use Rattle.schedule.specs.TheoremRefusals.{MoveFails, EventFails}

@@ -1,5 +1,5 @@
 -- The theorem's words: why an event is refused.
-use Rattle.std.specs.Prelude.{◌≡◌, ◌≢◌, ◌⊎◌, ℕ, ◌+◌, ◌<◌, ◌≤◌, true, Some, List, length, map, slice_get, slice_index}
+use Rattle.std.specs.Prelude.{◌≡◌, ◌≢◌, ◌⊎◌, ℕ, ◌+◌, ◌<◌, ◌≤◌, true, Some, length, map, slice_get, slice_index}
 use Rattle.index_model.specs.Calls.{Ask, AskInsert, AskScan, AskBulkDelete, AskCleanup, Call}
 use Rattle.index_model.specs.declared.fault.Fault.{Fault}
 use Rattle.index_model.specs.declared.fault.Fault.TheVariants.{Io, Stopped, Blocked, Exists, IndexFull, LogFull, NoFrame, VacuumRunning, NoSession, SessionBusy, TooTall}
@@ -13,7 +13,6 @@ use Rattle.tree_shape.specs.Nodes.{nodes_of}
 use Rattle.session_calls.specs.TheoremCalls.{asked_by}
 use Rattle.session_calls.specs.declared.op.Op.{Op}
 use Rattle.session_calls.specs.declared.op.Op.TheVariants.{Insert, Scan, Bulk, Cleanup}
-use Rattle.session_calls.specs.declared.request.Request.{Request}
 use Rattle.session_calls.specs.declared.request.Request.TheVariants.{Bulk as ToBulk}
 use Rattle.schedule.specs.TheoremMoments.{Snapshot, RunsOne, IsRunningCall}
 use Rattle.schedule.specs.TheoremKinds.{Move, Steps, Takes, Kind, BeginsCall, MovesCall, KeepsStore}

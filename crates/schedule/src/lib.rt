@@ -6,5 +6,5 @@ mod happening;
 mod laws;
 
 pub use event::Event;
-pub use happening::{checkpoint, force, is_running, one, run};
+pub use happening::{checkpoint, force, one, run};
 pub use laws::{bulk_deletes_wait_for_scans, scans_stand_on_leaves, work_is_bounded};

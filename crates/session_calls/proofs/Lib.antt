@@ -1,4 +1,5 @@
 pub mod Lists
+pub mod Slots
 pub mod Starting
 pub mod Telling
 pub mod Meeting

@@ -6,3 +6,4 @@ pub mod Due
 pub mod Undisturbed
 pub mod Bounds
 pub mod Following
+pub mod Slots

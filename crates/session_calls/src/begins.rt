@@ -27,7 +27,7 @@ use vacuum::BulkDeleteOp;
 ///
 /// On its own, into a leaf with room, an insert takes three steps more than the root's level; the first entries of a scan
 /// are ready after two more.
-pub fn begin<S: PageStore>(
+pub(crate) fn begin<S: PageStore>(
     store: &mut S,
     session: Session,
     request: Request,

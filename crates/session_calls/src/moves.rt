@@ -23,7 +23,7 @@ use page_action::PageStore;
 /// but that the call is over, unless it was refused with `Blocked` or `NoSession`.
 ///
 /// A call that was asked for the rows of a set knows it by its place among the sets. These are the same at each of its steps.
-pub fn step<S: PageStore, T: DeadRows>(store: &mut S, slot: &mut Option<Op>, sets: &[T]) -> Answer
+pub(crate) fn step<S: PageStore, T: DeadRows>(store: &mut S, slot: &mut Option<Op>, sets: &[T]) -> Answer
     ensures steps { Continues S.follows store.old store.new }
     // Whatever the pages are: what it may answer, what a refusal leaves, that less is left to do.
     ensures always { StepAlways S.PageStore store.old store.new slot.old slot.new result }
@@ -84,7 +84,7 @@ fn is_last(answer: &Answer) -> bool
 
 /// The next entry that a session's scan has ready, or none. A call that is no scan, and a slot with no call, are refused
 /// with `NoSession` (12). Nothing else is changed.
-pub fn next(slot: &mut Option<Op>) -> Answer
+pub(crate) fn next(slot: &mut Option<Op>) -> Answer
     ensures idle { slot.old ≡ None → (slot.new ≡ None) × (result ≡ no_call false) }
     ensures kind { AnswersNext slot.old result }
     ensures runs_on { RunsOn slot.old slot.new }
@@ -105,7 +105,7 @@ pub fn next(slot: &mut Option<Op>) -> Answer
 
 /// Gives a session's call up: nothing is logged, and what the session held is let go. A slot with no call is refused with
 /// `NoSession` (12).
-pub fn end<S: PageStore>(store: &mut S, slot: &mut Option<Op>) -> Answer
+pub(crate) fn end<S: PageStore>(store: &mut S, slot: &mut Option<Op>) -> Answer
     ensures steps { Continues S.follows store.old store.new }
     ensures idle { slot.old ≡ None → store.new ≡ store.old }
     ensures kind { AnswersEnd slot.old result }

@@ -1,14 +1,13 @@
 //! Events of many sessions.
 
 use crate::dead::{Blocks, NO_SETS};
-use crate::plain::{one, run};
+use crate::plain::{finish, force, is_running, one, run, sessions};
 use crate::trees::{ALL, entry, tree};
 use arrayvec::ArrayVec;
 use index_model::{Entry, Fault};
 use page_action::{MapStore, PageStore};
-use schedule::{Event, force, is_running};
-use session_calls::{Answer, Op};
-use std::array;
+use schedule::Event;
+use session_calls::{Answer, Calls};
 use std::test::{Fail, *};
 
 // So many entries are inserted, of these keys in another order.
@@ -22,8 +21,8 @@ fn nth(place: u8) -> Entry {
 }
 
 // An event of a session that inserts, where so many inserts have begun: a step of its call, or the next insert.
-fn to_insert(slots: &[Option<Op>], session: u32, begun: u8) -> Event {
-    if is_running(slots, session) || begun == MOST {
+fn to_insert(calls: &Calls, session: u32, begun: u8) -> Event {
+    if is_running(calls, session) || begun == MOST {
         Event::Step(session)
     } else {
         Event::Insert(session, nth(begun.saturating_add(1)))
@@ -39,8 +38,8 @@ struct Scanned {
 }
 
 // The next event of the session's scan.
-fn to_scan(slots: &[Option<Op>], session: u32, scanned: &Scanned) -> Event {
-    if !is_running(slots, session) {
+fn to_scan(calls: &Calls, session: u32, scanned: &Scanned) -> Event {
+    if !is_running(calls, session) {
         Event::Scan(session, ALL)
     } else if scanned.is_ready {
         Event::Next(session)
@@ -84,17 +83,17 @@ fn fresh_scan() -> Scanned {
 
 // Two sessions insert, a third one scans, each of them one event in turn, until all is inserted and no insert runs: how
 // many inserts were added and how many scans have given all, or None for a wrong answer.
-fn take_turns(store: &mut MapStore, slots: &mut [Option<Op>; 3], turns: u32) -> Option<(u8, u8)> {
+fn take_turns(store: &mut MapStore, calls: &mut Calls, turns: u32) -> Option<(u8, u8)> {
     let mut scanned = fresh_scan();
     let (mut begun, mut added, mut scans) = (0u8, 0u8, 0u8);
     for turn in 0..turns {
         let session = turn % 3;
         let event = if session == 2 {
-            to_scan(slots, session, &scanned)
+            to_scan(calls, session, &scanned)
         } else {
-            to_insert(slots, session, begun)
+            to_insert(calls, session, begun)
         };
-        let answer = one(store, slots, &NO_SETS, event);
+        let answer = one(store, calls, &NO_SETS, event);
         if session == 2 {
             if !hears(&mut scanned, &answer) {
                 return None;
@@ -116,11 +115,11 @@ fn take_turns(store: &mut MapStore, slots: &mut [Option<Op>; 3], turns: u32) -> 
 }
 
 // A scan on its own: all that it gives, or None for a wrong answer.
-fn scan_alone(store: &mut MapStore, slots: &mut [Option<Op>; 3]) -> Option<ArrayVec<Entry, 64>> {
+fn scan_alone(store: &mut MapStore, calls: &mut Calls) -> Option<ArrayVec<Entry, 64>> {
     let mut scanned = fresh_scan();
     for _ in 0..200 {
-        let event = to_scan(slots, 2, &scanned);
-        let answer = one(store, slots, &NO_SETS, event);
+        let event = to_scan(calls, 2, &scanned);
+        let answer = one(store, calls, &NO_SETS, event);
         if !hears(&mut scanned, &answer) {
             return None;
         }
@@ -134,17 +133,17 @@ fn scan_alone(store: &mut MapStore, slots: &mut [Option<Op>; 3]) -> Option<Array
 #[test]
 fn two_split_leaves_while_a_third_scans(rt: HostRuntime) -> Result<(), Fail> {
     let mut store = tree(rt.alloc(), 32, &[])?;
-    let mut slots: [Option<Op>; 3] = array::from_fn(|_| None);
-    let Some((added, scans)) = take_turns(&mut store, &mut slots, 600) else {
+    let mut calls = sessions(rt.alloc(), 3)?;
+    let Some((added, scans)) = take_turns(&mut store, &mut calls, 600) else {
         assert!(rt; false);
         return Ok(());
     };
     assert!(rt; added == MOST);
     assert!(rt; scans > 2);
     assert!(rt; store.used() > 8);
-    assert!(rt; slots[0].is_none() && slots[1].is_none());
-    let _ended = one(&mut store, &mut slots, &NO_SETS, Event::End(2));
-    let Some(given) = scan_alone(&mut store, &mut slots) else {
+    assert!(rt; !is_running(&calls, 0) && !is_running(&calls, 1));
+    let _ended = one(&mut store, &mut calls, &NO_SETS, Event::End(2));
+    let Some(given) = scan_alone(&mut store, &mut calls) else {
         assert!(rt; false);
         return Ok(());
     };
@@ -153,7 +152,7 @@ fn two_split_leaves_while_a_third_scans(rt: HostRuntime) -> Result<(), Fail> {
         assert!(rt; *found == entry(u8::try_from(place + 1).unwrap_or(0), 1, 1));
     }
     let acts = store.acts();
-    let kept = force(&mut store, &slots);
+    let kept = force(&mut store);
     assert!(rt; matches!(kept, Answer::Forced(count) if count == acts));
     Ok(())
 }
@@ -161,7 +160,7 @@ fn two_split_leaves_while_a_third_scans(rt: HostRuntime) -> Result<(), Fail> {
 #[test]
 fn refused_events_in_a_run(rt: HostRuntime) -> Result<(), Fail> {
     let mut store = tree(rt.alloc(), 32, &[])?;
-    let mut slots: [Option<Op>; 2] = array::from_fn(|_| None);
+    let mut calls = sessions(rt.alloc(), 2)?;
     let events = [
         Event::Step(0),
         Event::Insert(2, entry(1, 1, 1)),
@@ -172,7 +171,7 @@ fn refused_events_in_a_run(rt: HostRuntime) -> Result<(), Fail> {
         Event::Force,
     ];
     let mut answers = Vec::new(rt.alloc());
-    run(&mut store, &mut slots, &NO_SETS, &events, &mut answers)?;
+    run(&mut store, &mut calls, &NO_SETS, &events, &mut answers)?;
     assert!(rt; answers.len() == events.len());
     assert!(rt; matches!(answers[0], Answer::Refused(Fault::NoSession)));
     assert!(rt; matches!(answers[1], Answer::Refused(Fault::NoSession)));
@@ -185,37 +184,26 @@ fn refused_events_in_a_run(rt: HostRuntime) -> Result<(), Fail> {
 }
 
 #[test]
-fn slots_of_another_owner(rt: HostRuntime) -> Result<(), Fail> {
+fn sessions_of_another_owner(rt: HostRuntime) -> Result<(), Fail> {
     let mut store = tree(rt.alloc(), 8, &[])?;
-    let mut slots = [None, None];
+    let mut calls = sessions(rt.alloc(), 2)?;
     let mut answers = Vec::new(rt.alloc());
-    let begun = one(&mut store, &mut slots, &NO_SETS, Event::Scan(1, ALL));
+    let begun = one(&mut store, &mut calls, &NO_SETS, Event::Scan(1, ALL));
     assert!(rt; matches!(begun, Answer::Begun));
-    assert!(rt; is_running(&slots, 1));
+    assert!(rt; is_running(&calls, 1));
     let events = [Event::End(1), Event::Force];
-    run(&mut store, &mut slots, &NO_SETS, &events, &mut answers)?;
+    run(&mut store, &mut calls, &NO_SETS, &events, &mut answers)?;
     assert!(rt; answers.len() == 2);
     assert!(rt; matches!(answers[0], Answer::Ended));
     assert!(rt; matches!(answers[1], Answer::Forced(0)));
-    assert!(rt; !is_running(&slots, 1));
+    assert!(rt; !is_running(&calls, 1));
     Ok(())
-}
-
-// The answer to the first step of the session that isn't `Going`.
-fn finish(store: &mut MapStore, slots: &mut [Option<Op>; 3], session: u32) -> Answer {
-    for _ in 0..100 {
-        let answer = one(store, slots, &SETS, Event::Step(session));
-        if !matches!(answer, Answer::Going) {
-            return answer;
-        }
-    }
-    Answer::Going
 }
 
 #[test]
 fn a_bulk_delete_is_refused_in_order(rt: HostRuntime) -> Result<(), Fail> {
     let mut store = tree(rt.alloc(), 32, &[])?;
-    let mut slots: [Option<Op>; 3] = array::from_fn(|_| None);
+    let mut calls = sessions(rt.alloc(), 3)?;
     let events = [
         Event::Bulk(3, 0),
         Event::Bulk(0, 2),
@@ -231,7 +219,7 @@ fn a_bulk_delete_is_refused_in_order(rt: HostRuntime) -> Result<(), Fail> {
         Event::Bulk(2, 0),
     ];
     let mut answers = Vec::new(rt.alloc());
-    run(&mut store, &mut slots, &SETS, &events, &mut answers)?;
+    run(&mut store, &mut calls, &SETS, &events, &mut answers)?;
     assert!(rt; answers.len() == events.len());
     assert!(rt; matches!(answers[0], Answer::Refused(Fault::NoSession)));
     assert!(rt; matches!(answers[1], Answer::Refused(Fault::NoSession)));
@@ -251,29 +239,29 @@ fn a_bulk_delete_is_refused_in_order(rt: HostRuntime) -> Result<(), Fail> {
 #[test]
 fn a_bulk_delete_waits_for_a_scan(rt: HostRuntime) -> Result<(), Fail> {
     let mut store = tree(rt.alloc(), 32, &[])?;
-    let mut slots: [Option<Op>; 3] = array::from_fn(|_| None);
+    let mut calls = sessions(rt.alloc(), 3)?;
     for key in 1..=3 {
         let _begun = one(
             &mut store,
-            &mut slots,
+            &mut calls,
             &SETS,
             Event::Insert(0, entry(key, u32::from(key) % 2, 1)),
         );
-        let added = finish(&mut store, &mut slots, 0);
+        let added = finish(&mut store, &mut calls, &SETS, 0);
         assert!(rt; matches!(added, Answer::Added { .. }));
     }
-    let _begun = one(&mut store, &mut slots, &SETS, Event::Scan(1, ALL));
-    let ready = finish(&mut store, &mut slots, 1);
+    let _begun = one(&mut store, &mut calls, &SETS, Event::Scan(1, ALL));
+    let ready = finish(&mut store, &mut calls, &SETS, 1);
     assert!(rt; matches!(ready, Answer::Ready(3)));
-    let begun = one(&mut store, &mut slots, &SETS, Event::Bulk(2, 1));
+    let begun = one(&mut store, &mut calls, &SETS, Event::Bulk(2, 1));
     assert!(rt; matches!(begun, Answer::Begun));
     for _ in 0..3 {
-        let blocked = finish(&mut store, &mut slots, 2);
+        let blocked = finish(&mut store, &mut calls, &SETS, 2);
         assert!(rt; matches!(blocked, Answer::Refused(Fault::Blocked(1))));
     }
-    let ended = one(&mut store, &mut slots, &SETS, Event::End(1));
+    let ended = one(&mut store, &mut calls, &SETS, Event::End(1));
     assert!(rt; matches!(ended, Answer::Ended));
-    let Answer::Finished(stats) = finish(&mut store, &mut slots, 2) else {
+    let Answer::Finished(stats) = finish(&mut store, &mut calls, &SETS, 2) else {
         assert!(rt; false);
         return Ok(());
     };
@@ -285,21 +273,21 @@ fn a_bulk_delete_waits_for_a_scan(rt: HostRuntime) -> Result<(), Fail> {
 // event in turn: how many inserts were added, and how many bulk deletes have finished, or None for a wrong answer.
 fn delete_beside(
     store: &mut MapStore,
-    slots: &mut [Option<Op>; 3],
+    calls: &mut Calls,
     turns: u32,
 ) -> Option<(u8, u8)> {
     let (mut begun, mut added, mut finished) = (0u8, 0u8, 0u8);
     for turn in 0..turns {
         let session = turn % 3;
-        let event = if session == 2 && !is_running(slots, session) {
+        let event = if session == 2 && !is_running(calls, session) {
             Event::Bulk(session, 1)
-        } else if is_running(slots, session) || session == 2 || begun == MOST {
+        } else if is_running(calls, session) || session == 2 || begun == MOST {
             Event::Step(session)
         } else {
             let key = u8::try_from(u32::from(begun.saturating_add(1)) * 7 % 23).unwrap_or(0);
             Event::Insert(session, entry(key, u32::from(key) % 2, 1))
         };
-        match one(store, slots, &SETS, event) {
+        match one(store, calls, &SETS, event) {
             Answer::Begun if session != 2 => begun = begun.saturating_add(1),
             Answer::Added {
                 unfinished: None,
@@ -317,21 +305,21 @@ fn delete_beside(
 #[test]
 fn two_insert_while_a_third_deletes(rt: HostRuntime) -> Result<(), Fail> {
     let mut store = tree(rt.alloc(), 32, &[])?;
-    let mut slots: [Option<Op>; 3] = array::from_fn(|_| None);
-    let Some((added, finished)) = delete_beside(&mut store, &mut slots, 900) else {
+    let mut calls = sessions(rt.alloc(), 3)?;
+    let Some((added, finished)) = delete_beside(&mut store, &mut calls, 900) else {
         assert!(rt; false);
         return Ok(());
     };
     assert!(rt; added == MOST);
     assert!(rt; finished > 2);
-    let _ended = one(&mut store, &mut slots, &SETS, Event::End(2));
-    let _begun = one(&mut store, &mut slots, &SETS, Event::Bulk(2, 1));
-    let Answer::Finished(stats) = finish(&mut store, &mut slots, 2) else {
+    let _ended = one(&mut store, &mut calls, &SETS, Event::End(2));
+    let _begun = one(&mut store, &mut calls, &SETS, Event::Bulk(2, 1));
+    let Answer::Finished(stats) = finish(&mut store, &mut calls, &SETS, 2) else {
         assert!(rt; false);
         return Ok(());
     };
     assert!(rt; stats.num_index_tuples == u64::from(MOST / 2));
-    let Some(given) = scan_alone(&mut store, &mut slots) else {
+    let Some(given) = scan_alone(&mut store, &mut calls) else {
         assert!(rt; false);
         return Ok(());
     };
@@ -345,23 +333,23 @@ fn two_insert_while_a_third_deletes(rt: HostRuntime) -> Result<(), Fail> {
 #[test]
 fn one_vacuum_runs_at_a_time(rt: HostRuntime) -> Result<(), Fail> {
     let mut store = tree(rt.alloc(), 32, &[])?;
-    let mut slots: [Option<Op>; 3] = array::from_fn(|_| None);
+    let mut calls = sessions(rt.alloc(), 3)?;
     for first in [Event::Bulk(0, 1), Event::Cleanup(0)] {
-        let begun = one(&mut store, &mut slots, &SETS, first);
+        let begun = one(&mut store, &mut calls, &SETS, first);
         assert!(rt; matches!(begun, Answer::Begun));
         for second in [Event::Bulk(1, 1), Event::Cleanup(1)] {
-            let refused = one(&mut store, &mut slots, &SETS, second);
+            let refused = one(&mut store, &mut calls, &SETS, second);
             assert!(rt; matches!(refused, Answer::Refused(Fault::VacuumRunning)));
         }
-        let busy = one(&mut store, &mut slots, &SETS, Event::Cleanup(0));
+        let busy = one(&mut store, &mut calls, &SETS, Event::Cleanup(0));
         assert!(rt; matches!(busy, Answer::Refused(Fault::SessionBusy)));
-        let none = one(&mut store, &mut slots, &SETS, Event::Cleanup(3));
+        let none = one(&mut store, &mut calls, &SETS, Event::Cleanup(3));
         assert!(rt; matches!(none, Answer::Refused(Fault::NoSession)));
-        let ended = one(&mut store, &mut slots, &SETS, Event::End(0));
+        let ended = one(&mut store, &mut calls, &SETS, Event::End(0));
         assert!(rt; matches!(ended, Answer::Ended));
     }
-    let _begun = one(&mut store, &mut slots, &SETS, Event::Cleanup(2));
-    let Answer::Finished(stats) = finish(&mut store, &mut slots, 2) else {
+    let _begun = one(&mut store, &mut calls, &SETS, Event::Cleanup(2));
+    let Answer::Finished(stats) = finish(&mut store, &mut calls, &SETS, 2) else {
         assert!(rt; false);
         return Ok(());
     };

@@ -1,14 +1,12 @@
 //! Calls without their contracts. A test looks at the answers alone, and what a call promises would be carried, call by call, to
 //! the end of the test that makes it: to prove one of fifty lines took more than a minute.
 
-ghost use Rattle.std.specs.Prelude.{◌≤◌, length};
-
 use index_model::{DeadRows, Entry, Fault, Limits, Range, Session};
 use latch_table::Mode;
 use page_action::{MapStore, PageStore};
 use page_codec::Page;
 use schedule::Event;
-use session_calls::{Answer, Op, Request};
+use session_calls::{Answer, Calls, Request};
 use std::alloc::Global;
 use whole_calls::Inserted;
 
@@ -43,122 +41,119 @@ pub fn copy_of(store: &mut MapStore, block: u32) -> Result<Page, Fault> {
     store.page(block)
 }
 
-pub fn begin(
+/// So many sessions, none of which runs a call.
+pub fn sessions(alloc: Global, count: u32) -> Result<Calls, Fault> {
+    Calls::new(alloc, count)
+}
+
+pub fn is_running(calls: &Calls, session: u32) -> bool {
+    calls.is_running(session)
+}
+
+pub fn begin<T: DeadRows>(
     store: &mut MapStore,
-    session: Session,
+    calls: &mut Calls,
+    sets: &[T],
+    session: u32,
     request: Request,
-    excluded: bool,
-    slot: &mut Option<Op>,
 ) -> Answer {
-    session_calls::begin(store, session, request, excluded, slot)
+    calls.begin(store, sets, session, request)
 }
 
-pub fn step<T: DeadRows>(store: &mut MapStore, slot: &mut Option<Op>, sets: &[T]) -> Answer {
-    session_calls::step(store, slot, sets)
+pub fn step<T: DeadRows>(
+    store: &mut MapStore,
+    calls: &mut Calls,
+    sets: &[T],
+    session: u32,
+) -> Answer {
+    calls.step(store, sets, session)
 }
 
-pub fn next(slot: &mut Option<Op>) -> Answer {
-    session_calls::next(slot)
+pub fn next(calls: &mut Calls, session: u32) -> Answer {
+    calls.next(session)
 }
 
-pub fn end(store: &mut MapStore, slot: &mut Option<Op>) -> Answer {
-    session_calls::end(store, slot)
+pub fn end(store: &mut MapStore, calls: &mut Calls, session: u32) -> Answer {
+    calls.end(store, session)
+}
+
+pub fn force(store: &mut MapStore) -> Answer {
+    schedule::force(store)
 }
 
 pub fn one<T: DeadRows>(
     store: &mut MapStore,
-    slots: &mut [Option<Op>],
+    calls: &mut Calls,
     sets: &[T],
     event: Event,
-) -> Answer
-    requires few { length slots.old ≤ 64 }
-{
-    schedule::one(store, slots, sets, event)
+) -> Answer {
+    schedule::one(store, calls, sets, event)
 }
 
 pub fn run<T: DeadRows>(
     store: &mut MapStore,
-    slots: &mut [Option<Op>],
+    calls: &mut Calls,
     sets: &[T],
     events: &[Event],
     answers: &mut Vec<Answer>,
-) -> Result<(), Fault>
-    requires few { length slots.old ≤ 64 }
-{
-    schedule::run(store, slots, sets, events, answers)
+) -> Result<(), Fault> {
+    schedule::run(store, calls, sets, events, answers)
 }
 
 pub fn insert<T: DeadRows>(
     store: &mut MapStore,
-    slots: &mut [Option<Op>],
+    calls: &mut Calls,
     sets: &[T],
     session: u32,
     entry: Entry,
     least_room: u32,
-) -> Result<Inserted, Fault>
-    requires few { length slots.old ≤ 64 }
-{
-    whole_calls::insert(store, slots, sets, session, entry, least_room)
-}
-
-pub fn put<T: DeadRows>(
-    store: &mut MapStore,
-    slots: &mut [Option<Op>],
-    sets: &[T],
-    session: u32,
-    entry: Entry,
-    least_room: u32,
-) -> Result<Answer, Fault>
-    requires few { length slots.old ≤ 64 }
-{
-    whole_calls::put(store, slots, sets, session, entry, least_room)
+) -> Result<Inserted, Fault> {
+    whole_calls::insert(store, calls, sets, session, entry, least_room)
 }
 
 pub fn open<T: DeadRows>(
     store: &mut MapStore,
-    slots: &mut [Option<Op>],
+    calls: &mut Calls,
     sets: &[T],
     session: u32,
     range: Range,
-) -> Result<(), Fault>
-    requires few { length slots.old ≤ 64 }
-{
-    whole_calls::open(store, slots, sets, session, range)
+) -> Result<(), Fault> {
+    whole_calls::open(store, calls, sets, session, range)
 }
 
+/// The answer to the first step of the session's call that isn't `Going`.
 pub fn finish<T: DeadRows>(
     store: &mut MapStore,
-    slots: &mut [Option<Op>],
+    calls: &mut Calls,
     sets: &[T],
     session: u32,
-    least_room: u32,
-) -> Result<Answer, Fault>
-    requires few { length slots.old ≤ 64 }
-{
-    whole_calls::finish(store, slots, sets, session, least_room)
+) -> Answer {
+    for _ in 0..100 {
+        let answer = one(store, calls, sets, Event::Step(session));
+        if !matches!(answer, Answer::Going) {
+            return answer;
+        }
+    }
+    Answer::Going
 }
 
 pub fn give<T: DeadRows>(
     store: &mut MapStore,
-    slots: &mut [Option<Op>],
+    calls: &mut Calls,
     sets: &[T],
     session: u32,
     least_room: u32,
-) -> Result<Option<Entry>, Fault>
-    requires few { length slots.old ≤ 64 }
-{
-    whole_calls::give(store, slots, sets, session, least_room)
+) -> Result<Option<Entry>, Fault> {
+    whole_calls::give(store, calls, sets, session, least_room)
 }
 
 pub fn give_up<T: DeadRows>(
     store: &mut MapStore,
-    slots: &mut [Option<Op>],
+    calls: &mut Calls,
     sets: &[T],
     session: u32,
-)
-    requires few { length slots.old ≤ 64 }
-{
-    whole_calls::give_up(store, slots, sets, session)
+) {
+    whole_calls::give_up(store, calls, sets, session)
 }
 
 /// Whether an insert has added its entry as this action, and its split, if it made one, is finished.

@@ -2,8 +2,8 @@
 
 use crate::dead::{Blocks, EACH_ROW};
 use crate::plain::{
-    begin_scan, bulk_delete, checkpoint_of, clean_up, commit, end_scan, insert, next, open_index,
-    rescan,
+    begin_scan, bulk_delete, checkpoint_of, clean_up, commit, end_scan, index_over, insert, next,
+    open_index, rescan,
 };
 use crate::small::{ALL, LEN, LIMITS, entry, keyed, limits, made, made_with, pages};
 use access_method::{Index, Inserted, ScanToken};
@@ -21,7 +21,7 @@ fn index(alloc: Global) -> Result<Index<Store<MemDevice>>, Fault> {
 
 // An empty index without a device.
 fn in_memory(alloc: Global) -> Result<Index<MapStore>, Fault> {
-    Ok(Index::new(pages(alloc, LIMITS)?))
+    index_over(alloc, pages(alloc, LIMITS)?)
 }
 
 // The number of the row that a scan gives, or 0 where it has given all; behind 100 the number of a refusal.

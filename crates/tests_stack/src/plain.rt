@@ -193,6 +193,14 @@ pub fn open_index(
     }
 }
 
+/// An index over a store.
+pub fn index_over<S: PageStore + Drop>(alloc: Global, store: S) -> Result<Index<S>, Fault> {
+    match Index::new(alloc, store) {
+        Ok(index) => Ok(index),
+        Err(not_made) => Err(not_made.fault),
+    }
+}
+
 pub fn insert<S: PageStore>(index: &mut Index<S>, entry: Entry) -> Result<Inserted, Fault> {
     index.aminsert(entry)
 }

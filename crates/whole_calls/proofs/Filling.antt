@@ -25,7 +25,7 @@ use Rattle.session_calls.specs.declared.op.Op.{Op}
 use Rattle.session_calls.specs.declared.op.Op.TheVariants.{Insert, Scan, Bulk, Cleanup}
 use Rattle.schedule.specs.TheoremMoments.{Snapshot, IsRunningCall}
 use Rattle.schedule.specs.TheoremRuns.{Fits}
-use Rattle.schedule.specs.Snapshots.{slot_of}
+use Rattle.session_calls.specs.Slots.{slot_of}
 use Rattle.schedule.proofs.Keeping.{Laws}
 use Rattle.whole_calls.specs.Refusing.{FillsOnly, is_full_vacuum}
 use Rattle.whole_calls.specs.Sweeping.{of_sweep, of_cleanup, IsCountedAs, IsCountedIn, removed_of}

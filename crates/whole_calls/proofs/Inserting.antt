@@ -17,7 +17,7 @@ use Rattle.session_calls.specs.declared.op.Op.{Op}
 use Rattle.session_calls.specs.declared.request.Request.TheVariants.{Insert as ToInsert}
 use Rattle.schedule.specs.TheoremMoments.{StoreAndSlots, Snapshot, IsRunningCall}
 use Rattle.schedule.specs.TheoremRuns.{Fits}
-use Rattle.schedule.specs.Snapshots.{slot_of}
+use Rattle.session_calls.specs.Slots.{slot_of}
 use Rattle.schedule.proofs.Lists.{get_append_new, get_append_cases}
 use Rattle.whole_calls.specs.Going.{CallGoes}
 use Rattle.whole_calls.specs.Inserting.{InsertGoes}

@@ -50,9 +50,10 @@ use Rattle.session_calls.specs.declared.request.Request.TheVariants.{Insert as T
 use Rattle.schedule.specs.TheoremMoments.{StoreAndSlots, Snapshot, snapshot_of, IsRunningCall}
 use Rattle.schedule.specs.Making.{EventDoes}
 use Rattle.schedule.specs.TheoremRuns.{Fits}
-use Rattle.schedule.specs.Snapshots.{here_at, slot_of, one_vacuums}
+use Rattle.session_calls.specs.Slots.{slot_of, one_vacuums, is_of_sets}
+use Rattle.schedule.specs.Snapshots.{here_at}
 use Rattle.schedule.specs.TheoremKinds.{MovesCall, Steps}
-use Rattle.schedule.specs.Events.{CallMoves, MovesOn, where_moving, where_begun_at, is_of_sets, OthersStay}
+use Rattle.schedule.specs.Events.{CallMoves, MovesOn, where_moving, where_begun_at, OthersStay}
 use Rattle.whole_calls.specs.Refusing.{others_run, another_runs, is_full_vacuum, where_gone, where_inserted, is_used_up, is_tall, InsertIsCaused, CameIsCaused, AskIsCaused, AsksToCount, FillsOnly, where_called, InsertCallIsCaused}
 use Rattle.whole_calls.specs.Giving.{AnswersSeek, given_of}
 use Rattle.whole_calls.specs.Telling.{RoomIsMade, MayAnswer, StepTold, left_behind, outcome_of}

@@ -22,7 +22,7 @@ use Rattle.session_calls.specs.declared.op.Op.TheVariants.{Insert, Scan, Bulk, C
 use Rattle.schedule.specs.TheoremMoments.{StoreAndSlots, Snapshot, snapshot_of, IsRunningCall}
 use Rattle.schedule.specs.Making.{EventDoes}
 use Rattle.schedule.specs.TheoremRuns.{Fits}
-use Rattle.schedule.specs.Snapshots.{slot_of, has_call}
+use Rattle.session_calls.specs.Slots.{slot_of, has_call}
 use Rattle.schedule.specs.TheoremKinds.{MovesCall, Steps}
 use Rattle.schedule.specs.Events.{CallMoves, MovesOn}
 use Rattle.schedule.specs.TheoremRuns.{Carries, Runs}

@@ -22,7 +22,8 @@ use Rattle.session_calls.specs.declared.request.Request.{Request}
 use Rattle.schedule.specs.TheoremMoments.{Snapshot, IsRunningCall}
 use Rattle.schedule.specs.Making.{EventDoes}
 use Rattle.schedule.specs.TheoremRuns.{Fits}
-use Rattle.schedule.specs.Snapshots.{slot_of, SlotRuns, SlotMatches, has_call, one_vacuums}
+use Rattle.session_calls.specs.Slots.{slot_of, has_call, one_vacuums}
+use Rattle.schedule.specs.Snapshots.{SlotRuns, SlotMatches}
 use Rattle.schedule.specs.TheoremKinds.{Move, Steps, Takes, Upkeep, KeepsStore, BeginsCall, MovesCall, GivesUp}
 use Rattle.schedule.specs.Events.{CallMoves, CallBegins, Stays, MovesOn, MayBegin, where_begun_at, AnswersMove}
 use Rattle.schedule.proofs.Lists.{get_some, get_within, get_append_new, get_append_some, same_some}

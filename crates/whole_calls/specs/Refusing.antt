@@ -18,10 +18,9 @@ use Rattle.session_calls.specs.declared.op.Op.{Op}
 use Rattle.session_calls.specs.declared.op.Op.TheVariants.{Insert, Scan, Bulk, Cleanup}
 use Rattle.session_calls.specs.declared.request.Request.{Request}
 use Rattle.session_calls.specs.declared.request.Request.TheVariants.{Insert as ToInsert}
-use Rattle.schedule.specs.Events.{is_of_sets}
+use Rattle.session_calls.specs.Slots.{is_of_sets, slot_of, one_vacuums}
 use Rattle.schedule.specs.TheoremMoments.{StoreAndSlots, Snapshot, IsRunningCall}
 use Rattle.schedule.specs.TheoremRuns.{Fits}
-use Rattle.schedule.specs.Snapshots.{slot_of, one_vacuums}
 use Rattle.vacuum.specs.BulkDeletes.{is_counted_out}
 use Rattle.page_delete.specs.Ops.{is_counted_out as is_cleanup_full}
 use Rattle.whole_calls.specs.Sweeping.{Followed, IsCountedAs}

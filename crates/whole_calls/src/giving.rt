@@ -1,12 +1,13 @@
 //! Scans that give one entry after the other.
 
-ghost use Rattle.std.specs.Prelude.{◌≡◌, ◌≤◌, true, length, map, slice_get, Some, OnOk, OnErr, IfErr, None};
+ghost use Rattle.std.specs.Prelude.{◌≡◌, true, map, slice_get, Some, OnOk, OnErr, IfErr, None};
 ghost use Rattle.index_model.specs.Faults.{HasCause};
 ghost use Rattle.page_action.specs.States.{Continues};
 ghost use Rattle.session_calls.specs.Ops.{op_before, RunsOn};
 ghost use Rattle.session_calls.specs.declared.request.Request.TheVariants.{Scan as ToScan};
-ghost use Rattle.schedule.specs.Snapshots.{here_with, slot_of, one_vacuums};
-ghost use Rattle.schedule.specs.Events.{OthersStay, IsUnchanged, where_begun_at};
+ghost use Rattle.schedule.specs.Sessions.{here, op_of, KeepsOthers};
+ghost use Rattle.session_calls.specs.Slots.{one_vacuums};
+ghost use Rattle.schedule.specs.Events.{IsUnchanged, where_begun_at};
 ghost use Rattle.schedule.specs.TheoremRuns.{Carries};
 ghost use Rattle.whole_calls.specs.Telling.{BeginTold, step_came, begin_came};
 ghost use Rattle.whole_calls.specs.Giving.{GoesDownBy, AnswersAdvance, AnswersSeek, EndsUnlessGiven, GiveLeavesLess, TellsScan, TellsGiven, given_of, give_came};
@@ -17,70 +18,66 @@ use crate::running::{begun, give_up, step};
 use index_model::{DeadRows, Entry, Fault, Range};
 use page_action::PageStore;
 use schedule::{Event, one};
-use session_calls::{Answer, Op};
+use session_calls::{Answer, Calls};
 
 // The next entry that the session's scan has ready; where none is, one step of it.
 fn advance<S: PageStore, T: DeadRows>(
     store: &mut S,
-    slots: &mut [Option<Op>],
+    calls: &mut Calls,
     sets: &[T],
     session: u32,
     least_room: u32,
 ) -> Result<Answer, Fault>
-    requires few { length slots.old ≤ 64 }
     ensures steps { Continues S.follows store.old store.new }
-    ensures sessions { length slots.new ≡ length slots.old }
-    ensures others { OthersStay session slots.old slots.new }
+    ensures others { KeepsOthers session calls.old calls.new }
     ensures goes { CallGoes S.PageStore session (TellsScan session result) (step_came result)
-        (here_with store.old slots.old (map T.is_in sets.now))
-        (here_with store.new slots.new (map T.is_in sets.now)) }
+        (here T.DeadRows store.old calls.old sets.now)
+        (here T.DeadRows store.new calls.new sets.now) }
     ensures less { (S.backing store.new).honest ≡ true
-        → GoesDownBy (S.state store.old) (S.state store.new) (slot_of slots.old session)
-        (slot_of slots.new session) result }
+        → GoesDownBy (S.state store.old) (S.state store.new) (op_of calls.old session)
+        (op_of calls.new session) result }
     ensures kind { AnswersAdvance result }
-    ensures runs_on { RunsOn (slot_of slots.old session) (slot_of slots.new session) }
-    ensures cause { let old = here_with store.old slots.old (map T.is_in sets.now) in
-        Carries S.PageStore old (here_with store.new slots.new (map T.is_in sets.now))
+    ensures runs_on { RunsOn (op_of calls.old session) (op_of calls.new session) }
+    ensures cause { let old = here T.DeadRows store.old calls.old sets.now in
+        Carries S.PageStore old (here T.DeadRows store.new calls.new sets.now)
         (λ start history calls.
         ScanIsCaused S.PageStore session least_room old store.new result calls) }
 {
-    let answer = one(store, slots, sets, Event::Next(session));
+    let answer = one(store, calls, sets, Event::Next(session));
     let Answer::Gave(None) = answer else {
         return Ok(answer);
     };
-    step(store, slots, sets, session, least_room)
+    step(store, calls, sets, session, least_room)
 }
 
 // Goes on until the session's scan gives an entry or is over.
 fn seek<S: PageStore, T: DeadRows>(
     store: &mut S,
-    slots: &mut [Option<Op>],
+    calls: &mut Calls,
     sets: &[T],
     session: u32,
     least_room: u32,
 ) -> Result<Answer, Fault>
-    requires few { length slots.old ≤ 64 }
     ensures steps { Continues S.follows store.old store.new }
-    ensures sessions { length slots.new ≡ length slots.old }
-    ensures others { OthersStay session slots.old slots.new }
+    ensures others { KeepsOthers session calls.old calls.new }
     ensures goes { CallGoes S.PageStore session (TellsScan session result) (step_came result)
-        (here_with store.old slots.old (map T.is_in sets.now))
-        (here_with store.new slots.new (map T.is_in sets.now)) }
+        (here T.DeadRows store.old calls.old sets.now)
+        (here T.DeadRows store.new calls.new sets.now) }
     ensures kind { AnswersSeek result }
-    ensures runs_on { RunsOn (slot_of slots.old session) (slot_of slots.new session) }
-    ensures cause { let old = here_with store.old slots.old (map T.is_in sets.now) in
-        Carries S.PageStore old (here_with store.new slots.new (map T.is_in sets.now))
+    ensures runs_on { RunsOn (op_of calls.old session) (op_of calls.new session) }
+    ensures cause { let old = here T.DeadRows store.old calls.old sets.now in
+        Carries S.PageStore old (here T.DeadRows store.new calls.new sets.now)
         (λ start history calls.
         ScanIsCaused S.PageStore session least_room old store.new result calls) }
     ensures less { (S.backing store.new).honest ≡ true
-        → GoesDownBy (S.state store.old) (S.state store.new) (slot_of slots.old session)
-        (slot_of slots.new session) result }
+        → GoesDownBy (S.state store.old) (S.state store.new) (op_of calls.old session)
+        (op_of calls.new session) result }
 {
     let _limits = store.limits();
     // As many steps as `finish` makes, at most.
     let mut left = u64::MAX;
     while left > 0 {
-        match advance(store, slots, sets, session, least_room) {
+        match advance(store, calls, sets, session, least_room) {
             Ok(answer) => match answer {
                 Answer::Going | Answer::Ready(_) => {}
                 answer => return Ok(answer),
@@ -106,71 +103,67 @@ fn given(came: Result<Answer, Fault>) -> Result<Option<Entry>, Fault>
 
 /// The next entry of the session's scan, or None where it has given all; it is over then, and where it is refused: as a step of
 /// it is, and with `Io` (2) or `Stopped` (3) where a checkpoint before a step is; over a device that breaks its model also with
-/// `PageDamaged(0)` (17), after 2^64 - 1 steps. There are 64 slots at most.
+/// `PageDamaged(0)` (17), after 2^64 - 1 steps.
 pub fn give<S: PageStore, T: DeadRows>(
     store: &mut S,
-    slots: &mut [Option<Op>],
+    calls: &mut Calls,
     sets: &[T],
     session: u32,
     least_room: u32,
 ) -> Result<Option<Entry>, Fault>
-    requires few { length slots.old ≤ 64 }
     ensures steps { Continues S.follows store.old store.new }
-    ensures sessions { length slots.new ≡ length slots.old }
-    ensures others { OthersStay session slots.old slots.new }
-    ensures over { EndsUnlessGiven result (slot_of slots.new session) }
-    ensures runs_on { RunsOn (slot_of slots.old session) (slot_of slots.new session) }
+    ensures others { KeepsOthers session calls.old calls.new }
+    ensures over { EndsUnlessGiven result (op_of calls.new session) }
+    ensures runs_on { RunsOn (op_of calls.old session) (op_of calls.new session) }
     ensures less { (S.backing store.new).honest ≡ true
         → GiveLeavesLess (S.state store.old) (S.state store.new)
-        (slot_of slots.old session) (slot_of slots.new session) result }
+        (op_of calls.old session) (op_of calls.new session) result }
     ensures goes { CallGoes S.PageStore session (TellsGiven session result) (give_came result)
-        (here_with store.old slots.old (map T.is_in sets.now))
-        (here_with store.new slots.new (map T.is_in sets.now)) }
+        (here T.DeadRows store.old calls.old sets.now)
+        (here T.DeadRows store.new calls.new sets.now) }
     // With `least_room` 5 or more it never answers `LogFull`.
-    ensures cause { let old = here_with store.old slots.old (map T.is_in sets.now) in
-        Carries S.PageStore old (here_with store.new slots.new (map T.is_in sets.now))
+    ensures cause { let old = here T.DeadRows store.old calls.old sets.now in
+        Carries S.PageStore old (here T.DeadRows store.new calls.new sets.now)
         (λ start history calls.
         GiveIsCaused S.PageStore session least_room old store.new result calls) }
 {
-    let came = seek(store, slots, sets, session, least_room);
+    let came = seek(store, calls, sets, session, least_room);
     match given(came) {
         Ok(Some(entry)) => Ok(Some(entry)),
         Ok(None) => {
-            give_up(store, slots, sets, session);
+            give_up(store, calls, sets, session);
             Ok(None)
         }
         Err(fault) => {
-            give_up(store, slots, sets, session);
+            give_up(store, calls, sets, session);
             Err(fault)
         }
     }
 }
 
 /// Begins a scan. Refused as the beginning of a call is: with `Stopped` (3), `NoSession` (12), `SessionBusy` (13), in this order; nothing is changed then.
-/// There are 64 slots at most.
+///
 pub fn open<S: PageStore, T: DeadRows>(
     store: &mut S,
-    slots: &mut [Option<Op>],
+    calls: &mut Calls,
     sets: &[T],
     session: u32,
     range: Range,
 ) -> Result<(), Fault>
-    requires few { length slots.old ≤ 64 }
     ensures steps { Continues S.follows store.old store.new }
-    ensures sessions { length slots.new ≡ length slots.old }
-    ensures others { OthersStay session slots.old slots.new }
+    ensures others { KeepsOthers session calls.old calls.new }
     ensures goes { CallGoes S.PageStore session (BeginTold session (ToScan range) result)
         (begin_came result)
-        (here_with store.old slots.old (map T.is_in sets.now))
-        (here_with store.new slots.new (map T.is_in sets.now)) }
-    ensures begins { OnOk result (slot_of slots.new session
+        (here T.DeadRows store.old calls.old sets.now)
+        (here T.DeadRows store.new calls.new sets.now) }
+    ensures begins { OnOk result (op_of calls.new session
         ≡ Some (op_before session (ToScan range))) }
     ensures refused { OnErr result (IsUnchanged S.PageStore
-        (here_with store.old slots.old (map T.is_in sets.now))
-        (here_with store.new slots.new (map T.is_in sets.now))) }
+        (here T.DeadRows store.old calls.old sets.now)
+        (here T.DeadRows store.new calls.new sets.now)) }
     ensures cause { IfErr result
-        (HasCause (where_begun_at S.PageStore store.old (one_vacuums slots.old)
-        (map T.is_in sets.now) (ToScan range) (slice_get slots.old session))) }
+        (HasCause (where_begun_at S.PageStore store.old (one_vacuums calls.old.slots.items)
+        (map T.is_in sets.now) (ToScan range) (slice_get calls.old.slots.items session))) }
 {
-    begun(one(store, slots, sets, Event::Scan(session, range)))
+    begun(one(store, calls, sets, Event::Scan(session, range)))
 }

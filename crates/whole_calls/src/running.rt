@@ -2,17 +2,20 @@
 //! made; one that is refused counts as the refusal of the step. With 0 none is made. Each step is given the sets of dead rows
 //! that calls name by their places.
 
-ghost use Rattle.std.specs.Prelude.{◌≡◌, ◌≢◌, ◌≤◌, Bool, true, length, map, slice_get, ℕ, Ok, IfOk, OnOk, OnErr, IfErr, None};
+ghost use Rattle.std.specs.Prelude.{◌≡◌, ◌≢◌, ◌≤◌, ℕ, Bool, true, List, Option, Ok, None, IfOk, OnOk, OnErr, IfErr, map, slice_get};
 ghost use Rattle.index_model.specs.Faults.{HasCause};
 ghost use Rattle.page_action.specs.Causes.{where_forced};
 ghost use Rattle.page_action.specs.States.{Continues};
 ghost use Rattle.session_calls.specs.TheoremCalls.{DeadSets};
 ghost use Rattle.session_calls.specs.Ops.{RunsOn};
-ghost use Rattle.session_calls.specs.Sessions.{AnswersStep, OnlyWritersAct, slot_add};
+ghost use Rattle.session_calls.specs.Sessions.{AnswersStep, OnlyWritersAct};
+ghost use Rattle.session_calls.specs.declared.op.Op.{Op};
 ghost use Rattle.session_calls.specs.declared.request.Request.TheVariants.{Insert as ToInsert};
 ghost use Rattle.schedule.specs.TheoremMoments.{snapshot_of};
-ghost use Rattle.schedule.specs.Snapshots.{here_with, slot_of, one_vacuums};
-ghost use Rattle.schedule.specs.Events.{OthersStay, IsUnchanged, where_begun_at};
+ghost use Rattle.schedule.specs.Sessions.{here, op_of, KeepsOthers};
+ghost use Rattle.session_calls.specs.Slots.{one_vacuums};
+ghost use Rattle.schedule.specs.Snapshots.{here_with};
+ghost use Rattle.schedule.specs.Events.{IsUnchanged, where_begun_at};
 ghost use Rattle.schedule.specs.TheoremRuns.{Carries};
 ghost use Rattle.whole_calls.specs.Going.{CallGoes};
 ghost use Rattle.whole_calls.specs.Giving.{StepLeavesLess};
@@ -26,19 +29,18 @@ use crate::inserted::Inserted;
 use index_model::{DeadRows, Entry, Fault};
 use page_action::PageStore;
 use schedule::{Event, checkpoint, one};
-use session_calls::{Answer, Op};
+use session_calls::{Answer, Calls};
 
 // Room for one more act: where there is less, a checkpoint is made.
 fn make_room<S: PageStore>(
     store: &mut S,
-    slots: &[Option<Op>],
     least_room: u32,
 ) -> Result<(), Fault>
     ensures steps { Continues S.follows store.old store.new }
     ensures state { S.state store.new ≡ S.state store.old }
-    ensures goes { (session : ℕ) (sets : DeadSets) → CallGoes S.PageStore session IsSilent
-        (room_came result) (here_with store.old slots.now sets)
-        (here_with store.new slots.now sets) }
+    ensures goes { (session : ℕ) (slots : List (Option Op)) (sets : DeadSets)
+        → CallGoes S.PageStore session IsSilent (room_came result)
+        (here_with store.old slots sets) (here_with store.new slots sets) }
     ensures room { OnOk result
         (RoomIsMade least_room (S.state store.old).limits (S.backing store.new)) }
     // An act of four images, the most that one has, is not refused with `LogFull` then.
@@ -50,7 +52,7 @@ fn make_room<S: PageStore>(
     if store.room() >= least_room {
         return Ok(());
     }
-    match checkpoint(store, slots) {
+    match checkpoint(store) {
         Answer::Refused(fault) => Err(fault),
         _ => Ok(()),
     }
@@ -60,83 +62,79 @@ fn make_room<S: PageStore>(
 // made.
 pub(crate) fn step<S: PageStore, T: DeadRows>(
     store: &mut S,
-    slots: &mut [Option<Op>],
+    calls: &mut Calls,
     sets: &[T],
     session: u32,
     least_room: u32,
 ) -> Result<Answer, Fault>
-    requires few { length slots.old ≤ 64 }
     ensures steps { Continues S.follows store.old store.new }
-    ensures sessions { length slots.new ≡ length slots.old }
-    ensures others { OthersStay session slots.old slots.new }
+    ensures others { KeepsOthers session calls.old calls.new }
     ensures goes { CallGoes S.PageStore session (TellsStep session result) (step_came result)
-        (here_with store.old slots.old (map T.is_in sets.now))
-        (here_with store.new slots.new (map T.is_in sets.now)) }
-    ensures fewer { Carries S.PageStore (here_with store.old slots.old (map T.is_in sets.now))
-        (here_with store.new slots.new (map T.is_in sets.now)) (λ start history calls.
-        TakesFewer (S.state store.old) (S.state store.new) (slot_of slots.old session)
-        (slot_of slots.new session) result) }
-    ensures entries { Carries S.PageStore (here_with store.old slots.old (map T.is_in sets.now))
-        (here_with store.new slots.new (map T.is_in sets.now)) (λ start history calls.
+        (here T.DeadRows store.old calls.old sets.now)
+        (here T.DeadRows store.new calls.new sets.now) }
+    ensures fewer { Carries S.PageStore (here T.DeadRows store.old calls.old sets.now)
+        (here T.DeadRows store.new calls.new sets.now) (λ start history calls.
+        TakesFewer (S.state store.old) (S.state store.new) (op_of calls.old session)
+        (op_of calls.new session) result) }
+    ensures entries { Carries S.PageStore (here T.DeadRows store.old calls.old sets.now)
+        (here T.DeadRows store.new calls.new sets.now) (λ start history calls.
         (what : Followed) → CountsThrough what (map T.is_in sets.now) (S.state store.old)
-        (S.state store.new) (slot_of slots.old session) (slot_of slots.new session) result) }
-    ensures cause { Carries S.PageStore (here_with store.old slots.old (map T.is_in sets.now))
-        (here_with store.new slots.new (map T.is_in sets.now)) (λ start history calls.
-        CallIsCaused S.PageStore session least_room (is_full_vacuum (slot_of slots.old session))
-        (here_with store.old slots.old (map T.is_in sets.now)) store.new result calls) }
+        (S.state store.new) (op_of calls.old session) (op_of calls.new session) result) }
+    ensures cause { Carries S.PageStore (here T.DeadRows store.old calls.old sets.now)
+        (here T.DeadRows store.new calls.new sets.now) (λ start history calls.
+        CallIsCaused S.PageStore session least_room (is_full_vacuum (op_of calls.old session))
+        (here T.DeadRows store.old calls.old sets.now) store.new result calls) }
     ensures limits { (S.state store.new).limits ≡ (S.state store.old).limits }
-    ensures calm { OnlyWritersAct (slot_of slots.old session) (S.state store.old)
+    ensures calm { OnlyWritersAct (op_of calls.old session) (S.state store.old)
         (S.state store.new) }
     ensures less { (S.backing store.new).honest ≡ true
         → StepLeavesLess (S.state store.old) (S.state store.new)
-        (slot_of slots.old session) (slot_of slots.new session) result }
-    ensures kind { IfOk result (AnswersStep (slot_of slots.old session)
-        (slot_of slots.new session)) }
+        (op_of calls.old session) (op_of calls.new session) result }
+    ensures kind { IfOk result (AnswersStep (op_of calls.old session)
+        (op_of calls.new session)) }
     // What the session runs then, if anything, is of the kind that it ran before.
-    ensures runs_on { RunsOn (slot_of slots.old session) (slot_of slots.new session) }
+    ensures runs_on { RunsOn (op_of calls.old session) (op_of calls.new session) }
 {
-    match make_room(store, slots, least_room) {
-        Ok(()) => Ok(one(store, slots, sets, Event::Step(session))),
+    match make_room(store, least_room) {
+        Ok(()) => Ok(one(store, calls, sets, Event::Step(session))),
         Err(fault) => Err(fault),
     }
 }
 
 /// Steps of the session's call until one doesn't answer `Going`, and that answer. Refused, with the call as it is then, where
 /// a checkpoint before a step is refused: with `Io` (2) or `Stopped` (3). Over a device that breaks its model also with
-/// `PageDamaged(0)` (17), after 2^64 - 1 steps. There are 64 slots at most.
+/// `PageDamaged(0)` (17), after 2^64 - 1 steps.
 pub fn finish<S: PageStore, T: DeadRows>(
     store: &mut S,
-    slots: &mut [Option<Op>],
+    calls: &mut Calls,
     sets: &[T],
     session: u32,
     least_room: u32,
 ) -> Result<Answer, Fault>
-    requires few { length slots.old ≤ 64 }
     ensures steps { Continues S.follows store.old store.new }
-    ensures sessions { length slots.new ≡ length slots.old }
-    ensures others { OthersStay session slots.old slots.new }
+    ensures others { KeepsOthers session calls.old calls.new }
     ensures goes { CallGoes S.PageStore session (TellsStep session result) (step_came result)
-        (here_with store.old slots.old (map T.is_in sets.now))
-        (here_with store.new slots.new (map T.is_in sets.now)) }
-    ensures entries { Carries S.PageStore (here_with store.old slots.old (map T.is_in sets.now))
-        (here_with store.new slots.new (map T.is_in sets.now)) (λ start history calls.
+        (here T.DeadRows store.old calls.old sets.now)
+        (here T.DeadRows store.new calls.new sets.now) }
+    ensures entries { Carries S.PageStore (here T.DeadRows store.old calls.old sets.now)
+        (here T.DeadRows store.new calls.new sets.now) (λ start history calls.
         (what : Followed) → CountsThrough what (map T.is_in sets.now) (S.state store.old)
-        (S.state store.new) (slot_of slots.old session) (slot_of slots.new session) result) }
+        (S.state store.new) (op_of calls.old session) (op_of calls.new session) result) }
     // With room for an act made before each step it is never refused with `LogFull`; where the session has a call, neither
     // with `NoSession`, `SessionBusy` nor `VacuumRunning`; and for its cause alone with anything else.
-    ensures cause { let old = here_with store.old slots.old (map T.is_in sets.now) in
-        Carries S.PageStore old (here_with store.new slots.new (map T.is_in sets.now))
+    ensures cause { let old = here T.DeadRows store.old calls.old sets.now in
+        Carries S.PageStore old (here T.DeadRows store.new calls.new sets.now)
         (λ start history calls. (full : Bool)
         → FillsOnly S.PageStore start session full (snapshot_of old history calls)
         → CallIsCaused S.PageStore session least_room full old store.new result calls) }
-    ensures runs_on { RunsOn (slot_of slots.old session) (slot_of slots.new session) }
+    ensures runs_on { RunsOn (op_of calls.old session) (op_of calls.new session) }
     ensures over { result ≢ Ok Answer.Going }
 {
     let _limits = store.limits();
     // Over a device that breaks its model nothing else bounds the steps; over one that keeps it this many are never made.
     let mut left = u64::MAX;
     while left > 0 {
-        match step(store, slots, sets, session, least_room) {
+        match step(store, calls, sets, session, least_room) {
             Ok(Answer::Going) => {}
             Ok(answer) => return Ok(answer),
             Err(fault) => return Err(fault),
@@ -160,66 +158,48 @@ pub(crate) fn begun(answer: Answer) -> Result<(), Fault>
 // Begins an insert.
 fn begin<S: PageStore, T: DeadRows>(
     store: &mut S,
-    slots: &mut [Option<Op>],
+    calls: &mut Calls,
     sets: &[T],
     session: u32,
     entry: Entry,
 ) -> Result<(), Fault>
-    requires few { length slots.old ≤ 64 }
     ensures steps { Continues S.follows store.old store.new }
-    ensures sessions { length slots.new ≡ length slots.old }
-    ensures others { OthersStay session slots.old slots.new }
+    ensures others { KeepsOthers session calls.old calls.new }
     ensures goes { CallGoes S.PageStore session (BeginTold session (ToInsert entry) result)
         (begin_came result)
-        (here_with store.old slots.old (map T.is_in sets.now))
-        (here_with store.new slots.new (map T.is_in sets.now)) }
+        (here T.DeadRows store.old calls.old sets.now)
+        (here T.DeadRows store.new calls.new sets.now) }
     ensures refused { OnErr result (IsUnchanged S.PageStore
-        (here_with store.old slots.old (map T.is_in sets.now))
-        (here_with store.new slots.new (map T.is_in sets.now))) }
+        (here T.DeadRows store.old calls.old sets.now)
+        (here T.DeadRows store.new calls.new sets.now)) }
     ensures cause { IfErr result
-        (HasCause (where_begun_at S.PageStore store.old (one_vacuums slots.old)
-        (map T.is_in sets.now) (ToInsert entry) (slice_get slots.old session))) }
+        (HasCause (where_begun_at S.PageStore store.old (one_vacuums calls.old.slots.items)
+        (map T.is_in sets.now) (ToInsert entry) (slice_get calls.old.slots.items session))) }
 {
-    begun(one(store, slots, sets, Event::Insert(session, entry)))
+    begun(one(store, calls, sets, Event::Insert(session, entry)))
 }
 
 /// Begins an insert and runs it until a step doesn't answer `Going`, and that answer. Refused as the beginning of a call is, and
-/// as `finish` is. There are 64 slots at most.
+/// as `finish` is.
 pub fn put<S: PageStore, T: DeadRows>(
     store: &mut S,
-    slots: &mut [Option<Op>],
+    calls: &mut Calls,
     sets: &[T],
     session: u32,
     entry: Entry,
     least_room: u32,
 ) -> Result<Answer, Fault>
-    requires few { length slots.old ≤ 64 }
     ensures steps { Continues S.follows store.old store.new }
-    ensures sessions { length slots.new ≡ length slots.old }
-    ensures others { OthersStay session slots.old slots.new }
+    ensures others { KeepsOthers session calls.old calls.new }
     ensures goes { CallGoes S.PageStore session (HasCome session (ToInsert entry) result)
         (step_came result)
-        (here_with store.old slots.old (map T.is_in sets.now))
-        (here_with store.new slots.new (map T.is_in sets.now)) }
+        (here T.DeadRows store.old calls.old sets.now)
+        (here T.DeadRows store.new calls.new sets.now) }
     ensures over { result ≢ Ok Answer.Going }
 {
-    match begin(store, slots, sets, session, entry) {
-        Ok(()) => finish(store, slots, sets, session, least_room),
+    match begin(store, calls, sets, session, entry) {
+        Ok(()) => finish(store, calls, sets, session, least_room),
         Err(fault) => Err(fault),
-    }
-}
-
-// The number of the action that added the entry of the session's insert, where it runs one.
-fn added(slots: &[Option<Op>], session: u32) -> Option<u64>
-    ensures { result ≡ slot_add (slot_of slots.now session) }
-{
-    let at = session as usize;
-    if at >= slots.len() {
-        return None;
-    }
-    match &slots[at] {
-        Some(op) => op.added(),
-        None => None,
     }
 }
 
@@ -247,18 +227,16 @@ fn outcome(came: Result<Answer, Fault>, added: Option<u64>) -> Result<Inserted, 
     }
 }
 
-/// Gives the session's call up, if it has one. There are 64 slots at most.
+/// Gives the session's call up, if it has one.
 pub fn give_up<S: PageStore, T: DeadRows>(
     store: &mut S,
-    slots: &mut [Option<Op>],
+    calls: &mut Calls,
     sets: &[T],
     session: u32,
 )
-    requires few { length slots.old ≤ 64 }
     ensures steps { Continues S.follows store.old store.new }
-    ensures sessions { length slots.new ≡ length slots.old }
-    ensures others { OthersStay session slots.old slots.new }
-    ensures over { slot_of slots.new session ≡ None }
+    ensures others { KeepsOthers session calls.old calls.new }
+    ensures over { op_of calls.new session ≡ None }
     ensures backing { S.backing store.new ≡ S.backing store.old }
     ensures pages { (S.state store.new).pages ≡ (S.state store.old).pages }
     ensures begun { (S.state store.new).begun ≡ (S.state store.old).begun }
@@ -266,43 +244,41 @@ pub fn give_up<S: PageStore, T: DeadRows>(
     ensures limits { (S.state store.new).limits ≡ (S.state store.old).limits }
     ensures frames { (S.state store.new).frames ≡ (S.state store.old).frames }
     ensures goes { CallGoes S.PageStore session (TellsEnd session) None
-        (here_with store.old slots.old (map T.is_in sets.now))
-        (here_with store.new slots.new (map T.is_in sets.now)) }
+        (here T.DeadRows store.old calls.old sets.now)
+        (here T.DeadRows store.new calls.new sets.now) }
 {
-    let _answer = one(store, slots, sets, Event::End(session));
+    let _answer = one(store, calls, sets, Event::End(session));
 }
 
 /// An insert, run to its end in a session. Refused as the beginning of a call is: with `Stopped` (3), `NoSession` (12),
 /// `SessionBusy` (13), in this order; nothing is changed then. Where a step of it is refused, it is given up: refused then
-/// too, unless its entry is added, when the fault stands in `unfinished`. There are 64 slots at most.
+/// too, unless its entry is added, when the fault stands in `unfinished`.
 pub fn insert<S: PageStore, T: DeadRows>(
     store: &mut S,
-    slots: &mut [Option<Op>],
+    calls: &mut Calls,
     sets: &[T],
     session: u32,
     entry: Entry,
     least_room: u32,
 ) -> Result<Inserted, Fault>
-    requires few { length slots.old ≤ 64 }
     ensures steps { Continues S.follows store.old store.new }
-    ensures sessions { length slots.new ≡ length slots.old }
-    ensures others { OthersStay session slots.old slots.new }
-    ensures over { slot_of slots.old session ≡ None → slot_of slots.new session ≡ None }
+    ensures others { KeepsOthers session calls.old calls.new }
+    ensures over { op_of calls.old session ≡ None → op_of calls.new session ≡ None }
     ensures goes { InsertGoes S.PageStore session entry result
-        (here_with store.old slots.old (map T.is_in sets.now))
-        (here_with store.new slots.new (map T.is_in sets.now)) }
+        (here T.DeadRows store.old calls.old sets.now)
+        (here T.DeadRows store.new calls.new sets.now) }
     // With `least_room` 5 or more it never answers `LogFull`.
-    ensures cause { let old = here_with store.old slots.old (map T.is_in sets.now) in
-        Carries S.PageStore old (here_with store.new slots.new (map T.is_in sets.now))
+    ensures cause { let old = here T.DeadRows store.old calls.old sets.now in
+        Carries S.PageStore old (here T.DeadRows store.new calls.new sets.now)
         (λ start history calls.
         InsertCallIsCaused S.PageStore session least_room entry old store.new result) }
 {
-    match begin(store, slots, sets, session, entry) {
+    match begin(store, calls, sets, session, entry) {
         Ok(()) => {}
         Err(fault) => return Err(fault),
     }
-    let came = finish(store, slots, sets, session, least_room);
-    let added = added(slots, session);
-    give_up(store, slots, sets, session);
+    let came = finish(store, calls, sets, session, least_room);
+    let added = calls.added(session);
+    give_up(store, calls, sets, session);
     outcome(came, added)
 }

@@ -1,5 +1,5 @@
 -- What is promised of a world.
-use Rattle.std.specs.Prelude.{ℕ, Bool, Option, List, map}
+use Rattle.std.specs.Prelude.{◌≡◌, Bool, List, length, map}
 use Rattle.index_model.specs.Actions.{Action}
 use Rattle.index_model.specs.Calls.{Call}
 use Rattle.index_model.specs.declared.entry.Entry.{Entry}
@@ -10,12 +10,11 @@ use Rattle.schedule.specs.TheoremCrashes.{KeepsHistory, IsCrashSafe}
 use Rattle.schedule.specs.TheoremRuns.{Carries, Runs, Fits}
 use Rattle.schedule.specs.TheoremMoments.{StoreAndSlots, Snapshot, snapshot_of}
 use Rattle.schedule.specs.declared.event.Event.{Event}
-use Rattle.whole_calls.specs.Going.{CallGoes}
 use Rattle.world.specs.declared.world.World.{World}
 
 -- the store of a world, what each of its sessions runs, and its sets of dead rows
 abbrev pub inside : {S T : Type 0} → SetGhosts T → World S T → StoreAndSlots S
-inside rows world = record { store = world.store; slots = world.slots.items; sets = map rows.is_in world.sets.items }
+inside rows world = record { store = world.store; slots = world.calls.slots.items; sets = map rows.is_in world.sets.items }
 
 -- the moment at which a world stands, told by this history and these calls
 abbrev pub snapshot_in : {S T : Type 0} → SetGhosts T → World S T → List Action → List Call → Snapshot S
@@ -42,7 +41,7 @@ WorldCarries g rows old new goes = Carries g (inside rows old) (inside rows new)
 abbrev pub WorldRuns : {S T : Type 0} → Ghosts S → SetGhosts T → World S T → World S T → List Event → List Answer → (Entry → Bool) → List Action → List Call → Type 0
 WorldRuns g rows old new events answers start history calls = Runs g (inside rows old) (inside rows new) events answers start history calls
 
--- for whatever fitted the world before there is a run of events of this session, of which one answered what the call came
--- to, and this is told
-abbrev pub WorldGoes : {S T : Type 0} → Ghosts S → SetGhosts T → ℕ → (Snapshot S → Snapshot S → Type 0) → Option Answer → World S T → World S T → Type 0
-WorldGoes g rows session Tells came old new = CallGoes g session Tells came (inside rows old) (inside rows new)
+-- the sessions and the sets of dead rows are the same
+pub record KeepsSessions {S T : Type 0} (old new : World S T) : Type 0 where
+  pub sessions : length new.calls.slots.items ≡ length old.calls.slots.items
+  pub sets : new.sets ≡ old.sets

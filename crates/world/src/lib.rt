@@ -4,7 +4,6 @@
 mod memory;
 mod opening;
 mod over_device;
-mod whole;
 mod world;
 
 pub use opening::NotOpened;

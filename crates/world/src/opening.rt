@@ -38,7 +38,7 @@ impl<D: Device, T: DeadRows + Drop> World<Store<D>, T> {
         sessions: u32,
         sets: Vec<T>,
     ) -> Result<World<Store<D>, T>, NotOpened<D, T>>
-        ensures sessions { IfOk result (λ world. length world.slots.items ≡ sessions) }
+        ensures sessions { IfOk result (λ world. length world.calls.slots.items ≡ sessions) }
         ensures sets { IfOk result (λ world. world.sets ≡ sets) }
         ensures sets_back { IfErr result (λ not_opened. not_opened.sets ≡ sets) }
         // An index whose pages are a B-link tree is opened with them, or refused for want of memory or of the device.

@@ -1,12 +1,10 @@
 //! A store of pages with its sessions.
 
-ghost use Rattle.std.specs.Prelude.{◌≡◌, ◌⊎◌, ◌≤◌, ◌<◌, IfOk, IfErr, OnOk, length, None, replicate};
-
 use index_model::{DeadRows, Fault};
 use page_action::PageStore;
 use page_codec::Page;
 use schedule::Event;
-use session_calls::{Answer, Op};
+use session_calls::{Answer, Calls};
 use std::alloc::Global;
 
 /// A store of pages with 1 to 64 sessions, of which each runs one call at most. After it is made, nothing takes memory.
@@ -15,7 +13,7 @@ use std::alloc::Global;
 /// continuation that fits it afterwards, by events with exactly these answers. Where nobody else writes to the store's
 /// device, a crash at any moment leaves the contents after some first part of that history, with all that was durable.
 ///
-/// Of what its clauses name: `steps`, that what its store followed it follows still; `sets` and `sessions`, that these
+/// Of what its clauses name: `steps`, that what its store followed it follows still; `same`, that the sessions and the sets
 /// stay; `always`, of one event, what holds of it whatever the pages are (what it may answer; that a refusal changes nothing; that
 /// a stopped log refuses first; that a step that goes on leaves less to do, over a device that keeps its model, unless it
 /// does an act; that an event does one act at most, and only a step does one; that no other session is touched; what an end
@@ -24,10 +22,9 @@ use std::alloc::Global;
 #[derive(Drop)]
 pub struct World<S, T> {
     pub(crate) store: S,
-    pub(crate) slots: Vec<Option<Op>>,
+    calls: Calls,
     /// The sets of dead rows that events name by their places.
     pub(crate) sets: Vec<T>,
-    ghost few: { length slots.items ≤ 64 },
 }
 
 /// Why a world was not made, with the store and the sets as they were.
@@ -47,8 +44,9 @@ impl<S: PageStore, T: DeadRows + Drop> World<S, T> {
     ghost use Rattle.schedule.specs.TheoremKinds.{MovesCall, GivesUp, kind_of};
     ghost use Rattle.schedule.specs.Events.{EventAlways, IsUnchanged};
     ghost use Rattle.schedule.specs.TheoremRuns.{Carries, Runs};
-    ghost use Rattle.schedule.specs.Snapshots.{IsUnused, has_call};
-    ghost use Rattle.world.specs.Worlds.{WorldFits, WorldKeeps, WorldIsSafe, WorldRuns, WorldCarries, inside};
+    ghost use Rattle.session_calls.specs.Slots.{has_call};
+    ghost use Rattle.schedule.specs.Snapshots.{IsUnused};
+    ghost use Rattle.world.specs.Worlds.{WorldFits, WorldKeeps, WorldIsSafe, WorldRuns, WorldCarries, KeepsSessions, inside};
 
     /// A world over the store with so many sessions, none of which has a call, and the sets of dead rows that its events
     /// may name. Refused with `BadLimits` unless it is 1 to 64 sessions, and with `NoMemory`; the store and the sets are
@@ -63,7 +61,7 @@ impl<S: PageStore, T: DeadRows + Drop> World<S, T> {
         sets: Vec<T>,
     ) -> Result<World<S, T>, NotMade<S, T>>
         ensures store { IfOk result (λ world. world.store ≡ store) }
-        ensures sessions { IfOk result (λ world. length world.slots.items ≡ sessions) }
+        ensures sessions { IfOk result (λ world. length world.calls.slots.items ≡ sessions) }
         ensures sets { IfOk result (λ world. world.sets ≡ sets) }
         ensures few { OnOk result ((1 ≤ sessions) × (sessions ≤ 64)) }
         ensures fits { IsUnused (S.state store) → IfOk result (λ world.
@@ -81,8 +79,8 @@ impl<S: PageStore, T: DeadRows + Drop> World<S, T> {
         ensures memory { IfErr result (λ not_made.
             (not_made.fault ≡ Fault.BadLimits) ⊎ (not_made.fault ≡ Fault.NoMemory)) }
     {
-        match empty_slots(alloc, sessions) {
-            Ok(slots) => Ok(World { store, slots, sets }),
+        match Calls::new(alloc, sessions) {
+            Ok(calls) => Ok(World { store, calls, sets }),
             Err(fault) => Err(NotMade { fault, store, sets }),
         }
     }
@@ -92,22 +90,20 @@ impl<S: PageStore, T: DeadRows + Drop> World<S, T> {
     /// `Stopped` too, is tested last.
     pub fn one(&mut self, event: Event) -> Answer
         ensures steps { Continues S.follows self.old.store self.new.store }
-        ensures sessions { length self.new.slots.items ≡ length self.old.slots.items }
-        ensures sets { self.new.sets ≡ self.old.sets }
+        ensures same { KeepsSessions self.old self.new }
         ensures runs { WorldCarries S.PageStore T.DeadRows self.old self.new
             (WorldRuns S.PageStore T.DeadRows self.old self.new (event ∷ []) (result ∷ [])) }
         ensures always { EventAlways S.PageStore (kind_of event) result
             (inside T.DeadRows self.old) (inside T.DeadRows self.new) }
     {
-        schedule::one(&mut self.store, &mut self.slots, &self.sets, event)
+        schedule::one(&mut self.store, &mut self.calls, &self.sets, event)
     }
 
     /// Does these events one after the other, and puts an answer for each behind the answers that are there. Refused
     /// with `NoMemory` where there is no room for the answers: nothing is done then.
     pub fn run(&mut self, events: &[Event], answers: &mut Vec<Answer>) -> Result<(), Fault>
         ensures steps { Continues S.follows self.old.store self.new.store }
-        ensures sessions { length self.new.slots.items ≡ length self.old.slots.items }
-        ensures sets { self.new.sets ≡ self.old.sets }
+        ensures same { KeepsSessions self.old self.new }
         ensures runs { OnOk result (let old = inside T.DeadRows self.old in
             let new = inside T.DeadRows self.new in
             Carries S.PageStore old new (Runs S.PageStore old new events.now
@@ -123,7 +119,7 @@ impl<S: PageStore, T: DeadRows + Drop> World<S, T> {
     {
         schedule::run(
             &mut self.store,
-            &mut self.slots,
+            &mut self.calls,
             &self.sets,
             events,
             answers,
@@ -153,8 +149,7 @@ impl<S: PageStore, T: DeadRows + Drop> World<S, T> {
     /// Gives the session's call up, as an `End` of it does: nothing is logged, and what the session held is let go.
     pub fn abandon(&mut self, session: u32) -> Answer
         ensures steps { Continues S.follows self.old.store self.new.store }
-        ensures sessions { length self.new.slots.items ≡ length self.old.slots.items }
-        ensures sets { self.new.sets ≡ self.old.sets }
+        ensures same { KeepsSessions self.old self.new }
         ensures runs { WorldCarries S.PageStore T.DeadRows self.old self.new
             (WorldRuns S.PageStore T.DeadRows self.old self.new
             (Event.End session ∷ []) (result ∷ [])) }
@@ -194,34 +189,18 @@ impl<S: PageStore, T: DeadRows + Drop> World<S, T> {
         self.store.used()
     }
 
+    /// How many sessions there are: 1 to 64.
+    pub fn sessions(&self) -> u32
+        ensures { result ≡ length self.now.calls.slots.items }
+    {
+        self.calls.sessions()
+    }
+
     /// Whether the session has a call. One that does not exist has none.
     pub fn is_running(&self, session: u32) -> bool
-        ensures value { result ≡ has_call self.now.slots.items session }
-        ensures within { result ≡ true → session < length self.now.slots.items }
+        ensures value { result ≡ has_call self.now.calls.slots.items session }
+        ensures within { result ≡ true → session < length self.now.calls.slots.items }
     {
-        schedule::is_running(&self.slots, session)
+        self.calls.is_running(session)
     }
-}
-
-// A slot for each session, none with a call. Refused with `BadLimits` unless it is 1 to 64 sessions, and with `NoMemory`.
-fn empty_slots(alloc: Global, sessions: u32) -> Result<Vec<Option<Op>>, Fault>
-    ensures slots { IfOk result (λ slots. slots.items ≡ replicate sessions None) }
-    ensures few { OnOk result ((1 ≤ sessions) × (sessions ≤ 64)) }
-    ensures first { IfErr result (λ fault.
-        (sessions ≡ 0) ⊎ (64 < sessions) → fault ≡ Fault.BadLimits) }
-    ensures limits { IfErr result (λ fault.
-        fault ≡ Fault.BadLimits → (sessions ≡ 0) ⊎ (64 < sessions)) }
-    ensures memory { IfErr result (λ fault.
-        (fault ≡ Fault.BadLimits) ⊎ (fault ≡ Fault.NoMemory)) }
-{
-    if sessions == 0 || sessions > 64 {
-        return Err(Fault::BadLimits);
-    }
-    let Ok(mut slots) = Vec::with_capacity(alloc, sessions as usize) else {
-        return Err(Fault::NoMemory);
-    };
-    for _at in 0..sessions {
-        slots.push_reserved(None);
-    }
-    Ok(slots)
 }

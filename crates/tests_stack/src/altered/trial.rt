@@ -3,7 +3,8 @@
 use super::base::{FRAMES, entry};
 use crate::dead::Blocks;
 use crate::plain::{
-    begin_scan, bulk_delete, checkpoint_of, clean_up, end_scan, insert, next, open,
+    begin_scan, bulk_delete, checkpoint_of, clean_up, end_scan, index_over, insert, next,
+    open,
 };
 use crate::small::{ALL, keyed};
 use access_method::{Index, Inserted, ScanToken};
@@ -257,10 +258,10 @@ fn tried_in(alloc: Global, store: Store<MemDevice>) -> Outcome {
         return outcome;
     }
     let used = store.used();
-    let mut trial = Trial {
-        index: Index::new(store),
-        entries,
+    let Ok(index) = index_over(alloc, store) else {
+        return Outcome::Wrong("an index");
     };
+    let mut trial = Trial { index, entries };
     match trial.find_wrong() {
         Some(wrong) => Outcome::Wrong(wrong),
         None => {

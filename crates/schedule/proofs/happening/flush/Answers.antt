@@ -4,13 +4,13 @@ use Rattle.schedule.proofs.Making.{flush_makes, not_kept_makes}
 use Rattle.schedule.proofs.happening.flush.Goals as goal
 
 pub returns-in-Ok-clause-makes : goal.returns-in-Ok-clause-makes
-returns-in-Ok-clause-makes g c sets =
+returns-in-Ok-clause-makes g c slots sets =
     let laws = g.met.S.PageStore.laws in
-    flush_makes g.S.PageStore laws c.args.store.now c.flush.new.self (c.flush.ensures.steps _ (laws.follows_same _)) c.args.slots.now sets c.flush.ensures.state c.in-Ok.block c.in-Ok.ensures.block
+    flush_makes g.S.PageStore laws c.args.store.now c.flush.new.self (c.flush.ensures.steps _ (laws.follows_same _)) slots sets c.flush.ensures.state c.in-Ok.block c.in-Ok.ensures.block
     (λ stopped. (let e = sym c.in-Ok.is ∙ c.flush.ensures.stopped stopped in cc))
 
 pub returns-in-Err-clause-makes : goal.returns-in-Err-clause-makes
-returns-in-Err-clause-makes g c sets =
+returns-in-Err-clause-makes g c slots sets =
     let laws = g.met.S.PageStore.laws in
-    not_kept_makes g.S.PageStore laws c.args.store.now c.flush.new.self (c.flush.ensures.steps _ (laws.follows_same _)) c.args.slots.now sets Flushes c.flush.ensures.state c.in-Err.fault
+    not_kept_makes g.S.PageStore laws c.args.store.now c.flush.new.self (c.flush.ensures.steps _ (laws.follows_same _)) slots sets Flushes c.flush.ensures.state c.in-Err.fault
     (λ stopped. (let e = sym c.in-Err.is ∙ c.flush.ensures.stopped stopped in cc)) c.in-Err.ensures.cause

@@ -26,7 +26,7 @@ loop-event-init g c =
       steps = λ first h. h;
       sessions = refl;
       runs = λ honest start history calls fits.
-          let now : Snapshot g.row.S.Denot = snapshot_of (here_with c.args.store.now c.args.slots.now (map g.T.DeadRows.is_in c.args.sets.now)) history calls in
+          let now : Snapshot g.row.S.Denot = snapshot_of (here_with c.args.store.now c.args.calls.now.slots.items (map g.T.DeadRows.is_in c.args.sets.now)) history calls in
           record {
             then_history = history;
             then_calls = calls;
@@ -53,13 +53,13 @@ loop-event-preserved g c =
       steps = λ first h. c.one-answer.ensures.steps first (c.loop-event.invariant.steps first h);
       sessions = c.one-answer.ensures.makes.sessions ∙ c.loop-event.invariant.sessions;
       runs = λ honest start history calls fits.
-          let mid = here_with c.loop-event.store c.loop-event.slots (map g.T.DeadRows.is_in c.args.sets.now) in
-          let new = here_with c.one-answer.new.store c.one-answer.new.slots (map g.T.DeadRows.is_in c.args.sets.now) in
+          let mid = here_with c.loop-event.store c.loop-event.calls.slots.items (map g.T.DeadRows.is_in c.args.sets.now) in
+          let new = here_with c.one-answer.new.store c.one-answer.new.calls.slots.items (map g.T.DeadRows.is_in c.args.sets.now) in
           let later = g.met.S.PageStore.laws.follows_later mid.store new.store (c.one-answer.ensures.steps mid.store (g.met.S.PageStore.laws.follows_same mid.store)) in
           let follows = c.one-answer.ensures.steps c.args.store.now (c.loop-event.invariant.steps c.args.store.now (g.met.S.PageStore.laws.follows_same c.args.store.now)) in
           let ran = c.loop-event.invariant.runs (later.honest honest) start history calls fits in
           let one = makes_runs g.S.PageStore laws event answer mid new c.one-answer.ensures.makes honest start ran.then_history ran.then_calls ran.ran.fits in
-          let first : Snapshot g.row.S.Denot = snapshot_of (here_with c.args.store.now c.args.slots.now (map g.T.DeadRows.is_in c.args.sets.now)) history calls in
+          let first : Snapshot g.row.S.Denot = snapshot_of (here_with c.args.store.now c.args.calls.now.slots.items (map g.T.DeadRows.is_in c.args.sets.now)) history calls in
           let between : Snapshot g.row.S.Denot = snapshot_of mid ran.then_history ran.then_calls in
           let last : Snapshot g.row.S.Denot = snapshot_of new one.then_history one.then_calls in
           let done : Ran g.S.PageStore start (take index events ++ event ∷ []) (answers_behind before answers ++ answer ∷ []) first last =
@@ -75,8 +75,8 @@ loop-event-preserved g c =
 pub returns-clause-runs : goal.returns-clause-runs
 returns-clause-runs g c honest start history calls fits =
     let ran = c.loop-event.invariant.runs honest start history calls fits in
-    let first : Snapshot g.row.S.Denot = snapshot_of (here_with c.args.store.now c.args.slots.now (map g.T.DeadRows.is_in c.args.sets.now)) history calls in
-    let last : Snapshot g.row.S.Denot = snapshot_of (here_with c.loop-event.store c.loop-event.slots (map g.T.DeadRows.is_in c.args.sets.now)) ran.then_history ran.then_calls in
+    let first : Snapshot g.row.S.Denot = snapshot_of (here_with c.args.store.now c.args.calls.now.slots.items (map g.T.DeadRows.is_in c.args.sets.now)) history calls in
+    let last : Snapshot g.row.S.Denot = snapshot_of (here_with c.loop-event.store c.loop-event.calls.slots.items (map g.T.DeadRows.is_in c.args.sets.now)) ran.then_history ran.then_calls in
     record {
       then_history = ran.then_history;
       then_calls = ran.then_calls;

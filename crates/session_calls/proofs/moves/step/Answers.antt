@@ -4,7 +4,7 @@ use Rattle.session_calls.specs.Ops.{session_of, is_sweep}
 use Rattle.session_calls.specs.Sessions.{SlotFits, let_go}
 use Rattle.session_calls.specs.declared.op.Op.{Op}
 use Rattle.session_calls.proofs.Going.{event_of_last, event_of_more, low_of}
-use Rattle.std.specs.Prelude.{if◌then◌else◌, Some, None, suc}
+use Rattle.std.specs.Prelude.{if◌then◌else◌, Some, None}
 use Rattle.page_action.specs.States.{State, Backing}
 use Rattle.session_calls.specs.Due.{CountsDown}
 use Rattle.session_calls.specs.Sessions.{LeavesOwnFlagged, KeepsBeforePins, CountsEntries, SparesLeaves}

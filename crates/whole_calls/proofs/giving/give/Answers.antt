@@ -3,7 +3,8 @@ use Rattle.index_model.specs.Faults.{HasCause}
 use Rattle.std.proofs.Common.{◌≡◌, false, Result, Ok, Err, Option, None, Some, sym, subst, ap, ◌∙◌}
 use Rattle.index_model.specs.declared.entry.Entry.{Entry}
 use Rattle.index_model.specs.declared.fault.Fault.{Fault}
-use Rattle.schedule.specs.Snapshots.{here_with, slot_of}
+use Rattle.session_calls.specs.Slots.{slot_of}
+use Rattle.schedule.specs.Snapshots.{here_with}
 use Rattle.whole_calls.specs.Telling.{TellsEnd, step_came}
 use Rattle.whole_calls.specs.Giving.{TellsScan, TellsGiven, given_of, give_came}
 use Rattle.whole_calls.proofs.Composing.{goes_first, goes_told}
@@ -26,10 +27,10 @@ pub returns-in-Ok-None-clause-goes : goal.returns-in-Ok-None-clause-goes
 returns-in-Ok-None-clause-goes g c =
     let session = c.args.session in
     let came = c.seek-came.result in
-    let start = here_with c.args.store.now c.args.slots.now (map g.T.DeadRows.is_in c.args.sets.now) in
-    let here = here_with c.seek-came.new.store c.seek-came.new.slots (map g.T.DeadRows.is_in c.args.sets.now) in
+    let start = here_with c.args.store.now c.args.calls.now.slots.items (map g.T.DeadRows.is_in c.args.sets.now) in
+    let here = here_with c.seek-came.new.store c.seek-came.new.calls.slots.items (map g.T.DeadRows.is_in c.args.sets.now) in
     let is : given_of came ≡ Ok None = sym c.given.ensures ∙ c.in-Ok-None.is ∙ ap (λ (o : Option Entry). Ok o) c.in-Ok-None.field-0-is in
-    goes_first g.S.PageStore g.met.S.PageStore.laws session (TellsScan session came) (TellsEnd session) (TellsGiven session (Ok None)) (give_came (Ok None)) None start here (here_with c.give_up.new.store c.give_up.new.slots (map g.T.DeadRows.is_in c.args.sets.now))
+    goes_first g.S.PageStore g.met.S.PageStore.laws session (TellsScan session came) (TellsEnd session) (TellsGiven session (Ok None)) (give_came (Ok None)) None start here (here_with c.give_up.new.store c.give_up.new.calls.slots.items (map g.T.DeadRows.is_in c.args.sets.now))
     c.seek-came.ensures.steps c.give_up.ensures.steps
     (goes_told g.S.PageStore session (TellsScan session came) (TellsScan session came) (step_came came) (give_came (Ok None)) start here
     (λ s answers x z at fits by t. (rw is at (give_comes came answers c.seek-came.ensures.kind by), t)) c.seek-came.ensures.goes)
@@ -41,8 +42,8 @@ pub returns-in-Err-clause-goes : goal.returns-in-Err-clause-goes
 returns-in-Err-clause-goes g c =
     let session = c.args.session in
     let came = c.seek-came.result in
-    let start = here_with c.args.store.now c.args.slots.now (map g.T.DeadRows.is_in c.args.sets.now) in
-    let here = here_with c.seek-came.new.store c.seek-came.new.slots (map g.T.DeadRows.is_in c.args.sets.now) in
+    let start = here_with c.args.store.now c.args.calls.now.slots.items (map g.T.DeadRows.is_in c.args.sets.now) in
+    let here = here_with c.seek-came.new.store c.seek-came.new.calls.slots.items (map g.T.DeadRows.is_in c.args.sets.now) in
     let fault = c.in-Err.fault in
     let is : given_of came ≡ Err fault = sym c.given.ensures ∙ c.in-Err.is in
     goes_first g.S.PageStore g.met.S.PageStore.laws session (TellsScan session came) (TellsEnd session) (TellsGiven session (Err fault)) (give_came (Err fault)) None start here (here_with c.give_up-in-Err.new.store c.give_up-in-Err.new.slots (map g.T.DeadRows.is_in c.args.sets.now))
@@ -63,7 +64,7 @@ returns-in-Err-clause-cause g c honest start history calls fits number call rang
     let laws = g.met.S.PageStore.laws in
     let session = c.args.session in
     let came = c.seek-came.result in
-    let old = here_with c.args.store.now c.args.slots.now (map g.T.DeadRows.is_in c.args.sets.now) in
+    let old = here_with c.args.store.now c.args.calls.now.slots.items (map g.T.DeadRows.is_in c.args.sets.now) in
     let last = laws.follows_later c.seek-came.new.store c.give_up-in-Err.new.store (c.give_up-in-Err.ensures.steps _ (laws.follows_same _)) in
     let fault = c.in-Err.fault in
     let is_err : given_of came ≡ Err fault = sym c.given.ensures ∙ c.in-Err.is in
@@ -73,7 +74,7 @@ returns-in-Err-clause-cause g c honest start history calls fits number call rang
     (subst (λ (r : Result (Option Entry) Fault). IfErr r (HasCause at)) is_err why)
 
 pub returns-in-Ok-None-clause-runs_on : goal.returns-in-Ok-None-clause-runs_on
-returns-in-Ok-None-clause-runs_on g c = runs_over (slot_of c.args.slots.now c.args.session) (slot_of c.give_up.new.slots c.args.session) c.give_up.ensures.over
+returns-in-Ok-None-clause-runs_on g c = runs_over (slot_of c.args.calls.now.slots.items c.args.session) (slot_of c.give_up.new.calls.slots.items c.args.session) c.give_up.ensures.over
 
 pub returns-in-Err-clause-runs_on : goal.returns-in-Err-clause-runs_on
-returns-in-Err-clause-runs_on g c = runs_over (slot_of c.args.slots.now c.args.session) (slot_of c.give_up-in-Err.new.slots c.args.session) c.give_up-in-Err.ensures.over
+returns-in-Err-clause-runs_on g c = runs_over (slot_of c.args.calls.now.slots.items c.args.session) (slot_of c.give_up-in-Err.new.slots c.args.session) c.give_up-in-Err.ensures.over

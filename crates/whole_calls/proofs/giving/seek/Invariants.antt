@@ -3,7 +3,8 @@ use Rattle.std.proofs.Common.{◌≡◌, ◌+◌, ◌≤◌, true, None, length}
 use Rattle.page_action.specs.States.{Continues}
 use Rattle.session_calls.specs.Sessions.{work_in}
 use Rattle.session_calls.specs.Ops.{RunsOn}
-use Rattle.schedule.specs.Snapshots.{here_with, slot_of}
+use Rattle.schedule.specs.Sessions.{here}
+use Rattle.session_calls.specs.Slots.{slot_of}
 use Rattle.schedule.specs.Events.{OthersStay}
 use Rattle.whole_calls.specs.Going.{CallGoes}
 use Rattle.whole_calls.specs.Giving.{ScanStays}
@@ -12,12 +13,12 @@ use Rattle.whole_calls.proofs.giving.seek.Given as goal
 abbrev pub invariant-loop-left : goal.invariant-loop-left
 invariant-loop-left g l = record {
   steps : Continues g.S.PageStore.follows l.fn.store l.store;
-  sessions : length l.slots ≡ length l.fn.slots;
-  others : OthersStay l.session l.fn.slots l.slots;
-  runs_on : RunsOn (slot_of l.fn.slots l.session) (slot_of l.slots l.session);
-  goes : CallGoes g.S.PageStore l.session (ScanStays l.session) None (here_with l.fn.store l.fn.slots (map g.T.DeadRows.is_in l.sets)) (here_with l.store l.slots (map g.T.DeadRows.is_in l.sets));
+  sessions : length l.calls.slots.items ≡ length l.fn.calls.slots.items;
+  others : OthersStay l.session l.fn.calls.slots.items l.calls.slots.items;
+  runs_on : RunsOn (slot_of l.fn.calls.slots.items l.session) (slot_of l.calls.slots.items l.session);
+  goes : CallGoes g.S.PageStore l.session (ScanStays l.session) None (here g.T.DeadRows l.fn.store l.fn.calls l.sets) (here g.T.DeadRows l.store l.calls l.sets);
   budget : (g.S.PageStore.backing l.store).honest ≡ true
-      → 18446744073709551615 + work_in (g.S.PageStore.state l.store) (slot_of l.slots l.session) ≤ l.left + work_in (g.S.PageStore.state l.fn.store) (slot_of l.fn.slots l.session);
+      → 18446744073709551615 + work_in (g.S.PageStore.state l.store) (slot_of l.calls.slots.items l.session) ≤ l.left + work_in (g.S.PageStore.state l.fn.store) (slot_of l.fn.calls.slots.items l.session);
   fewer : l.left ≤ 18446744073709551615;
 }
 

@@ -13,5 +13,5 @@ returns-clause-goes g c =
     let session = c.args.session in
     let answer = c.one-answer.result in
     goes_told g.S.PageStore session (TellsEnd session) (TellsEnd session) (Some answer) None _ _ (λ start answers x y at fits came told. (tt, told))
-    (goes_by g.S.PageStore g.met.S.PageStore.laws session (TellsEnd session) (End session) answer (here_with c.args.store.now c.args.slots.now (map g.T.DeadRows.is_in c.args.sets.now)) (here_with c.one-answer.new.store c.one-answer.new.slots (map g.T.DeadRows.is_in c.args.sets.now)) refl (makes_runs g.S.PageStore g.met.S.PageStore.laws _ _ _ _ c.one-answer.ensures.makes)
+    (goes_by g.S.PageStore g.met.S.PageStore.laws session (TellsEnd session) (End session) answer (here_with c.args.store.now c.args.calls.now.slots.items (map g.T.DeadRows.is_in c.args.sets.now)) (here_with c.one-answer.new.store c.one-answer.new.calls.slots.items (map g.T.DeadRows.is_in c.args.sets.now)) refl (makes_runs g.S.PageStore g.met.S.PageStore.laws _ _ _ _ c.one-answer.ensures.makes)
     (λ start x y from to fits does. ends_tells g.S.PageStore start x y session answer fits does))

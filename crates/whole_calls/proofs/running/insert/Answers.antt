@@ -7,7 +7,8 @@ use Rattle.session_calls.specs.Sessions.{slot_add}
 use Rattle.session_calls.specs.declared.op.Op.{Op}
 use Rattle.session_calls.specs.declared.request.Request.TheVariants.{Insert as ToInsert}
 use Rattle.schedule.specs.TheoremMoments.{snapshot_of}
-use Rattle.schedule.specs.Snapshots.{here_with, slot_of}
+use Rattle.session_calls.specs.Slots.{slot_of}
+use Rattle.schedule.specs.Snapshots.{here_with}
 use Rattle.whole_calls.specs.Refusing.{InsertCallIsCaused}
 use Rattle.whole_calls.specs.Telling.{first_call, HasBegun, TellsStep, TellsEnd, BeginTold, InsertTold, NextTold, outcome_of, begin_came, step_came}
 use Rattle.session_calls.specs.declared.answer.Answer.{Answer}
@@ -28,10 +29,10 @@ returns-clause-goes g c =
     let request = ToInsert entry in
     let came = c.finish-came.result in
     let added = c.added-added.result in
-    let start = here_with c.args.store.now c.args.slots.now (map g.T.DeadRows.is_in c.args.sets.now) in
-    let begun = here_with c.begin.new.store c.begin.new.slots (map g.T.DeadRows.is_in c.args.sets.now) in
-    let here = here_with c.finish-came.new.store c.finish-came.new.slots (map g.T.DeadRows.is_in c.args.sets.now) in
-    let there = here_with c.give_up.new.store c.give_up.new.slots (map g.T.DeadRows.is_in c.args.sets.now) in
+    let start = here_with c.args.store.now c.args.calls.now.slots.items (map g.T.DeadRows.is_in c.args.sets.now) in
+    let begun = here_with c.begin.new.store c.begin.new.calls.slots.items (map g.T.DeadRows.is_in c.args.sets.now) in
+    let here = here_with c.finish-came.new.store c.finish-came.new.calls.slots.items (map g.T.DeadRows.is_in c.args.sets.now) in
+    let there = here_with c.give_up.new.store c.give_up.new.calls.slots.items (map g.T.DeadRows.is_in c.args.sets.now) in
     let put = goes_then g.S.PageStore laws session (BeginTold session request c.begin.result) (TellsStep session came) (PutTold session entry came) (begin_came c.begin.result) (step_came came) start begun here
     c.begin.ensures.steps c.finish-came.ensures.steps c.begin.ensures.goes c.finish-came.ensures.goes
     (λ s x y z at then_at fx fy fz one two.
@@ -62,9 +63,9 @@ returns-clause-cause g c honest start history calls fits =
     let came = c.finish-came.result in
     let added = c.added-added.result in
     let sets = map g.T.DeadRows.is_in c.args.sets.now in
-    let old = here_with c.args.store.now c.args.slots.now sets in
-    let begun = here_with c.begin.new.store c.begin.new.slots sets in
-    let here = here_with c.finish-came.new.store c.finish-came.new.slots sets in
+    let old = here_with c.args.store.now c.args.calls.now.slots.items sets in
+    let begun = here_with c.begin.new.store c.begin.new.calls.slots.items sets in
+    let here = here_with c.finish-came.new.store c.finish-came.new.calls.slots.items sets in
     let first = laws.follows_later c.args.store.now c.begin.new.store (c.begin.ensures.steps _ (laws.follows_same _)) in
     let mid = laws.follows_later c.begin.new.store c.finish-came.new.store (c.finish-came.ensures.steps _ (laws.follows_same _)) in
     let last = laws.follows_later c.finish-came.new.store c.give_up.new.store (c.give_up.ensures.steps _ (laws.follows_same _)) in
@@ -84,7 +85,7 @@ returns-clause-cause g c honest start history calls fits =
     let next = begun_next session request x y z b came t.tells in
     let apart : (action : ℕ) → added ≡ Some action → came ≢ Ok (Refused Exists) = λ action some same. not_there g.S.PageStore start session entry x z _ free t.ran.fits e.tells action (sym c.added-added.ensures ∙ some)
     (subst (λ (r : Result Answer Fault). NextTold session request r x z) same next) in
-    let wider = ask_wider g.S.PageStore session least old begun c.finish-came.new.store first mid.failures (others_before c.args.slots.now c.begin.new.slots session c.begin.ensures.others) false false (AskInsert entry) (λ counts h. h) came caused in
+    let wider = ask_wider g.S.PageStore session least old begun c.finish-came.new.store first mid.failures (others_before c.args.calls.now.slots.items c.begin.new.calls.slots.items session c.begin.ensures.others.others) false false (AskInsert entry) (λ counts h. h) came caused in
     subst (λ (r : Result Inserted Fault). InsertCallIsCaused g.S.PageStore session least entry old c.give_up.new.store r) (sym c.outcome.ensures)
     (insert_behind g.S.PageStore session least old c.finish-came.new.store c.give_up.new.store c.give_up.ensures.backing c.give_up.ensures.acts c.give_up.ensures.frames c.give_up.ensures.limits c.give_up.ensures.pages entry added came may
     c.finish-came.ensures.over apart wider)
@@ -92,4 +93,4 @@ returns-clause-cause g c honest start history calls fits =
 pub returns-in-Err-clause-cause : goal.returns-in-Err-clause-cause
 returns-in-Err-clause-cause g c honest start history calls fits =
     let sets = map g.T.DeadRows.is_in c.args.sets.now in
-    insert_not_begun g.S.PageStore c.args.session c.args.least_room c.args.entry (here_with c.args.store.now c.args.slots.now sets) c.begin.new.store start history calls fits c.in-Err.fault c.in-Err.ensures.cause
+    insert_not_begun g.S.PageStore c.args.session c.args.least_room c.args.entry (here_with c.args.store.now c.args.calls.now.slots.items sets) c.begin.new.store start history calls fits c.in-Err.fault c.in-Err.ensures.cause

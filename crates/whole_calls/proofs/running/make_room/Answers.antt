@@ -18,19 +18,19 @@ use Rattle.whole_calls.proofs.running.make_room.Goals as goal
 
 pub returns-then-room-least_room-clause-goes : goal.returns-then-room-least_room-clause-goes
 returns-then-room-least_room-clause-goes g c session sets =
-    goes_nowhere g.S.PageStore g.met.S.PageStore.laws session IsSilent (here_with c.args.store.now c.args.slots.now sets) (λ x. record { history_is = refl; calls_is = refl })
+    goes_nowhere g.S.PageStore g.met.S.PageStore.laws session IsSilent (here_with c.args.store.now c.args.calls.now.slots.items sets) (λ x. record { history_is = refl; calls_is = refl })
 
 pub returns-in-Refused-clause-goes : goal.returns-in-Refused-clause-goes
 returns-in-Refused-clause-goes g c session sets =
     goes_told g.S.PageStore session IsSilent IsSilent (Some c.checkpoint.result) (Some (Refused c.in-Refused.fault)) _ _
     (λ start answers x y at fits came silent. (subst (λ (a : Answer). CameBy answers (Some a)) c.in-Refused.is came, silent))
-    (goes_by g.S.PageStore g.met.S.PageStore.laws session IsSilent Checkpoint c.checkpoint.result (here_with c.args.store.now c.args.slots.now sets) (here_with c.checkpoint.new.store c.args.slots.now sets) tt (makes_runs g.S.PageStore g.met.S.PageStore.laws _ _ _ _ (c.checkpoint.ensures.makes sets))
+    (goes_by g.S.PageStore g.met.S.PageStore.laws session IsSilent Checkpoint c.checkpoint.result (here_with c.args.store.now c.args.calls.now.slots.items sets) (here_with c.checkpoint.new.store c.args.calls.now.slots.items sets) tt (makes_runs g.S.PageStore g.met.S.PageStore.laws _ _ _ _ (c.checkpoint.ensures.makes sets))
     (λ start x y from to fits does. keeps_silent g.S.PageStore start Checkpoints c.checkpoint.result x y does))
 
 pub returns-in_default-clause-goes : goal.returns-in_default-clause-goes
 returns-in_default-clause-goes g c session sets =
     goes_told g.S.PageStore session IsSilent IsSilent (Some c.checkpoint.result) None _ _ (λ start answers x y at fits came silent. (tt, silent))
-    (goes_by g.S.PageStore g.met.S.PageStore.laws session IsSilent Checkpoint c.checkpoint.result (here_with c.args.store.now c.args.slots.now sets) (here_with c.checkpoint.new.store c.args.slots.now sets) tt (makes_runs g.S.PageStore g.met.S.PageStore.laws _ _ _ _ (c.checkpoint.ensures.makes sets))
+    (goes_by g.S.PageStore g.met.S.PageStore.laws session IsSilent Checkpoint c.checkpoint.result (here_with c.args.store.now c.args.calls.now.slots.items sets) (here_with c.checkpoint.new.store c.args.calls.now.slots.items sets) tt (makes_runs g.S.PageStore g.met.S.PageStore.laws _ _ _ _ (c.checkpoint.ensures.makes sets))
     (λ start x y from to fits does. keeps_silent g.S.PageStore start Checkpoints c.checkpoint.result x y does))
 
 made : (Room : Type 0) (answer : Answer) → AnswersUpkeep Checkpoints answer → ((fault : Fault) → answer ≡ Refused fault → ⊥) → ((count : ℕ) → answer ≡ Checkpointed count → Room) → Room

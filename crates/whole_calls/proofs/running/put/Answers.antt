@@ -13,7 +13,7 @@ returns-in-Ok-clause-goes g c =
     let session = c.args.session in
     let request = ToInsert c.args.entry in
     goes_then g.S.PageStore g.met.S.PageStore.laws session (BeginTold session request c.begin.result) (TellsStep session c.finish.result) (HasCome session request c.finish.result) (begin_came c.begin.result) (step_came c.finish.result)
-    (here_with c.args.store.now c.args.slots.now (map g.T.DeadRows.is_in c.args.sets.now)) (here_with c.begin.new.store c.begin.new.slots (map g.T.DeadRows.is_in c.args.sets.now)) (here_with c.finish.new.store c.finish.new.slots (map g.T.DeadRows.is_in c.args.sets.now)) c.begin.ensures.steps c.finish.ensures.steps c.begin.ensures.goes c.finish.ensures.goes
+    (here_with c.args.store.now c.args.calls.now.slots.items (map g.T.DeadRows.is_in c.args.sets.now)) (here_with c.begin.new.store c.begin.new.calls.slots.items (map g.T.DeadRows.is_in c.args.sets.now)) (here_with c.finish.new.store c.finish.new.calls.slots.items (map g.T.DeadRows.is_in c.args.sets.now)) c.begin.ensures.steps c.finish.ensures.steps c.begin.ensures.goes c.finish.ensures.goes
     (λ start x y z at then_at fx fy fz one two. begun_came session request x y z (subst (λ (r : Result (Unit {0}) Fault). BeginTold session request r x y) c.in-Ok.is one) c.finish.result two)
 
 pub returns-in-Err-clause-goes : goal.returns-in-Err-clause-goes

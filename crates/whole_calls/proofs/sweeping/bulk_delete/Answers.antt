@@ -10,7 +10,8 @@ use Rattle.index_model.specs.declared.stats.VacuumStats.{VacuumStats}
 use Rattle.session_calls.specs.declared.answer.Answer.TheVariants.{Refused}
 use Rattle.session_calls.specs.declared.request.Request.TheVariants.{Bulk as ToBulk}
 use Rattle.schedule.specs.TheoremMoments.{snapshot_of}
-use Rattle.schedule.specs.Snapshots.{here_with, slot_of}
+use Rattle.session_calls.specs.Slots.{slot_of}
+use Rattle.schedule.specs.Snapshots.{here_with}
 use Rattle.whole_calls.specs.Refusing.{where_called, where_gone}
 use Rattle.whole_calls.specs.Going.{CallGoes}
 use Rattle.whole_calls.specs.Telling.{first_call, HasBegun, TellsStep, TellsEnd, BeginTold, begin_came, step_came}
@@ -31,10 +32,10 @@ returns-clause-goes g c =
     let request = ToBulk set in
     let came = c.finish-came.result in
     let sets = map g.T.DeadRows.is_in c.args.sets.now in
-    let start = here_with c.args.store.now c.args.slots.now sets in
-    let begun = here_with c.begin.new.store c.begin.new.slots sets in
-    let here = here_with c.finish-came.new.store c.finish-came.new.slots sets in
-    let there = here_with c.give_up.new.store c.give_up.new.slots sets in
+    let start = here_with c.args.store.now c.args.calls.now.slots.items sets in
+    let begun = here_with c.begin.new.store c.begin.new.calls.slots.items sets in
+    let here = here_with c.finish-came.new.store c.finish-came.new.calls.slots.items sets in
+    let there = here_with c.give_up.new.store c.give_up.new.calls.slots.items sets in
     let put = goes_then g.S.PageStore laws session (BeginTold session request c.begin.result) (TellsStep session came) (SweepGone session request came) (begin_came c.begin.result) (step_came came) start begun here
     c.begin.ensures.steps c.finish-came.ensures.steps c.begin.ensures.goes c.finish-came.ensures.goes
     (λ s x y z at then_at fx fy fz one two.
@@ -66,9 +67,9 @@ returns-clause-entries g c honest start history calls fits =
     let here = last.honest honest in
     let begun = before.honest here in
     let r = c.begin.ensures.goes begun start history calls fits in
-    let counted = subst (λ (b : Result (Unit {0}) Fault). BeginsToCount of_sweep sets (g.S.PageStore.state c.begin.new.store) (slot_of c.begin.new.slots session) b) c.in-Ok.is (c.begin.ensures.entries begun start history calls fits) in
+    let counted = subst (λ (b : Result (Unit {0}) Fault). BeginsToCount of_sweep sets (g.S.PageStore.state c.begin.new.store) (slot_of c.begin.new.calls.slots.items session) b) c.in-Ok.is (c.begin.ensures.entries begun start history calls fits) in
     subst (λ (b : Result VacuumStats Fault). TellsEntries (g.S.PageStore.state c.give_up.new.store) b) (sym c.swept.ensures)
-    (tells_entries of_sweep sets (g.S.PageStore.state c.begin.new.store) (g.S.PageStore.state c.finish-came.new.store) (g.S.PageStore.state c.give_up.new.store) (slot_of c.begin.new.slots session) (slot_of c.finish-came.new.slots session) came
+    (tells_entries of_sweep sets (g.S.PageStore.state c.begin.new.store) (g.S.PageStore.state c.finish-came.new.store) (g.S.PageStore.state c.give_up.new.store) (slot_of c.begin.new.calls.slots.items session) (slot_of c.finish-came.new.calls.slots.items session) came
     c.give_up.ensures.pages counted (c.finish-came.ensures.entries here start r.then_history r.then_calls r.ran.fits of_sweep))
 
 pub returns-clause-cause : goal.returns-clause-cause
@@ -80,9 +81,9 @@ returns-clause-cause g c honest start history calls fits =
     let request = ToBulk set in
     let came = c.finish-came.result in
     let sets = map g.T.DeadRows.is_in c.args.sets.now in
-    let old = here_with c.args.store.now c.args.slots.now sets in
-    let begun = here_with c.begin.new.store c.begin.new.slots sets in
-    let here = here_with c.finish-came.new.store c.finish-came.new.slots sets in
+    let old = here_with c.args.store.now c.args.calls.now.slots.items sets in
+    let begun = here_with c.begin.new.store c.begin.new.calls.slots.items sets in
+    let here = here_with c.finish-came.new.store c.finish-came.new.calls.slots.items sets in
     let first = laws.follows_later c.args.store.now c.begin.new.store (c.begin.ensures.steps _ (laws.follows_same _)) in
     let mid = laws.follows_later c.begin.new.store c.finish-came.new.store (c.finish-came.ensures.steps _ (laws.follows_same _)) in
     let last = laws.follows_later c.finish-came.new.store c.give_up.new.store (c.give_up.ensures.steps _ (laws.follows_same _)) in
@@ -93,13 +94,13 @@ returns-clause-cause g c honest start history calls fits =
     let b : HasBegun session request x y = subst (λ (o : Result (Unit {0}) Fault). BeginTold session request o x y) c.in-Ok.is r.tells in
     let is = begun_runs session request x y y b in
     let call = first_call session request x in
-    let counted = subst (λ (o : Result (Unit {0}) Fault). BeginsToCount of_sweep sets (g.S.PageStore.state c.begin.new.store) (slot_of c.begin.new.slots session) o) c.in-Ok.is (c.begin.ensures.entries (mid.honest so_far) start history calls fits) in
+    let counted = subst (λ (o : Result (Unit {0}) Fault). BeginsToCount of_sweep sets (g.S.PageStore.state c.begin.new.store) (slot_of c.begin.new.calls.slots.items session) o) c.in-Ok.is (c.begin.ensures.entries (mid.honest so_far) start history calls fits) in
     let are = subst (λ (l : Limits). AreLimits l) (c.limits-limits.ensures.value ∙ sym c.begin.ensures.limits) c.limits-limits.ensures.allowed in
     let fills = bulk_fills g.S.PageStore laws start session y r.ran.fits are (length calls) call (set_at sets set) is refl (sym (ap (λ (l : List Action). length l) b.history_is)) counted in
     let t = c.finish-came.ensures.goes so_far start r.then_history r.then_calls r.ran.fits in
     let may = may_have (length calls) call came y (snapshot_of here t.then_history t.then_calls) (t.tells (length calls) call is) in
     let caused = c.finish-came.ensures.cause so_far start r.then_history r.then_calls r.ran.fits false fills (length calls) call is in
-    let wider = came_wider g.S.PageStore session least old begun c.finish-came.new.store first mid.failures (others_before c.args.slots.now c.begin.new.slots session c.begin.ensures.others) false false (λ f. f) came caused in
+    let wider = came_wider g.S.PageStore session least old begun c.finish-came.new.store first mid.failures (others_before c.args.calls.now.slots.items c.begin.new.calls.slots.items session c.begin.ensures.others.others) false false (λ f. f) came caused in
     let at = where_gone g.S.PageStore session least false old c.finish-came.new.store in
     let wide = where_called g.S.PageStore session request old (where_gone g.S.PageStore session least false old c.give_up.new.store) in
     let why = swept_caused at sets request refl came may c.finish-came.ensures.over wider in
@@ -110,4 +111,4 @@ returns-clause-cause g c honest start history calls fits =
 pub returns-in-Err-clause-cause : goal.returns-in-Err-clause-cause
 returns-in-Err-clause-cause g c honest start history calls fits =
     let sets = map g.T.DeadRows.is_in c.args.sets.now in
-    not_begun_cause g.S.PageStore c.args.session c.args.least_room (ToBulk c.args.set) (here_with c.args.store.now c.args.slots.now sets) c.begin.new.store false start history calls fits c.in-Err.fault c.in-Err.ensures.cause
+    not_begun_cause g.S.PageStore c.args.session c.args.least_room (ToBulk c.args.set) (here_with c.args.store.now c.args.calls.now.slots.items sets) c.begin.new.store false start history calls fits c.in-Err.fault c.in-Err.ensures.cause

@@ -25,14 +25,14 @@ use Rattle.access_method.proofs.index.Index.ambulkdelete.Goals as goal
 
 -- the run over the one set
 goes : (g : Over) (c : After-bulk_delete g)
-    → CallGoes g.S.PageStore 63 (SweepTold 63 (ToBulk 0) c.bulk_delete.result) (swept_came c.bulk_delete.result) (slots_with (g.T.DeadRows.is_in c.args.dead.now) c.args.self.now) (here_with c.bulk_delete.new.store c.bulk_delete.new.slots (g.T.DeadRows.is_in c.args.dead.now ∷ []))
-goes g c = subst (λ (l : List (Row → Bool)). CallGoes g.S.PageStore 63 (SweepTold 63 (ToBulk 0) c.bulk_delete.result) (swept_came c.bulk_delete.result) (here_with c.args.self.now.store c.args.self.now.slots l) (here_with c.bulk_delete.new.store c.bulk_delete.new.slots l))
+    → CallGoes g.S.PageStore 63 (SweepTold 63 (ToBulk 0) c.bulk_delete.result) (swept_came c.bulk_delete.result) (slots_with (g.T.DeadRows.is_in c.args.dead.now) c.args.self.now) (here_with c.bulk_delete.new.store c.bulk_delete.new.calls.slots.items (g.T.DeadRows.is_in c.args.dead.now ∷ []))
+goes g c = subst (λ (l : List (Row → Bool)). CallGoes g.S.PageStore 63 (SweepTold 63 (ToBulk 0) c.bulk_delete.result) (swept_came c.bulk_delete.result) (here_with c.args.self.now.store c.args.self.now.calls.slots.items l) (here_with c.bulk_delete.new.store c.bulk_delete.new.calls.slots.items l))
     refl c.bulk_delete.ensures.goes
 
 counted : (g : Over) (c : After-bulk_delete g)
-    → Carries g.S.PageStore (slots_with (g.T.DeadRows.is_in c.args.dead.now) c.args.self.now) (here_with c.bulk_delete.new.store c.bulk_delete.new.slots (g.T.DeadRows.is_in c.args.dead.now ∷ [])) (λ start history calls.
+    → Carries g.S.PageStore (slots_with (g.T.DeadRows.is_in c.args.dead.now) c.args.self.now) (here_with c.bulk_delete.new.store c.bulk_delete.new.calls.slots.items (g.T.DeadRows.is_in c.args.dead.now ∷ [])) (λ start history calls.
     TellsEntries (g.S.PageStore.state c.bulk_delete.new.store) c.bulk_delete.result)
-counted g c = subst (λ (l : List (Row → Bool)). Carries g.S.PageStore (here_with c.args.self.now.store c.args.self.now.slots l) (here_with c.bulk_delete.new.store c.bulk_delete.new.slots l) (λ start history calls.
+counted g c = subst (λ (l : List (Row → Bool)). Carries g.S.PageStore (here_with c.args.self.now.store c.args.self.now.calls.slots.items l) (here_with c.bulk_delete.new.store c.bulk_delete.new.calls.slots.items l) (λ start history calls.
     TellsEntries (g.S.PageStore.state c.bulk_delete.new.store) c.bulk_delete.result))
     refl c.bulk_delete.ensures.entries
 
@@ -49,10 +49,10 @@ returns-clause-sweeps g c honest start history calls fits =
     let dead = g.T.DeadRows.is_in c.args.dead.now in
     let now = snapshot_of (slots_within c.args.self.now) history calls in
     let r = goes g after honest start history calls (fits_then g after start history calls fits) in
-    let behind = snapshot_of (here_with c.bulk_delete.new.store c.bulk_delete.new.slots (dead ∷ [])) r.then_history r.then_calls in
+    let behind = snapshot_of (here_with c.bulk_delete.new.store c.bulk_delete.new.calls.slots.items (dead ∷ [])) r.then_history r.then_calls in
     record {
       sweeps = r;
-      fits = fits_with g.S.PageStore start behind [] (none_sweeps c.args.self.now.slots c.bulk_delete.new.slots c.bulk_delete.ensures.others (c.bulk_delete.ensures.over c.args.self.now.agree.inserts)
+      fits = fits_with g.S.PageStore start behind [] (none_sweeps c.args.self.now.calls.slots.items c.bulk_delete.new.calls.slots.items c.bulk_delete.ensures.others.others (c.bulk_delete.ensures.over c.args.self.now.agree.inserts)
           (no_set_runs g.S.PageStore start now refl fits)) r.ran.fits;
       safe = λ keeps. safe_within g.S.PageStore start now behind (dead ∷ []) [] r.ran.crash keeps;
     }
@@ -63,17 +63,17 @@ returns-clause-deletes g c honest start history calls fits =
     let dead = g.T.DeadRows.is_in c.args.dead.now in
     let then_fits = fits_then g after start history calls fits in
     let r = goes g after honest start history calls then_fits in
-    swept_or_less g.S.PageStore dead (slots_with dead c.args.self.now) (here_with c.bulk_delete.new.store c.bulk_delete.new.slots (dead ∷ [])) refl start history calls then_fits c.bulk_delete.result r (counted g after honest start history calls then_fits)
+    swept_or_less g.S.PageStore dead (slots_with dead c.args.self.now) (here_with c.bulk_delete.new.store c.bulk_delete.new.calls.slots.items (dead ∷ [])) refl start history calls then_fits c.bulk_delete.result r (counted g after honest start history calls then_fits)
 
 -- why it is refused
-caused : (g : Over) (c : After-bulk_delete g) → length c.args.self.now.slots ≡ 64
-    → Carries g.S.PageStore (slots_within c.args.self.now) (here_with c.bulk_delete.new.store c.bulk_delete.new.slots []) (λ start history calls. IfErr c.bulk_delete.result (HasCause (where_run g.S.PageStore 63 c.args.self.now c.bulk_delete.new.store)))
+caused : (g : Over) (c : After-bulk_delete g) → length c.args.self.now.calls.slots.items ≡ 64
+    → Carries g.S.PageStore (slots_within c.args.self.now) (here_with c.bulk_delete.new.store c.bulk_delete.new.calls.slots.items []) (λ start history calls. IfErr c.bulk_delete.result (HasCause (where_run g.S.PageStore 63 c.args.self.now c.bulk_delete.new.store)))
 caused g c slots honest start history calls fits =
     let dead = g.T.DeadRows.is_in c.args.dead.now in
-    let why = subst (λ (l : List (Row → Bool)). Carries g.S.PageStore (here_with c.args.self.now.store c.args.self.now.slots l) (here_with c.bulk_delete.new.store c.bulk_delete.new.slots l) (λ start history calls.
-    IfErr c.bulk_delete.result (HasCause (where_called g.S.PageStore 63 (ToBulk 0) (here_with c.args.self.now.store c.args.self.now.slots l) (where_gone g.S.PageStore 63 5 false (here_with c.args.self.now.store c.args.self.now.slots l) c.bulk_delete.new.store)))))
+    let why = subst (λ (l : List (Row → Bool)). Carries g.S.PageStore (here_with c.args.self.now.store c.args.self.now.calls.slots.items l) (here_with c.bulk_delete.new.store c.bulk_delete.new.calls.slots.items l) (λ start history calls.
+    IfErr c.bulk_delete.result (HasCause (where_called g.S.PageStore 63 (ToBulk 0) (here_with c.args.self.now.store c.args.self.now.calls.slots.items l) (where_gone g.S.PageStore 63 5 false (here_with c.args.self.now.store c.args.self.now.calls.slots.items l) c.bulk_delete.new.store)))))
     refl c.bulk_delete.ensures.cause in
-    swept_cause g.S.PageStore dead c.args.self.now c.bulk_delete.new.store c.args.self.now.agree.inserts slots (calm_slots c.args.self.now.slots c.args.self.now.none_vacuums) c.bulk_delete.result
+    swept_cause g.S.PageStore dead c.args.self.now c.bulk_delete.new.store c.args.self.now.agree.inserts slots (calm_slots c.args.self.now.calls.slots.items c.args.self.now.none_vacuums) c.bulk_delete.result
     (why honest start history calls (fits_then g c start history calls fits))
 
 pub returns-clause-cause : goal.returns-clause-cause
@@ -83,5 +83,5 @@ pub returns-clause-finishes : goal.returns-clause-finishes
 returns-clause-finishes g c honest start history calls fits un =
     let after = (goal.at.returns-clause-finishes g c).After-bulk_delete in
     let dead = g.T.DeadRows.is_in c.args.dead.now in
-    let same = frames_stay g.S.PageStore 63 _ _ (slots_with dead c.args.self.now) (here_with c.bulk_delete.new.store c.bulk_delete.new.slots (dead ∷ [])) start history calls (goes g after honest start history calls (fits_then g after start history calls fits)) in
+    let same = frames_stay g.S.PageStore 63 _ _ (slots_with dead c.args.self.now) (here_with c.bulk_delete.new.store c.bulk_delete.new.calls.slots.items (dead ∷ [])) start history calls (goes g after honest start history calls (fits_then g after start history calls fits)) in
     finishes g.S.PageStore 63 c.args.self.now c.bulk_delete.new.store c.bulk_delete.result un same (caused g ((goal.at.returns-clause-finishes g c).After-bulk_delete) (search rules) honest start history calls fits)

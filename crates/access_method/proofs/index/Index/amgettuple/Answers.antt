@@ -57,14 +57,14 @@ returns-in-Ok-clause-runs g c is_open busy = c.in-Ok.ensures.goes
 
 pub returns-in-Ok-clause-answers : goal.returns-in-Ok-clause-answers
 returns-in-Ok-clause-answers g c honest start history calls fits =
-    gives_right g.S.PageStore c.args.token.session (Ok c.in-Ok.given) (slots_within c.args.self.now) (here_with c.give.new.store c.give.new.slots []) start history calls
+    gives_right g.S.PageStore c.args.token.session (Ok c.in-Ok.given) (slots_within c.args.self.now) (here_with c.give.new.store c.give.new.calls.slots.items []) start history calls
     (c.in-Ok.ensures.goes honest start history calls fits)
 
 pub invariant_of-self-in-Err : goal.invariant_of-self-in-Err
 invariant_of-self-in-Err g c = record {
-  agree = agree_over c.args.self.now.slots c.give.new.slots c.args.self.now.seats c.args.token.session c.args.self.now.agree c.in-Some.ensures.low c.give.ensures.others
+  agree = agree_over c.args.self.now.calls.slots.items c.give.new.calls.slots.items c.args.self.now.seats c.args.token.session c.args.self.now.agree c.in-Some.ensures.low c.give.ensures.others.others
       (Some (record { number = c.args.token.number; is_refused = true })) c.in-Err.ensures.over;
-  none_vacuums = calm_on c.args.self.now.slots c.give.new.slots c.args.token.session c.args.self.now.none_vacuums c.give.ensures.others c.give.ensures.runs_on;
+  none_vacuums = calm_on c.args.self.now.calls.slots.items c.give.new.calls.slots.items c.args.token.session c.args.self.now.none_vacuums c.give.ensures.others.others c.give.ensures.runs_on;
 }
 
 pub returns-in-Err-clause-cause : goal.returns-in-Err-clause-cause
@@ -73,6 +73,6 @@ returns-in-Err-clause-cause g c seat honest start history calls fits number call
 
 pub returns-in-Err-clause-gives : goal.returns-in-Err-clause-gives
 returns-in-Err-clause-gives g c seat honest start history calls fits number call range is ask un =
-    let same = frames_stay g.S.PageStore c.args.token.session _ _ (slots_within c.args.self.now) (here_with c.give.new.store c.give.new.slots []) start history calls (c.in-Err.ensures.goes honest start history calls fits) in
+    let same = frames_stay g.S.PageStore c.args.token.session _ _ (slots_within c.args.self.now) (here_with c.give.new.store c.give.new.calls.slots.items []) start history calls (c.in-Err.ensures.goes honest start history calls fits) in
     absurd (run_unhindered g.S.PageStore c.args.token.session c.args.self.now c.give.new.store un same c.in-Err.fault
     (give_cause g.S.PageStore c.args.token.session c.args.self.now c.give.new.store c.in-Err.fault (c.in-Err.ensures.cause honest start history calls fits number call range is ask)))

@@ -1,7 +1,8 @@
 use Rattle.std.specs.Prelude.{[]}
 use Rattle.std.proofs.Common.{None, Some, Ok, sym, ◌∙◌, rules}
 use Rattle.page_action.specs.Causes.{is_at_end}
-use Rattle.schedule.specs.Snapshots.{here_with, one_vacuums}
+use Rattle.session_calls.specs.Slots.{one_vacuums}
+use Rattle.schedule.specs.Snapshots.{here_with}
 use Rattle.session_calls.specs.declared.answer.Answer.TheVariants.{Begun}
 use Rattle.session_calls.specs.declared.request.Request.TheVariants.{Scan as ToScan}
 use Rattle.whole_calls.specs.Telling.{TellsEnd, BeginTold}
@@ -14,7 +15,7 @@ pub returns-clause-runs : goal.returns-clause-runs
 returns-clause-runs g c =
     let session = c.args.token.session in
     goes_then g.S.PageStore g.met.S.PageStore.laws session (TellsEnd session) (BeginTold session (ToScan c.args.range) (Ok tt)) (RescanTold session c.args.range) None (Some Begun)
-    (slots_within c.args.self.now) (here_with c.give_up.new.store c.give_up.new.slots []) (here_with c.open.new.store c.open.new.slots [])
+    (slots_within c.args.self.now) (here_with c.give_up.new.store c.give_up.new.calls.slots.items []) (here_with c.open.new.store c.open.new.calls.slots.items [])
     c.give_up.ensures.steps c.open.ensures.steps c.give_up.ensures.goes (rw c.in_ok-open.was at c.open.ensures.goes)
     (λ start x y z at then_at fx fy fz one two. rescan_told session c.args.range tt x y z one two)
 
@@ -22,5 +23,5 @@ returns-clause-runs g c =
 pub returns-in_err-open : goal.returns-in_err-open
 returns-in_err-open g c =
     let self = c.args.self.now in
-    absurd (may_begin g.S.PageStore self.store c.give_up.new.store c.give_up.new.slots c.args.token.session c.in_err-open.field-0.0 (is_at_end self.given)
-    (sym c.is_at_end.ensures.value ∙ c.if-is_at_end.false) c.give_up.ensures.backing c.give_up.ensures.begun (rw c.give_up.ensures.sessions (search rules)) c.give_up.ensures.over (one_vacuums c.give_up.new.slots) [] c.args.range c.in_err-open.ensures.cause)
+    absurd (may_begin g.S.PageStore self.store c.give_up.new.store c.give_up.new.calls.slots.items c.args.token.session c.in_err-open.field-0.0 (is_at_end self.given)
+    (sym c.is_at_end.ensures.value ∙ c.if-is_at_end.false) c.give_up.ensures.backing c.give_up.ensures.begun (rw c.give_up.ensures.others.sessions (search rules)) c.give_up.ensures.over (one_vacuums c.give_up.new.calls.slots.items) [] c.args.range c.in_err-open.ensures.cause)

@@ -1,5 +1,5 @@
 use Rattle.std.proofs.Common.{refl, ap, []}
-use Rattle.schedule.specs.Snapshots.{slot_vacuums}
+use Rattle.session_calls.specs.Slots.{slot_vacuums}
 use Rattle.schedule.proofs.Unused.{empty_at, unused_fits}
 use Rattle.access_method.proofs.Seats.{closed_at}
 use Rattle.access_method.proofs.index.Index.new.Goals as goal

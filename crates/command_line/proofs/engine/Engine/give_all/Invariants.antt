@@ -1,6 +1,6 @@
 use Rattle.page_store.specs.Stores.{state_of}
 use Rattle.session_calls.specs.Sessions.{work_in}
-use Rattle.schedule.specs.Snapshots.{slot_of}
+use Rattle.session_calls.specs.Slots.{slot_of}
 use Rattle.command_line.proofs.engine.Engine.give_all.Given as goal
 
 abbrev pub decreases-loop-entry : goal.decreases-loop-entry

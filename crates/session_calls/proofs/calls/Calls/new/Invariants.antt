@@ -1,6 +1,6 @@
 use Rattle.std.proofs.Common.{◌≡◌, ◌≤◌, None, replicate}
 use Rattle.std.specs.Vec.{vec_capacity}
-use Rattle.world.proofs.world.empty_slots.Given as goal
+use Rattle.session_calls.proofs.calls.Calls.new.Given as goal
 
 abbrev pub invariant-loop-at : goal.invariant-loop-at
 invariant-loop-at l = record {
