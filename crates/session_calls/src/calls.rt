@@ -5,10 +5,9 @@ ghost use Rattle.session_calls.specs.Ops.{asks_vacuum};
 ghost use Rattle.session_calls.specs.Slots.{slot_vacuums, one_vacuums, is_of_sets, session_to_begin};
 
 use crate::answer::Answer;
-use crate::begins;
-use crate::moves;
 use crate::op::{Op, idle};
 use crate::request::Request;
+use crate::{begins, moves};
 use index_model::{DeadRows, Fault, Session};
 use page_action::PageStore;
 use std::alloc::Global;

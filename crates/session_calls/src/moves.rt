@@ -23,7 +23,11 @@ use page_action::PageStore;
 /// but that the call is over, unless it was refused with `Blocked` or `NoSession`.
 ///
 /// A call that was asked for the rows of a set knows it by its place among the sets. These are the same at each of its steps.
-pub(crate) fn step<S: PageStore, T: DeadRows>(store: &mut S, slot: &mut Option<Op>, sets: &[T]) -> Answer
+pub(crate) fn step<S: PageStore, T: DeadRows>(
+    store: &mut S,
+    slot: &mut Option<Op>,
+    sets: &[T],
+) -> Answer
     ensures steps { Continues S.follows store.old store.new }
     // Whatever the pages are: what it may answer, what a refusal leaves, that less is left to do.
     ensures always { StepAlways S.PageStore store.old store.new slot.old slot.new result }

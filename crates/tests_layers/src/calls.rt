@@ -11,7 +11,10 @@ use std::test::{Fail, *};
 
 // Whether the session's call begins.
 fn begins(store: &mut MapStore, calls: &mut Calls, session: u32, request: Request) -> bool {
-    matches!(begin(store, calls, &SEVEN_AND_EIGHT, session, request), Answer::Begun)
+    matches!(
+        begin(store, calls, &SEVEN_AND_EIGHT, session, request),
+        Answer::Begun
+    )
 }
 
 fn goes_on(store: &mut MapStore, calls: &mut Calls) -> bool {
@@ -129,14 +132,25 @@ fn a_bulk_delete_runs_alone(rt: HostRuntime) -> Result<(), Fail> {
     let mut store = mixed(&rt)?;
     let mut calls = sessions(rt.alloc(), 7)?;
     assert!(rt; begins(&mut store, &mut calls, 5, Request::Bulk(1)));
-    let running = begin(&mut store, &mut calls, &SEVEN_AND_EIGHT, 6, Request::Bulk(0));
+    let running = begin(
+        &mut store,
+        &mut calls,
+        &SEVEN_AND_EIGHT,
+        6,
+        Request::Bulk(0),
+    );
     assert!(rt; is_refused(&running, Fault::VacuumRunning));
     let request = Request::Insert(entry(1, 8, 1));
     assert!(rt; begins(&mut store, &mut calls, 6, request));
     assert!(rt; matches!(end(&mut store, &mut calls, 6), Answer::Ended));
     assert!(rt; store.cycle() == 1);
 
-    assert!(rt; matches!(step(&mut store, &mut calls, &SEVEN_AND_EIGHT, 5), Answer::Going));
+    assert!(rt;
+        matches!(
+            step(&mut store, &mut calls, &SEVEN_AND_EIGHT, 5),
+            Answer::Going
+        )
+    );
     assert!(rt; is_refused(&next(&mut calls, 5), Fault::NoSession));
     let Answer::Finished(stats) = step(&mut store, &mut calls, &SEVEN_AND_EIGHT, 5) else {
         assert!(rt; false);
@@ -157,7 +171,13 @@ fn a_bulk_delete_is_given_up(rt: HostRuntime) -> Result<(), Fail> {
     assert!(rt; matches!(end(&mut store, &mut calls, 5), Answer::Ended));
     assert!(rt; store.cycle() == 0);
     // There is no such set, or none any more.
-    let none = begin(&mut store, &mut calls, &SEVEN_AND_EIGHT, 5, Request::Bulk(2));
+    let none = begin(
+        &mut store,
+        &mut calls,
+        &SEVEN_AND_EIGHT,
+        5,
+        Request::Bulk(2),
+    );
     assert!(rt; is_refused(&none, Fault::NoSession));
     assert!(rt; begins(&mut store, &mut calls, 5, Request::Bulk(1)));
     let gone = step(&mut store, &mut calls, &NO_SETS, 5);

@@ -271,11 +271,7 @@ fn a_bulk_delete_waits_for_a_scan(rt: HostRuntime) -> Result<(), Fail> {
 
 // Two sessions insert entries of both sets, a third runs one bulk delete of the second set after the other, each of them one
 // event in turn: how many inserts were added, and how many bulk deletes have finished, or None for a wrong answer.
-fn delete_beside(
-    store: &mut MapStore,
-    calls: &mut Calls,
-    turns: u32,
-) -> Option<(u8, u8)> {
+fn delete_beside(store: &mut MapStore, calls: &mut Calls, turns: u32) -> Option<(u8, u8)> {
     let (mut begun, mut added, mut finished) = (0u8, 0u8, 0u8);
     for turn in 0..turns {
         let session = turn % 3;

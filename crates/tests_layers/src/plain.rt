@@ -147,12 +147,7 @@ pub fn give<T: DeadRows>(
     whole_calls::give(store, calls, sets, session, least_room)
 }
 
-pub fn give_up<T: DeadRows>(
-    store: &mut MapStore,
-    calls: &mut Calls,
-    sets: &[T],
-    session: u32,
-) {
+pub fn give_up<T: DeadRows>(store: &mut MapStore, calls: &mut Calls, sets: &[T], session: u32) {
     whole_calls::give_up(store, calls, sets, session)
 }
 

@@ -1,103 +1,108 @@
 -- Beginnings as runs of one event.
-use Rattle.std.proofs.Common.{◌≡◌, ℕ, Result, Some, List, [], ◌∷◌, refl, sym, subst}
+use Rattle.std.proofs.Common.{◌≡◌, ℕ, Bool, Option, Some, None, List, [], ◌∷◌, slice_get, refl, sym, subst, inl, inr}
 use Rattle.std.specs.Prelude.{IfErr, OnOk, OnErr}
 use Rattle.index_model.specs.Faults.{Circumstances, HasCause}
-use Rattle.session_calls.specs.Ops.{IsCaused}
+use Rattle.index_model.specs.declared.entry.Entry.{Entry}
 use Rattle.index_model.specs.declared.fault.Fault.{Fault}
+use Rattle.page_action.specs.States.{State}
 use Rattle.page_action.specs.declared.page_store.PageStore.{Ghosts}
+use Rattle.page_codec.specs.declared.page.Page.{Page}
+use Rattle.page_codec.specs.declared.page.PageState.TheVariants.{HalfDead}
+use Rattle.tree_shape.specs.Nodes.{nodes_of}
+use Rattle.vacuum.specs.Laws.{NothingIsCounted}
+use Rattle.page_delete.specs.Spares.{IsAlone}
+use Rattle.page_delete.proofs.Cleaning.{nothing_cleaned}
+use Rattle.page_delete.proofs.Sparing.{nothing_spared}
+use Rattle.session_calls.specs.Ops.{op_before, set_at, IsCaused}
 use Rattle.session_calls.specs.declared.answer.Answer.{Answer}
-use Rattle.session_calls.specs.declared.answer.Answer.TheVariants.{Begun, Going, Added, Ready, Done, Finished, Gave, Ended, Forced, Flushed, Checkpointed, Refused}
+use Rattle.session_calls.specs.declared.answer.Answer.TheVariants.{Begun, Refused}
+use Rattle.session_calls.specs.declared.op.Op.{Op}
 use Rattle.session_calls.specs.declared.request.Request.{Request}
-use Rattle.schedule.specs.TheoremMoments.{StoreAndSlots}
+use Rattle.session_calls.specs.declared.request.Request.TheVariants.{Bulk as ToBulk, Cleanup as ToCleanup}
+use Rattle.schedule.specs.TheoremMoments.{StoreAndSlots, Snapshot, snapshot_of}
 use Rattle.schedule.specs.TheoremKinds.{Kind, BeginsCall, kind_of}
 use Rattle.schedule.specs.Making.{EventDoes}
-use Rattle.schedule.specs.Events.{IsOf, IsOfSession, AnswersBeginning}
+use Rattle.schedule.specs.Events.{IsOfSession, AnswersBeginning, MayBegin}
+use Rattle.session_calls.specs.Slots.{slot_of}
 use Rattle.schedule.specs.TheoremRuns.{Carries, Runs}
 use Rattle.schedule.specs.declared.event.Event.{Event}
 use Rattle.schedule.proofs.Keeping.{Laws}
 use Rattle.whole_calls.specs.Going.{CameBy, CallGoes}
-use Rattle.whole_calls.specs.Telling.{BeginTold, begun_of, begin_came}
-use Rattle.whole_calls.proofs.Composing.{goes_by, goes_told}
+use Rattle.whole_calls.specs.Stepping.{BeginGoes}
+use Rattle.whole_calls.specs.Sweeping.{Followed, of_sweep, of_cleanup, of_leaves, FollowsFrom, IsCountedAs, BeginsToCount}
+use Rattle.whole_calls.specs.Telling.{begun_of, begin_came}
+use Rattle.whole_calls.proofs.Composing.{goes_once, goes_told}
+use Rattle.whole_calls.proofs.Counting.{alone_on}
 use Rattle.whole_calls.proofs.Tellings.{begins_told}
 
 -- what was answered is what the beginning came to
 begun_by : (answer : Answer) (answers : List Answer) → AnswersBeginning answer → CameBy answers (Some answer) → CameBy answers (begin_came (begun_of answer))
 begun_by Begun answers kind h = h
 begun_by (Refused fault) answers kind h = h
-begun_by Going answers kind h = absurd kind
-begun_by (Added a u) answers kind h = absurd kind
-begun_by (Ready r) answers kind h = absurd kind
-begun_by Done answers kind h = absurd kind
-begun_by (Finished s) answers kind h = absurd kind
-begun_by (Gave e) answers kind h = absurd kind
-begun_by Ended answers kind h = absurd kind
-begun_by (Forced n) answers kind h = absurd kind
-begun_by (Flushed b) answers kind h = absurd kind
-begun_by (Checkpointed n) answers kind h = absurd kind
-
-pub goes_begun : {S : Type 0} (g : Ghosts S) (laws : Laws g) (session : ℕ) (request : Request) (event : Event) (answer : Answer) (result : Result (Unit {0}) Fault) (a b : StoreAndSlots S)
-    → kind_of event ≡ BeginsCall session request → result ≡ begun_of answer → AnswersBeginning answer → Carries g a b (Runs g a b (event ∷ []) (answer ∷ []))
-    → CallGoes g session (BeginTold session request result) (begin_came result) a b
-goes_begun {S} g laws session request event answer result a b kind is answers runs =
-    subst (λ (r : Result (Unit {0}) Fault). CallGoes g session (BeginTold session request r) (begin_came r) a b) (sym is)
-    (goes_told g session (BeginTold session request (begun_of answer)) (BeginTold session request (begun_of answer)) (Some answer) (begin_came (begun_of answer)) a b
-    (λ start given x y at fits came told. (begun_by answer given answers came, told))
-    (goes_by g laws session (BeginTold session request (begun_of answer)) event answer a b (of_session kind) runs
-    (λ start x y from to fits does. begins_told g start session request answer x y (subst (λ (k : Kind). EventDoes g start k answer x y) kind does))))
-  where
-    of_session : kind_of event ≡ BeginsCall session request → IsOf session event
-    of_session k = subst (λ (x : Kind). IsOfSession session x) (sym k) refl
+begun_by answer answers kind h = absurd kind
 
 -- a beginning that is refused has its cause
-begun_cause : (at : Circumstances) (answer : Answer) → AnswersBeginning answer → IsCaused at answer → IfErr (begun_of answer) (HasCause at)
-begun_cause at Begun kind h = tt
-begun_cause at (Refused fault) kind h = h
-begun_cause at Going kind h = absurd kind
-begun_cause at (Added a u) kind h = absurd kind
-begun_cause at (Ready r) kind h = absurd kind
-begun_cause at Done kind h = absurd kind
-begun_cause at (Finished s) kind h = absurd kind
-begun_cause at (Gave e) kind h = absurd kind
-begun_cause at Ended kind h = absurd kind
-begun_cause at (Forced n) kind h = absurd kind
-begun_cause at (Flushed b) kind h = absurd kind
-begun_cause at (Checkpointed n) kind h = absurd kind
+pub caused_by : (at : Circumstances) (answer : Answer) → AnswersBeginning answer → IsCaused at answer → IfErr (begun_of answer) (HasCause at)
+caused_by at Begun kind h = tt
+caused_by at (Refused fault) kind h = h
+caused_by at answer kind h = absurd kind
 
 -- ... and changes nothing
-begun_refused : (Unchanged : Type 0) (answer : Answer) → AnswersBeginning answer → ((fault : Fault) → answer ≡ Refused fault → Unchanged) → OnErr (begun_of answer) Unchanged
-begun_refused Unchanged Begun kind h = tt
-begun_refused Unchanged (Refused fault) kind h = h fault refl
-begun_refused Unchanged Going kind h = absurd kind
-begun_refused Unchanged (Added a u) kind h = absurd kind
-begun_refused Unchanged (Ready r) kind h = absurd kind
-begun_refused Unchanged Done kind h = absurd kind
-begun_refused Unchanged (Finished s) kind h = absurd kind
-begun_refused Unchanged (Gave e) kind h = absurd kind
-begun_refused Unchanged Ended kind h = absurd kind
-begun_refused Unchanged (Forced n) kind h = absurd kind
-begun_refused Unchanged (Flushed b) kind h = absurd kind
-begun_refused Unchanged (Checkpointed n) kind h = absurd kind
-
-pub caused_by : (at : Circumstances) (answer : Answer) (result : Result (Unit {0}) Fault) → result ≡ begun_of answer → AnswersBeginning answer → IsCaused at answer → IfErr result (HasCause at)
-caused_by at answer result is kind h = subst (λ (r : Result (Unit {0}) Fault). IfErr r (HasCause at)) (sym is) (begun_cause at answer kind h)
-
-pub refused_by : (Unchanged : Type 0) (answer : Answer) (result : Result (Unit {0}) Fault) → result ≡ begun_of answer → AnswersBeginning answer → ((fault : Fault) → answer ≡ Refused fault → Unchanged) → OnErr result Unchanged
-refused_by Unchanged answer result is kind h = subst (λ (r : Result (Unit {0}) Fault). OnErr r Unchanged) (sym is) (begun_refused Unchanged answer kind h)
+pub refused_by : (Unchanged : Type 0) (answer : Answer) → AnswersBeginning answer → ((fault : Fault) → answer ≡ Refused fault → Unchanged) → OnErr (begun_of answer) Unchanged
+refused_by Unchanged Begun kind h = tt
+refused_by Unchanged (Refused fault) kind h = h fault refl
+refused_by Unchanged answer kind h = absurd kind
 
 -- one that isn't refused begins what was asked for
-begun_fresh : (Fresh : Type 0) (answer : Answer) → AnswersBeginning answer → (answer ≡ Begun → Fresh) → OnOk (begun_of answer) Fresh
-begun_fresh Fresh Begun kind h = h refl
-begun_fresh Fresh (Refused fault) kind h = tt
-begun_fresh Fresh Going kind h = absurd kind
-begun_fresh Fresh (Added a u) kind h = absurd kind
-begun_fresh Fresh (Ready r) kind h = absurd kind
-begun_fresh Fresh Done kind h = absurd kind
-begun_fresh Fresh (Finished s) kind h = absurd kind
-begun_fresh Fresh (Gave e) kind h = absurd kind
-begun_fresh Fresh Ended kind h = absurd kind
-begun_fresh Fresh (Forced n) kind h = absurd kind
-begun_fresh Fresh (Flushed b) kind h = absurd kind
-begun_fresh Fresh (Checkpointed n) kind h = absurd kind
+pub begins_by : (Fresh : Type 0) (answer : Answer) → AnswersBeginning answer → (answer ≡ Begun → Fresh) → OnOk (begun_of answer) Fresh
+begins_by Fresh Begun kind h = h refl
+begins_by Fresh (Refused fault) kind h = tt
+begins_by Fresh answer kind h = absurd kind
 
-pub begins_by : (Fresh : Type 0) (answer : Answer) (result : Result (Unit {0}) Fault) → result ≡ begun_of answer → AnswersBeginning answer → (answer ≡ Begun → Fresh) → OnOk result Fresh
-begins_by Fresh answer result is kind h = subst (λ (r : Result (Unit {0}) Fault). OnOk r Fresh) (sym is) (begun_fresh Fresh answer kind h)
+-- a vacuum that has just begun has counted nothing, and cleaned nothing
+module _ {S : Type 0} (g : Ghosts S) (start : Entry → Bool) (session : ℕ) (request : Request) (answer : Answer) (x y : Snapshot S) (does : EventDoes g start (BeginsCall session request) answer x y) where
+  abbrev now : State
+  now = g.state y.store
+
+  -- nothing is appended, and nobody else holds a page behind it who didn't before
+  same : (o : Option (Option Op)) → MayBegin g o session request answer x y → y.history ≡ x.history
+  same None s = s.still.history_is
+  same (Some (Some op)) s = s.still.history_is
+  same (Some None) (inl b) = b.history_is
+  same (Some None) (inr s) = s.still.history_is
+
+  alone : (o : Option (Option Op)) → MayBegin g o session request answer x y → IsAlone (g.state x.store) session → IsAlone now session
+  alone (Some None) (inl b) calm = alone_on session (g.state x.store) now session session b.others refl refl calm
+  alone (Some None) (inr s) calm = subst (λ (st : State). IsAlone st session) (sym s.still.state_is) calm
+  alone None s calm = subst (λ (st : State). IsAlone st session) (sym s.still.state_is) calm
+  alone (Some (Some op)) s calm = subst (λ (st : State). IsAlone st session) (sym s.still.state_is) calm
+
+  fresh_counts : NothingIsCounted → (what : Followed) (asked : Request) → FollowsFrom what asked (g.state x.store) session → IsCountedAs what y.sets now (Some (op_before session asked))
+  fresh_counts nothing of_sweep (ToBulk set) follows = nothing (set_at y.sets set) now session does.also.invariant.order
+  fresh_counts nothing of_cleanup ToCleanup follows = nothing_cleaned now session does.also.invariant.order
+  fresh_counts nothing of_leaves ToCleanup calm = (
+    alone (slice_get x.slots session) does.also.happens calm.alone,
+    nothing_spared now session does.also.invariant.order
+        (λ block dead. calm.none_dead block (subst (λ (ps : List Page). (nodes_of ps block).state ≡ HalfDead) (does.also.quiet.pages (same (slice_get x.slots session) does.also.happens)) dead)),
+  )
+  fresh_counts nothing what asked follows = absurd follows
+
+  counts_by : NothingIsCounted → (answer ≡ Begun → slot_of y.slots session ≡ Some (op_before session request)) → (what : Followed) → FollowsFrom what request (g.state x.store) session
+      → BeginsToCount what y.sets now (slot_of y.slots session) (begun_of answer)
+  counts_by nothing fresh what follows = of answer refl
+    where
+      of : (a : Answer) → answer ≡ a → BeginsToCount what y.sets now (slot_of y.slots session) (begun_of a)
+      of Begun is = subst (λ (o : Option Op). IsCountedAs what y.sets now o) (sym (fresh is)) (fresh_counts nothing what request follows)
+      of a is = tt
+
+pub goes_begun : {S : Type 0} (g : Ghosts S) (laws : Laws g) (session : ℕ) (request : Request) (event : Event) (answer : Answer) (a b : StoreAndSlots S) → NothingIsCounted
+    → kind_of event ≡ BeginsCall session request → AnswersBeginning answer → (answer ≡ Begun → slot_of b.slots session ≡ Some (op_before session request)) → Carries g a b (Runs g a b (event ∷ []) (answer ∷ []))
+    → CallGoes g session (BeginGoes g session request (begun_of answer)) (begin_came (begun_of answer)) a b
+goes_begun {S} g laws session request event answer a b nothing kind answers fresh runs =
+    goes_told g session (λ s. BeginGoes g session request (begun_of answer)) (λ s. BeginGoes g session request (begun_of answer)) (Some answer) (begin_came (begun_of answer)) a b
+    (λ start h hc k kc given fits came told. (begun_by answer given answers came, told))
+    (goes_once g laws session (BeginGoes g session request (begun_of answer)) event answer a b (subst (λ (x : Kind). IsOfSession session x) (sym kind) refl) runs
+    (λ start h hc k kc honest fits does. by start (snapshot_of a h hc) (snapshot_of b k kc) fresh (subst (λ (x : Kind). EventDoes g start x answer (snapshot_of a h hc) (snapshot_of b k kc)) kind does)))
+  where
+    by : (start : Entry → Bool) (x y : Snapshot S) → (answer ≡ Begun → slot_of y.slots session ≡ Some (op_before session request)) → EventDoes g start (BeginsCall session request) answer x y → BeginGoes g session request (begun_of answer) x y
+    by start x y fresh does = record { told = begins_told g start session request answer x y does; counts = counts_by g start session request answer x y does nothing fresh }

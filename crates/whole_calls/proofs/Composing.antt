@@ -1,5 +1,5 @@
 -- Runs of one session's events, one behind the other.
-use Rattle.std.proofs.Common.{◌≡◌, ℕ, Bool, Option, Some, None, List, [], ◌∷◌, ◌++◌, refl, subst, inl, inr}
+use Rattle.std.proofs.Common.{◌≡◌, ℕ, Bool, true, Option, Some, None, List, [], ◌∷◌, ◌++◌, refl, subst, inl, inr}
 use Rattle.index_model.specs.Actions.{Action}
 use Rattle.index_model.specs.Calls.{Call}
 use Rattle.index_model.specs.declared.entry.Entry.{Entry}
@@ -17,7 +17,7 @@ use Rattle.schedule.specs.declared.event.Event.{Event}
 use Rattle.schedule.proofs.Joining.{ran_then, are_of_both}
 use Rattle.schedule.proofs.Keeping.{Laws}
 use Rattle.schedule.proofs.Running.{none_ran}
-use Rattle.whole_calls.specs.Going.{IsAmong, CameBy, CallRuns, CallGoes}
+use Rattle.whole_calls.specs.Going.{IsAmong, CameBy, CallRuns, CallGoes, GoesFrom}
 use Rattle.schedule.proofs.Fitting.{goes_does}
 
 among_left : (xs ys : List Answer) (answer : Answer) → IsAmong xs answer → IsAmong (xs ++ ys) answer
@@ -37,20 +37,25 @@ came_right : (xs ys : List Answer) (came : Option Answer) → CameBy ys came →
 came_right xs ys None h = tt
 came_right xs ys (Some answer) h = among_right xs ys answer h
 
--- the one event of a run
-pub event_of : {S : Type 0} (g : Ghosts S) (event : Event) (answer : Answer) (a b : StoreAndSlots S) (start : Entry → Bool) (history : List Action) (calls : List Call) → Runs g a b (event ∷ []) (answer ∷ []) start history calls
-    → (then_history : List Action) × (then_calls : List Call) × EventDoes g start (kind_of event) answer (snapshot_of a history calls) (snapshot_of b then_history then_calls)
-event_of {S} g event answer a b start history calls r =
-    let goes : EventGoes g start event answer (snapshot_of a history calls) (snapshot_of b r.then_history r.then_calls) =
-    subst (λ (m : Snapshot S). EventGoes g start event answer (snapshot_of a history calls) m) r.ran.run.1.2 r.ran.run.1.1 in
-    (r.then_history, r.then_calls, (goes_does goes))
+-- a run comes to what its second part came to, or to what its first did
+pub to_second : (first came : Option Answer) (xs ys : List Answer) → CameBy xs first → CameBy ys came → CameBy (xs ++ ys) came
+to_second first came xs ys h k = came_right xs ys came k
+
+pub to_first : (came second : Option Answer) (xs ys : List Answer) → CameBy xs came → CameBy ys second → CameBy (xs ++ ys) came
+to_first came second xs ys h k = came_left xs ys came h
+
+-- what may be told of two moments, from the contents at the start
+abbrev Telling : Type 0 → Type 1
+Telling S = (Entry → Bool) → Snapshot S → Snapshot S → Type 0
 
 -- the same run, told otherwise
-pub goes_told : {S : Type 0} (g : Ghosts S) (session : ℕ) (Tells Also : Snapshot S → Snapshot S → Type 0) (came also : Option Answer) (a b : StoreAndSlots S)
-    → ((start : Entry → Bool) (answers : List Answer) (x y : Snapshot S) → x.slots ≡ a.slots → Fits g start x → CameBy answers came → Tells x y → CameBy answers also × Also x y) → CallGoes g session Tells came a b → CallGoes g session Also also a b
-goes_told g session Tells Also came also a b tells goes honest start history calls fits =
-    let r : CallRuns g session Tells came a b start history calls = goes honest start history calls fits in
-    let t = tells start r.answers (snapshot_of a history calls) (snapshot_of b r.then_history r.then_calls) refl fits r.came_by r.tells in
+pub goes_told : {S : Type 0} (g : Ghosts S) (session : ℕ) (One Two : Telling S) (came also : Option Answer) (a b : StoreAndSlots S)
+    → ((start : Entry → Bool) (h : List Action) (hc : List Call) (k : List Action) (kc : List Call) (answers : List Answer) → Fits g start (snapshot_of a h hc) → CameBy answers came → One start (snapshot_of a h hc) (snapshot_of b k kc)
+    → CameBy answers also × Two start (snapshot_of a h hc) (snapshot_of b k kc))
+    → GoesFrom g session One came a b → GoesFrom g session Two also a b
+goes_told g session One Two came also a b tells goes honest start history calls fits =
+    let r : CallRuns g session (One start) came a b start history calls = goes honest start history calls fits in
+    let t = tells start history calls r.then_history r.then_calls r.answers fits r.came_by r.tells in
     record {
       then_history = r.then_history;
       then_calls = r.then_calls;
@@ -64,16 +69,16 @@ goes_told g session Tells Also came also a b tells goes honest start history cal
 
 module _ {S : Type 0} (g : Ghosts S) (laws : Laws g) (session : ℕ) where
   -- one call behind the other, which comes to what the one or the other came to
-  joined : (One Two Both : Snapshot S → Snapshot S → Type 0) (first second came : Option Answer) (a b c : StoreAndSlots S)
+  pub joined : (One Two Both : Telling S) (first second came : Option Answer) (a b c : StoreAndSlots S)
       → Continues g.follows a.store b.store → Continues g.follows b.store c.store
-      → CallGoes g session One first a b → CallGoes g session Two second b c
       → ((xs ys : List Answer) → CameBy xs first → CameBy ys second → CameBy (xs ++ ys) came)
-      → ((start : Entry → Bool) (x y z : Snapshot S) → x.slots ≡ a.slots → y.slots ≡ b.slots → Fits g start x → Fits g start y → Fits g start z → One x y → Two y z → Both x z)
-      → CallGoes g session Both came a c
-  joined One Two Both first second came a b c step then_step one two comes joins honest start history calls fits =
+      → ((start : Entry → Bool) (h : List Action) (hc : List Call) (k : List Action) (kc : List Call) (l : List Action) (lc : List Call) → Fits g start (snapshot_of a h hc) → Fits g start (snapshot_of b k kc) → Fits g start (snapshot_of c l lc)
+      → One start (snapshot_of a h hc) (snapshot_of b k kc) → Two start (snapshot_of b k kc) (snapshot_of c l lc) → Both start (snapshot_of a h hc) (snapshot_of c l lc))
+      → GoesFrom g session One first a b → GoesFrom g session Two second b c → GoesFrom g session Both came a c
+  joined One Two Both first second came a b c step then_step comes joins one two honest start history calls fits =
       let later : IsLater (g.backing b.store) (g.backing c.store) = laws.follows_later b.store c.store (then_step b.store (laws.follows_same b.store)) in
-      let r : CallRuns g session One first a b start history calls = one (later.honest honest) start history calls fits in
-      let t : CallRuns g session Two second b c start r.then_history r.then_calls = two honest start r.then_history r.then_calls r.ran.fits in
+      let r : CallRuns g session (One start) first a b start history calls = one (later.honest honest) start history calls fits in
+      let t : CallRuns g session (Two start) second b c start r.then_history r.then_calls = two honest start r.then_history r.then_calls r.ran.fits in
       record {
         then_history = t.then_history;
         then_calls = t.then_calls;
@@ -83,7 +88,7 @@ module _ {S : Type 0} (g : Ghosts S) (laws : Laws g) (session : ℕ) where
         ran = ran_then g laws start r.events t.events r.answers t.answers (snapshot_of a history calls) (snapshot_of b r.then_history r.then_calls) (snapshot_of c t.then_history t.then_calls)
             (then_step a.store (step a.store (laws.follows_same a.store))) r.ran t.ran;
         came_by = comes r.answers t.answers r.came_by t.came_by;
-        tells = joins start (snapshot_of a history calls) (snapshot_of b r.then_history r.then_calls) (snapshot_of c t.then_history t.then_calls) refl refl fits r.ran.fits t.ran.fits r.tells t.tells;
+        tells = joins start history calls r.then_history r.then_calls t.then_history t.then_calls fits r.ran.fits t.ran.fits r.tells t.tells;
       }
 
   -- ... to what the second came to
@@ -91,14 +96,9 @@ module _ {S : Type 0} (g : Ghosts S) (laws : Laws g) (session : ℕ) where
       → Continues g.follows a.store b.store → Continues g.follows b.store c.store → CallGoes g session One first a b → CallGoes g session Two came b c
       → ((start : Entry → Bool) (x y z : Snapshot S) → x.slots ≡ a.slots → y.slots ≡ b.slots → Fits g start x → Fits g start y → Fits g start z → One x y → Two y z → Both x z)
       → CallGoes g session Both came a c
-  goes_then One Two Both first came a b c step then_step one two joins = joined One Two Both first came came a b c step then_step one two (λ xs ys h k. came_right xs ys came k) joins
-
-  -- ... to what the first came to
-  pub goes_first : (One Two Both : Snapshot S → Snapshot S → Type 0) (came second : Option Answer) (a b c : StoreAndSlots S)
-      → Continues g.follows a.store b.store → Continues g.follows b.store c.store → CallGoes g session One came a b → CallGoes g session Two second b c
-      → ((start : Entry → Bool) (x y z : Snapshot S) → x.slots ≡ a.slots → y.slots ≡ b.slots → Fits g start x → Fits g start y → Fits g start z → One x y → Two y z → Both x z)
-      → CallGoes g session Both came a c
-  goes_first One Two Both came second a b c step then_step one two joins = joined One Two Both came second came a b c step then_step one two (λ xs ys h k. came_left xs ys came h) joins
+  goes_then One Two Both first came a b c step then_step one two joins =
+      joined (λ s. One) (λ s. Two) (λ s. Both) first came came a b c step then_step (to_second first came)
+      (λ start h hc k kc l lc fx fy fz. joins start (snapshot_of a h hc) (snapshot_of b k kc) (snapshot_of c l lc) refl refl fx fy fz) one two
 
   -- no event
   pub goes_nowhere : (Tells : Snapshot S → Snapshot S → Type 0) (a : StoreAndSlots S) → ((x : Snapshot S) → Tells x x) → CallGoes g session Tells None a a
@@ -114,11 +114,12 @@ module _ {S : Type 0} (g : Ghosts S) (laws : Laws g) (session : ℕ) where
   }
 
   -- one event
-  pub goes_by : (Tells : Snapshot S → Snapshot S → Type 0) (event : Event) (answer : Answer) (a b : StoreAndSlots S) → IsOf session event
+  pub goes_once : (Tells : Snapshot S → Snapshot S → Type 0) (event : Event) (answer : Answer) (a b : StoreAndSlots S) → IsOf session event
       → Carries g a b (Runs g a b (event ∷ []) (answer ∷ []))
-      → ((start : Entry → Bool) (x y : Snapshot S) → here_at x ≡ a → here_at y ≡ b → Fits g start x → EventDoes g start (kind_of event) answer x y → Tells x y)
+      → ((start : Entry → Bool) (h : List Action) (hc : List Call) (k : List Action) (kc : List Call) → (g.backing b.store).honest ≡ true → Fits g start (snapshot_of a h hc)
+      → EventDoes g start (kind_of event) answer (snapshot_of a h hc) (snapshot_of b k kc) → Tells (snapshot_of a h hc) (snapshot_of b k kc))
       → CallGoes g session Tells (Some answer) a b
-  goes_by Tells event answer a b of runs tells honest start history calls fits =
+  goes_once Tells event answer a b of runs tells honest start history calls fits =
       let r : Runs g a b (event ∷ []) (answer ∷ []) start history calls = runs honest start history calls fits in
       let first = snapshot_of a history calls in
       let last = snapshot_of b r.then_history r.then_calls in
@@ -131,5 +132,12 @@ module _ {S : Type 0} (g : Ghosts S) (laws : Laws g) (session : ℕ) where
         own = (of, tt);
         ran = r.ran;
         came_by = inl refl;
-        tells = tells start first last refl refl fits (goes_does goes);
+        tells = tells start history calls r.then_history r.then_calls honest fits (goes_does goes);
       }
+
+  pub goes_by : (Tells : Snapshot S → Snapshot S → Type 0) (event : Event) (answer : Answer) (a b : StoreAndSlots S) → IsOf session event
+      → Carries g a b (Runs g a b (event ∷ []) (answer ∷ []))
+      → ((start : Entry → Bool) (x y : Snapshot S) → here_at x ≡ a → here_at y ≡ b → Fits g start x → EventDoes g start (kind_of event) answer x y → Tells x y)
+      → CallGoes g session Tells (Some answer) a b
+  goes_by Tells event answer a b of runs tells =
+      goes_once Tells event answer a b of runs (λ start h hc k kc honest. tells start (snapshot_of a h hc) (snapshot_of b k kc) refl refl)

@@ -27,8 +27,9 @@ use Rattle.schedule.specs.TheoremMoments.{Snapshot, IsRunningCall}
 use Rattle.schedule.specs.TheoremRuns.{Fits}
 use Rattle.session_calls.specs.Slots.{slot_of}
 use Rattle.schedule.proofs.Keeping.{Laws}
-use Rattle.whole_calls.specs.Refusing.{FillsOnly, is_full_vacuum}
-use Rattle.whole_calls.specs.Sweeping.{of_sweep, of_cleanup, IsCountedAs, IsCountedIn, removed_of}
+use Rattle.whole_calls.specs.Refusing.{is_full_vacuum}
+use Rattle.whole_calls.specs.Stepping.{HasGoneTo}
+use Rattle.whole_calls.specs.Sweeping.{of_cleanup, IsCountedAs, IsCountedIn, removed_of}
 use Rattle.whole_calls.specs.Telling.{acts_by, noted_behind}
 use Rattle.whole_calls.proofs.Gone.{gone_runs, same_ask}
 use Rattle.whole_calls.proofs.Removing.{remove_there, all_once, all_were, all_counted, removed_few, entries_few}
@@ -89,39 +90,41 @@ module _ {S : Type 0} (g : Ghosts S) (laws : Laws g) (start : Entry → Bool) (s
       let few = laws.few now.store in
       omega (arith, few, low)
 
-  pub bulk_fills : (number : ℕ) (call : Call) (dead : Row → Bool) → IsRunningCall first.calls session number call → call.ask ≡ AskBulkDelete dead → call.began ≡ length first.history → IsCountedIn first.sets (g.state first.store) (slot_of first.slots session) → FillsOnly g start session false first
-  bulk_fills number call dead is call_asks began start_counted now other c effects also counts gone sets limits then_fits counted out =
-      let same : c ≡ call = (one_runs g start first fits session number other call c is also).1 in
-      let asked : c.ask ≡ AskBulkDelete dead = ap (λ (k : Call). k.ask) same ∙ call_asks in
-      let then_call : Call = noted_behind c (length first.history) effects in
-      let runs = gone_runs other c effects first now now gone session also in
-      let r = runs_in_slot g start now then_fits session other then_call runs in
-      let one = one_runs g start now then_fits session other r.2.number then_call r.2.call runs r.2.is in
+  -- a bulk delete that has gone on to here has room to count more
+  pub bulk_fills : (number : ℕ) (call : Call) (dead : Row → Bool) → IsRunningCall first.calls session number call → call.ask ≡ AskBulkDelete dead → call.began ≡ length first.history → (now : Snapshot S) → Fits g start now
+      → HasGoneTo g session first now → IsCountedIn first.sets (g.state now.store) (slot_of now.slots session) → is_full_vacuum (slot_of now.slots session) ≡ true → false ≡ true
+  bulk_fills number call dead is asked began now then_fits to counted out =
+      let far = to.far number call is in
+      let effects = far.0 in
+      let gone = far.1 in
+      let then_call : Call = noted_behind call (length first.history) effects in
+      let runs = gone_runs number call effects first now now gone session is in
+      let r = runs_in_slot g start now then_fits session number then_call runs in
+      let one = one_runs g start now then_fits session number r.2.number then_call r.2.call runs r.2.is in
       let slot : slot_of now.slots session ≡ Some r.0 = ap (λ (o : Option (Option Op)). unwrap_or o None) r.1 in
-      let then_asks : then_call.ask ≡ AskBulkDelete dead = same_ask c (length first.history) effects ∙ asked in
+      let then_asks : then_call.ask ≡ AskBulkDelete dead = same_ask call (length first.history) effects ∙ asked in
       let asks : asked_of now.sets r.0 ≡ AskBulkDelete dead = sym r.2.runs.ask ∙ ap (λ (k : Call). k.ask) one.1 ∙ then_asks in
-      let then_began : r.2.call.began ≡ length first.history = ap (λ (k : Call). k.began) one.1 ∙ same_began c (length first.history) effects ∙ ap (λ (k : Call). k.began) same ∙ began in
-      let low = removed_low now other then_call dead effects runs then_asks gone.history_is then_fits in
+      let then_began : r.2.call.began ≡ length first.history = ap (λ (k : Call). k.began) one.1 ∙ same_began call (length first.history) effects ∙ began in
+      let low = removed_low now number then_call dead effects runs then_asks gone.history_is then_fits in
       let many : removed_by r.2.number (drop r.2.call.began now.history) ≡ length (removed_of effects) =
-      ap (λ (n : ℕ). removed_by n (drop r.2.call.began now.history)) one.0 ∙ ap (λ (n : ℕ). removed_by other (drop n now.history)) then_began ∙ ap (λ (l : List Action). removed_by other (drop (length first.history) l)) gone.history_is
-      ∙ ap (λ (l : List Action). removed_by other l) (drop-append_seam first.history (acts_by other effects)) ∙ all_counted start other effects in
-      of r.0 r.2.number r.2.call.began asks r.2.sweeps (subst (λ (o : Option Op). IsCountedIn first.sets (g.state now.store) o) slot (counted of_sweep start_counted)) many low limits (subst (λ (o : Option Op). is_full_vacuum o ≡ true) slot out)
+      ap (λ (n : ℕ). removed_by n (drop r.2.call.began now.history)) one.0 ∙ ap (λ (n : ℕ). removed_by number (drop n now.history)) then_began ∙ ap (λ (l : List Action). removed_by number (drop (length first.history) l)) gone.history_is
+      ∙ ap (λ (l : List Action). removed_by number l) (drop-append_seam first.history (acts_by number effects)) ∙ all_counted start number effects in
+      of r.0 r.2.number r.2.call.began asks r.2.sweeps (subst (λ (o : Option Op). IsCountedIn first.sets (g.state now.store) o) slot counted) (length (removed_of effects)) many low to.limits_are (subst (λ (o : Option Op). is_full_vacuum o ≡ true) slot out)
     where
       of : (op : Op) (n b : ℕ) → asked_of now.sets op ≡ AskBulkDelete dead → OpSweeps (g.state now.store) now.sets start now.history n b op → IsCountedIn first.sets (g.state now.store) (Some op)
-          → removed_by n (drop b now.history) ≡ length (removed_of effects) → length (removed_of effects) ≤ 3276800 → (g.state now.store).limits ≡ (g.state first.store).limits → is_full_vacuum (Some op) ≡ true → false ≡ true
-      of (Insert op) n b asks sweeps counts many low limits out = out
-      of (Scan op) n b asks sweeps counts many low limits out = out
-      of (Cleanup op) n b asks sweeps counts many low limits out = absurd counts
-      of (Bulk set op) n b asks sweeps counts many low limits out =
+          → (count : ℕ) → removed_by n (drop b now.history) ≡ count → count ≤ 3276800 → (g.state now.store).limits ≡ (g.state first.store).limits → is_full_vacuum (Some op) ≡ true → false ≡ true
+      of (Insert op) n b asks sweeps counts count many low limits out = out
+      of (Scan op) n b asks sweeps counts count many low limits out = out
+      of (Cleanup op) n b asks sweeps counts count many low limits out = absurd counts
+      of (Bulk set op) n b asks sweeps counts count many low limits out =
           let left = left_low now limits op.cursor in
           let is_left = counts.counted in
           let is_removed = sweeps.1.removed in
           not_out op (omega (arith, left, is_left)) (omega (arith, low, many, is_removed)) out
 
   -- nor does a cleanup
-  pub cleanup_fills : IsCountedAs of_cleanup first.sets (g.state first.store) (slot_of first.slots session) → FillsOnly g start session false first
-  cleanup_fills start_counted now other c effects also counts gone sets limits then_fits counted out =
-      of (slot_of now.slots session) (counted of_cleanup start_counted) (λ n. left_low now limits n) (used_low now limits) out
+  pub cleanup_fills : (now : Snapshot S) → HasGoneTo g session first now → IsCountedAs of_cleanup first.sets (g.state now.store) (slot_of now.slots session) → is_full_vacuum (slot_of now.slots session) ≡ true → false ≡ true
+  cleanup_fills now to counted out = of (slot_of now.slots session) counted (λ n. left_low now to.limits_are n) (used_low now to.limits_are) out
     where
       of : (slot : Option Op) → IsCountedAs of_cleanup first.sets (g.state now.store) slot → ((n : ℕ) → entries_below (g.state now.store).pages n ≤ 3276800) → length (g.state now.store).pages ≤ 65536 → is_full_vacuum slot ≡ true → false ≡ true
       of None is_counted left used full = full

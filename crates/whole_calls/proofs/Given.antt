@@ -1,28 +1,29 @@
 -- What a scan gives tells.
-use Rattle.std.proofs.Common.{◌≡◌, ℕ, ◌<◌, ◌≤◌, arith, Bool, Option, Some, None, Result, Ok, Err, List, [], ◌∷◌, ◌++◌, length, slice_get, slice_set, refl, sym, ap, subst, inl, inr, ◌∙◌}
-use Rattle.std.specs.Prelude.{IfOk}
+use Rattle.std.proofs.Common.{◌≡◌, ◌⊎◌, ℕ, ◌<◌, ◌≤◌, arith, Bool, Option, Some, None, Ok, List, [], ◌∷◌, ◌++◌, length, slice_get, slice_set, refl, sym, ap, subst, inl, inr, ◌∙◌}
+use Rattle.std.specs.Prelude.{IfErr}
 use Rattle.std.proofs.lemmas.List.{append-nil}
 use Rattle.std.proofs.lemmas.Bool.{cases_eq}
 use Rattle.index_model.specs.Actions.{Effect, Add, Remove, Shape, Action}
 use Rattle.index_model.specs.Calls.{AskScan, Running, Finished as EndsFinished, Call}
+use Rattle.index_model.specs.Faults.{Circumstances, HasCause}
 use Rattle.index_model.specs.declared.entry.Entry.{Entry}
-use Rattle.index_model.specs.declared.fault.Fault.{Fault}
 use Rattle.index_model.specs.declared.range.Range.{Range}
 use Rattle.page_action.specs.States.{State}
 use Rattle.page_action.specs.declared.page_store.PageStore.{Ghosts}
+use Rattle.session_calls.specs.Ops.{IsCaused}
 use Rattle.session_calls.specs.Sessions.{IsDrained, OwesLess, LeavesLess, GivesLess, OnlyWritersAct, AnswersStep, AnswersNext, work_in, noted, given_one, ended}
 use Rattle.session_calls.specs.declared.answer.Answer.{Answer}
-use Rattle.session_calls.specs.declared.answer.Answer.TheVariants.{Begun, Going, Added, Ready, Done, Finished, Gave, Ended, Forced, Flushed, Checkpointed, Refused}
+use Rattle.session_calls.specs.declared.answer.Answer.TheVariants.{Going, Ready, Done, Gave, Refused}
 use Rattle.session_calls.specs.declared.op.Op.{Op}
 use Rattle.session_calls.specs.declared.op.Op.TheVariants.{Insert as Inserts, Scan as Scans, Bulk as Bulks, Cleanup as Cleanups}
 use Rattle.schedule.specs.TheoremMoments.{Snapshot, IsRunningCall}
 use Rattle.schedule.specs.TheoremRuns.{Fits}
 use Rattle.schedule.proofs.Lists.{get_set_same, get_set_other, get_within}
 use Rattle.whole_calls.specs.Going.{CameBy}
-use Rattle.whole_calls.specs.Giving.{GoesDown, GoesDownBy, StepLeavesLess, AnswersAdvance, AnswersSeek, given_of, give_came, Becomes, GivenTold, TellsScan, ScanStays, TellsGiven}
-use Rattle.whole_calls.specs.Telling.{IsSilent, acts_by, noted_behind, AreOwnEffects, IsOwnEffect, IsTold, StepTold, TellsStep, HasNone, TellsEnd, step_came}
+use Rattle.whole_calls.specs.Giving.{GoesDown, AnswersAdvance, AnswersSeek, given_of, give_came, Becomes, GivenTold, TellsScan, ScanStays, TellsGiven}
+use Rattle.whole_calls.specs.Telling.{IsSilent, acts_by, noted_behind, AreOwnEffects, IsOwnEffect, IsTold, StepTold, TellsStep, HasNone, TellsEnd}
 use Rattle.whole_calls.proofs.Gone.{set_same, same_ask, gone_nowhere, gone_runs, gone_then, whole_told}
-use Rattle.whole_calls.proofs.Tellings.{one_runs}
+use Rattle.whole_calls.proofs.Tellings.{one_runs, was_told}
 
 -- behind a `next` that gave none, a step leaves less to do
 no_gave : (mid after : Option Op) (entry : Option Entry) → AnswersStep mid after (Gave entry) → ⊥
@@ -37,11 +38,9 @@ pub calm_scan : (old new : State) (before mid : Option Op) → AnswersNext befor
 calm_scan old new before mid gave same calm = of before gave (subst (λ (o : Option Op). OnlyWritersAct o old new) same calm)
   where
     of : (b : Option Op) → AnswersNext b (Gave None) → OnlyWritersAct b old new → new.acts ≡ old.acts
-    of None gave h = h
-    of (Some (Inserts op)) gave h = absurd gave
     of (Some (Scans op)) gave h = h
-    of (Some (Bulks set op)) gave h = absurd gave
-    of (Some (Cleanups op)) gave h = absurd gave
+    of None gave h = absurd gave
+    of b gave h = absurd gave
 
 -- where no act is done, every step owes to leave less
 pub owes : (slot : Option Op) (old new : State) → new.acts ≡ old.acts → OwesLess slot old new
@@ -51,215 +50,61 @@ owes (Some (Scans op)) old new calm = calm
 owes (Some (Bulks set op)) old new calm = tt
 owes (Some (Cleanups op)) old new calm = tt
 
-pub step_down : (old new : State) (before mid after : Option Op) (result : Result Answer Fault) → GivesLess before mid (Gave None) → new.acts ≡ old.acts → StepLeavesLess old new mid after result → IfOk result (AnswersStep mid after) → GoesDownBy old new before after result
-step_down old new before mid after (Err fault) gives calm less kind = tt
-step_down old new before mid after (Ok answer) gives calm less kind = of answer less kind
-  where
-    of : (a : Answer) → LeavesLess old new mid after a → AnswersStep mid after a → GoesDown old new before after a
-    of Begun h k = tt
-    of Going h k = subst (λ (o : Option Op). work_in new after < work_in old o) gives.0 (h (owes mid old new calm))
-    of (Added a u) h k = tt
-    of (Ready r) h k = subst (λ (o : Option Op). work_in new after < work_in old o) gives.0 (h (subst IsDrained (sym gives.0) gives.1))
-    of Done h k = tt
-    of (Finished s) h k = tt
-    of (Gave None) h k = tt
-    of (Gave (Some e)) h k = absurd (no_gave mid after (Some e) k)
-    of Ended h k = tt
-    of (Forced n) h k = tt
-    of (Flushed b) h k = tt
-    of (Checkpointed n) h k = tt
-    of (Refused f) h k = tt
+pub step_down : (old new : State) (before mid after : Option Op) (answer : Answer) → GivesLess before mid (Gave None) → new.acts ≡ old.acts → LeavesLess old new mid after answer → AnswersStep mid after answer → GoesDown old new before after answer
+step_down old new before mid after Going gives calm h kind = subst (λ (o : Option Op). work_in new after < work_in old o) gives.0 (h (owes mid old new calm))
+step_down old new before mid after (Ready r) gives calm h kind = subst (λ (o : Option Op). work_in new after < work_in old o) gives.0 (h (subst IsDrained (sym gives.0) gives.1))
+step_down old new before mid after (Gave (Some e)) gives calm h kind = absurd (no_gave mid after (Some e) kind)
+step_down old new before mid after answer gives calm h kind = tt
 
 -- what a `next` answers leaves nothing to go on with, and is what a scan may answer, or a refusal
 pub next_down : (old new : State) (before after : Option Op) (answer : Answer) → AnswersNext before answer → GivesLess before after answer → new ≡ old → GoesDown old new before after answer
-next_down old new None after (Refused f) h less same = tt
-next_down old new None after Begun h less same = absurd h
-next_down old new None after Going h less same = absurd h
-next_down old new None after (Added a u) h less same = absurd h
-next_down old new None after (Ready r) h less same = absurd h
-next_down old new None after Done h less same = absurd h
-next_down old new None after (Finished s) h less same = absurd h
-next_down old new None after (Gave e) h less same = absurd h
-next_down old new None after Ended h less same = absurd h
-next_down old new None after (Forced n) h less same = absurd h
-next_down old new None after (Flushed b) h less same = absurd h
-next_down old new None after (Checkpointed n) h less same = absurd h
-next_down old new (Some (Inserts op)) after (Refused f) h less same = tt
-next_down old new (Some (Inserts op)) after Begun h less same = absurd h
-next_down old new (Some (Inserts op)) after Going h less same = absurd h
-next_down old new (Some (Inserts op)) after (Added a u) h less same = absurd h
-next_down old new (Some (Inserts op)) after (Ready r) h less same = absurd h
-next_down old new (Some (Inserts op)) after Done h less same = absurd h
-next_down old new (Some (Inserts op)) after (Finished s) h less same = absurd h
-next_down old new (Some (Inserts op)) after (Gave e) h less same = absurd h
-next_down old new (Some (Inserts op)) after Ended h less same = absurd h
-next_down old new (Some (Inserts op)) after (Forced n) h less same = absurd h
-next_down old new (Some (Inserts op)) after (Flushed b) h less same = absurd h
-next_down old new (Some (Inserts op)) after (Checkpointed n) h less same = absurd h
-next_down old new (Some (Scans op)) after (Gave None) h less same = tt
 next_down old new (Some (Scans op)) after (Gave (Some e)) h less same = subst (λ (st : State). work_in st after < work_in old (Some (Scans op))) (sym same) (less old.limits.pages old.pages)
-next_down old new (Some (Scans op)) after Begun h less same = absurd h
-next_down old new (Some (Scans op)) after Going h less same = absurd h
-next_down old new (Some (Scans op)) after (Added a u) h less same = absurd h
-next_down old new (Some (Scans op)) after (Ready r) h less same = absurd h
-next_down old new (Some (Scans op)) after Done h less same = absurd h
-next_down old new (Some (Scans op)) after (Finished s) h less same = absurd h
-next_down old new (Some (Scans op)) after (Refused f) h less same = absurd h
-next_down old new (Some (Scans op)) after Ended h less same = absurd h
-next_down old new (Some (Scans op)) after (Forced n) h less same = absurd h
-next_down old new (Some (Scans op)) after (Flushed b) h less same = absurd h
-next_down old new (Some (Scans op)) after (Checkpointed n) h less same = absurd h
-next_down old new (Some (Bulks set op)) after (Refused f) h less same = tt
-next_down old new (Some (Bulks set op)) after Begun h less same = absurd h
-next_down old new (Some (Bulks set op)) after Going h less same = absurd h
-next_down old new (Some (Bulks set op)) after (Added a u) h less same = absurd h
-next_down old new (Some (Bulks set op)) after (Ready r) h less same = absurd h
-next_down old new (Some (Bulks set op)) after Done h less same = absurd h
-next_down old new (Some (Bulks set op)) after (Finished s) h less same = absurd h
-next_down old new (Some (Bulks set op)) after (Gave e) h less same = absurd h
-next_down old new (Some (Bulks set op)) after Ended h less same = absurd h
-next_down old new (Some (Bulks set op)) after (Forced n) h less same = absurd h
-next_down old new (Some (Bulks set op)) after (Flushed b) h less same = absurd h
-next_down old new (Some (Bulks set op)) after (Checkpointed n) h less same = absurd h
-next_down old new (Some (Cleanups op)) after (Refused f) h less same = tt
-next_down old new (Some (Cleanups op)) after Begun h less same = absurd h
-next_down old new (Some (Cleanups op)) after Going h less same = absurd h
-next_down old new (Some (Cleanups op)) after (Added a u) h less same = absurd h
-next_down old new (Some (Cleanups op)) after (Ready r) h less same = absurd h
-next_down old new (Some (Cleanups op)) after Done h less same = absurd h
-next_down old new (Some (Cleanups op)) after (Finished s) h less same = absurd h
-next_down old new (Some (Cleanups op)) after (Gave e) h less same = absurd h
-next_down old new (Some (Cleanups op)) after Ended h less same = absurd h
-next_down old new (Some (Cleanups op)) after (Forced n) h less same = absurd h
-next_down old new (Some (Cleanups op)) after (Flushed b) h less same = absurd h
-next_down old new (Some (Cleanups op)) after (Checkpointed n) h less same = absurd h
+next_down old new before after (Gave (Some e)) h less same = absurd h
+next_down old new before after Going h less same = absurd h
+next_down old new before after (Ready r) h less same = absurd h
+next_down old new before after answer h less same = tt
 
 -- a `next` that isn't without an entry is one of the answers
-pub next_kind : (before : Option Op) (answer : Answer) → AnswersNext before answer → (answer ≡ Gave None → ⊥) → AnswersAdvance (Ok answer)
-next_kind None (Refused f) h none = tt
-next_kind None Begun h none = absurd h
-next_kind None Going h none = tt
-next_kind None (Added a u) h none = absurd h
-next_kind None (Ready r) h none = tt
-next_kind None Done h none = tt
-next_kind None (Finished s) h none = absurd h
-next_kind None (Gave None) h none = absurd h
-next_kind None (Gave (Some e)) h none = tt
-next_kind None Ended h none = absurd h
-next_kind None (Forced n) h none = absurd h
-next_kind None (Flushed b) h none = absurd h
-next_kind None (Checkpointed n) h none = absurd h
-next_kind (Some (Inserts op)) (Refused f) h none = tt
-next_kind (Some (Inserts op)) Begun h none = absurd h
-next_kind (Some (Inserts op)) Going h none = tt
-next_kind (Some (Inserts op)) (Added a u) h none = absurd h
-next_kind (Some (Inserts op)) (Ready r) h none = tt
-next_kind (Some (Inserts op)) Done h none = tt
-next_kind (Some (Inserts op)) (Finished s) h none = absurd h
-next_kind (Some (Inserts op)) (Gave None) h none = absurd h
-next_kind (Some (Inserts op)) (Gave (Some e)) h none = tt
-next_kind (Some (Inserts op)) Ended h none = absurd h
-next_kind (Some (Inserts op)) (Forced n) h none = absurd h
-next_kind (Some (Inserts op)) (Flushed b) h none = absurd h
-next_kind (Some (Inserts op)) (Checkpointed n) h none = absurd h
-next_kind (Some (Scans op)) (Gave None) h none = absurd (none refl)
+pub next_kind : (before : Option Op) (answer : Answer) → AnswersNext before answer → (answer ≡ Gave None → ⊥) → AnswersAdvance answer
 next_kind (Some (Scans op)) (Gave (Some e)) h none = tt
-next_kind (Some (Scans op)) Begun h none = absurd h
-next_kind (Some (Scans op)) Going h none = tt
-next_kind (Some (Scans op)) (Added a u) h none = absurd h
-next_kind (Some (Scans op)) (Ready r) h none = tt
-next_kind (Some (Scans op)) Done h none = tt
-next_kind (Some (Scans op)) (Finished s) h none = absurd h
-next_kind (Some (Scans op)) (Refused f) h none = tt
-next_kind (Some (Scans op)) Ended h none = absurd h
-next_kind (Some (Scans op)) (Forced n) h none = absurd h
-next_kind (Some (Scans op)) (Flushed b) h none = absurd h
-next_kind (Some (Scans op)) (Checkpointed n) h none = absurd h
-next_kind (Some (Bulks set op)) (Refused f) h none = tt
-next_kind (Some (Bulks set op)) Begun h none = absurd h
-next_kind (Some (Bulks set op)) Going h none = tt
-next_kind (Some (Bulks set op)) (Added a u) h none = absurd h
-next_kind (Some (Bulks set op)) (Ready r) h none = tt
-next_kind (Some (Bulks set op)) Done h none = tt
-next_kind (Some (Bulks set op)) (Finished s) h none = absurd h
-next_kind (Some (Bulks set op)) (Gave None) h none = absurd h
-next_kind (Some (Bulks set op)) (Gave (Some e)) h none = tt
-next_kind (Some (Bulks set op)) Ended h none = absurd h
-next_kind (Some (Bulks set op)) (Forced n) h none = absurd h
-next_kind (Some (Bulks set op)) (Flushed b) h none = absurd h
-next_kind (Some (Bulks set op)) (Checkpointed n) h none = absurd h
-next_kind (Some (Cleanups op)) (Refused f) h none = tt
-next_kind (Some (Cleanups op)) Begun h none = absurd h
-next_kind (Some (Cleanups op)) Going h none = tt
-next_kind (Some (Cleanups op)) (Added a u) h none = absurd h
-next_kind (Some (Cleanups op)) (Ready r) h none = tt
-next_kind (Some (Cleanups op)) Done h none = tt
-next_kind (Some (Cleanups op)) (Finished s) h none = absurd h
-next_kind (Some (Cleanups op)) (Gave None) h none = absurd h
-next_kind (Some (Cleanups op)) (Gave (Some e)) h none = tt
-next_kind (Some (Cleanups op)) Ended h none = absurd h
-next_kind (Some (Cleanups op)) (Forced n) h none = absurd h
-next_kind (Some (Cleanups op)) (Flushed b) h none = absurd h
-next_kind (Some (Cleanups op)) (Checkpointed n) h none = absurd h
+next_kind before (Gave None) h none = absurd (none refl)
+next_kind before (Refused f) h none = tt
+next_kind before answer h none = absurd h
 
 -- only a scan gives none, so the step behind it is a scan's
-pub scan_steps : (before mid after : Option Op) (answer : Answer) → AnswersNext before (Gave None) → mid ≡ before → AnswersStep mid after answer → AnswersAdvance (Ok answer)
-scan_steps before mid after answer gave same h = of before gave answer (subst (λ (o : Option Op). AnswersStep o after answer) same h)
+pub step_kind : (before mid after : Option Op) (answer : Answer) → AnswersNext before (Gave None) → mid ≡ before → AnswersStep mid after answer → AnswersAdvance answer
+step_kind before mid after answer gave same h = of before gave answer (subst (λ (o : Option Op). AnswersStep o after answer) same h)
   where
-    of : (b : Option Op) → AnswersNext b (Gave None) → (a : Answer) → AnswersStep b after a → AnswersAdvance (Ok a)
-    of None gave a h = absurd gave
-    of (Some (Inserts op)) gave a h = absurd gave
-    of (Some (Bulks set op)) gave a h = absurd gave
-    of (Some (Cleanups op)) gave a h = absurd gave
+    of : (b : Option Op) → AnswersNext b (Gave None) → (a : Answer) → AnswersStep b after a → AnswersAdvance a
     of (Some (Scans op)) gave Going h = tt
     of (Some (Scans op)) gave (Ready r) h = tt
     of (Some (Scans op)) gave Done h = tt
     of (Some (Scans op)) gave (Refused f) h = tt
-    of (Some (Scans op)) gave Begun h = absurd h
-    of (Some (Scans op)) gave (Added a u) h = absurd h
-    of (Some (Scans op)) gave (Finished s) h = absurd h
-    of (Some (Scans op)) gave (Gave e) h = absurd h
-    of (Some (Scans op)) gave Ended h = absurd h
-    of (Some (Scans op)) gave (Forced n) h = absurd h
-    of (Some (Scans op)) gave (Flushed b) h = absurd h
-    of (Some (Scans op)) gave (Checkpointed n) h = absurd h
-
-pub step_kind : (before mid after : Option Op) (result : Result Answer Fault) → AnswersNext before (Gave None) → mid ≡ before → IfOk result (AnswersStep mid after) → AnswersAdvance result
-step_kind before mid after (Ok answer) gave same h = scan_steps before mid after answer gave same h
-step_kind before mid after (Err fault) gave same h = tt
+    of (Some (Scans op)) gave a h = absurd h
+    of b gave a h = absurd gave
 
 -- an answer that needn't go on is what the scan has come to
-pub sought : (answer : Answer) → AnswersAdvance (Ok answer) → (answer ≡ Going → ⊥) → ((count : ℕ) → answer ≡ Ready count → ⊥) → AnswersSeek (Ok answer)
+pub sought : (answer : Answer) → AnswersAdvance answer → (answer ≡ Going → ⊥) → ((count : ℕ) → answer ≡ Ready count → ⊥) → AnswersSeek answer
 sought Going h going ready = absurd (going refl)
 sought (Ready r) h going ready = absurd (ready r refl)
 sought (Gave (Some e)) h going ready = tt
-sought (Gave None) h going ready = absurd h
 sought Done h going ready = tt
 sought (Refused f) h going ready = tt
-sought Begun h going ready = absurd h
-sought (Added a u) h going ready = absurd h
-sought (Finished s) h going ready = absurd h
-sought Ended h going ready = absurd h
-sought (Forced n) h going ready = absurd h
-sought (Flushed b) h going ready = absurd h
-sought (Checkpointed n) h going ready = absurd h
+sought answer h going ready = absurd h
 
 -- what a scan gives is what it came to
-pub give_comes : (came : Result Answer Fault) (answers : List Answer) → AnswersSeek came → CameBy answers (step_came came) → CameBy answers (give_came (given_of came))
-give_comes (Ok (Gave (Some e))) answers kind h = h
-give_comes (Ok Done) answers kind h = h
-give_comes (Ok (Refused f)) answers kind h = h
-give_comes (Ok (Gave None)) answers kind h = absurd kind
-give_comes (Ok Begun) answers kind h = absurd kind
-give_comes (Ok Going) answers kind h = absurd kind
-give_comes (Ok (Added a u)) answers kind h = absurd kind
-give_comes (Ok (Ready r)) answers kind h = absurd kind
-give_comes (Ok (Finished s)) answers kind h = absurd kind
-give_comes (Ok Ended) answers kind h = absurd kind
-give_comes (Ok (Forced n)) answers kind h = absurd kind
-give_comes (Ok (Flushed b)) answers kind h = absurd kind
-give_comes (Ok (Checkpointed n)) answers kind h = absurd kind
-give_comes (Err f) answers kind h = h
+pub give_comes : (came : Answer) (answers : List Answer) → AnswersSeek came → CameBy answers (Some came) → CameBy answers (give_came (given_of came))
+give_comes (Gave (Some e)) answers kind h = h
+give_comes Done answers kind h = h
+give_comes (Refused f) answers kind h = h
+give_comes came answers kind h = absurd kind
+
+-- why it gives nothing
+pub given_caused : (at : Circumstances) (came : Answer) → AnswersSeek came → IsCaused at came → IfErr (given_of came) (HasCause at)
+given_caused at (Gave (Some e)) kind h = tt
+given_caused at Done kind h = tt
+given_caused at (Refused fault) kind h = h
+given_caused at came kind h = absurd kind
 
 -- a scan does nothing to the pages
 scan_own : (call : Call) (range : Range) (count : ℕ) (effects : List Effect) → call.ask ≡ AskScan range → AreOwnEffects call count effects → effects ≡ []
@@ -281,14 +126,14 @@ scan_silent number call range answer x y ask t =
     )
 
 -- what is told of a session's running call is told of its scan
-pub scan_told : {S : Type 0} (session : ℕ) (result : Result Answer Fault) (x y : Snapshot S) → TellsStep session result x y → TellsScan session result x y
-scan_told session result x y tells number call range is ask = tells number call is
+pub scan_told : {S : Type 0} (session : ℕ) (answer : Answer) (x y : Snapshot S) → TellsStep session answer x y → TellsScan session answer x y
+scan_told session answer x y tells number call range is ask = tells number call is
 
 -- a scan of which nothing is told, and then this
-pub scan_then : {S : Type 0} (session : ℕ) (result : Result Answer Fault) (x y z : Snapshot S) → ScanStays session x y → TellsScan session result y z → TellsScan session result x z
-scan_then session result x y z stays tells number call range is ask =
+pub scan_then : {S : Type 0} (session : ℕ) (answer : Answer) (x y z : Snapshot S) → ScanStays session x y → TellsScan session answer y z → TellsScan session answer x z
+scan_then session answer x y z stays tells number call range is ask =
     let gone = gone_nowhere session number call x y is (stays number call range is ask) in
-    gone_then number call [] x y z gone result (tells number call range (gone_runs number call [] x y z gone session is) ask)
+    gone_then number call [] x y z gone answer (tells number call range (gone_runs number call [] x y z gone session is) ask)
 
 -- nothing is told, and then again
 pub stays_then : {S : Type 0} (session : ℕ) (x y z : Snapshot S) → ScanStays session x y → ScanStays session y z → ScanStays session x z
@@ -306,9 +151,9 @@ unchanged session number call range answer x y is ask t after =
     record { history_is = s.0; calls_is = t.calls_is ∙ ap (λ (c : Call). slice_set x.calls number c) (after ∙ s.1) ∙ set_same x.calls number call is.found }
 
 -- a scan that goes on
-pub going_stays : {S : Type 0} (session : ℕ) (x y : Snapshot S) → TellsScan session (Ok Going) x y → ScanStays session x y
+pub going_stays : {S : Type 0} (session : ℕ) (x y : Snapshot S) → TellsScan session Going x y → ScanStays session x y
 going_stays session x y tells number call range is ask =
-    let t : IsTold number call Going x y = tells number call range is ask in
+    let t = was_told number call Going x y (λ fault e. cc) (tells number call range is ask) in
     let last : t.last ≡ None = no_last (noted_behind call (length x.history) t.before) t.last (same_ask call (length x.history) t.before ∙ ask) t.own_last in
     unchanged session number call range Going x y is ask t (t.told ∙ ap (λ (o : Option Effect). noted (noted_behind call (length x.history) t.before) (length (x.history ++ acts_by number t.before)) o) last)
   where
@@ -319,39 +164,30 @@ going_stays session x y tells number call range is ask =
     no_last c (Some Shape) ask h = absurd (rw ask at h)
 
 -- one that has entries ready
-pub ready_stays : {S : Type 0} (session count : ℕ) (x y : Snapshot S) → TellsScan session (Ok (Ready count)) x y → ScanStays session x y
+pub ready_stays : {S : Type 0} (session count : ℕ) (x y : Snapshot S) → TellsScan session (Ready count) x y → ScanStays session x y
 ready_stays session count x y tells number call range is ask =
-    let t : IsTold number call (Ready count) x y = tells number call range is ask in unchanged session number call range (Ready count) x y is ask t t.told.after_is
+    let t = was_told number call (Ready count) x y (λ fault e. cc) (tells number call range is ask) in unchanged session number call range (Ready count) x y is ask t t.told.after_is
 
 -- a `next` that gives none
-pub none_stays : {S : Type 0} (session : ℕ) (x y : Snapshot S) → TellsScan session (Ok (Gave None)) x y → ScanStays session x y
+pub none_stays : {S : Type 0} (session : ℕ) (x y : Snapshot S) → TellsScan session (Gave None) x y → ScanStays session x y
 none_stays session x y tells number call range is ask =
-    let t : IsTold number call (Gave None) x y = tells number call range is ask in unchanged session number call range (Gave None) x y is ask t t.told.after_is
+    let t = was_told number call (Gave None) x y (λ fault e. cc) (tells number call range is ask) in unchanged session number call range (Gave None) x y is ask t t.told.after_is
 
 -- an entry that is given
-pub some_given : {S : Type 0} (session : ℕ) (came : Result Answer Fault) (entry : Entry) (x y : Snapshot S) → AnswersSeek came → given_of came ≡ Ok (Some entry) → TellsScan session came x y → TellsGiven session (Ok (Some entry)) x y
+pub some_given : {S : Type 0} (session : ℕ) (came : Answer) (entry : Entry) (x y : Snapshot S) → AnswersSeek came → given_of came ≡ Ok (Some entry) → TellsScan session came x y → TellsGiven session (Ok (Some entry)) x y
 some_given {S} session came entry x y kind is tells number call range running ask = of came kind is (tells number call range running ask)
   where
-    of : (r : Result Answer Fault) → AnswersSeek r → given_of r ≡ Ok (Some entry) → StepTold number call r x y → Becomes number (given_one call entry) x y
-    of (Ok (Gave (Some e))) kind is t =
+    of : (a : Answer) → AnswersSeek a → given_of a ≡ Ok (Some entry) → StepTold number call a x y → Becomes number (given_one call entry) x y
+    of (Gave (Some e)) kind is told =
         let same : e ≡ entry = cc in
+        let t = was_told number call (Gave (Some e)) x y (λ fault e. cc) told in
         record {
           history_is = (scan_silent number call range (Gave (Some e)) x y ask t).0;
           calls_is = t.calls_is ∙ ap (λ (c : Call). slice_set x.calls number c) (t.told.after_is ∙ ap (λ (k : Call). given_one k e) ((scan_silent number call range (Gave (Some e)) x y ask t).1) ∙ ap (λ (g : Entry). given_one call g) same);
         }
-    of (Ok (Gave None)) kind is t = absurd kind
-    of (Ok Begun) kind is t = absurd kind
-    of (Ok Going) kind is t = absurd kind
-    of (Ok (Added a u)) kind is t = absurd kind
-    of (Ok (Ready r)) kind is t = absurd kind
-    of (Ok Done) kind is t = absurd cc
-    of (Ok (Finished s)) kind is t = absurd kind
-    of (Ok Ended) kind is t = absurd kind
-    of (Ok (Forced n)) kind is t = absurd kind
-    of (Ok (Flushed b)) kind is t = absurd kind
-    of (Ok (Checkpointed n)) kind is t = absurd kind
-    of (Ok (Refused f)) kind is t = absurd cc
-    of (Err f) kind is t = absurd cc
+    of Done kind is t = absurd cc
+    of (Refused f) kind is t = absurd cc
+    of a kind is t = absurd kind
 
 -- a call that was changed so runs no more
 none_after : {S : Type 0} (g : Ghosts S) (start : Entry → Bool) (x y : Snapshot S) (session number : ℕ) (call after : Call) → Fits g start x → IsRunningCall x.calls session number call
@@ -369,62 +205,40 @@ none_after g start x y session number call after fits running calls over other c
     ]
 
 -- what is given at the end, and then an end
-pub end_given : {S : Type 0} (g : Ghosts S) (start : Entry → Bool) (session : ℕ) (came : Result Answer Fault) (x y z : Snapshot S) → Fits g start x → AnswersSeek came → ((entry : Entry) → given_of came ≡ Ok (Some entry) → ⊥)
+pub end_given : {S : Type 0} (g : Ghosts S) (start : Entry → Bool) (session : ℕ) (came : Answer) (x y z : Snapshot S) → Fits g start x → AnswersSeek came → ((entry : Entry) → given_of came ≡ Ok (Some entry) → ⊥)
     → TellsScan session came x y → TellsEnd session y z → TellsGiven session (given_of came) x z
 end_given {S} g start session came x y z fits kind no_entry tells end number call range running ask = of came kind no_entry (tells number call range running ask)
   where
-    of : (r : Result Answer Fault) → AnswersSeek r → ((entry : Entry) → given_of r ≡ Ok (Some entry) → ⊥) → StepTold number call r x y → GivenTold number call (given_of r) x z
-    of (Ok (Gave (Some e))) kind some t = absurd (some e refl)
-    of (Ok Done) kind some t =
+    of : (a : Answer) → AnswersSeek a → ((entry : Entry) → given_of a ≡ Ok (Some entry) → ⊥) → StepTold number call a x y → GivenTold number call (given_of a) x z
+    of (Gave (Some e)) kind some t = absurd (some e refl)
+    of Done kind some told =
+        let t = was_told number call Done x y (λ fault e. cc) told in
         let s = scan_silent number call range Done x y ask t in
         let calls : y.calls ≡ slice_set x.calls number (ended call EndsFinished (length x.history)) = t.calls_is ∙ ap (λ (c : Call). slice_set x.calls number c) (t.told.after_is ∙ ap (λ (c : Call). ended c EndsFinished (length (x.history ++ acts_by number t.before))) s.1 ∙ ap (λ (n : ℕ). ended call EndsFinished n) s.2) in
         record {
           history_is = end.history_is ∙ s.0;
           calls_is = end.calls_is (none_after g start x y session number call (ended call EndsFinished (length x.history)) fits running calls (λ e. cc)) ∙ calls;
         }
-    of (Ok (Refused f)) kind some t = end.history_is ∙ (scan_silent number call range (Refused f) x y ask t).0
-    of (Ok (Gave None)) kind some t = absurd kind
-    of (Ok Begun) kind some t = absurd kind
-    of (Ok Going) kind some t = absurd kind
-    of (Ok (Added a u)) kind some t = absurd kind
-    of (Ok (Ready r)) kind some t = absurd kind
-    of (Ok (Finished s)) kind some t = absurd kind
-    of (Ok Ended) kind some t = absurd kind
-    of (Ok (Forced n)) kind some t = absurd kind
-    of (Ok (Flushed b)) kind some t = absurd kind
-    of (Ok (Checkpointed n)) kind some t = absurd kind
-    of (Err f) kind some t = end.history_is ∙ t.gone.history_is ∙ ap (λ (l : List Effect). x.history ++ acts_by number l) (scan_own call range (length x.history) t.before ask t.gone.own) ∙ append-nil x.history
+    of (Refused f) kind some (inl t) = end.history_is ∙ (scan_silent number call range (Refused f) x y ask t).0
+    of (Refused f) kind some (inr t) = end.history_is ∙ t.gone.history_is ∙ ap (λ (l : List Effect). x.history ++ acts_by number l) (scan_own call range (length x.history) t.before ask t.gone.own) ∙ append-nil x.history
+    of a kind some t = absurd kind
 
 -- behind steps that left no more to do, what leaves less than then leaves less than before them
-pub down_after : (old mid new : State) (before between after : Option Op) (result : Result Answer Fault) → work_in mid between ≤ work_in old before → GoesDownBy mid new between after result → GoesDownBy old new before after result
-down_after old mid new before between after (Err fault) most down = tt
-down_after old mid new before between after (Ok Going) most down = omega (arith, most, down)
-down_after old mid new before between after (Ok (Ready r)) most down = omega (arith, most, down)
-down_after old mid new before between after (Ok (Gave (Some e))) most down = omega (arith, most, down)
-down_after old mid new before between after (Ok Begun) most down = tt
-down_after old mid new before between after (Ok (Added a u)) most down = tt
-down_after old mid new before between after (Ok Done) most down = tt
-down_after old mid new before between after (Ok (Finished s)) most down = tt
-down_after old mid new before between after (Ok (Gave None)) most down = tt
-down_after old mid new before between after (Ok Ended) most down = tt
-down_after old mid new before between after (Ok (Forced n)) most down = tt
-down_after old mid new before between after (Ok (Flushed b)) most down = tt
-down_after old mid new before between after (Ok (Checkpointed n)) most down = tt
-down_after old mid new before between after (Ok (Refused f)) most down = tt
+pub down_after : (old mid new : State) (before between after : Option Op) (answer : Answer) → work_in mid between ≤ work_in old before → GoesDown mid new between after answer → GoesDown old new before after answer
+down_after old mid new before between after Going most down = omega (arith, most, down)
+down_after old mid new before between after (Ready r) most down = omega (arith, most, down)
+down_after old mid new before between after (Gave (Some e)) most down = omega (arith, most, down)
+down_after old mid new before between after answer most down = tt
 
 -- ... and so does an entry that is given
-pub given_down : (old new : State) (before after : Option Op) (came : Result Answer Fault) (entry : Entry) → AnswersSeek came → given_of came ≡ Ok (Some entry) → GoesDownBy old new before after came → work_in new after < work_in old before
-given_down old new before after (Ok (Gave (Some e))) entry kind is down = down
-given_down old new before after (Ok Done) entry kind is down = absurd cc
-given_down old new before after (Ok (Refused f)) entry kind is down = absurd cc
-given_down old new before after (Err f) entry kind is down = absurd cc
-given_down old new before after (Ok (Gave None)) entry kind is down = absurd kind
-given_down old new before after (Ok Begun) entry kind is down = absurd kind
-given_down old new before after (Ok Going) entry kind is down = absurd kind
-given_down old new before after (Ok (Added a u)) entry kind is down = absurd kind
-given_down old new before after (Ok (Ready r)) entry kind is down = absurd kind
-given_down old new before after (Ok (Finished s)) entry kind is down = absurd kind
-given_down old new before after (Ok Ended) entry kind is down = absurd kind
-given_down old new before after (Ok (Forced n)) entry kind is down = absurd kind
-given_down old new before after (Ok (Flushed b)) entry kind is down = absurd kind
-given_down old new before after (Ok (Checkpointed n)) entry kind is down = absurd kind
+pub given_down : (old new : State) (before after : Option Op) (came : Answer) (entry : Entry) → AnswersSeek came → given_of came ≡ Ok (Some entry) → GoesDown old new before after came → work_in new after < work_in old before
+given_down old new before after (Gave (Some e)) entry kind is down = down
+given_down old new before after Done entry kind is down = absurd cc
+given_down old new before after (Refused f) entry kind is down = absurd cc
+given_down old new before after came entry kind is down = absurd kind
+
+-- an answer with which the scan goes on leaves less to do
+pub down_on : (old new : State) (before after : Option Op) (answer : Answer) → (answer ≡ Going) ⊎ ((count : ℕ) × (answer ≡ Ready count)) → GoesDown old new before after answer → work_in new after < work_in old before
+down_on old new before after Going on down = down
+down_on old new before after (Ready count) on down = down
+down_on old new before after answer on down = absurd (elim on [ inl is ↦ cc | inr is ↦ (let e = is.1 in cc) ])

@@ -1,16 +1,15 @@
 -- A call that goes on over several events: what is told of the one and then of the other is told of both.
-use Rattle.std.proofs.Common.{◌≡◌, ℕ, zero, suc, ◌+◌, Option, Some, None, Result, Ok, Err, List, [], ◌∷◌, ◌++◌, length, slice_get, slice_set, refl, sym, ap, subst, arith, ◌∙◌, length-append, append_assoc}
+use Rattle.std.proofs.Common.{◌≡◌, ℕ, zero, suc, ◌+◌, Option, Some, None, List, [], ◌∷◌, ◌++◌, length, slice_get, slice_set, refl, sym, ap, subst, arith, inl, inr, ◌∙◌, length-append, append_assoc}
 use Rattle.std.proofs.lemmas.List.{append-nil}
 use Rattle.index_model.specs.Actions.{Effect, Action}
 use Rattle.index_model.specs.Calls.{Ask, Call}
-use Rattle.index_model.specs.declared.fault.Fault.{Fault}
 use Rattle.session_calls.specs.TheoremCalls.{acts_of}
 use Rattle.session_calls.specs.Sessions.{Told, noted}
 use Rattle.session_calls.specs.declared.answer.Answer.{Answer}
 use Rattle.session_calls.specs.declared.answer.Answer.TheVariants.{Going}
 use Rattle.schedule.specs.TheoremMoments.{Snapshot, IsRunningCall}
 use Rattle.schedule.proofs.Lists.{get_set_same, get_within}
-use Rattle.whole_calls.specs.Telling.{IsSilent, MayAnswer, acts_by, noted_behind, AreOwnEffects, IsOwnEffect, HasGoneOn, IsTold, IsHeldUp, StepTold, TellsStep}
+use Rattle.whole_calls.specs.Telling.{IsSilent, MayAnswer, acts_by, noted_behind, AreOwnEffects, IsOwnEffect, HasGoneOn, HasGoneFar, IsTold, StepTold, TellsStep}
 
 pub set_same : {X : Type 0} (xs : List X) (i : ℕ) (x : X) → slice_get xs i ≡ Some x → slice_set xs i x ≡ xs
 set_same [] i x h = refl
@@ -132,12 +131,11 @@ module _ {S : Type 0} (number : ℕ) (call : Call) (xs : List Effect) (x y z : S
     calls_is = t.calls_is ∙ changed t.after;
   }
 
-  pub gone_held : (fault : Fault) → IsHeldUp number mid_call fault y z → IsHeldUp number call fault x z
-  gone_held fault h = record { before = xs ++ h.before; gone = gone_further h.before h.gone; not_exists = h.not_exists }
-
-  pub gone_then : (result : Result Answer Fault) → StepTold number mid_call result y z → StepTold number call result x z
-  gone_then (Ok answer) t = gone_told answer t
-  gone_then (Err fault) t = gone_held fault t
+  pub gone_then : (answer : Answer) → StepTold number mid_call answer y z → StepTold number call answer x z
+  gone_then answer t = elim t [
+    | inl told ↦ inl (gone_told answer told)
+    | inr held ↦ inr (record { fault = held.fault; refused = held.refused; before = xs ++ held.before; gone = gone_further held.before held.gone; not_exists = held.not_exists })
+  ]
 
 -- all effects of a call that is told so, with the last
 pub record WholeTold {S : Type 0} (number : ℕ) (call : Call) (answer : Answer) (x y : Snapshot S) (t : IsTold number call answer x y) : Type 0 where
@@ -168,8 +166,9 @@ module _ {S : Type 0} (number : ℕ) (call : Call) (answer : Answer) (x y : Snap
   }
 
 -- a call that is told to go on has gone on
-pub told_gone : {S : Type 0} (number : ℕ) (call : Call) (x y : Snapshot S) → IsTold number call Going x y → (effects : List Effect) × HasGoneOn number call effects x y
-told_gone number call x y t =
+told_gone : {S : Type 0} (number : ℕ) (call : Call) (x y : Snapshot S) → StepTold number call Going x y → (effects : List Effect) × HasGoneOn number call effects x y
+told_gone number call x y (inr held) = absurd (let e = held.refused in cc)
+told_gone number call x y (inl t) =
     let w = whole_told number call Going x y t in (
       w.effects,
       record {
@@ -180,25 +179,22 @@ told_gone number call x y t =
     )
 
 -- behind what tells nothing, a step tells what it tells
-pub silent_then : {S : Type 0} (session : ℕ) (result : Result Answer Fault) (x y z : Snapshot S) → IsSilent x y → TellsStep session result y z → TellsStep session result x z
-silent_then session result x y z s tells number call is =
+pub silent_then : {S : Type 0} (session : ℕ) (answer : Answer) (x y z : Snapshot S) → IsSilent x y → TellsStep session answer y z → TellsStep session answer x z
+silent_then session answer x y z s tells number call is =
     let gone = gone_nowhere session number call x y is s in
-    gone_then number call [] x y z gone result (tells number call (gone_runs number call [] x y z gone session is))
+    gone_then number call [] x y z gone answer (tells number call (gone_runs number call [] x y z gone session is))
 
--- the session's running call, if it has one, has gone on so far
-abbrev pub HasGoneFar : {S : Type 0} → ℕ → Snapshot S → Snapshot S → Type 0
-HasGoneFar session x y = (number : ℕ) (call : Call) → IsRunningCall x.calls session number call → (effects : List Effect) × HasGoneOn number call effects x y
-
+-- the session's running call, if it has one, goes on and on
 pub far_nowhere : {S : Type 0} (session : ℕ) (x : Snapshot S) → HasGoneFar session x x
 far_nowhere session x number call is = ([], gone_nowhere session number call x x is (record { history_is = refl; calls_is = refl }))
 
-pub far_then : {S : Type 0} (session : ℕ) (x y z : Snapshot S) → HasGoneFar session x y → TellsStep session (Ok Going) y z → HasGoneFar session x z
+pub far_then : {S : Type 0} (session : ℕ) (x y z : Snapshot S) → HasGoneFar session x y → TellsStep session Going y z → HasGoneFar session x z
 far_then session x y z far tells number call is =
     let f = far number call is in
     let t = told_gone number (noted_behind call (length x.history) f.0) y z (tells number (noted_behind call (length x.history) f.0) (gone_runs number call f.0 x y z f.1 session is)) in
     (f.0 ++ t.0, gone_further number call f.0 x y z f.1 t.0 t.1)
 
-pub far_last : {S : Type 0} (session : ℕ) (result : Result Answer Fault) (x y z : Snapshot S) → HasGoneFar session x y → TellsStep session result y z → TellsStep session result x z
-far_last session result x y z far tells number call is =
+pub far_last : {S : Type 0} (session : ℕ) (answer : Answer) (x y z : Snapshot S) → HasGoneFar session x y → TellsStep session answer y z → TellsStep session answer x z
+far_last session answer x y z far tells number call is =
     let f = far number call is in
-    gone_then number call f.0 x y z f.1 result (tells number (noted_behind call (length x.history) f.0) (gone_runs number call f.0 x y z f.1 session is))
+    gone_then number call f.0 x y z f.1 answer (tells number (noted_behind call (length x.history) f.0) (gone_runs number call f.0 x y z f.1 session is))

@@ -1,30 +1,35 @@
 -- What an insert tells that is run to its end.
-use Rattle.std.proofs.Common.{◌≡◌, ◌≢◌, ℕ, suc, ◌+◌, ◌⊎◌, Bool, true, false, if◌then◌else◌, Option, Some, None, Result, Ok, Err, List, [], ◌∷◌, ◌++◌, length, slice_get, slice_set, refl, sym, ap, subst, arith, inl, inr, ◌∙◌, length-append, append_assoc}
+use Rattle.std.proofs.Common.{◌≡◌, ◌≢◌, ℕ, suc, ◌+◌, ◌⊎◌, Bool, true, false, if◌then◌else◌, Option, Some, None, List, [], ◌∷◌, ◌++◌, length, slice_get, slice_set, refl, sym, ap, subst, arith, inl, inr, ◌∙◌, length-append, append_assoc}
 use Rattle.std.proofs.lemmas.List.{append-nil}
 use Rattle.std.specs.Prelude.{unwrap_or}
 use Rattle.index_model.specs.Actions.{Effect, Add, Remove, Shape, Action}
 use Rattle.index_model.specs.Calls.{Ask, AskInsert, Ending, Running, Added as EndsAdded, GivenUp, Failed, AnswersRight, end_of, Meets, Call}
+use Rattle.index_model.specs.Faults.{HasCause}
 use Rattle.index_model.specs.declared.entry.Entry.{Entry}
 use Rattle.index_model.specs.declared.fault.Fault.{Fault}
-use Rattle.index_model.specs.declared.fault.Fault.TheVariants.{NoSession, Exists}
+use Rattle.index_model.specs.declared.fault.Fault.TheVariants.{Exists, IndexFull, TooTall}
 use Rattle.page_action.specs.declared.page_store.PageStore.{Ghosts}
-use Rattle.session_calls.specs.Ops.{ends_call}
+use Rattle.session_calls.specs.Ops.{ends_call, IsCaused}
 use Rattle.session_calls.specs.TheoremCalls.{acts_of}
 use Rattle.session_calls.specs.Sessions.{act_count, noted, ended, slot_add}
 use Rattle.session_calls.specs.declared.answer.Answer.{Answer}
-use Rattle.session_calls.specs.declared.answer.Answer.TheVariants.{Begun, Going, Added, Ready, Done, Finished, Gave, Ended, Forced, Flushed, Checkpointed, Refused}
+use Rattle.session_calls.specs.declared.answer.Answer.TheVariants.{Going, Added, Refused}
 use Rattle.session_calls.specs.declared.op.Op.{Op}
 use Rattle.session_calls.specs.declared.request.Request.TheVariants.{Insert as ToInsert}
-use Rattle.schedule.specs.TheoremMoments.{StoreAndSlots, Snapshot, IsRunningCall}
+use Rattle.schedule.specs.TheoremMoments.{StoreAndSlots, Snapshot, snapshot_of, IsRunningCall}
 use Rattle.schedule.specs.TheoremRuns.{Fits}
 use Rattle.session_calls.specs.Slots.{slot_of}
+use Rattle.schedule.specs.Snapshots.{here_at}
 use Rattle.schedule.proofs.Lists.{get_append_new, get_append_cases}
-use Rattle.whole_calls.specs.Going.{CallGoes}
+use Rattle.whole_calls.specs.Going.{CallGoes, GoesFrom}
 use Rattle.whole_calls.specs.Inserting.{InsertGoes}
-use Rattle.whole_calls.specs.Telling.{acts_by, noted_behind, AreOwnEffects, IsTold, IsHeldUp, HasNone, TellsEnd, with_call, first_call, NextTold, NothingTold, left_behind, outcome_of, step_came, shapes, inserted_call, IsAddedNow, IsNotAdded, InsertTold}
+use Rattle.whole_calls.specs.Refusing.{where_inserted, where_asked, is_used_up, is_tall, InsertCallIsCaused}
+use Rattle.whole_calls.specs.Stepping.{RunGoes}
+use Rattle.whole_calls.specs.Telling.{MayAnswer, acts_by, noted_behind, AreOwnEffects, IsTold, StepTold, HasNone, TellsEnd, with_call, first_call, NextTold, NothingTold, left_behind, outcome_of, shapes, inserted_call, IsAddedNow, IsNotAdded, InsertTold}
 use Rattle.whole_calls.proofs.Composing.{goes_told}
+use Rattle.whole_calls.proofs.Refusing.{called_wider, begun_called, stopped_before}
 use Rattle.whole_calls.proofs.Gone.{same_ask, same_ending, same_session, whole_told}
-use Rattle.whole_calls.proofs.Tellings.{runs_in_slot, one_runs, is_empty, set_new}
+use Rattle.whole_calls.proofs.Tellings.{runs_in_slot, one_runs, is_empty, set_new, came_may}
 
 -- an insert whose entry is added appends nothing but changes of the shape
 only_shapes : (number : ℕ) (e : Entry) (call : Call) (count action : ℕ) (effects : List Effect) → call.ask ≡ AskInsert e → call.added ≡ Some action → AreOwnEffects call count effects
@@ -98,6 +103,18 @@ failed_has_none start history number e fault call meets ask ending =
     let mine = subst (λ (a : Ask). AnswersRight start history number call.began call.until a call.given call.added (Failed fault)) ask right in
     mine.end.0
 
+-- what an insert may have come to
+abbrev IsInsertAnswer : Answer → Type 0
+IsInsertAnswer (Added action unfinished) = Unit {0}
+IsInsertAnswer (Refused fault) = Unit {0}
+IsInsertAnswer answer = ⊥
+
+insert_may : (entry : Entry) (answer : Answer) → answer ≢ Going → MayAnswer (AskInsert entry) answer → IsInsertAnswer answer
+insert_may entry (Added action unfinished) over may = tt
+insert_may entry (Refused fault) over may = tt
+insert_may entry Going over may = absurd (over refl)
+insert_may entry answer over may = absurd may
+
 -- an insert that was refused: where it stands then
 pub record IsLeftSo {S : Type 0} (number : ℕ) (call : Call) (fault : Fault) (x y : Snapshot S) : Type 0 where
   pub effects : List Effect
@@ -107,17 +124,6 @@ pub record IsLeftSo {S : Type 0} (number : ℕ) (call : Call) (fault : Fault) (x
   pub calls_is : y.calls ≡ slice_set x.calls number after
   pub after_is : (after ≡ noted_behind call (length x.history) effects) ⊎ (after ≡ ended (noted_behind call (length x.history) effects) (Failed fault) (length y.history))
   pub exists_is : fault ≡ Exists → after ≡ ended (noted_behind call (length x.history) effects) (Failed Exists) (length y.history)
-
-held_so : {S : Type 0} (number : ℕ) (call : Call) (fault : Fault) (x y : Snapshot S) → IsHeldUp number call fault x y → IsLeftSo number call fault x y
-held_so number call fault x y h = record {
-  effects = h.before;
-  own = h.gone.own;
-  after = noted_behind call (length x.history) h.before;
-  history_is = h.gone.history_is;
-  calls_is = h.gone.calls_is;
-  after_is = inl refl;
-  exists_is = λ e. absurd (h.not_exists e);
-}
 
 refused_so : {S : Type 0} (number : ℕ) (call : Call) (fault : Fault) (x y : Snapshot S) → IsTold number call (Refused fault) x y → IsLeftSo number call fault x y
 refused_so number call fault x y t =
@@ -141,6 +147,21 @@ refused_so number call fault x y t =
     by : {c : Call} {d : Call} {k : Call} (b : Bool) → k ≡ (if b then d else c) → (k ≡ c) ⊎ (k ≡ d)
     by true h = inr h
     by false h = inl h
+
+-- refused at a step, or before it
+left_so : {S : Type 0} (number : ℕ) (call : Call) (fault : Fault) (x y : Snapshot S) → StepTold number call (Refused fault) x y → IsLeftSo number call fault x y
+left_so number call fault x y (inl t) = refused_so number call fault x y t
+left_so number call fault x y (inr h) =
+    let same : h.fault ≡ fault = (let e = h.refused in cc) in
+    record {
+      effects = h.before;
+      own = h.gone.own;
+      after = noted_behind call (length x.history) h.before;
+      history_is = h.gone.history_is;
+      calls_is = h.gone.calls_is;
+      after_is = inl refl;
+      exists_is = λ e. absurd (h.not_exists (same ∙ e));
+    }
 
 -- an insert that came so far, and then an end
 module _ {S : Type 0} (g : Ghosts S) (start : Entry → Bool) (session : ℕ) (entry : Entry) (x y z : Snapshot S) (free : HasNone session x) (fits : Fits g start y) (end : TellsEnd session y z) where
@@ -232,9 +253,9 @@ module _ {S : Type 0} (g : Ghosts S) (start : Entry → Bool) (session : ℕ) (e
       is_empty g start y fits session (ended_none session x y l.after free calls over)
 
   -- an insert that has added its entry isn't refused because the entry was there
-  pub not_there : (action : ℕ) → slot_add (slot_of y.slots session) ≡ Some action → NextTold session (ToInsert entry) (Ok (Refused Exists)) x y → ⊥
+  pub not_there : (action : ℕ) → slot_add (slot_of y.slots session) ≡ Some action → NextTold session (ToInsert entry) (Refused Exists) x y → ⊥
   not_there action some t =
-      let l : IsLeftSo insert_number request_call Exists begun y = refused_so insert_number request_call Exists begun y t in
+      let l : IsLeftSo insert_number request_call Exists begun y = left_so insert_number request_call Exists begun y t in
       let none : slot_add (slot_of y.slots session) ≡ None = ap slot_add (failed_runs_none Exists l (l.exists_is refl)) in
       cc
 
@@ -262,61 +283,65 @@ module _ {S : Type 0} (g : Ghosts S) (start : Entry → Bool) (session : ℕ) (e
   left_told fault None is l = left_without fault l is
   left_told fault (Some action) is l = left_with fault l action is
 
-  told_by : (answer : Answer) (added : Option ℕ) → slot_add (slot_of y.slots session) ≡ added → answer ≢ Going → IsTold insert_number request_call answer begun y → InsertTold session entry (outcome_of (Ok answer) added) x z
-  told_by (Added action unfinished) added is going t = added_told action unfinished t
-  told_by (Refused fault) added is going t = left_told fault added is (refused_so insert_number request_call fault begun y t)
-  told_by Going added is going t = absurd (going refl)
-  told_by Begun added is going t = absurd t.may
-  told_by (Ready count) added is going t = absurd t.may
-  told_by Done added is going t = absurd t.may
-  told_by (Finished stats) added is going t = absurd t.may
-  told_by (Gave e) added is going t = absurd t.may
-  told_by Ended added is going t = absurd t.may
-  told_by (Forced n) added is going t = absurd t.may
-  told_by (Flushed b) added is going t = absurd t.may
-  told_by (Checkpointed n) added is going t = absurd t.may
-
-  pub insert_told : (came : Result Answer Fault) (added : Option ℕ) → slot_add (slot_of y.slots session) ≡ added → came ≢ Ok Going → NextTold session (ToInsert entry) came x y → InsertTold session entry (outcome_of came added) x z
-  insert_told (Ok answer) added is going t = told_by answer added is (λ e. going (ap (λ (a : Answer). Ok a) e)) t
-  insert_told (Err fault) added is going t = left_told fault added is (held_so insert_number request_call fault begun y t)
-
--- an insert that was begun in a session with no call, and came so far
-abbrev pub PutTold : {S : Type 0} → ℕ → Entry → Result Answer Fault → Snapshot S → Snapshot S → Type 0
-PutTold session entry came x y = NextTold session (ToInsert entry) came x y × HasNone session x
+  pub insert_told : (answer : Answer) (added : Option ℕ) → slot_add (slot_of y.slots session) ≡ added → answer ≢ Going → NextTold session (ToInsert entry) answer x y → InsertTold session entry (outcome_of answer added) x z
+  insert_told (Added action unfinished) added is over (inl t) = added_told action unfinished t
+  insert_told (Added action unfinished) added is over (inr h) = absurd (let e = h.refused in cc)
+  insert_told (Refused fault) added is over t = left_told fault added is (left_so insert_number request_call fault begun y t)
+  insert_told answer added is over t = absurd (insert_may entry answer over (came_may insert_number request_call answer begun y t))
 
 -- an insert that was not begun
-pub not_begun : {S : Type 0} (session : ℕ) (entry : Entry) (fault : Fault) (x y : Snapshot S) → NothingTold fault x y → IsNotAdded session entry fault x y
+not_begun : {S : Type 0} (session : ℕ) (entry : Entry) (fault : Fault) (x y : Snapshot S) → NothingTold fault x y → IsNotAdded session entry fault x y
 not_begun session entry fault x y t = record {
   shaped = 0;
   history_is = t.silent.history_is ∙ sym (append-nil x.history);
   exists_is = λ e. absurd (t.not_exists e);
 }
 
--- how an insert goes that came so far, and then was over
-module _ {S : Type 0} (g : Ghosts S) (session : ℕ) (entry : Entry) (a b c : StoreAndSlots S) where
-  goes_left : (added : Option ℕ) (fault : Fault) → CallGoes g session (InsertTold session entry (left_behind added fault)) (Some (Refused fault)) a c → InsertGoes g session entry (left_behind added fault) a c
-  goes_left None fault goes = goes
-  goes_left (Some action) fault goes = inr (record { fault = fault; left = refl; goes = goes })
+-- why it leaves a fault behind, or is refused
+left_cause : {S : Type 0} (g : Ghosts S) (session least_room : ℕ) (old : StoreAndSlots S) (new : S) (used_up tall : Bool) (fault : Fault) → fault ≢ Exists → HasCause (where_inserted g session least_room true used_up tall old new) fault
+    → HasCause (where_inserted g session least_room false true true old new) fault
+left_cause g session least_room old new used_up tall Exists apart h = absurd (apart refl)
+left_cause g session least_room old new used_up tall IndexFull apart h = refl
+left_cause g session least_room old new used_up tall TooTall apart h = refl
+left_cause g session least_room old new used_up tall fault apart h = h
 
-  -- an insert answers nothing else
-  goes_else : (answer : Answer) → ((x y : Snapshot S) → PutTold session entry (Ok answer) x y → ⊥) → CallGoes g session (PutTold session entry (Ok answer)) (Some answer) a b
-      → CallGoes g session (PutTold session entry (Ok answer)) (Some (Refused NoSession)) a b
-  goes_else answer none put =
-      goes_told g session (PutTold session entry (Ok answer)) (PutTold session entry (Ok answer)) (Some answer) (Some (Refused NoSession)) a b (λ start answers x y at fits by t. absurd (none x y t)) put
+-- an insert that is run to its end
+module _ {S : Type 0} (g : Ghosts S) (session least_room : ℕ) (entry : Entry) where
+  run_told : (start : Entry → Bool) (x z : Snapshot S) (answer : Answer) (added : Option ℕ) → answer ≢ Going → RunGoes g session least_room (ToInsert entry) answer added start x z → InsertTold session entry (outcome_of answer added) x z
+  run_told start x z answer added over (inl n) = rw (n.refused, n.none) (not_begun session entry n.fault x z n.told)
+  run_told start x z answer added over (inr r) = insert_told g start session entry x r.here z r.free r.fits r.end answer added r.add_is over r.told
 
-  pub insert_goes : (came : Result Answer Fault) (added : Option ℕ) → came ≢ Ok Going → CallGoes g session (PutTold session entry came) (step_came came) a b
-      → ((to : Option Answer) → CallGoes g session (PutTold session entry came) to a b → CallGoes g session (InsertTold session entry (outcome_of came added)) to a c)
-      → InsertGoes g session entry (outcome_of came added) a c
-  insert_goes (Ok (Added action unfinished)) added going put ends = inl (ends (Some (Added action unfinished)) put)
-  insert_goes (Ok (Refused fault)) added going put ends = goes_left added fault (ends (Some (Refused fault)) put)
-  insert_goes (Err fault) added going put ends = goes_left added fault (ends (Some (Refused fault)) put)
-  insert_goes (Ok Going) added going put ends = absurd (going refl)
-  insert_goes (Ok Begun) added going put ends = ends (Some (Refused NoSession)) (goes_else Begun (λ x y t. t.0.may) put)
-  insert_goes (Ok (Ready count)) added going put ends = ends (Some (Refused NoSession)) (goes_else (Ready count) (λ x y t. t.0.may) put)
-  insert_goes (Ok Done) added going put ends = ends (Some (Refused NoSession)) (goes_else Done (λ x y t. t.0.may) put)
-  insert_goes (Ok (Finished stats)) added going put ends = ends (Some (Refused NoSession)) (goes_else (Finished stats) (λ x y t. t.0.may) put)
-  insert_goes (Ok (Gave e)) added going put ends = ends (Some (Refused NoSession)) (goes_else (Gave e) (λ x y t. t.0.may) put)
-  insert_goes (Ok Ended) added going put ends = ends (Some (Refused NoSession)) (goes_else Ended (λ x y t. t.0.may) put)
-  insert_goes (Ok (Forced n)) added going put ends = ends (Some (Refused NoSession)) (goes_else (Forced n) (λ x y t. t.0.may) put)
-  insert_goes (Ok (Flushed block)) added going put ends = ends (Some (Refused NoSession)) (goes_else (Flushed block) (λ x y t. t.0.may) put)
-  insert_goes (Ok (Checkpointed n)) added going put ends = ends (Some (Refused NoSession)) (goes_else (Checkpointed n) (λ x y t. t.0.may) put)
+  caused : (old : StoreAndSlots S) (new : S) (answer : Answer) (added : Option ℕ) → IsInsertAnswer answer → ((action : ℕ) → added ≡ Some action → answer ≢ Refused Exists)
+      → IsCaused (where_asked g session least_room false (AskInsert entry) answer old new) answer → InsertCallIsCaused g session least_room entry old new (outcome_of answer added)
+  caused old new (Added action None) added may apart c = tt
+  caused old new (Added action (Some fault)) added may apart c = c
+  caused old new (Refused fault) None may apart c = called_wider g session (ToInsert entry) old (where_inserted g session least_room true (is_used_up (g.state new)) (is_tall (g.state new)) old new) refl refl refl fault c
+  caused old new (Refused fault) (Some action) may apart c =
+      left_cause g session least_room old new (is_used_up (g.state new)) (is_tall (g.state new)) fault (λ e. apart action refl (ap (λ (f : Fault). Refused f) e)) c
+  caused old new answer added may apart c = absurd may
+
+  may_run : (start : Entry → Bool) (x z : Snapshot S) (answer : Answer) (added : Option ℕ) → answer ≢ Going → RunGoes g session least_room (ToInsert entry) answer added start x z → IsInsertAnswer answer
+  may_run start x z answer added over (inl n) = subst IsInsertAnswer (sym n.refused) tt
+  may_run start x z answer added over (inr r) = insert_may entry answer over (came_may (length x.calls) (first_call session (ToInsert entry) x) answer (with_call x (first_call session (ToInsert entry) x)) r.here r.told)
+
+  pub insert_caused : (start : Entry → Bool) (x z : Snapshot S) (answer : Answer) (added : Option ℕ) → answer ≢ Going → RunGoes g session least_room (ToInsert entry) answer added start x z
+      → InsertCallIsCaused g session least_room entry (here_at x) z.store (outcome_of answer added)
+  insert_caused start x z answer added over (inl n) =
+      rw (n.refused, n.none) (begun_called g session (ToInsert entry) (here_at x) (where_inserted g session least_room true (is_used_up (g.state z.store)) (is_tall (g.state z.store)) (here_at x) z.store) (λ h. stopped_before g session least_room false (here_at x) z.store h) n.fault n.cause)
+  insert_caused start x z answer added over (inr r) =
+      caused (here_at x) z.store answer added (may_run start x z answer added over (inr r))
+      (λ action some e. not_there g start session entry x r.here z r.free r.fits r.end action (r.add_is ∙ some) (subst (λ (a : Answer). NextTold session (ToInsert entry) a x r.here) e r.told)) r.caused
+
+  as_told : (a c : StoreAndSlots S) (answer : Answer) (added : Option ℕ) → answer ≢ Going → GoesFrom g session (RunGoes g session least_room (ToInsert entry) answer added) (Some answer) a c
+      → CallGoes g session (InsertTold session entry (outcome_of answer added)) (Some answer) a c
+  as_told a c answer added over =
+      goes_told g session (RunGoes g session least_room (ToInsert entry) answer added) (λ s. InsertTold session entry (outcome_of answer added)) (Some answer) (Some answer) a c
+      (λ start h hc k kc answers fits by t. (by, run_told start (snapshot_of a h hc) (snapshot_of c k kc) answer added over t))
+
+  pub insert_goes : (a c : StoreAndSlots S) (answer : Answer) (added : Option ℕ) → answer ≢ Going → GoesFrom g session (RunGoes g session least_room (ToInsert entry) answer added) (Some answer) a c → InsertGoes g session entry (outcome_of answer added) a c
+  insert_goes a c (Added action unfinished) added over goes = inl (as_told a c (Added action unfinished) added over goes)
+  insert_goes a c (Refused fault) None over goes = as_told a c (Refused fault) None over goes
+  insert_goes a c (Refused fault) (Some action) over goes = inr (record { fault = fault; left = refl; goes = as_told a c (Refused fault) (Some action) over goes })
+  insert_goes a c answer added over goes = λ honest start history calls fits. absurd (
+      let r = goes honest start history calls fits in
+      may_run start (snapshot_of a history calls) (snapshot_of c r.then_history r.then_calls) answer added over r.tells)

@@ -10,3 +10,5 @@ pub mod Swept
 pub mod Refusing
 pub mod Removing
 pub mod Filling
+pub mod Lasting
+pub mod Whole

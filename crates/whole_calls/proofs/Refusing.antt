@@ -1,15 +1,15 @@
 -- Why a running call is refused: the causes of its events, told from the moment before the call to the moment behind it.
-use Rattle.std.proofs.Common.{◌≡◌, ◌≢◌, ℕ, zero, suc, ◌+◌, ◌<◌, ◌≤◌, Bool, true, false, not, ◌&&◌, ◌||◌, ◌==◌, nat_lt, nat_le, Option, Some, None, Result, Ok, Err, List, [], ◌∷◌, ◌++◌, length, slice_get, refl, sym, ap, subst, arith, inl, inr, ◌∙◌}
-use Rattle.std.specs.Prelude.{if◌then◌else◌, unwrap_or, is_none, IfOk, IfErr}
+use Rattle.std.proofs.Common.{◌≡◌, ◌≢◌, ℕ, zero, suc, ◌+◌, ◌<◌, ◌≤◌, Bool, true, false, not, ◌&&◌, ◌||◌, ◌==◌, nat_lt, nat_le, Option, Some, None, List, [], ◌∷◌, ◌++◌, length, slice_get, refl, sym, ap, subst, arith, inl, inr, ◌∙◌}
+use Rattle.std.specs.Prelude.{if◌then◌else◌, unwrap_or, is_none}
 use Rattle.std.proofs.lemmas.Bool.{or_cases, and_parts, ne_eqb, ltb-true, lt-ltb, ltb-false, leb-true, le-leb, eqb-true, eq-eqb}
 use Rattle.std.proofs.lemmas.List.{append-nil}
-use Rattle.index_model.specs.Actions.{Effect, Action}
+use Rattle.index_model.specs.Actions.{Effect}
 use Rattle.index_model.specs.Calls.{Ask, AskInsert, AskScan, AskBulkDelete, AskCleanup, Call}
 use Rattle.index_model.specs.Faults.{Circumstances, HasCause}
 use Rattle.index_model.specs.Limits.{AreLimits}
 use Rattle.index_model.specs.declared.entry.Entry.{Entry}
 use Rattle.index_model.specs.declared.fault.Fault.{Fault}
-use Rattle.index_model.specs.declared.fault.Fault.TheVariants.{Io, Stopped, Blocked, Exists, IndexFull, LogFull, NoFrame, VacuumRunning, NoSession, SessionBusy, TooTall}
+use Rattle.index_model.specs.declared.fault.Fault.TheVariants.{Io, Stopped, Blocked, Exists, KeyTooLong, BadRow, IndexFull, LogFull, NoFrame, VacuumRunning, NoSession, SessionBusy, BadSuper, BadVersion, LogDamaged, BadLimits, TooTall, DeviceTooSmall}
 use Rattle.index_model.specs.declared.limits.Limits.{Limits}
 use Rattle.index_model.specs.declared.range.Range.{Range}
 use Rattle.latch_table.specs.Holdings.{Holding, Table, nothing_held, holding_of, holding_excludes, is_held_by_another}
@@ -17,7 +17,7 @@ use Rattle.latch_table.specs.declared.mode.Mode.{Mode}
 use Rattle.latch_table.specs.declared.mode.Mode.TheVariants.{Shared, Exclusive, Cleanup}
 use Rattle.latch_table.proofs.Tables.{is_held_by_another-by}
 use Rattle.page_action.specs.Contents.{entry_on_live_leaf}
-use Rattle.page_action.specs.Causes.{where_forced, has_failed, is_at_end, pinned_blocks, count_apart}
+use Rattle.page_action.specs.Causes.{nothing_wrong, where_forced, has_failed, is_at_end, pinned_blocks, count_apart}
 use Rattle.page_action.specs.Room.{IsPromised, whole_room}
 use Rattle.page_action.specs.States.{State, Backing, IsLater}
 use Rattle.page_action.specs.declared.page_store.PageStore.{Ghosts}
@@ -39,24 +39,22 @@ use Rattle.page_delete.specs.Cleanups.{CleanupFits, where_cleaning}
 use Rattle.page_delete.specs.Ops.{is_counted_out as is_cleanup_full}
 use Rattle.page_delete.specs.declared.steps.CleanupOp.{CleanupOp}
 use Rattle.session_calls.specs.TheoremCalls.{DeadSets, acts_of}
-use Rattle.session_calls.specs.Ops.{OpFits, IsCaused, where_stepped, asked_of, session_of}
+use Rattle.session_calls.specs.Ops.{OpFits, IsCaused, once_added, where_stepped, asked_of, session_of}
 use Rattle.session_calls.specs.Sessions.{Told, is_busy, AnswersNext}
 use Rattle.session_calls.specs.declared.answer.Answer.{Answer}
-use Rattle.session_calls.specs.declared.answer.Answer.TheVariants.{Begun, Going, Added, Ready, Done, Finished, Gave, Ended, Forced, Flushed, Checkpointed, Refused}
+use Rattle.session_calls.specs.declared.answer.Answer.TheVariants.{Added, Gave, Refused}
 use Rattle.session_calls.specs.declared.op.Op.{Op}
 use Rattle.session_calls.specs.declared.op.Op.TheVariants.{Insert, Scan, Bulk, Cleanup}
 use Rattle.session_calls.specs.declared.request.Request.{Request}
-use Rattle.session_calls.specs.declared.request.Request.TheVariants.{Insert as ToInsert}
-use Rattle.schedule.specs.TheoremMoments.{StoreAndSlots, Snapshot, snapshot_of, IsRunningCall}
+use Rattle.schedule.specs.TheoremMoments.{StoreAndSlots, Snapshot, IsRunningCall}
 use Rattle.schedule.specs.Making.{EventDoes}
 use Rattle.schedule.specs.TheoremRuns.{Fits}
 use Rattle.session_calls.specs.Slots.{slot_of, one_vacuums, is_of_sets}
 use Rattle.schedule.specs.Snapshots.{here_at}
 use Rattle.schedule.specs.TheoremKinds.{MovesCall, Steps}
 use Rattle.schedule.specs.Events.{CallMoves, MovesOn, where_moving, where_begun_at, OthersStay}
-use Rattle.whole_calls.specs.Refusing.{others_run, another_runs, is_full_vacuum, where_gone, where_inserted, is_used_up, is_tall, InsertIsCaused, CameIsCaused, AskIsCaused, AsksToCount, FillsOnly, where_called, InsertCallIsCaused}
-use Rattle.whole_calls.specs.Giving.{AnswersSeek, given_of}
-use Rattle.whole_calls.specs.Telling.{RoomIsMade, MayAnswer, StepTold, left_behind, outcome_of}
+use Rattle.whole_calls.specs.Refusing.{others_run, another_runs, is_full_vacuum, where_gone, where_inserted, is_used_up, is_tall, is_added, where_asked, where_called}
+use Rattle.whole_calls.specs.Telling.{RoomIsMade}
 use Rattle.whole_calls.proofs.Tellings.{runs_in_slot, runs_has_call, one_runs, true_false}
 use Rattle.schedule.proofs.Fitting.{beyond_of, running_of}
 
@@ -71,6 +69,37 @@ or_right false b h = h
 pub or_none : (a b : Bool) → (a || b) ≡ false → (a ≡ false) × (b ≡ false)
 or_none true b h = absurd cc
 or_none false b h = (refl, h)
+
+-- causes
+
+-- what has its cause in the one circumstances has it in the other
+abbrev pub IsNarrower : Circumstances → Circumstances → Type 0
+IsNarrower at wide = (fault : Fault) → HasCause at fault → HasCause wide fault
+
+narrower_once : (at wide : Circumstances) → IsNarrower at wide → IsNarrower (once_added at) (once_added wide)
+narrower_once at wide more Exists h = h
+narrower_once at wide more fault h = more fault h
+
+pub cause_wider : (at wide : Circumstances) → IsNarrower at wide → (answer : Answer) → IsCaused at answer → IsCaused wide answer
+cause_wider at wide more (Refused fault) h = more fault h
+cause_wider at wide more (Added action (Some fault)) h = narrower_once at wide more fault h
+cause_wider at wide more answer h = tt
+
+-- where nothing is wrong nothing is refused
+nothing_causes : (fault : Fault) → HasCause nothing_wrong fault → ⊥
+nothing_causes KeyTooLong h = h
+nothing_causes BadRow h = h
+nothing_causes BadSuper h = h
+nothing_causes BadVersion h = h
+nothing_causes LogDamaged h = h
+nothing_causes BadLimits h = h
+nothing_causes DeviceTooSmall h = h
+nothing_causes fault h = true_false (sym h)
+
+forced_in : (old new : Backing) (at : Circumstances) → (has_failed old new ≡ true → at.device_failed ≡ true) → (old.stopped ≡ true → at.is_stopped ≡ true) → IsNarrower (where_forced old new) at
+forced_in old new at fails stops Io h = fails h
+forced_in old new at fails stops Stopped h = stops h
+forced_in old new at fails stops fault h = absurd (nothing_causes fault h)
 
 -- who runs a call
 
@@ -329,35 +358,21 @@ module _ {S : Type 0} (g : Ghosts S) (start : Entry → Bool) (session least_roo
     tall : (splits : Bool) → (g.state y.store).pages ≡ st.pages → (splits && nat_le 31 (root_level st.pages)) ≡ true → is_tall (g.state y.store) ≡ true
     tall splits pages h = ap (λ (ps : List Page). nat_le 31 (root_level ps)) pages ∙ (and_parts splits (nat_le 31 (root_level st.pages)) h).1
 
-    insert_came : (op : InsertOp) → op.session ≡ session → InsertFits st op → (answer : Answer) → ((fault : Fault) → answer ≡ Refused fault → (g.state y.store).pages ≡ st.pages)
-        → IsCaused (where_inserting st (g.backing x.store) (g.backing y.store) op.session op.entry op.at) answer → InsertIsCaused g session least_room (here_at x) y.store (Ok answer)
-    insert_came op is f (Refused fault) same c =
+    insert_came : (counts_full : Bool) (e : Entry) (op : InsertOp) → op.session ≡ session → InsertFits st op → (answer : Answer) → ((fault : Fault) → answer ≡ Refused fault → (g.state y.store).pages ≡ st.pages)
+        → IsCaused (where_inserting st (g.backing x.store) (g.backing y.store) op.session op.entry op.at) answer → IsCaused (where_asked g session least_room counts_full (AskInsert e) answer (here_at x) y.store) answer
+    insert_came full e op is f (Refused fault) same c =
         any_was (entry_on_live_leaf st.pages op.entry) (is_used_up (g.state y.store)) (is_tall (g.state y.store)) fault
         (inserting (entry_on_live_leaf st.pages op.entry) (is_used_up (g.state y.store)) (is_tall (g.state y.store)) op is f (used (takes_block_at st op.at) (same fault refl)) (tall (splits_root_at op.at) (same fault refl)) fault c)
-    insert_came op is f (Added a None) same c = tt
-    insert_came op is f (Added a (Some fault)) same c = inserting false true true op is f (λ h. refl) (λ h. refl) fault c
-    insert_came op is f answer same c = tt
-
-    scan_came : (op : ScanOp) → op.session ≡ session → ScanFits st op → (answer : Answer) → IsCaused (where_scanning st (g.backing x.store) (g.backing y.store) op.session) answer → CameIsCaused (where_gone g session least_room false (here_at x) y.store) (Ok answer)
-    scan_came op is f (Refused fault) c = scanning op is f fault c
-    scan_came op is f answer c = tt
-
-    bulk_came : (op : BulkDeleteOp) → op.session ≡ session → BulkDeleteFits st op → (answer : Answer) → IsCaused (where_deleting st (g.backing x.store) (g.backing y.store) op) answer
-        → CameIsCaused (where_gone g session least_room (is_counted_out op) (here_at x) y.store) (Ok answer)
-    bulk_came op is f (Refused fault) c = deleting op is f fault c
-    bulk_came op is f answer c = tt
-
-    cleanup_came : (op : CleanupOp) → op.session ≡ session → CleanupFits st op → (answer : Answer) → IsCaused (where_cleaning st (g.backing x.store) (g.backing y.store) op) answer
-        → CameIsCaused (where_gone g session least_room (is_cleanup_full op) (here_at x) y.store) (Ok answer)
-    cleanup_came op is f (Refused fault) c = cleaning op is f fault c
-    cleanup_came op is f answer c = tt
+    insert_came full e op is f (Added a None) same c = tt
+    insert_came full e op is f (Added a (Some fault)) same c = inserting false true true op is f (λ h. refl) (λ h. refl) fault c
+    insert_came full e op is f answer same c = tt
 
     op_came : (op : Op) → session_of op ≡ session → OpFits st op → (answer : Answer) → ((fault : Fault) → answer ≡ Refused fault → (g.state y.store).pages ≡ st.pages) → IsCaused (where_stepped op st (g.backing x.store) (g.backing y.store)) answer
-        → AskIsCaused g session least_room (is_full_vacuum (Some op)) (here_at x) y.store (asked_of x.sets op) (Ok answer)
-    op_came (Insert op) is f answer same c = insert_came op is f answer same c
-    op_came (Scan op) is f answer same c = scan_came op is f answer c
-    op_came (Bulk set op) is f answer same c = bulk_came op is f answer c
-    op_came (Cleanup op) is f answer same c = cleanup_came op is f answer c
+        → IsCaused (where_asked g session least_room (is_full_vacuum (Some op)) (asked_of x.sets op) answer (here_at x) y.store) answer
+    op_came (Insert op) is f answer same c = insert_came false op.entry op is f answer same c
+    op_came (Scan op) is f answer same c = cause_wider _ _ (scanning op is f) answer c
+    op_came (Bulk set op) is f answer same c = cause_wider _ _ (deleting op is f) answer c
+    op_came (Cleanup op) is f answer same c = cause_wider _ _ (cleaning op is f) answer c
 
 -- a step of the session's call, by its event
 module _ {S : Type 0} (g : Ghosts S) (start : Entry → Bool) (session least_room : ℕ) (answer : Answer) (x y : Snapshot S) (fits : Fits g start x) (room : 5 ≤ least_room → 5 ≤ (g.backing x.store).promised)
@@ -376,17 +391,23 @@ module _ {S : Type 0} (g : Ghosts S) (start : Entry → Bool) (session least_roo
     | inr more ↦ omega (arith, more)
   ]
 
-  pub step_caused : AskIsCaused g session least_room (is_full_vacuum (slot_of x.slots session)) (here_at x) y.store call.ask (Ok answer)
+  pub step_caused : IsCaused (where_asked g session least_room (is_full_vacuum (slot_of x.slots session)) call.ask answer (here_at x) y.store) answer
   step_caused =
       let r = runs_in_slot g start x fits session number call is in
       let same : r.2.call ≡ call = (one_runs g start x fits session number r.2.number call r.2.call is r.2.is).1 in
       let slot : slot_of x.slots session ≡ Some r.0 = ap (λ (o : Option (Option Op)). unwrap_or o None) r.1 in
       let ask : asked_of x.sets r.0 ≡ call.ask = sym r.2.runs.ask ∙ ap (λ (c : Call). c.ask) same in
       let caused : IsCaused (where_stepped r.0 (g.state x.store) (g.backing x.store) (g.backing y.store)) answer = subst (λ (o : Option (Option Op)). IsCaused (where_moving g x.sets x.store y.store Steps o) answer) r.1 does.also.caused in
-      let came : AskIsCaused g session least_room (is_full_vacuum (Some r.0)) (here_at x) y.store (asked_of x.sets r.0) (Ok answer) =
-      op_came g start session least_room x y fits room does.also.quiet.frames acts_on does.also.quiet.limits r.0 (r.2.runs.session ∙ r.2.is.session_is) r.2.runs.fits answer pages_stay caused in
-      subst (λ (o : Option Op). AskIsCaused g session least_room (is_full_vacuum o) (here_at x) y.store call.ask (Ok answer)) (sym slot)
-      (subst (λ (a : Ask). AskIsCaused g session least_room (is_full_vacuum (Some r.0)) (here_at x) y.store a (Ok answer)) ask came)
+      let came = op_came g start session least_room x y fits room does.also.quiet.frames acts_on does.also.quiet.limits r.0 (r.2.runs.session ∙ r.2.is.session_is) r.2.runs.fits answer pages_stay caused in
+      subst (λ (o : Option Op). IsCaused (where_asked g session least_room (is_full_vacuum o) call.ask answer (here_at x) y.store) answer) (sym slot)
+      (subst (λ (a : Ask). IsCaused (where_asked g session least_room (is_full_vacuum (Some r.0)) a answer (here_at x) y.store) answer) ask came)
+
+-- a call that was asked this counts pages or entries: a bulk delete, or a cleanup
+abbrev pub AsksToCount : Ask → Type 0
+AsksToCount (AskInsert e) = ⊥
+AsksToCount (AskScan range) = ⊥
+AsksToCount (AskBulkDelete dead) = Unit {0}
+AsksToCount AskCleanup = Unit {0}
 
 -- what is a cause since a later moment is one since an earlier
 module _ {S : Type 0} (g : Ghosts S) (session least_room : ℕ) (old mid : StoreAndSlots S) (new : S) (later : IsLater (g.backing old.store) (g.backing mid.store)) (after : (g.backing mid.store).failures ≤ (g.backing new).failures)
@@ -414,7 +435,7 @@ module _ {S : Type 0} (g : Ghosts S) (session least_room : ℕ) (old mid : Store
     | inr out ↦ or_right (nat_le 18446744073709551615 (g.state new).acts) wide (more out)
   ]
 
-  gone_wider : (full wide : Bool) → (full ≡ true → wide ≡ true) → (fault : Fault) → HasCause (where_gone g session least_room full mid new) fault → HasCause (where_gone g session least_room wide old new) fault
+  pub gone_wider : (full wide : Bool) → (full ≡ true → wide ≡ true) → IsNarrower (where_gone g session least_room full mid new) (where_gone g session least_room wide old new)
   gone_wider full wide more Io h = failed_wider h
   gone_wider full wide more Stopped h =
       stopped_wider (nat_le 18446744073709551615 (g.state new).acts || full) (nat_le 18446744073709551615 (g.state new).acts || wide) (full_wider full wide more) h
@@ -425,217 +446,75 @@ module _ {S : Type 0} (g : Ghosts S) (session least_room : ℕ) (old mid : Store
   ]
   gone_wider full wide more fault h = h
 
-  inserted_wider : (was_there used_up tall : Bool) (fault : Fault) → HasCause (where_inserted g session least_room was_there used_up tall mid new) fault → HasCause (where_inserted g session least_room was_there used_up tall old new) fault
-  inserted_wider was_there used_up tall Io h = gone_wider false false (λ f. f) Io h
-  inserted_wider was_there used_up tall Stopped h = gone_wider false false (λ f. f) Stopped h
-  inserted_wider was_there used_up tall (Blocked b) h = gone_wider false false (λ f. f) (Blocked b) h
-  inserted_wider was_there used_up tall NoFrame h = gone_wider false false (λ f. f) NoFrame h
-  inserted_wider was_there used_up tall fault h = h
+  inserted_wider : (was_there used_up tall : Bool) → IsNarrower (where_inserted g session least_room was_there used_up tall mid new) (where_inserted g session least_room was_there used_up tall old new)
+  inserted_wider was_there used_up tall Exists h = h
+  inserted_wider was_there used_up tall IndexFull h = h
+  inserted_wider was_there used_up tall TooTall h = h
+  inserted_wider was_there used_up tall fault h = gone_wider false false (λ f. f) fault h
 
-  insert_wider : (result : Result Answer Fault) → InsertIsCaused g session least_room mid new result → InsertIsCaused g session least_room old new result
-  insert_wider (Ok (Refused fault)) c = inserted_wider true (is_used_up (g.state new)) (is_tall (g.state new)) fault c
-  insert_wider (Ok (Added a None)) c = tt
-  insert_wider (Ok (Added a (Some fault))) c = inserted_wider false true true fault c
-  insert_wider (Ok answer) c = tt
-  insert_wider (Err fault) c = inserted_wider false (is_used_up (g.state new)) (is_tall (g.state new)) fault c
+  pub asked_wider : (full wide : Bool) (ask : Ask) (answer : Answer) → (AsksToCount ask → full ≡ true → wide ≡ true)
+      → IsNarrower (where_asked g session least_room full ask answer mid new) (where_asked g session least_room wide ask answer old new)
+  asked_wider full wide (AskInsert e) answer more = inserted_wider true (is_added answer || is_used_up (g.state new)) (is_added answer || is_tall (g.state new))
+  asked_wider full wide (AskScan range) answer more = gone_wider false false (λ f. f)
+  asked_wider full wide (AskBulkDelete dead) answer more = gone_wider full wide (more tt)
+  asked_wider full wide AskCleanup answer more = gone_wider full wide (more tt)
 
-  pub came_wider : (full wide : Bool) → (full ≡ true → wide ≡ true) → (result : Result Answer Fault) → CameIsCaused (where_gone g session least_room full mid new) result → CameIsCaused (where_gone g session least_room wide old new) result
-  came_wider full wide more (Ok (Refused fault)) c = gone_wider full wide more fault c
-  came_wider full wide more (Ok answer) c = tt
-  came_wider full wide more (Err fault) c = gone_wider full wide more fault c
-
-  pub ask_wider : (full wide : Bool) (ask : Ask) → (AsksToCount ask → full ≡ true → wide ≡ true) → (result : Result Answer Fault) → AskIsCaused g session least_room full mid new ask result
-      → AskIsCaused g session least_room wide old new ask result
-  ask_wider full wide (AskInsert e) more result c = insert_wider result c
-  ask_wider full wide (AskScan range) more result c = came_wider false false (λ f. f) result c
-  ask_wider full wide (AskBulkDelete dead) more result c = came_wider full wide (more tt) result c
-  ask_wider full wide AskCleanup more result c = came_wider full wide (more tt) result c
-
-gone_forced : {S : Type 0} (g : Ghosts S) (session least_room : ℕ) (full : Bool) (old : StoreAndSlots S) (new : S) (fault : Fault) → HasCause (where_forced (g.backing old.store) (g.backing new)) fault
-    → HasCause (where_gone g session least_room full old new) fault
-gone_forced g session least_room full old new Io h = h
-gone_forced g session least_room full old new Stopped h = or_left (g.backing old.store).stopped (has_failed (g.backing old.store) (g.backing new) || (nat_le 18446744073709551615 (g.state new).acts || full)) h
-gone_forced g session least_room full old new (Blocked b) h = absurd (true_false (sym h))
-gone_forced g session least_room full old new LogFull h = absurd (true_false (sym h))
-gone_forced g session least_room full old new NoFrame h = absurd (true_false (sym h))
-gone_forced g session least_room full old new fault h = h
+-- a log that had failed before stops the call
+pub stopped_before : {S : Type 0} (g : Ghosts S) (session least_room : ℕ) (full : Bool) (old : StoreAndSlots S) (new : S) → (g.backing old.store).stopped ≡ true → (where_gone g session least_room full old new).is_stopped ≡ true
+stopped_before g session least_room full old new h = or_left (g.backing old.store).stopped (has_failed (g.backing old.store) (g.backing new) || (nat_le 18446744073709551615 (g.state new).acts || full)) h
 
 -- the room for a step wasn't made: its cause is that of the checkpoint
-pub forced_cause : {S : Type 0} (g : Ghosts S) (session least_room : ℕ) (full : Bool) (old : StoreAndSlots S) (new : S) (ask : Ask) (fault : Fault) → HasCause (where_forced (g.backing old.store) (g.backing new)) fault
-    → AskIsCaused g session least_room full old new ask (Err fault)
-forced_cause g session least_room full old new (AskInsert e) fault h = of fault h
+pub forced_cause : {S : Type 0} (g : Ghosts S) (session least_room : ℕ) (full : Bool) (ask : Ask) (answer : Answer) (old : StoreAndSlots S) (new : S)
+    → IsNarrower (where_forced (g.backing old.store) (g.backing new)) (where_asked g session least_room full ask answer old new)
+forced_cause g session least_room full ask answer old new = of ask
   where
-    of : (f : Fault) → HasCause (where_forced (g.backing old.store) (g.backing new)) f → InsertIsCaused g session least_room old new (Err f)
-    of Io h = h
-    of Stopped h = or_left (g.backing old.store).stopped (has_failed (g.backing old.store) (g.backing new) || (nat_le 18446744073709551615 (g.state new).acts || false)) h
-    of (Blocked b) h = absurd (true_false (sym h))
-    of IndexFull h = absurd (true_false (sym h))
-    of LogFull h = absurd (true_false (sym h))
-    of NoFrame h = absurd (true_false (sym h))
-    of TooTall h = absurd (true_false (sym h))
-    of f h = h
-forced_cause g session least_room full old new (AskScan range) fault h = gone_forced g session least_room false old new fault h
-forced_cause g session least_room full old new (AskBulkDelete dead) fault h = gone_forced g session least_room full old new fault h
-forced_cause g session least_room full old new AskCleanup fault h = gone_forced g session least_room full old new fault h
+    of : (a : Ask) → IsNarrower (where_forced (g.backing old.store) (g.backing new)) (where_asked g session least_room full a answer old new)
+    of (AskInsert e) = forced_in (g.backing old.store) (g.backing new) (where_asked g session least_room full (AskInsert e) answer old new) (λ h. h) (stopped_before g session least_room false old new)
+    of (AskScan range) = forced_in (g.backing old.store) (g.backing new) (where_asked g session least_room full (AskScan range) answer old new) (λ h. h) (stopped_before g session least_room false old new)
+    of (AskBulkDelete dead) = forced_in (g.backing old.store) (g.backing new) (where_asked g session least_room full (AskBulkDelete dead) answer old new) (λ h. h) (stopped_before g session least_room full old new)
+    of AskCleanup = forced_in (g.backing old.store) (g.backing new) (where_asked g session least_room full AskCleanup answer old new) (λ h. h) (stopped_before g session least_room full old new)
 
 -- a call that wasn't begun
-module _ {S : Type 0} (g : Ghosts S) (session least_room : ℕ) (request : Request) (old : StoreAndSlots S) (new : S) where
-  gone_begun : (full : Bool) (slot : Option (Option Op)) → slice_get old.slots session ≡ slot → (fault : Fault) → HasCause (where_begun_at g old.store (one_vacuums old.slots) old.sets request slot) fault
-      → HasCause (where_called g session request old (where_gone g session least_room full old new)) fault
-  gone_begun full None at Stopped h =
-      or_left ((g.backing old.store).stopped || (has_failed (g.backing old.store) (g.backing new) || (nat_le 18446744073709551615 (g.state new).acts || full))) (is_at_end (g.state old.store).begun)
-      (or_left (g.backing old.store).stopped (has_failed (g.backing old.store) (g.backing new) || (nat_le 18446744073709551615 (g.state new).acts || full)) h)
-  gone_begun full (Some slot) at Stopped h = elim (or_cases (g.backing old.store).stopped (is_at_end (g.state old.store).begun) h) [
-    | inl stopped ↦ or_left ((g.backing old.store).stopped || (has_failed (g.backing old.store) (g.backing new) || (nat_le 18446744073709551615 (g.state new).acts || full))) (is_at_end (g.state old.store).begun)
-        (or_left (g.backing old.store).stopped (has_failed (g.backing old.store) (g.backing new) || (nat_le 18446744073709551615 (g.state new).acts || full)) stopped)
-    | inr ended ↦ or_right ((g.backing old.store).stopped || (has_failed (g.backing old.store) (g.backing new) || (nat_le 18446744073709551615 (g.state new).acts || full))) (is_at_end (g.state old.store).begun) ended
-  ]
-  gone_begun full None at NoSession h = or_right (not (is_of_sets old.sets request)) (is_none (slice_get old.slots session)) (ap is_none at)
-  gone_begun full (Some slot) at NoSession h = or_left (not (is_of_sets old.sets request)) (is_none (slice_get old.slots session)) h
-  gone_begun full None at SessionBusy h = absurd (true_false (sym h))
-  gone_begun full (Some slot) at SessionBusy h = ap (λ (o : Option (Option Op)). is_busy (unwrap_or o None)) at ∙ h
-  gone_begun full None at VacuumRunning h = absurd (true_false (sym h))
-  gone_begun full (Some slot) at VacuumRunning h = h
-  gone_begun full None at (Blocked b) h = absurd (true_false (sym h))
-  gone_begun full (Some slot) at (Blocked b) h = absurd (true_false (sym h))
-  gone_begun full None at Io h = absurd (true_false (sym h))
-  gone_begun full (Some slot) at Io h = absurd (true_false (sym h))
-  gone_begun full None at LogFull h = absurd (true_false (sym h))
-  gone_begun full (Some slot) at LogFull h = absurd (true_false (sym h))
-  gone_begun full None at NoFrame h = absurd (true_false (sym h))
-  gone_begun full (Some slot) at NoFrame h = absurd (true_false (sym h))
-  gone_begun full None at fault h = h
-  gone_begun full (Some slot) at fault h = h
+pub begun_called : {S : Type 0} (g : Ghosts S) (session : ℕ) (request : Request) (old : StoreAndSlots S) (at : Circumstances) → ((g.backing old.store).stopped ≡ true → at.is_stopped ≡ true)
+    → IsNarrower (where_begun_at g old.store (one_vacuums old.slots) old.sets request (slice_get old.slots session)) (where_called g session request old at)
+begun_called g session request old at stops = of (slice_get old.slots session) refl
+  where
+    of : (slot : Option (Option Op)) → slice_get old.slots session ≡ slot → IsNarrower (where_begun_at g old.store (one_vacuums old.slots) old.sets request slot) (where_called g session request old at)
+    of None is Stopped h = or_left at.is_stopped (is_at_end (g.state old.store).begun) (stops h)
+    of (Some slot) is Stopped h = elim (or_cases (g.backing old.store).stopped (is_at_end (g.state old.store).begun) h) [
+      | inl stopped ↦ or_left at.is_stopped (is_at_end (g.state old.store).begun) (stops stopped)
+      | inr ended ↦ or_right at.is_stopped (is_at_end (g.state old.store).begun) ended
+    ]
+    of None is NoSession h = or_right (not (is_of_sets old.sets request)) (is_none (slice_get old.slots session)) (ap is_none is)
+    of (Some slot) is NoSession h = or_left (not (is_of_sets old.sets request)) (is_none (slice_get old.slots session)) h
+    of (Some slot) is SessionBusy h = ap (λ (o : Option (Option Op)). is_busy (unwrap_or o None)) is ∙ h
+    of (Some slot) is VacuumRunning h = h
+    of slot is fault h = absurd (nothing_causes fault h)
 
-  -- which says more than an insert has to
-  gone_inserted : (used_up tall : Bool) (fault : Fault) → HasCause (where_called g session request old (where_gone g session least_room false old new)) fault
-      → HasCause (where_called g session request old (where_inserted g session least_room true used_up tall old new)) fault
-  gone_inserted used_up tall Exists h = refl
-  gone_inserted used_up tall IndexFull h = absurd (true_false (sym h))
-  gone_inserted used_up tall TooTall h = absurd (true_false (sym h))
-  gone_inserted used_up tall fault h = h
-
-  -- a call that was begun
-  inserted_called : (used_up tall : Bool) (fault : Fault) → HasCause (where_inserted g session least_room true used_up tall old new) fault → HasCause (where_called g session request old (where_inserted g session least_room true used_up tall old new)) fault
-  inserted_called used_up tall Stopped h =
-      or_left ((g.backing old.store).stopped || (has_failed (g.backing old.store) (g.backing new) || (nat_le 18446744073709551615 (g.state new).acts || false))) (is_at_end (g.state old.store).begun) h
-  inserted_called used_up tall VacuumRunning h = absurd (true_false (sym h))
-  inserted_called used_up tall NoSession h = absurd (true_false (sym h))
-  inserted_called used_up tall SessionBusy h = absurd (true_false (sym h))
-  inserted_called used_up tall fault h = h
-
-  pub gone_called : (full : Bool) (fault : Fault) → HasCause (where_gone g session least_room full old new) fault → HasCause (where_called g session request old (where_gone g session least_room full old new)) fault
-  gone_called full Stopped h =
-      or_left ((g.backing old.store).stopped || (has_failed (g.backing old.store) (g.backing new) || (nat_le 18446744073709551615 (g.state new).acts || full))) (is_at_end (g.state old.store).begun) h
-  gone_called full VacuumRunning h = absurd (true_false (sym h))
-  gone_called full NoSession h = absurd (true_false (sym h))
-  gone_called full SessionBusy h = absurd (true_false (sym h))
-  gone_called full fault h = h
-
-  -- the cause of a beginning, where one bulk delete runs at most
-  pub not_begun_cause : (full : Bool) (start : Entry → Bool) (history : List Action) (calls : List Call) → Fits g start (snapshot_of old history calls) → (fault : Fault)
-      → HasCause (where_begun_at g old.store (one_vacuums old.slots) old.sets request (slice_get old.slots session)) fault → HasCause (where_called g session request old (where_gone g session least_room full old new)) fault
-  not_begun_cause full start history calls fits fault h =
-      gone_begun full (slice_get old.slots session) refl fault h
+-- one that was begun, and came to this
+pub called_wider : {S : Type 0} (g : Ghosts S) (session : ℕ) (request : Request) (old : StoreAndSlots S) (at : Circumstances) → at.vacuum_runs ≡ false → at.no_such_session ≡ false → at.session_has_a_call ≡ false
+    → IsNarrower at (where_called g session request old at)
+called_wider g session request old at vacuums none has_none Stopped h = or_left at.is_stopped (is_at_end (g.state old.store).begun) h
+called_wider g session request old at vacuums none has_none VacuumRunning h = absurd (true_false (sym h ∙ vacuums))
+called_wider g session request old at vacuums none has_none NoSession h = absurd (true_false (sym h ∙ none))
+called_wider g session request old at vacuums none has_none SessionBusy h = absurd (true_false (sym h ∙ has_none))
+called_wider g session request old at vacuums none has_none fault h = h
 
 -- the call's end leaves of all this what was
-module _ {S : Type 0} (g : Ghosts S) (session least_room : ℕ) (old : StoreAndSlots S) (mid new : S) (backing : g.backing new ≡ g.backing mid) (acts : (g.state new).acts ≡ (g.state mid).acts) (frames : (g.state new).frames ≡ (g.state mid).frames) where
-  pub gone_behind : (full : Bool) (fault : Fault) → HasCause (where_gone g session least_room full old mid) fault → HasCause (where_gone g session least_room full old new) fault
-  gone_behind full Io h = ap (λ (b : Backing). has_failed (g.backing old.store) b) backing ∙ h
-  gone_behind full Stopped h =
-      ap (λ (b : Backing). (g.backing old.store).stopped || (has_failed (g.backing old.store) b || (nat_le 18446744073709551615 (g.state new).acts || full))) backing
-      ∙ ap (λ (n : ℕ). (g.backing old.store).stopped || (has_failed (g.backing old.store) (g.backing mid) || (nat_le 18446744073709551615 n || full))) acts ∙ h
-  gone_behind full NoFrame h = ap (λ (n : ℕ). another_runs old.slots session || nat_lt n 4) frames ∙ h
-  gone_behind full fault h = h
+pub gone_behind : {S : Type 0} (g : Ghosts S) (session least_room : ℕ) (full : Bool) (old : StoreAndSlots S) (mid new : S) → g.backing new ≡ g.backing mid → (g.state new).acts ≡ (g.state mid).acts → (g.state new).frames ≡ (g.state mid).frames
+    → where_gone g session least_room full old new ≡ where_gone g session least_room full old mid
+gone_behind g session least_room full old mid new backing acts frames = rw (backing, acts, frames) refl
 
-  inserted_behind : (was_there then_there used_up tall then_used_up then_tall : Bool) → (used_up ≡ true → then_used_up ≡ true) → (tall ≡ true → then_tall ≡ true) → (fault : Fault) → (fault ≡ Exists → was_there ≡ true → then_there ≡ true)
-      → HasCause (where_inserted g session least_room was_there used_up tall old mid) fault → HasCause (where_inserted g session least_room then_there then_used_up then_tall old new) fault
-  inserted_behind was_there then_there used_up tall then_used_up then_tall blocks root Io there h = gone_behind false Io h
-  inserted_behind was_there then_there used_up tall then_used_up then_tall blocks root Stopped there h = gone_behind false Stopped h
-  inserted_behind was_there then_there used_up tall then_used_up then_tall blocks root NoFrame there h = gone_behind false NoFrame h
-  inserted_behind was_there then_there used_up tall then_used_up then_tall blocks root IndexFull there h = blocks h
-  inserted_behind was_there then_there used_up tall then_used_up then_tall blocks root Exists there h = there refl h
-  inserted_behind was_there then_there used_up tall then_used_up then_tall blocks root TooTall there h = root h
-  inserted_behind was_there then_there used_up tall then_used_up then_tall blocks root fault there h = h
+pub asked_behind : {S : Type 0} (g : Ghosts S) (session least_room : ℕ) (full : Bool) (ask : Ask) (answer : Answer) (old : StoreAndSlots S) (mid new : S) → g.backing new ≡ g.backing mid → (g.state new).acts ≡ (g.state mid).acts
+    → (g.state new).frames ≡ (g.state mid).frames → (g.state new).limits ≡ (g.state mid).limits → (g.state new).pages ≡ (g.state mid).pages
+    → where_asked g session least_room full ask answer old new ≡ where_asked g session least_room full ask answer old mid
+asked_behind g session least_room full (AskInsert e) answer old mid new backing acts frames limits pages = rw (backing, acts, frames, limits, pages) refl
+asked_behind g session least_room full (AskScan range) answer old mid new backing acts frames limits pages = gone_behind g session least_room false old mid new backing acts frames
+asked_behind g session least_room full (AskBulkDelete dead) answer old mid new backing acts frames limits pages = gone_behind g session least_room full old mid new backing acts frames
+asked_behind g session least_room full AskCleanup answer old mid new backing acts frames limits pages = gone_behind g session least_room full old mid new backing acts frames
 
-  -- an insert that came to this, and is over
-  module _ (limits : (g.state new).limits ≡ (g.state mid).limits) (pages : (g.state new).pages ≡ (g.state mid).pages) where
-    blocks_same : is_used_up (g.state mid) ≡ true → is_used_up (g.state new) ≡ true
-    blocks_same h = ap (λ (l : Limits). nat_le l.pages (length (g.state new).pages)) limits ∙ ap (λ (ps : List Page). nat_le (g.state mid).limits.pages (length ps)) pages ∙ h
-
-    root_same : is_tall (g.state mid) ≡ true → is_tall (g.state new) ≡ true
-    root_same h = ap (λ (ps : List Page). nat_le 31 (root_level ps)) pages ∙ h
-
-    refused_behind : (was_there : Bool) (entry : Entry) (added : Option ℕ) (fault : Fault) → ((action : ℕ) → added ≡ Some action → fault ≡ Exists → was_there ≡ true → ⊥)
-        → HasCause (where_inserted g session least_room was_there (is_used_up (g.state mid)) (is_tall (g.state mid)) old mid) fault → InsertCallIsCaused g session least_room entry old new (left_behind added fault)
-    refused_behind was_there entry None fault apart h =
-        inserted_called g session least_room (ToInsert entry) old new (is_used_up (g.state new)) (is_tall (g.state new)) fault
-        (inserted_behind was_there true (is_used_up (g.state mid)) (is_tall (g.state mid)) (is_used_up (g.state new)) (is_tall (g.state new)) blocks_same root_same fault (λ e was. refl) h)
-    refused_behind was_there entry (Some action) fault apart h =
-        inserted_behind was_there false (is_used_up (g.state mid)) (is_tall (g.state mid)) true true (λ e. refl) (λ e. refl) fault (λ e was. absurd (apart action refl e was)) h
-
-    pub insert_behind : (entry : Entry) (added : Option ℕ) (came : Result Answer Fault) → IfOk came (MayAnswer (AskInsert entry)) → came ≢ Ok Going → ((action : ℕ) → added ≡ Some action → came ≢ Ok (Refused Exists))
-        → InsertIsCaused g session least_room old mid came → InsertCallIsCaused g session least_room entry old new (outcome_of came added)
-    insert_behind entry added (Ok (Added action None)) may over apart c = tt
-    insert_behind entry added (Ok (Added action (Some fault))) may over apart c = inserted_behind false false true true true true (λ e. refl) (λ e. refl) fault (λ e was. was) c
-    insert_behind entry added (Ok (Refused fault)) may over apart c = refused_behind true entry added fault (λ action some e was. apart action some (ap (λ (f : Fault). Ok (Refused f)) e)) c
-    insert_behind entry added (Err fault) may over apart c = refused_behind false entry added fault (λ action some e was. true_false (sym was)) c
-    insert_behind entry added (Ok Going) may over apart c = absurd (over refl)
-    insert_behind entry added (Ok Begun) may over apart c = absurd may
-    insert_behind entry added (Ok (Ready count)) may over apart c = absurd may
-    insert_behind entry added (Ok Done) may over apart c = absurd may
-    insert_behind entry added (Ok (Finished stats)) may over apart c = absurd may
-    insert_behind entry added (Ok (Gave e)) may over apart c = absurd may
-    insert_behind entry added (Ok Ended) may over apart c = absurd may
-    insert_behind entry added (Ok (Forced n)) may over apart c = absurd may
-    insert_behind entry added (Ok (Flushed b)) may over apart c = absurd may
-    insert_behind entry added (Ok (Checkpointed n)) may over apart c = absurd may
-
--- an insert whose beginning is refused
-pub insert_not_begun : {S : Type 0} (g : Ghosts S) (session least_room : ℕ) (entry : Entry) (old : StoreAndSlots S) (new : S) (start : Entry → Bool) (history : List Action) (calls : List Call) → Fits g start (snapshot_of old history calls) → (fault : Fault)
-    → HasCause (where_begun_at g old.store (one_vacuums old.slots) old.sets (ToInsert entry) (slice_get old.slots session)) fault → InsertCallIsCaused g session least_room entry old new (Err fault)
-insert_not_begun g session least_room entry old new start history calls fits fault h =
-    gone_inserted g session least_room (ToInsert entry) old new (is_used_up (g.state new)) (is_tall (g.state new)) fault
-    (not_begun_cause g session least_room (ToInsert entry) old new false start history calls fits fault h)
-
--- a session that runs an insert runs no bulk delete and no cleanup
-pub insert_fills : {S : Type 0} (g : Ghosts S) (start : Entry → Bool) (session number : ℕ) (call : Call) (entry : Entry) (first : Snapshot S) → Fits g start first → IsRunningCall first.calls session number call → call.ask ≡ AskInsert entry
-    → FillsOnly g start session false first
-insert_fills g start session number call entry first fits is asks now other c effects also counts gone sets limits then_fits counted out =
-    let same : c ≡ call = (one_runs g start first fits session number other call c is also).1 in
-    absurd (subst AsksToCount (ap (λ (k : Call). k.ask) same ∙ asks) counts)
-
--- what a call may answer that came so far
-pub may_have : {S : Type 0} (number : ℕ) (call : Call) (came : Result Answer Fault) (x y : Snapshot S) → StepTold number call came x y → IfOk came (MayAnswer call.ask)
-may_have number call (Ok answer) x y t = t.may
-may_have number call (Err fault) x y t = tt
-
--- what a scan came to is caused so, if it asked for its next entry alone
-pub next_caused : (at : Circumstances) (sets : DeadSets) (op : Op) (range : Range) (answer : Answer) → asked_of sets op ≡ AskScan range → AnswersNext (Some op) answer → CameIsCaused at (Ok answer)
-next_caused at sets (Insert op) range answer asks h = absurd (let e : asked_of sets (Insert op) ≡ AskScan range = asks in cc)
-next_caused at sets (Bulk set op) range answer asks h = absurd (let e : asked_of sets (Bulk set op) ≡ AskScan range = asks in cc)
-next_caused at sets (Cleanup op) range answer asks h = absurd (let e : asked_of sets (Cleanup op) ≡ AskScan range = asks in cc)
-next_caused at sets (Scan op) range (Refused fault) asks h = absurd h
-next_caused at sets (Scan op) range answer asks h = tt
-
--- why a scan gives nothing
-pub given_caused : (at : Circumstances) (came : Result Answer Fault) → AnswersSeek came → CameIsCaused at came → IfErr (given_of came) (HasCause at)
-given_caused at (Ok (Gave (Some e))) kind h = tt
-given_caused at (Ok (Gave None)) kind h = absurd kind
-given_caused at (Ok Done) kind h = tt
-given_caused at (Ok (Refused fault)) kind h = h
-given_caused at (Err fault) kind h = h
-given_caused at (Ok Begun) kind h = absurd kind
-given_caused at (Ok Going) kind h = absurd kind
-given_caused at (Ok (Added a u)) kind h = absurd kind
-given_caused at (Ok (Ready n)) kind h = absurd kind
-given_caused at (Ok (Finished stats)) kind h = absurd kind
-given_caused at (Ok Ended) kind h = absurd kind
-given_caused at (Ok (Forced n)) kind h = absurd kind
-given_caused at (Ok (Flushed b)) kind h = absurd kind
-given_caused at (Ok (Checkpointed n)) kind h = absurd kind
-
--- a refusal that has one cause has a wider one
-pub refusal_wider : {X : Type 0} (at wide : Circumstances) (result : Result X Fault) → ((fault : Fault) → HasCause at fault → HasCause wide fault) → IfErr result (HasCause at) → IfErr result (HasCause wide)
-refusal_wider at wide (Ok x) more h = tt
-refusal_wider at wide (Err fault) more h = more fault h
+-- asking a scan for its next entry alone isn't refused
+pub next_caused : (at : Circumstances) (sets : DeadSets) (op : Op) (range : Range) (answer : Answer) → asked_of sets op ≡ AskScan range → AnswersNext (Some op) answer → IsCaused at answer
+next_caused at sets (Scan op) range (Gave e) asks h = tt
+next_caused at sets (Scan op) range answer asks h = absurd h
+next_caused at sets op range answer asks h = absurd cc

@@ -1,5 +1,5 @@
 -- Each step of a call that goes on leaves fewer, and there are fewer than 2^64 - 1.
-use Rattle.std.proofs.Common.{◌≡◌, ℕ, zero, suc, ◌+◌, ◌*◌, ◌<◌, ◌≤◌, Bool, true, false, Option, Some, None, Ok, List, [], ◌∷◌, ◌++◌, length, slice_get, refl, sym, ap, subst, arith, ◌∙◌}
+use Rattle.std.proofs.Common.{◌≡◌, ℕ, zero, suc, ◌+◌, ◌*◌, ◌<◌, ◌≤◌, Bool, true, false, Option, Some, None, List, ◌++◌, length, slice_get, refl, sym, ap, subst, arith, ◌∙◌}
 use Rattle.std.specs.Prelude.{unwrap_or}
 use Rattle.std.proofs.lemmas.List.{append-nil}
 use Rattle.index_model.specs.Actions.{Effect, Add, Remove, Shape, Action, contents_after}
@@ -19,19 +19,16 @@ use Rattle.session_calls.specs.declared.answer.Answer.{Answer}
 use Rattle.session_calls.specs.declared.answer.Answer.TheVariants.{Going}
 use Rattle.session_calls.specs.declared.op.Op.{Op}
 use Rattle.session_calls.specs.declared.op.Op.TheVariants.{Insert, Scan, Bulk, Cleanup}
-use Rattle.schedule.specs.TheoremMoments.{StoreAndSlots, Snapshot, snapshot_of, IsRunningCall}
+use Rattle.schedule.specs.TheoremMoments.{Snapshot, IsRunningCall}
 use Rattle.schedule.specs.Making.{EventDoes}
 use Rattle.schedule.specs.TheoremRuns.{Fits}
 use Rattle.session_calls.specs.Slots.{slot_of, has_call}
 use Rattle.schedule.specs.TheoremKinds.{MovesCall, Steps}
 use Rattle.schedule.specs.Events.{CallMoves, MovesOn}
-use Rattle.schedule.specs.TheoremRuns.{Carries, Runs}
-use Rattle.schedule.specs.declared.event.Event.TheVariants.{Step}
 use Rattle.schedule.proofs.Bounds.{work_bounded}
 use Rattle.schedule.proofs.Keeping.{Laws}
 use Rattle.schedule.proofs.Lists.{get_set_same, get_within}
 use Rattle.whole_calls.specs.Spending.{brought_by, acts_left, steps_left, TakesFewer}
-use Rattle.whole_calls.proofs.Composing.{event_of}
 use Rattle.whole_calls.proofs.Given.{owes}
 use Rattle.whole_calls.proofs.Tellings.{runs_in_slot, one_runs}
 use Rattle.schedule.proofs.Fitting.{fits_behind}
@@ -190,10 +187,8 @@ module _ {S : Type 0} (g : Ghosts S) (start : Entry → Bool) (session : ℕ) (x
   step_fewer : fewer_left
   step_fewer = goes_or_not (has_call x.slots session) does.also.happens
 
--- so does a step that is the one event of a run
-pub run_fewer : {S : Type 0} (g : Ghosts S) (session : ℕ) (answer : Answer) (a b : StoreAndSlots S) → Carries g a b (Runs g a b (Step session ∷ []) (answer ∷ []))
-    → Carries g a b (λ start history calls. TakesFewer (g.state a.store) (g.state b.store) (slot_of a.slots session) (slot_of b.slots session) (Ok answer))
-run_fewer {S} g session answer a b runs honest start history calls fits low is =
-    let e = event_of g (Step session) answer a b start history calls (runs honest start history calls fits) in
-    let going : answer ≡ Going = cc in
-    step_fewer g start session (snapshot_of a history calls) (snapshot_of b e.0 e.1) honest fits (subst (λ (x : Answer). EventDoes g start (MovesCall session Steps) x (snapshot_of a history calls) (snapshot_of b e.0 e.1)) going e.2) low
+-- so does each step
+pub takes_fewer : {S : Type 0} (g : Ghosts S) (start : Entry → Bool) (session : ℕ) (answer : Answer) (x y : Snapshot S) → (g.backing y.store).honest ≡ true → Fits g start x → EventDoes g start (MovesCall session Steps) answer x y
+    → TakesFewer (g.state x.store) (g.state y.store) (slot_of x.slots session) (slot_of y.slots session) answer
+takes_fewer g start session answer x y honest fits does low going =
+    step_fewer g start session x y honest fits (subst (λ (a : Answer). EventDoes g start (MovesCall session Steps) a x y) going does) low

@@ -1,6 +1,6 @@
 -- What a bulk delete or a cleanup tells that is run to its end.
-use Rattle.std.proofs.Common.{◌≡◌, ◌≢◌, ℕ, suc, true, false, Option, Result, Ok, Err, List, [], ◌∷◌, ◌++◌, length, refl, sym, ap, ◌∙◌}
-use Rattle.std.specs.Prelude.{IfOk, IfErr}
+use Rattle.std.proofs.Common.{◌≡◌, ◌≢◌, ℕ, suc, Bool, true, false, Option, Some, Ok, List, [], ◌∷◌, ◌++◌, length, refl, sym, ap, subst, inl, inr, ◌∙◌}
+use Rattle.std.specs.Prelude.{IfErr}
 use Rattle.std.proofs.lemmas.List.{append-nil}
 use Rattle.index_model.specs.Faults.{Circumstances, HasCause}
 use Rattle.index_model.specs.Actions.{Effect, Add, Remove, Shape, Action}
@@ -8,24 +8,27 @@ use Rattle.index_model.specs.Calls.{Vacuumed, Call}
 use Rattle.index_model.specs.declared.fault.Fault.{Fault}
 use Rattle.index_model.specs.declared.stats.VacuumStats.{VacuumStats}
 use Rattle.index_model.specs.declared.entry.Entry.{Entry}
+use Rattle.page_action.specs.States.{State}
+use Rattle.page_action.specs.declared.page_store.PageStore.{Ghosts}
 use Rattle.session_calls.specs.TheoremCalls.{DeadSets, asked_by}
-use Rattle.session_calls.specs.Ops.{asks_vacuum}
+use Rattle.session_calls.specs.Ops.{asks_vacuum, IsCaused}
 use Rattle.session_calls.specs.Sessions.{MayDo, ended}
 use Rattle.session_calls.specs.declared.answer.Answer.{Answer}
-use Rattle.session_calls.specs.declared.answer.Answer.TheVariants.{Begun, Going, Added, Ready, Done, Finished, Gave, Ended, Forced, Flushed, Checkpointed, Refused}
+use Rattle.session_calls.specs.declared.answer.Answer.TheVariants.{Going, Finished, Refused}
 use Rattle.session_calls.specs.declared.request.Request.{Request}
 use Rattle.session_calls.specs.declared.request.Request.TheVariants.{Insert as ToInsert, Scan as ToScan, Bulk as ToBulk, Cleanup as ToCleanup}
-use Rattle.schedule.specs.TheoremMoments.{Snapshot}
-use Rattle.whole_calls.specs.Going.{CameBy}
-use Rattle.whole_calls.specs.Refusing.{CameIsCaused}
-use Rattle.whole_calls.specs.Sweeping.{swept_of, swept_came, IsSweptNow, IsSweptSoFar, SweepTold}
-use Rattle.whole_calls.specs.Telling.{MayAnswer, acts_by, noted_behind, AreOwnEffects, IsTold, IsHeldUp, HasNone, TellsEnd, with_call, first_call, NextTold, NothingTold, step_came}
+use Rattle.schedule.specs.TheoremMoments.{StoreAndSlots, Snapshot, snapshot_of}
+use Rattle.schedule.specs.Snapshots.{here_at}
+use Rattle.whole_calls.specs.Going.{CameBy, CallGoes, GoesFrom}
+use Rattle.whole_calls.specs.Refusing.{where_gone, where_asked, where_called}
+use Rattle.whole_calls.specs.Stepping.{RunGoes}
+use Rattle.whole_calls.specs.Sweeping.{Followed, of_sweep, of_cleanup, of_leaves, FollowsFrom, TellsAs, swept_of, swept_came, IsSweptNow, IsSweptSoFar, SweepTold}
+use Rattle.whole_calls.specs.Telling.{MayAnswer, acts_by, noted_behind, AreOwnEffects, IsTold, StepTold, HasNone, TellsEnd, with_call, first_call, NextTold, NothingTold}
+use Rattle.whole_calls.proofs.Composing.{goes_told}
 use Rattle.whole_calls.proofs.Gone.{whole_told}
 use Rattle.whole_calls.proofs.Inserting.{ended_none}
-use Rattle.whole_calls.proofs.Tellings.{set_new}
-
-true_false : true ≡ false → ⊥
-true_false h = cc
+use Rattle.whole_calls.proofs.Refusing.{cause_wider, begun_called, called_wider, stopped_before}
+use Rattle.whole_calls.proofs.Tellings.{true_false, set_new, came_may}
 
 -- a bulk delete and a cleanup add nothing, so what they do leaves their call as it was
 adds_nothing : (sets : DeadSets) (request : Request) → asks_vacuum request ≡ true → (added : Option ℕ) (e : Entry) → MayDo (asked_by sets request) added (Add e) → ⊥
@@ -40,44 +43,19 @@ as_it_was call count (Add e ∷ effects) none own = absurd (none call.added e ow
 as_it_was call count (Remove es ∷ effects) none own = as_it_was call (suc count) effects none own.1
 as_it_was call count (Shape ∷ effects) none own = as_it_was call (suc count) effects none own.1
 
--- what they may answer
+-- what they may have come to
 abbrev IsVacuumAnswer : Answer → Type 0
-IsVacuumAnswer Going = Unit {0}
 IsVacuumAnswer (Finished stats) = Unit {0}
 IsVacuumAnswer (Refused fault) = Unit {0}
 IsVacuumAnswer answer = ⊥
 
-vacuum_may : (sets : DeadSets) (request : Request) → asks_vacuum request ≡ true → (answer : Answer) → MayAnswer (asked_by sets request) answer → IsVacuumAnswer answer
-vacuum_may sets (ToInsert x) vacuums answer h = absurd (true_false (sym vacuums))
-vacuum_may sets (ToScan range) vacuums answer h = absurd (true_false (sym vacuums))
-vacuum_may sets (ToBulk set) vacuums Going h = tt
-vacuum_may sets (ToBulk set) vacuums (Finished stats) h = tt
-vacuum_may sets (ToBulk set) vacuums (Refused fault) h = tt
-vacuum_may sets (ToBulk set) vacuums Begun h = absurd h
-vacuum_may sets (ToBulk set) vacuums (Added a u) h = absurd h
-vacuum_may sets (ToBulk set) vacuums (Ready count) h = absurd h
-vacuum_may sets (ToBulk set) vacuums Done h = absurd h
-vacuum_may sets (ToBulk set) vacuums (Gave e) h = absurd h
-vacuum_may sets (ToBulk set) vacuums Ended h = absurd h
-vacuum_may sets (ToBulk set) vacuums (Forced n) h = absurd h
-vacuum_may sets (ToBulk set) vacuums (Flushed b) h = absurd h
-vacuum_may sets (ToBulk set) vacuums (Checkpointed n) h = absurd h
-vacuum_may sets ToCleanup vacuums Going h = tt
-vacuum_may sets ToCleanup vacuums (Finished stats) h = tt
-vacuum_may sets ToCleanup vacuums (Refused fault) h = tt
-vacuum_may sets ToCleanup vacuums Begun h = absurd h
-vacuum_may sets ToCleanup vacuums (Added a u) h = absurd h
-vacuum_may sets ToCleanup vacuums (Ready count) h = absurd h
-vacuum_may sets ToCleanup vacuums Done h = absurd h
-vacuum_may sets ToCleanup vacuums (Gave e) h = absurd h
-vacuum_may sets ToCleanup vacuums Ended h = absurd h
-vacuum_may sets ToCleanup vacuums (Forced n) h = absurd h
-vacuum_may sets ToCleanup vacuums (Flushed b) h = absurd h
-vacuum_may sets ToCleanup vacuums (Checkpointed n) h = absurd h
-
--- one that was begun in a session with no call, and came so far
-abbrev pub SweepGone : {S : Type 0} → ℕ → Request → Result Answer Fault → Snapshot S → Snapshot S → Type 0
-SweepGone session request came x y = NextTold session request came x y × HasNone session x
+vacuum_may : (sets : DeadSets) (request : Request) → asks_vacuum request ≡ true → (answer : Answer) → answer ≢ Going → MayAnswer (asked_by sets request) answer → IsVacuumAnswer answer
+vacuum_may sets (ToInsert x) vacuums answer over h = absurd (true_false (sym vacuums))
+vacuum_may sets (ToScan range) vacuums answer over h = absurd (true_false (sym vacuums))
+vacuum_may sets request vacuums (Finished stats) over h = tt
+vacuum_may sets request vacuums (Refused fault) over h = tt
+vacuum_may sets request vacuums Going over h = absurd (over refl)
+vacuum_may sets request vacuums answer over h = absurd h
 
 -- ... and then an end
 module _ {S : Type 0} (session : ℕ) (request : Request) (vacuums : asks_vacuum request ≡ true) (x y z : Snapshot S) (free : HasNone session x) (end : TellsEnd session y z) where
@@ -107,65 +85,74 @@ module _ {S : Type 0} (session : ℕ) (request : Request) (vacuums : asks_vacuum
         calls_is = end.calls_is (ended_none session x y last free calls (λ e. cc)) ∙ calls;
       }
 
-  refused : (fault : Fault) → IsTold sweep_number sweep_call (Refused fault) begun y → IsSweptSoFar session request x z
-  refused fault t = (let w = whole_told sweep_number sweep_call (Refused fault) begun y t in record { effects = w.effects; own = w.own; history_is = end.history_is ∙ w.history_is })
+  refused : (fault : Fault) → StepTold sweep_number sweep_call (Refused fault) begun y → IsSweptSoFar session request x z
+  refused fault (inl t) = (let w = whole_told sweep_number sweep_call (Refused fault) begun y t in record { effects = w.effects; own = w.own; history_is = end.history_is ∙ w.history_is })
+  refused fault (inr h) = record { effects = h.before; own = h.gone.own; history_is = end.history_is ∙ h.gone.history_is }
 
-  held : (fault : Fault) → IsHeldUp sweep_number sweep_call fault begun y → IsSweptSoFar session request x z
-  held fault h = record { effects = h.before; own = h.gone.own; history_is = end.history_is ∙ h.gone.history_is }
-
-  may : (answer : Answer) → MayAnswer sweep_call.ask answer → IsVacuumAnswer answer
-  may answer h = vacuum_may x.sets request vacuums answer h
-
-  told_by : (answer : Answer) → answer ≢ Going → IsTold sweep_number sweep_call answer begun y → SweepTold session request (swept_of (Ok answer)) x z
-  told_by (Finished stats) over t = finished stats t
-  told_by (Refused fault) over t = refused fault t
-  told_by Going over t = absurd (over refl)
-  told_by Begun over t = absurd (may Begun t.may)
-  told_by (Added a u) over t = absurd (may (Added a u) t.may)
-  told_by (Ready count) over t = absurd (may (Ready count) t.may)
-  told_by Done over t = absurd (may Done t.may)
-  told_by (Gave e) over t = absurd (may (Gave e) t.may)
-  told_by Ended over t = absurd (may Ended t.may)
-  told_by (Forced n) over t = absurd (may (Forced n) t.may)
-  told_by (Flushed b) over t = absurd (may (Flushed b) t.may)
-  told_by (Checkpointed n) over t = absurd (may (Checkpointed n) t.may)
-
-  pub sweep_told : (came : Result Answer Fault) → came ≢ Ok Going → NextTold session request came x y → SweepTold session request (swept_of came) x z
-  sweep_told (Ok answer) over t = told_by answer (λ e. over (ap (λ (a : Answer). Ok a) e)) t
-  sweep_told (Err fault) over t = held fault t
+  sweep_told : (answer : Answer) → IsVacuumAnswer answer → NextTold session request answer x y → SweepTold session request (swept_of answer) x z
+  sweep_told (Finished stats) may (inl t) = finished stats t
+  sweep_told (Finished stats) may (inr h) = absurd (let e = h.refused in cc)
+  sweep_told (Refused fault) may t = refused fault t
+  sweep_told answer may t = absurd may
 
 -- what it came to was answered
-pub sweep_came : {S : Type 0} (session : ℕ) (request : Request) → asks_vacuum request ≡ true → (x y : Snapshot S) (answers : List Answer) (came : Result Answer Fault) → came ≢ Ok Going → NextTold session request came x y → CameBy answers (step_came came) → CameBy answers (swept_came (swept_of came))
-sweep_came session request vacuums x y answers (Ok (Finished stats)) over t h = h
-sweep_came session request vacuums x y answers (Ok (Refused fault)) over t h = h
-sweep_came session request vacuums x y answers (Err fault) over t h = h
-sweep_came session request vacuums x y answers (Ok Going) over t h = absurd (over refl)
-sweep_came session request vacuums x y answers (Ok Begun) over t h = absurd (vacuum_may x.sets request vacuums Begun t.may)
-sweep_came session request vacuums x y answers (Ok (Added a u)) over t h = absurd (vacuum_may x.sets request vacuums (Added a u) t.may)
-sweep_came session request vacuums x y answers (Ok (Ready count)) over t h = absurd (vacuum_may x.sets request vacuums (Ready count) t.may)
-sweep_came session request vacuums x y answers (Ok Done) over t h = absurd (vacuum_may x.sets request vacuums Done t.may)
-sweep_came session request vacuums x y answers (Ok (Gave e)) over t h = absurd (vacuum_may x.sets request vacuums (Gave e) t.may)
-sweep_came session request vacuums x y answers (Ok Ended) over t h = absurd (vacuum_may x.sets request vacuums Ended t.may)
-sweep_came session request vacuums x y answers (Ok (Forced n)) over t h = absurd (vacuum_may x.sets request vacuums (Forced n) t.may)
-sweep_came session request vacuums x y answers (Ok (Flushed b)) over t h = absurd (vacuum_may x.sets request vacuums (Flushed b) t.may)
-sweep_came session request vacuums x y answers (Ok (Checkpointed n)) over t h = absurd (vacuum_may x.sets request vacuums (Checkpointed n) t.may)
+sweep_came : (answers : List Answer) (answer : Answer) → IsVacuumAnswer answer → CameBy answers (Some answer) → CameBy answers (swept_came (swept_of answer))
+sweep_came answers (Finished stats) may h = h
+sweep_came answers (Refused fault) may h = h
+sweep_came answers answer may h = absurd may
 
 -- why it is refused
-pub swept_caused : (at : Circumstances) (sets : DeadSets) (request : Request) → asks_vacuum request ≡ true → (came : Result Answer Fault) → IfOk came (MayAnswer (asked_by sets request)) → came ≢ Ok Going → CameIsCaused at came → IfErr (swept_of came) (HasCause at)
-swept_caused at sets request vacuums (Ok (Finished stats)) may over h = tt
-swept_caused at sets request vacuums (Ok (Refused fault)) may over h = h
-swept_caused at sets request vacuums (Err fault) may over h = h
-swept_caused at sets request vacuums (Ok Going) may over h = absurd (over refl)
-swept_caused at sets request vacuums (Ok Begun) may over h = absurd (vacuum_may sets request vacuums Begun may)
-swept_caused at sets request vacuums (Ok (Added a u)) may over h = absurd (vacuum_may sets request vacuums (Added a u) may)
-swept_caused at sets request vacuums (Ok (Ready n)) may over h = absurd (vacuum_may sets request vacuums (Ready n) may)
-swept_caused at sets request vacuums (Ok Done) may over h = absurd (vacuum_may sets request vacuums Done may)
-swept_caused at sets request vacuums (Ok (Gave e)) may over h = absurd (vacuum_may sets request vacuums (Gave e) may)
-swept_caused at sets request vacuums (Ok Ended) may over h = absurd (vacuum_may sets request vacuums Ended may)
-swept_caused at sets request vacuums (Ok (Forced n)) may over h = absurd (vacuum_may sets request vacuums (Forced n) may)
-swept_caused at sets request vacuums (Ok (Flushed b)) may over h = absurd (vacuum_may sets request vacuums (Flushed b) may)
-swept_caused at sets request vacuums (Ok (Checkpointed n)) may over h = absurd (vacuum_may sets request vacuums (Checkpointed n) may)
+swept_caused : (at : Circumstances) (answer : Answer) → IsVacuumAnswer answer → IsCaused at answer → IfErr (swept_of answer) (HasCause at)
+swept_caused at (Finished stats) may h = tt
+swept_caused at (Refused fault) may h = h
+swept_caused at answer may h = absurd may
 
 -- one that was not begun
-pub not_swept : {S : Type 0} (session : ℕ) (request : Request) (fault : Fault) (x y : Snapshot S) → NothingTold fault x y → IsSweptSoFar session request x y
+not_swept : {S : Type 0} (session : ℕ) (request : Request) (fault : Fault) (x y : Snapshot S) → NothingTold fault x y → IsSweptSoFar session request x y
 not_swept session request fault x y t = record { effects = []; own = tt; history_is = t.silent.history_is ∙ sym (append-nil x.history) }
+
+-- what it counts, by the answer
+swept_counts : (what : Followed) (st : State) (answer : Answer) → ((stats : VacuumStats) → answer ≡ Finished stats → TellsAs what st (Ok stats)) → TellsAs what st (swept_of answer)
+swept_counts of_sweep st (Finished stats) h = h stats refl
+swept_counts of_cleanup st (Finished stats) h = h stats refl
+swept_counts of_leaves st (Finished stats) h = h stats refl
+swept_counts of_sweep st answer h = tt
+swept_counts of_cleanup st answer h = tt
+swept_counts of_leaves st answer h = tt
+
+-- a bulk delete or a cleanup that is run to its end
+module _ {S : Type 0} (g : Ghosts S) (session least_room : ℕ) (request : Request) (vacuums : asks_vacuum request ≡ true) (answer : Answer) (added : Option ℕ) (over : answer ≢ Going) where
+  abbrev Runs : (Entry → Bool) → Snapshot S → Snapshot S → Type 0
+  Runs = RunGoes g session least_room request answer added
+
+  may_run : (start : Entry → Bool) (x z : Snapshot S) → Runs start x z → IsVacuumAnswer answer
+  may_run start x z (inl n) = subst IsVacuumAnswer (sym n.refused) tt
+  may_run start x z (inr r) = vacuum_may x.sets request vacuums answer over (came_may (length x.calls) (first_call session request x) answer (with_call x (first_call session request x)) r.here r.told)
+
+  run_told : (start : Entry → Bool) (x z : Snapshot S) → Runs start x z → SweepTold session request (swept_of answer) x z
+  run_told start x z (inl n) = subst (λ (a : Answer). SweepTold session request (swept_of a) x z) (sym n.refused) (not_swept session request n.fault x z n.told)
+  run_told start x z (inr r) = sweep_told session request vacuums x r.here z r.free r.end answer (may_run start x z (inr r)) r.told
+
+  pub sweep_goes : (a c : StoreAndSlots S) → GoesFrom g session Runs (Some answer) a c → CallGoes g session (SweepTold session request (swept_of answer)) (swept_came (swept_of answer)) a c
+  sweep_goes a c =
+      goes_told g session Runs (λ s. SweepTold session request (swept_of answer)) (Some answer) (swept_came (swept_of answer)) a c
+      (λ start h hc k kc answers fits by t. (sweep_came answers answer (may_run start (snapshot_of a h hc) (snapshot_of c k kc) t) by, run_told start (snapshot_of a h hc) (snapshot_of c k kc) t))
+
+  -- what it counts from its beginning on
+  pub sweep_counts : (what : Followed) (start : Entry → Bool) (x z : Snapshot S) → FollowsFrom what request (g.state x.store) session → Runs start x z → TellsAs what (g.state z.store) (swept_of answer)
+  sweep_counts what start x z follows (inl n) = swept_counts what (g.state z.store) answer (λ stats is. absurd (let e = n.refused in cc))
+  sweep_counts what start x z follows (inr r) = swept_counts what (g.state z.store) answer (λ stats is. r.counts what stats follows is)
+
+  pub sweep_caused : (start : Entry → Bool) (x z : Snapshot S) → Runs start x z → IfErr (swept_of answer) (HasCause (where_called g session request (here_at x) (where_gone g session least_room false (here_at x) z.store)))
+  sweep_caused start x z (inl n) =
+      subst (λ (a : Answer). IfErr (swept_of a) (HasCause (where_called g session request (here_at x) (where_gone g session least_room false (here_at x) z.store)))) (sym n.refused)
+      (begun_called g session request (here_at x) (where_gone g session least_room false (here_at x) z.store) (stopped_before g session least_room false (here_at x) z.store) n.fault n.cause)
+  sweep_caused start x z (inr r) =
+      swept_caused _ answer (may_run start x z (inr r))
+      (cause_wider (where_gone g session least_room false (here_at x) z.store) _ (called_wider g session request (here_at x) (where_gone g session least_room false (here_at x) z.store) refl refl refl) answer (gone_of request vacuums r.caused))
+    where
+      gone_of : (req : Request) → asks_vacuum req ≡ true → IsCaused (where_asked g session least_room false (asked_by x.sets req) answer (here_at x) z.store) answer → IsCaused (where_gone g session least_room false (here_at x) z.store) answer
+      gone_of (ToInsert e) vac h = absurd (true_false (sym vac))
+      gone_of (ToScan range) vac h = absurd (true_false (sym vac))
+      gone_of (ToBulk set) vac h = h
+      gone_of ToCleanup vac h = h

@@ -1,9 +1,9 @@
 -- What each event of a session tells of its running call.
-use Rattle.std.proofs.Common.{◌≡◌, ◌≢◌, ℕ, ◌<◌, ◌⊎◌, Bool, true, false, Option, Some, None, Result, Ok, Err, List, [], ◌∷◌, ◌++◌, length, slice_get, slice_set, refl, sym, ap, subst, arith, inl, inr, ◌∙◌}
+use Rattle.std.proofs.Common.{◌≡◌, ◌≢◌, ℕ, ◌<◌, ◌⊎◌, Bool, true, false, Option, Some, None, List, [], ◌∷◌, ◌++◌, length, slice_get, slice_set, refl, sym, ap, subst, arith, inl, inr, ◌∙◌}
 use Rattle.std.specs.Prelude.{unwrap_or}
 use Rattle.std.proofs.lemmas.List.{append-nil}
 use Rattle.index_model.specs.Actions.{Effect, Action, contents_after}
-use Rattle.index_model.specs.Calls.{Ask, GivenUp, Call}
+use Rattle.index_model.specs.Calls.{Ask, AskInsert, AskScan, AskBulkDelete, AskCleanup, GivenUp, Call}
 use Rattle.index_model.specs.Faults.{Circumstances, HasCause}
 use Rattle.index_model.specs.declared.entry.Entry.{Entry}
 use Rattle.index_model.specs.declared.fault.Fault.{Fault}
@@ -15,7 +15,7 @@ use Rattle.session_calls.specs.TheoremCalls.{DeadSets, acts_of}
 use Rattle.session_calls.specs.Ops.{asked_of, IsCaused}
 use Rattle.session_calls.specs.Sessions.{Told, IsAsked, ended, AnswersStep, AnswersNext, AnswersEnd}
 use Rattle.session_calls.specs.declared.answer.Answer.{Answer}
-use Rattle.session_calls.specs.declared.answer.Answer.TheVariants.{Begun, Going, Added, Ready, Done, Finished, Gave, Ended, Forced, Flushed, Checkpointed, Refused}
+use Rattle.session_calls.specs.declared.answer.Answer.TheVariants.{Going, Added, Ready, Done, Finished, Gave, Ended, Refused}
 use Rattle.session_calls.specs.declared.op.Op.{Op}
 use Rattle.session_calls.specs.declared.op.Op.TheVariants.{Insert as Inserts, Scan as Scans, Bulk as Bulks, Cleanup as Cleanups}
 use Rattle.session_calls.specs.declared.request.Request.{Request}
@@ -27,7 +27,7 @@ use Rattle.schedule.specs.Snapshots.{SlotRuns, SlotMatches}
 use Rattle.schedule.specs.TheoremKinds.{Move, Steps, Takes, Upkeep, KeepsStore, BeginsCall, MovesCall, GivesUp}
 use Rattle.schedule.specs.Events.{CallMoves, CallBegins, Stays, MovesOn, MayBegin, where_begun_at, AnswersMove}
 use Rattle.schedule.proofs.Lists.{get_some, get_within, get_append_new, get_append_some, same_some}
-use Rattle.whole_calls.specs.Telling.{IsSilent, MayAnswer, IsOwnEffect, IsTold, TellsStep, HasNone, HasBegun, begun_of, BeginTold, TellsEnd, with_call, first_call, NextTold, HasCome}
+use Rattle.whole_calls.specs.Telling.{IsSilent, MayAnswer, IsOwnEffect, IsTold, StepTold, TellsStep, HasNone, HasBegun, begun_of, BeginTold, TellsEnd, with_call, first_call, NextTold}
 use Rattle.whole_calls.proofs.Gone.{silent_then}
 use Rattle.schedule.proofs.Fitting.{running_of}
 
@@ -74,101 +74,49 @@ step_may : (sets : DeadSets) (op : Op) (after : Option Op) (answer : Answer) →
 step_may sets (Inserts op) after Going h = tt
 step_may sets (Inserts op) after (Added a u) h = tt
 step_may sets (Inserts op) after (Refused f) h = tt
-step_may sets (Inserts op) after Begun h = absurd h
-step_may sets (Inserts op) after (Ready r) h = absurd h
-step_may sets (Inserts op) after Done h = absurd h
-step_may sets (Inserts op) after (Finished s) h = absurd h
-step_may sets (Inserts op) after (Gave e) h = absurd h
-step_may sets (Inserts op) after Ended h = absurd h
-step_may sets (Inserts op) after (Forced n) h = absurd h
-step_may sets (Inserts op) after (Flushed b) h = absurd h
-step_may sets (Inserts op) after (Checkpointed n) h = absurd h
 step_may sets (Scans op) after Going h = tt
 step_may sets (Scans op) after (Ready r) h = tt
 step_may sets (Scans op) after Done h = tt
 step_may sets (Scans op) after (Refused f) h = tt
-step_may sets (Scans op) after Begun h = absurd h
-step_may sets (Scans op) after (Added a u) h = absurd h
-step_may sets (Scans op) after (Finished s) h = absurd h
-step_may sets (Scans op) after (Gave e) h = absurd h
-step_may sets (Scans op) after Ended h = absurd h
-step_may sets (Scans op) after (Forced n) h = absurd h
-step_may sets (Scans op) after (Flushed b) h = absurd h
-step_may sets (Scans op) after (Checkpointed n) h = absurd h
-step_may sets (Bulks set op) after Begun h = absurd h
 step_may sets (Bulks set op) after Going h = tt
-step_may sets (Bulks set op) after (Added a u) h = absurd h
-step_may sets (Bulks set op) after (Ready r) h = absurd h
-step_may sets (Bulks set op) after Done h = absurd h
 step_may sets (Bulks set op) after (Finished s) h = tt
-step_may sets (Bulks set op) after (Gave e) h = absurd h
-step_may sets (Bulks set op) after Ended h = absurd h
-step_may sets (Bulks set op) after (Forced n) h = absurd h
-step_may sets (Bulks set op) after (Flushed b) h = absurd h
-step_may sets (Bulks set op) after (Checkpointed n) h = absurd h
 step_may sets (Bulks set op) after (Refused f) h = tt
-step_may sets (Cleanups op) after Begun h = absurd h
 step_may sets (Cleanups op) after Going h = tt
-step_may sets (Cleanups op) after (Added a u) h = absurd h
-step_may sets (Cleanups op) after (Ready r) h = absurd h
-step_may sets (Cleanups op) after Done h = absurd h
 step_may sets (Cleanups op) after (Finished s) h = tt
-step_may sets (Cleanups op) after (Gave e) h = absurd h
-step_may sets (Cleanups op) after Ended h = absurd h
-step_may sets (Cleanups op) after (Forced n) h = absurd h
-step_may sets (Cleanups op) after (Flushed b) h = absurd h
-step_may sets (Cleanups op) after (Checkpointed n) h = absurd h
 step_may sets (Cleanups op) after (Refused f) h = tt
+step_may sets op after answer h = absurd h
 
 next_may : (sets : DeadSets) (op : Op) (answer : Answer) → AnswersNext (Some op) answer → MayAnswer (asked_of sets op) answer
-next_may sets (Inserts op) (Refused f) h = tt
-next_may sets (Inserts op) Going h = absurd h
-next_may sets (Inserts op) (Added a u) h = absurd h
-next_may sets (Inserts op) Begun h = absurd h
-next_may sets (Inserts op) (Ready r) h = absurd h
-next_may sets (Inserts op) Done h = absurd h
-next_may sets (Inserts op) (Finished s) h = absurd h
-next_may sets (Inserts op) (Gave e) h = absurd h
-next_may sets (Inserts op) Ended h = absurd h
-next_may sets (Inserts op) (Forced n) h = absurd h
-next_may sets (Inserts op) (Flushed b) h = absurd h
-next_may sets (Inserts op) (Checkpointed n) h = absurd h
 next_may sets (Scans op) (Gave e) h = tt
-next_may sets (Scans op) Going h = absurd h
-next_may sets (Scans op) (Ready r) h = absurd h
-next_may sets (Scans op) Done h = absurd h
-next_may sets (Scans op) (Refused f) h = absurd h
-next_may sets (Scans op) Begun h = absurd h
-next_may sets (Scans op) (Added a u) h = absurd h
-next_may sets (Scans op) (Finished s) h = absurd h
-next_may sets (Scans op) Ended h = absurd h
-next_may sets (Scans op) (Forced n) h = absurd h
-next_may sets (Scans op) (Flushed b) h = absurd h
-next_may sets (Scans op) (Checkpointed n) h = absurd h
-next_may sets (Bulks set op) Begun h = absurd h
-next_may sets (Bulks set op) Going h = absurd h
-next_may sets (Bulks set op) (Added a u) h = absurd h
-next_may sets (Bulks set op) (Ready r) h = absurd h
-next_may sets (Bulks set op) Done h = absurd h
-next_may sets (Bulks set op) (Finished s) h = absurd h
-next_may sets (Bulks set op) (Gave e) h = absurd h
-next_may sets (Bulks set op) Ended h = absurd h
-next_may sets (Bulks set op) (Forced n) h = absurd h
-next_may sets (Bulks set op) (Flushed b) h = absurd h
-next_may sets (Bulks set op) (Checkpointed n) h = absurd h
+next_may sets (Scans op) answer h = absurd h
+next_may sets (Inserts op) (Refused f) h = tt
 next_may sets (Bulks set op) (Refused f) h = tt
-next_may sets (Cleanups op) Begun h = absurd h
-next_may sets (Cleanups op) Going h = absurd h
-next_may sets (Cleanups op) (Added a u) h = absurd h
-next_may sets (Cleanups op) (Ready r) h = absurd h
-next_may sets (Cleanups op) Done h = absurd h
-next_may sets (Cleanups op) (Finished s) h = absurd h
-next_may sets (Cleanups op) (Gave e) h = absurd h
-next_may sets (Cleanups op) Ended h = absurd h
-next_may sets (Cleanups op) (Forced n) h = absurd h
-next_may sets (Cleanups op) (Flushed b) h = absurd h
-next_may sets (Cleanups op) (Checkpointed n) h = absurd h
 next_may sets (Cleanups op) (Refused f) h = tt
+next_may sets op answer h = absurd h
+
+-- an answer that is no refusal was told by a step
+pub was_told : {S : Type 0} (number : ℕ) (call : Call) (answer : Answer) (x y : Snapshot S) → ((fault : Fault) → answer ≡ Refused fault → ⊥) → StepTold number call answer x y → IsTold number call answer x y
+was_told number call answer x y apart (inl t) = t
+was_told number call answer x y apart (inr h) = absurd (apart h.fault h.refused)
+
+-- any step may be refused
+pub refused_kind : (before after : Option Op) (fault : Fault) → AnswersStep before after (Refused fault)
+refused_kind None after fault = tt
+refused_kind (Some (Inserts op)) after fault = tt
+refused_kind (Some (Scans op)) after fault = tt
+refused_kind (Some (Bulks set op)) after fault = tt
+refused_kind (Some (Cleanups op)) after fault = tt
+
+refused_may : (ask : Ask) (fault : Fault) → MayAnswer ask (Refused fault)
+refused_may (AskInsert e) fault = tt
+refused_may (AskScan range) fault = tt
+refused_may (AskBulkDelete dead) fault = tt
+refused_may AskCleanup fault = tt
+
+-- what a call came to it may answer
+pub came_may : {S : Type 0} (number : ℕ) (call : Call) (answer : Answer) (x y : Snapshot S) → StepTold number call answer x y → MayAnswer call.ask answer
+came_may number call answer x y (inl t) = t.may
+came_may number call answer x y (inr h) = subst (λ (a : Answer). MayAnswer call.ask a) (sym h.refused) (refused_may call.ask h.fault)
 
 -- a step, or asking for the next entry
 abbrev pub GoesOnBy : Move → Type 0
@@ -295,12 +243,8 @@ module _ {S : Type 0} (session : ℕ) (request : Request) (x y z : Snapshot S) (
   next_runs : IsRunningCall (with_call x first).calls session (length x.calls) first
   next_runs = record { found = get_append_new x.calls first; session_is = refl; running = refl }
 
-  pub begun_next : (result : Result Answer Fault) → TellsStep session result y z → NextTold session request result x z
-  begun_next result tells = silent_then session result (with_call x first) y z (record { history_is = began.history_is; calls_is = began.calls_is }) tells (length x.calls) first next_runs
-
-  pub begun_came : (result : Result Answer Fault) → TellsStep session result y z → HasCome session request result x z
-  begun_came (Ok answer) tells = begun_next (Ok answer) tells
-  begun_came (Err fault) tells = inr (begun_next (Err fault) tells)
+  pub begun_next : (answer : Answer) → TellsStep session answer y z → NextTold session request answer x z
+  begun_next answer tells = silent_then session answer (with_call x first) y z (record { history_is = began.history_is; calls_is = began.calls_is }) tells (length x.calls) first next_runs
 
   pub begun_runs : IsRunningCall y.calls session (length x.calls) first
   begun_runs = record { found = ap (λ (l : List Call). slice_get l (length x.calls)) began.calls_is ∙ next_runs.found; session_is = refl; running = refl }

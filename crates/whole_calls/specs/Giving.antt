@@ -6,7 +6,7 @@ use Rattle.index_model.specs.declared.fault.Fault.{Fault}
 use Rattle.index_model.specs.declared.range.Range.{Range}
 use Rattle.index_model.specs.declared.fault.Fault.TheVariants.{NoSession}
 use Rattle.page_action.specs.States.{State}
-use Rattle.session_calls.specs.Sessions.{work_in, LeavesLess, given_one, ended}
+use Rattle.session_calls.specs.Sessions.{work_in, given_one, ended}
 use Rattle.session_calls.specs.declared.answer.Answer.{Answer}
 use Rattle.session_calls.specs.declared.answer.Answer.TheVariants.{Going, Ready, Done, Gave, Refused}
 use Rattle.session_calls.specs.declared.op.Op.{Op}
@@ -20,49 +20,36 @@ GoesDown old new before after (Ready count) = work_in new after < work_in old be
 GoesDown old new before after (Gave (Some entry)) = work_in new after < work_in old before
 GoesDown old new before after answer = Unit {0}
 
--- ... by whether it was refused before its step
-abbrev pub GoesDownBy : State → State → Option Op → Option Op → Result Answer Fault → Type 0
-GoesDownBy old new before after (Ok answer) = GoesDown old new before after answer
-GoesDownBy old new before after (Err fault) = Unit {0}
-
--- a step that was made leaves less to do, while no act is done, where it goes on, or finds entries where none was ready
-abbrev pub StepLeavesLess : State → State → Option Op → Option Op → Result Answer Fault → Type 0
-StepLeavesLess old new before after (Ok answer) = LeavesLess old new before after answer
-StepLeavesLess old new before after (Err fault) = Unit {0}
-
 -- a step, or what was asked for, is told of the session's scan, if it runs one
-abbrev pub TellsScan : {S : Type 0} → ℕ → Result Answer Fault → Snapshot S → Snapshot S → Type 0
-TellsScan session result old new = (number : ℕ) (call : Call) (range : Range) → IsRunningCall old.calls session number call → call.ask ≡ AskScan range → StepTold number call result old new
+abbrev pub TellsScan : {S : Type 0} → ℕ → Answer → Snapshot S → Snapshot S → Type 0
+TellsScan session answer old new = (number : ℕ) (call : Call) (range : Range) → IsRunningCall old.calls session number call → call.ask ≡ AskScan range → StepTold number call answer old new
 
 -- nothing is told of the session's scan
 abbrev pub ScanStays : {S : Type 0} → ℕ → Snapshot S → Snapshot S → Type 0
 ScanStays session old new = (number : ℕ) (call : Call) (range : Range) → IsRunningCall old.calls session number call → call.ask ≡ AskScan range → IsSilent old new
 
 -- what asking a scan for its next entry, or else a step of it, may answer
-abbrev pub AnswersAdvance : Result Answer Fault → Type 0
-AnswersAdvance (Ok Going) = Unit {0}
-AnswersAdvance (Ok (Ready count)) = Unit {0}
-AnswersAdvance (Ok (Gave (Some entry))) = Unit {0}
-AnswersAdvance (Ok Done) = Unit {0}
-AnswersAdvance (Ok (Refused fault)) = Unit {0}
-AnswersAdvance (Ok answer) = ⊥
-AnswersAdvance (Err fault) = Unit {0}
+abbrev pub AnswersAdvance : Answer → Type 0
+AnswersAdvance Going = Unit {0}
+AnswersAdvance (Ready count) = Unit {0}
+AnswersAdvance (Gave (Some entry)) = Unit {0}
+AnswersAdvance Done = Unit {0}
+AnswersAdvance (Refused fault) = Unit {0}
+AnswersAdvance answer = ⊥
 
 -- ... when it has come to an entry or to its end
-abbrev pub AnswersSeek : Result Answer Fault → Type 0
-AnswersSeek (Ok (Gave (Some entry))) = Unit {0}
-AnswersSeek (Ok Done) = Unit {0}
-AnswersSeek (Ok (Refused fault)) = Unit {0}
-AnswersSeek (Ok answer) = ⊥
-AnswersSeek (Err fault) = Unit {0}
+abbrev pub AnswersSeek : Answer → Type 0
+AnswersSeek (Gave (Some entry)) = Unit {0}
+AnswersSeek Done = Unit {0}
+AnswersSeek (Refused fault) = Unit {0}
+AnswersSeek answer = ⊥
 
 -- what a scan gives that came to this: an entry, none where it has given all, or a refusal
-abbrev pub given_of : Result Answer Fault → Result (Option Entry) Fault
-given_of (Ok (Gave (Some entry))) = Ok (Some entry)
-given_of (Ok Done) = Ok None
-given_of (Ok (Refused fault)) = Err fault
-given_of (Ok answer) = Err NoSession
-given_of (Err fault) = Err fault
+abbrev pub given_of : Answer → Result (Option Entry) Fault
+given_of (Gave (Some entry)) = Ok (Some entry)
+given_of Done = Ok None
+given_of (Refused fault) = Err fault
+given_of answer = Err NoSession
 
 -- ... and what it came to
 abbrev pub give_came : Result (Option Entry) Fault → Option Answer

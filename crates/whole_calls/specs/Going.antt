@@ -36,3 +36,7 @@ pub record CallRuns {S : Type 0} (g : Ghosts S) (session : ℕ) (Tells : Snapsho
 -- ... for whatever fitted before, where the device has kept its model up to now
 abbrev pub CallGoes : {S : Type 0} → Ghosts S → ℕ → (Snapshot S → Snapshot S → Type 0) → Option Answer → StoreAndSlots S → StoreAndSlots S → Type 0
 CallGoes g session Tells came old new = Carries g old new (CallRuns g session Tells came old new)
+
+-- ... where what is told speaks of the contents at the start
+abbrev pub GoesFrom : {S : Type 0} → Ghosts S → ℕ → ((Entry → Bool) → Snapshot S → Snapshot S → Type 0) → Option Answer → StoreAndSlots S → StoreAndSlots S → Type 0
+GoesFrom g session Tells came old new = Carries g old new (λ start history calls. CallRuns g session (Tells start) came old new start history calls)

@@ -5,3 +5,4 @@ pub mod Sweeping
 pub mod Spending
 pub mod Inserting
 pub mod Refusing
+pub mod Stepping

@@ -1,6 +1,5 @@
 -- Why a call is refused that is run to its end, told from the moment before to the moment behind it.
 use Rattle.std.specs.Prelude.{◌≡◌, ℕ, suc, ◌&&◌, ◌||◌, ◌==◌, not, nat_lt, nat_le, Bool, true, false, Option, Some, None, Result, Ok, Err, List, [], ◌∷◌, length, slice_get, is_none, IfErr}
-use Rattle.index_model.specs.Actions.{Effect}
 use Rattle.index_model.specs.Calls.{Ask, AskInsert, AskScan, AskBulkDelete, AskCleanup, Call}
 use Rattle.index_model.specs.Faults.{Circumstances, HasCause}
 use Rattle.index_model.specs.declared.entry.Entry.{Entry}
@@ -10,21 +9,19 @@ use Rattle.page_action.specs.Causes.{nothing_wrong, has_failed, is_at_end}
 use Rattle.page_action.specs.States.{State}
 use Rattle.page_action.specs.declared.page_store.PageStore.{Ghosts}
 use Rattle.descent.specs.Ways.{root_level}
-use Rattle.session_calls.specs.Ops.{asks_vacuum, IsFaultCaused}
+use Rattle.session_calls.specs.Ops.{asks_vacuum, IsFaultCaused, IsCaused}
 use Rattle.session_calls.specs.Sessions.{is_busy}
 use Rattle.session_calls.specs.declared.answer.Answer.{Answer}
-use Rattle.session_calls.specs.declared.answer.Answer.TheVariants.{Added, Refused}
+use Rattle.session_calls.specs.declared.answer.Answer.TheVariants.{Added}
 use Rattle.session_calls.specs.declared.op.Op.{Op}
 use Rattle.session_calls.specs.declared.op.Op.TheVariants.{Insert, Scan, Bulk, Cleanup}
 use Rattle.session_calls.specs.declared.request.Request.{Request}
 use Rattle.session_calls.specs.declared.request.Request.TheVariants.{Insert as ToInsert}
 use Rattle.session_calls.specs.Slots.{is_of_sets, slot_of, one_vacuums}
 use Rattle.schedule.specs.TheoremMoments.{StoreAndSlots, Snapshot, IsRunningCall}
-use Rattle.schedule.specs.TheoremRuns.{Fits}
+use Rattle.schedule.specs.Snapshots.{here_at}
 use Rattle.vacuum.specs.BulkDeletes.{is_counted_out}
 use Rattle.page_delete.specs.Ops.{is_counted_out as is_cleanup_full}
-use Rattle.whole_calls.specs.Sweeping.{Followed, IsCountedAs}
-use Rattle.whole_calls.specs.Telling.{HasGoneOn}
 use Rattle.whole_calls.specs.declared.inserted.Inserted.{Inserted}
 
 -- one of these slots, which are those from this number on, runs a call, and is not the session's
@@ -73,49 +70,26 @@ is_used_up st = nat_le st.limits.pages (length st.pages)
 abbrev pub is_tall : State → Bool
 is_tall st = nat_le 31 (root_level st.pages)
 
--- an insert that came to this had a cause: for its refusal; or for what it left unfinished, which may be that each block was in use
--- then, or that the root was on level 31, but never that its entry was there, nor is that why a checkpoint before a step fails
-abbrev pub InsertIsCaused : {S : Type 0} → Ghosts S → ℕ → ℕ → StoreAndSlots S → S → Result Answer Fault → Type 0
-InsertIsCaused g session least_room old new (Ok (Refused fault)) = HasCause (where_inserted g session least_room true (is_used_up (g.state new)) (is_tall (g.state new)) old new) fault
-InsertIsCaused g session least_room old new (Ok (Added action unfinished)) = IsFaultCaused (where_inserted g session least_room false true true old new) unfinished
-InsertIsCaused g session least_room old new (Ok answer) = Unit {0}
-InsertIsCaused g session least_room old new (Err fault) = HasCause (where_inserted g session least_room false (is_used_up (g.state new)) (is_tall (g.state new)) old new) fault
+-- an insert has added its entry
+abbrev pub is_added : Answer → Bool
+is_added (Added action unfinished) = true
+is_added answer = false
 
--- ... so had another call
-abbrev pub CameIsCaused : Circumstances → Result Answer Fault → Type 0
-CameIsCaused at (Ok (Refused fault)) = HasCause at fault
-CameIsCaused at (Ok answer) = Unit {0}
-CameIsCaused at (Err fault) = HasCause at fault
+-- What may be the cause where a call that was asked this answers this, as a refusal, or as the fault of a split that an insert leaves
+-- unfinished: that may also be that each block was in use then, or that the root was on level 31.
+abbrev pub where_asked : {S : Type 0} → Ghosts S → ℕ → ℕ → Bool → Ask → Answer → StoreAndSlots S → S → Circumstances
+where_asked g session least_room counts_full (AskInsert e) answer old new =
+    where_inserted g session least_room true (is_added answer || is_used_up (g.state new)) (is_added answer || is_tall (g.state new)) old new
+where_asked g session least_room counts_full (AskScan range) answer old new = where_gone g session least_room false old new
+where_asked g session least_room counts_full (AskBulkDelete dead) answer old new = where_gone g session least_room counts_full old new
+where_asked g session least_room counts_full AskCleanup answer old new = where_gone g session least_room counts_full old new
 
--- what a call came to that was asked this had a cause
-abbrev pub AskIsCaused : {S : Type 0} → Ghosts S → ℕ → ℕ → Bool → StoreAndSlots S → S → Ask → Result Answer Fault → Type 0
-AskIsCaused g session least_room counts_full old new (AskInsert e) result = InsertIsCaused g session least_room old new result
-AskIsCaused g session least_room counts_full old new (AskScan range) result = CameIsCaused (where_gone g session least_room false old new) result
-AskIsCaused g session least_room counts_full old new (AskBulkDelete dead) result = CameIsCaused (where_gone g session least_room counts_full old new) result
-AskIsCaused g session least_room counts_full old new AskCleanup result = CameIsCaused (where_gone g session least_room counts_full old new) result
+-- what the session's running call came to had its cause
+abbrev pub CallIsCaused : {S : Type 0} → Ghosts S → ℕ → ℕ → Bool → Answer → Snapshot S → Snapshot S → Type 0
+CallIsCaused g session least_room counts_full answer old new =
+    (number : ℕ) (call : Call) → IsRunningCall old.calls session number call → IsCaused (where_asked g session least_room counts_full call.ask answer (here_at old) new.store) answer
 
--- ... of the session's running call
-abbrev pub CallIsCaused : {S : Type 0} → Ghosts S → ℕ → ℕ → Bool → StoreAndSlots S → S → Result Answer Fault → List Call → Type 0
-CallIsCaused g session least_room counts_full old new result calls =
-    (number : ℕ) (call : Call) → IsRunningCall calls session number call → AskIsCaused g session least_room counts_full old new call.ask result
-
--- a call that was asked this counts pages or entries: a bulk delete, or a cleanup
-abbrev pub AsksToCount : Ask → Type 0
-AsksToCount (AskInsert e) = ⊥
-AsksToCount (AskScan range) = ⊥
-AsksToCount (AskBulkDelete dead) = Unit {0}
-AsksToCount AskCleanup = Unit {0}
-
--- wherever the session's running bulk delete or cleanup comes to while it goes on, it has no room to count more only where this
--- says so
-abbrev pub FillsOnly : {S : Type 0} → Ghosts S → (Entry → Bool) → ℕ → Bool → Snapshot S → Type 0
-FillsOnly {S} g start session counts_full first =
-    (now : Snapshot S) (number : ℕ) (call : Call) (effects : List Effect) → IsRunningCall first.calls session number call → AsksToCount call.ask
-    → HasGoneOn number call effects first now → now.sets ≡ first.sets → (g.state now.store).limits ≡ (g.state first.store).limits → Fits g start now
-    → ((what : Followed) → IsCountedAs what first.sets (g.state first.store) (slot_of first.slots session) → IsCountedAs what first.sets (g.state now.store) (slot_of now.slots session))
-    → is_full_vacuum (slot_of now.slots session) ≡ true → counts_full ≡ true
-
--- ... or why the call wasn't begun: the log had failed or a counter was at its end; there is no such session, or no such set; the
+-- why a call is refused that is run from its beginning on: for one of these causes, or since it wasn't begun: the log had failed or a counter was at its end; there is no such session, or no such set; the
 -- session has a call; a bulk delete or a cleanup runs
 abbrev pub where_called : {S : Type 0} → Ghosts S → ℕ → Request → StoreAndSlots S → Circumstances → Circumstances
 where_called g session request old at = record at {
@@ -132,9 +106,9 @@ InsertCallIsCaused g session least_room entry old new (Err fault) =
     HasCause (where_called g session (ToInsert entry) old (where_inserted g session least_room true (is_used_up (g.state new)) (is_tall (g.state new)) old new)) fault
 
 -- what the session's running scan came to had its cause
-abbrev pub ScanIsCaused : {S : Type 0} → Ghosts S → ℕ → ℕ → StoreAndSlots S → S → Result Answer Fault → List Call → Type 0
-ScanIsCaused g session least_room old new result calls =
-    (number : ℕ) (call : Call) (range : Range) → IsRunningCall calls session number call → call.ask ≡ AskScan range → CameIsCaused (where_gone g session least_room false old new) result
+abbrev pub ScanIsCaused : {S : Type 0} → Ghosts S → ℕ → ℕ → Answer → Snapshot S → Snapshot S → Type 0
+ScanIsCaused g session least_room answer old new =
+    (number : ℕ) (call : Call) (range : Range) → IsRunningCall old.calls session number call → call.ask ≡ AskScan range → IsCaused (where_gone g session least_room false (here_at old) new.store) answer
 
 -- why the session's running scan gives no entry that is asked for one
 abbrev pub GiveIsCaused : {S : Type 0} → Ghosts S → ℕ → ℕ → StoreAndSlots S → S → Result (Option Entry) Fault → List Call → Type 0

@@ -1,6 +1,5 @@
 -- What bounds the steps of one call: the actions that it may still append, and its steps between them.
-use Rattle.std.specs.Prelude.{◌≡◌, ℕ, ◌+◌, ◌*◌, ◌<◌, ◌≤◌, Option, Some, None, Result, Ok}
-use Rattle.index_model.specs.declared.fault.Fault.{Fault}
+use Rattle.std.specs.Prelude.{◌≡◌, ℕ, ◌+◌, ◌*◌, ◌<◌, ◌≤◌, Option, Some, None}
 use Rattle.page_action.specs.States.{State}
 use Rattle.tree_acts.specs.Weights.{weight}
 use Rattle.session_calls.specs.Sessions.{work_in}
@@ -28,6 +27,6 @@ abbrev pub steps_left : State → Option Op → ℕ
 steps_left st slot = acts_left st slot * 4398046511104 + work_in st slot
 
 -- where the call goes on, within limits that are allowed, fewer steps are left
-abbrev pub TakesFewer : State → State → Option Op → Option Op → Result Answer Fault → Type 0
-TakesFewer old new before after result =
-    old.limits.pages ≤ 65536 → result ≡ Ok Going → steps_left new after < steps_left old before
+abbrev pub TakesFewer : State → State → Option Op → Option Op → Answer → Type 0
+TakesFewer old new before after answer =
+    old.limits.pages ≤ 65536 → answer ≡ Going → steps_left new after < steps_left old before

@@ -20,15 +20,15 @@ use Rattle.session_calls.specs.declared.answer.Answer.TheVariants.{Going, Finish
 use Rattle.session_calls.specs.declared.op.Op.{Op}
 use Rattle.session_calls.specs.declared.op.Op.TheVariants.{Insert, Scan, Bulk, Cleanup}
 use Rattle.session_calls.specs.declared.request.Request.{Request}
+use Rattle.session_calls.specs.declared.request.Request.TheVariants.{Bulk as ToBulk, Cleanup as ToCleanup}
 use Rattle.schedule.specs.TheoremMoments.{Snapshot}
 use Rattle.whole_calls.specs.Telling.{acts_by, AreOwnEffects, first_call}
 
 -- what a bulk delete or a cleanup answers that came to this
-abbrev pub swept_of : Result Answer Fault → Result VacuumStats Fault
-swept_of (Ok (Finished stats)) = Ok stats
-swept_of (Ok (Refused fault)) = Err fault
-swept_of (Ok answer) = Err NoSession
-swept_of (Err fault) = Err fault
+abbrev pub swept_of : Answer → Result VacuumStats Fault
+swept_of (Finished stats) = Ok stats
+swept_of (Refused fault) = Err fault
+swept_of answer = Err NoSession
 
 -- ... and what it came to
 abbrev pub swept_came : Result VacuumStats Fault → Option Answer
@@ -109,11 +109,10 @@ TellsAs of_cleanup st result = TellsCleaned st result
 TellsAs of_leaves st result = LeavesOnlyNeeded st result
 
 -- where nobody else acts: a bulk delete or a cleanup that goes on counts on, and at its end it tells how many entries there are
-abbrev pub CountsThrough : Followed → DeadSets → State → State → Option Op → Option Op → Result Answer Fault → Type 0
-CountsThrough what sets old new before after (Ok Going) = IsCountedAs what sets old before → IsCountedAs what sets new after
-CountsThrough what sets old new before after (Ok (Finished stats)) = IsCountedAs what sets old before → TellsAs what new (Ok stats)
-CountsThrough what sets old new before after (Ok answer) = Unit {0}
-CountsThrough what sets old new before after (Err fault) = Unit {0}
+abbrev pub CountsThrough : Followed → DeadSets → State → State → Option Op → Option Op → Answer → Type 0
+CountsThrough what sets old new before after Going = IsCountedAs what sets old before → IsCountedAs what sets new after
+CountsThrough what sets old new before after (Finished stats) = IsCountedAs what sets old before → TellsAs what new (Ok stats)
+CountsThrough what sets old new before after answer = Unit {0}
 
 -- a bulk delete or a cleanup that has begun has counted what it has left
 abbrev pub BeginsToCount : Followed → DeadSets → State → Option Op → Result (Unit {0}) Fault → Type 0
@@ -124,3 +123,10 @@ BeginsToCount what sets new after (Err fault) = Unit {0}
 pub record IsUndisturbed (st : State) (session : ℕ) : Type 0 where
   pub alone : IsAlone st session
   pub none_dead : (block : ℕ) → state_in st block ≢ HalfDead
+
+-- what may be followed from the beginning of what is asked for: of the leaves that a cleanup leaves only where it is undisturbed
+abbrev pub FollowsFrom : Followed → Request → State → ℕ → Type 0
+FollowsFrom of_sweep (ToBulk set) st session = Unit {0}
+FollowsFrom of_cleanup ToCleanup st session = Unit {0}
+FollowsFrom of_leaves ToCleanup st session = IsUndisturbed st session
+FollowsFrom what request st session = ⊥

@@ -77,25 +77,25 @@ pub record NothingTold {S : Type 0} (fault : Fault) (old new : Snapshot S) : Typ
   pub silent : IsSilent old new
   pub not_exists : fault ≢ Exists
 
--- the call of this number has gone on so far, and still runs; what was refused was not refused because the entry was there
-pub record IsHeldUp {S : Type 0} (number : ℕ) (call : Call) (fault : Fault) (old new : Snapshot S) : Type 0 where
+-- the call of this number has gone on so far, and still runs; the room for a further step was refused, not because the entry was there
+pub record IsHeldUp {S : Type 0} (number : ℕ) (call : Call) (answer : Answer) (old new : Snapshot S) : Type 0 where
+  pub fault : Fault
+  pub refused : answer ≡ Refused fault
   pub before : List Effect
   pub gone : HasGoneOn number call before old new
   pub not_exists : fault ≢ Exists
 
 -- steps were made, the last with this answer; or the room for a further one could not be made
-abbrev pub StepTold : {S : Type 0} → ℕ → Call → Result Answer Fault → Snapshot S → Snapshot S → Type 0
-StepTold number call (Ok answer) old new = IsTold number call answer old new
-StepTold number call (Err fault) old new = IsHeldUp number call fault old new
+abbrev pub StepTold : {S : Type 0} → ℕ → Call → Answer → Snapshot S → Snapshot S → Type 0
+StepTold number call answer old new = IsTold number call answer old new ⊎ IsHeldUp number call answer old new
 
 -- ... of the session's running call
-abbrev pub TellsStep : {S : Type 0} → ℕ → Result Answer Fault → Snapshot S → Snapshot S → Type 0
-TellsStep session result old new = (number : ℕ) (call : Call) → IsRunningCall old.calls session number call → StepTold number call result old new
+abbrev pub TellsStep : {S : Type 0} → ℕ → Answer → Snapshot S → Snapshot S → Type 0
+TellsStep session answer old new = (number : ℕ) (call : Call) → IsRunningCall old.calls session number call → StepTold number call answer old new
 
--- what a step came to
-abbrev pub step_came : Result Answer Fault → Option Answer
-step_came (Ok answer) = Some answer
-step_came (Err fault) = Some (Refused fault)
+-- the session's running call, if it has one, has gone on so far
+abbrev pub HasGoneFar : {S : Type 0} → ℕ → Snapshot S → Snapshot S → Type 0
+HasGoneFar session old new = (number : ℕ) (call : Call) → IsRunningCall old.calls session number call → (effects : List Effect) × HasGoneOn number call effects old new
 
 -- the session has no running call
 abbrev pub HasNone : {S : Type 0} → ℕ → Snapshot S → Type 0
@@ -137,14 +137,9 @@ abbrev pub first_call : {S : Type 0} → ℕ → Request → Snapshot S → Call
 first_call session request now = begun_call session (asked_by now.sets request) (length now.history)
 
 -- the call that is begun now comes to this
-abbrev pub NextTold : {S : Type 0} → ℕ → Request → Result Answer Fault → Snapshot S → Snapshot S → Type 0
-NextTold session request result old new =
-    StepTold (length old.calls) (first_call session request old) result (with_call old (first_call session request old)) new
-
--- a call was begun and then stepped, to this answer or until it was refused; or its beginning was refused, and nothing is told
-abbrev pub HasCome : {S : Type 0} → ℕ → Request → Result Answer Fault → Snapshot S → Snapshot S → Type 0
-HasCome session request (Ok answer) old new = NextTold session request (Ok answer) old new
-HasCome session request (Err fault) old new = NothingTold fault old new ⊎ NextTold session request (Err fault) old new
+abbrev pub NextTold : {S : Type 0} → ℕ → Request → Answer → Snapshot S → Snapshot S → Type 0
+NextTold session request answer old new =
+    StepTold (length old.calls) (first_call session request old) answer (with_call old (first_call session request old)) new
 
 -- an insert that is refused: where its entry is added, that fault is left behind
 abbrev pub left_behind : Option ℕ → Fault → Result Inserted Fault
@@ -152,11 +147,10 @@ left_behind (Some action) fault = Ok (record { action = action; unfinished = Som
 left_behind None fault = Err fault
 
 -- what an insert answers that came to this, by the number of its Add, where it still runs and has one
-abbrev pub outcome_of : Result Answer Fault → Option ℕ → Result Inserted Fault
-outcome_of (Ok (Added action unfinished)) added = Ok (record { action = action; unfinished = unfinished })
-outcome_of (Ok (Refused fault)) added = left_behind added fault
-outcome_of (Ok answer) added = Err NoSession
-outcome_of (Err fault) added = left_behind added fault
+abbrev pub outcome_of : Answer → Option ℕ → Result Inserted Fault
+outcome_of (Added action unfinished) added = Ok (record { action = action; unfinished = unfinished })
+outcome_of (Refused fault) added = left_behind added fault
+outcome_of answer added = Err NoSession
 
 -- so many changes of the pages' shape, by the call of this number
 abbrev pub shapes : ℕ → ℕ → List Action

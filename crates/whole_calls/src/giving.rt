@@ -1,6 +1,6 @@
 //! Scans that give one entry after the other.
 
-ghost use Rattle.std.specs.Prelude.{◌≡◌, true, map, slice_get, Some, OnOk, OnErr, IfErr, None};
+ghost use Rattle.std.specs.Prelude.{◌≡◌, ◌≤◌, true, length, map, slice_get, Some, OnOk, OnErr, IfErr, None};
 ghost use Rattle.index_model.specs.Faults.{HasCause};
 ghost use Rattle.page_action.specs.States.{Continues};
 ghost use Rattle.session_calls.specs.Ops.{op_before, RunsOn};
@@ -9,16 +9,17 @@ ghost use Rattle.schedule.specs.Sessions.{here, op_of, KeepsOthers};
 ghost use Rattle.session_calls.specs.Slots.{one_vacuums};
 ghost use Rattle.schedule.specs.Events.{IsUnchanged, where_begun_at};
 ghost use Rattle.schedule.specs.TheoremRuns.{Carries};
-ghost use Rattle.whole_calls.specs.Telling.{BeginTold, step_came, begin_came};
-ghost use Rattle.whole_calls.specs.Giving.{GoesDownBy, AnswersAdvance, AnswersSeek, EndsUnlessGiven, GiveLeavesLess, TellsScan, TellsGiven, given_of, give_came};
+ghost use Rattle.whole_calls.specs.Telling.{BeginTold, begin_came};
+ghost use Rattle.whole_calls.specs.Giving.{GoesDown, AnswersAdvance, AnswersSeek, EndsUnlessGiven, GiveLeavesLess, TellsGiven, given_of, give_came};
 ghost use Rattle.whole_calls.specs.Going.{CallGoes};
-ghost use Rattle.whole_calls.specs.Refusing.{ScanIsCaused, GiveIsCaused};
+ghost use Rattle.whole_calls.specs.Refusing.{GiveIsCaused};
+ghost use Rattle.whole_calls.specs.Stepping.{ScanGoes};
 
-use crate::running::{begun, give_up, step};
+use crate::running::{begin, give_up, step};
 use index_model::{DeadRows, Entry, Fault, Range};
 use page_action::PageStore;
 use schedule::{Event, one};
-use session_calls::{Answer, Calls};
+use session_calls::{Answer, Calls, Request};
 
 // The next entry that the session's scan has ready; where none is, one step of it.
 fn advance<S: PageStore, T: DeadRows>(
@@ -27,27 +28,23 @@ fn advance<S: PageStore, T: DeadRows>(
     sets: &[T],
     session: u32,
     least_room: u32,
-) -> Result<Answer, Fault>
+) -> Answer
     ensures steps { Continues S.follows store.old store.new }
     ensures others { KeepsOthers session calls.old calls.new }
-    ensures goes { CallGoes S.PageStore session (TellsScan session result) (step_came result)
-        (here T.DeadRows store.old calls.old sets.now)
+    ensures goes { CallGoes S.PageStore session (ScanGoes S.PageStore session least_room result)
+        (Some result) (here T.DeadRows store.old calls.old sets.now)
         (here T.DeadRows store.new calls.new sets.now) }
     ensures less { (S.backing store.new).honest ≡ true
-        → GoesDownBy (S.state store.old) (S.state store.new) (op_of calls.old session)
+        → GoesDown (S.state store.old) (S.state store.new) (op_of calls.old session)
         (op_of calls.new session) result }
     ensures kind { AnswersAdvance result }
     ensures runs_on { RunsOn (op_of calls.old session) (op_of calls.new session) }
-    ensures cause { let old = here T.DeadRows store.old calls.old sets.now in
-        Carries S.PageStore old (here T.DeadRows store.new calls.new sets.now)
-        (λ start history calls.
-        ScanIsCaused S.PageStore session least_room old store.new result calls) }
 {
     let answer = one(store, calls, sets, Event::Next(session));
-    let Answer::Gave(None) = answer else {
-        return Ok(answer);
-    };
-    step(store, calls, sets, session, least_room)
+    if let Answer::Gave(None) = answer {
+        return step(store, calls, sets, session, least_room);
+    }
+    answer
 }
 
 // Goes on until the session's scan gives an entry or is over.
@@ -57,20 +54,16 @@ fn seek<S: PageStore, T: DeadRows>(
     sets: &[T],
     session: u32,
     least_room: u32,
-) -> Result<Answer, Fault>
+) -> Answer
     ensures steps { Continues S.follows store.old store.new }
     ensures others { KeepsOthers session calls.old calls.new }
-    ensures goes { CallGoes S.PageStore session (TellsScan session result) (step_came result)
-        (here T.DeadRows store.old calls.old sets.now)
+    ensures goes { CallGoes S.PageStore session (ScanGoes S.PageStore session least_room result)
+        (Some result) (here T.DeadRows store.old calls.old sets.now)
         (here T.DeadRows store.new calls.new sets.now) }
     ensures kind { AnswersSeek result }
     ensures runs_on { RunsOn (op_of calls.old session) (op_of calls.new session) }
-    ensures cause { let old = here T.DeadRows store.old calls.old sets.now in
-        Carries S.PageStore old (here T.DeadRows store.new calls.new sets.now)
-        (λ start history calls.
-        ScanIsCaused S.PageStore session least_room old store.new result calls) }
     ensures less { (S.backing store.new).honest ≡ true
-        → GoesDownBy (S.state store.old) (S.state store.new) (op_of calls.old session)
+        → GoesDown (S.state store.old) (S.state store.new) (op_of calls.old session)
         (op_of calls.new session) result }
 {
     let _limits = store.limits();
@@ -78,26 +71,23 @@ fn seek<S: PageStore, T: DeadRows>(
     let mut left = u64::MAX;
     while left > 0 {
         match advance(store, calls, sets, session, least_room) {
-            Ok(answer) => match answer {
-                Answer::Going | Answer::Ready(_) => {}
-                answer => return Ok(answer),
-            },
-            Err(fault) => return Err(fault),
+            Answer::Going | Answer::Ready(_) => {}
+            answer => return answer,
         }
         left -= 1;
     }
-    Err(Fault::PageDamaged(0))
+    Answer::Refused(Fault::PageDamaged(0))
 }
 
 // What a scan gives that came to this.
-fn given(came: Result<Answer, Fault>) -> Result<Option<Entry>, Fault>
+fn given(came: Answer) -> Result<Option<Entry>, Fault>
     ensures { result ≡ given_of came }
 {
     match came {
-        Ok(Answer::Gave(Some(entry))) => Ok(Some(entry)),
-        Ok(Answer::Done) => Ok(None),
-        Ok(Answer::Refused(fault)) | Err(fault) => Err(fault),
-        Ok(_) => Err(Fault::NoSession),
+        Answer::Gave(Some(entry)) => Ok(Some(entry)),
+        Answer::Done => Ok(None),
+        Answer::Refused(fault) => Err(fault),
+        _ => Err(Fault::NoSession),
     }
 }
 
@@ -141,8 +131,8 @@ pub fn give<S: PageStore, T: DeadRows>(
     }
 }
 
-/// Begins a scan. Refused as the beginning of a call is: with `Stopped` (3), `NoSession` (12), `SessionBusy` (13), in this order; nothing is changed then.
-///
+/// Begins a scan. Refused as the beginning of a call is: with `Stopped` (3), `NoSession` (12), `SessionBusy` (13), in this
+/// order; nothing is changed then.
 pub fn open<S: PageStore, T: DeadRows>(
     store: &mut S,
     calls: &mut Calls,
@@ -165,5 +155,5 @@ pub fn open<S: PageStore, T: DeadRows>(
         (HasCause (where_begun_at S.PageStore store.old (one_vacuums calls.old.slots.items)
         (map T.is_in sets.now) (ToScan range) (slice_get calls.old.slots.items session))) }
 {
-    begun(one(store, calls, sets, Event::Scan(session, range)))
+    begin(store, calls, sets, session, Request::Scan(range))
 }

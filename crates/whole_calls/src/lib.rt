@@ -8,5 +8,5 @@ mod sweeping;
 
 pub use giving::{give, open};
 pub use inserted::Inserted;
-pub use running::{finish, give_up, insert, put};
+pub use running::{give_up, insert};
 pub use sweeping::{bulk_delete, clean_up};

@@ -2,49 +2,44 @@
 //! made; one that is refused counts as the refusal of the step. With 0 none is made. Each step is given the sets of dead rows
 //! that calls name by their places.
 
-ghost use Rattle.std.specs.Prelude.{◌≡◌, ◌≢◌, ◌≤◌, ℕ, Bool, true, List, Option, Ok, None, IfOk, OnOk, OnErr, IfErr, map, slice_get};
+ghost use Rattle.std.specs.Prelude.{◌≡◌, ◌≢◌, ◌≤◌, ℕ, true, List, Option, Some, None, OnOk, OnErr, IfErr, map, slice_get};
 ghost use Rattle.index_model.specs.Faults.{HasCause};
 ghost use Rattle.page_action.specs.Causes.{where_forced};
 ghost use Rattle.page_action.specs.States.{Continues};
 ghost use Rattle.session_calls.specs.TheoremCalls.{DeadSets};
-ghost use Rattle.session_calls.specs.Ops.{RunsOn};
-ghost use Rattle.session_calls.specs.Sessions.{AnswersStep, OnlyWritersAct};
+ghost use Rattle.session_calls.specs.Ops.{op_before, RunsOn};
+ghost use Rattle.session_calls.specs.Sessions.{AnswersStep, LeavesLess, OnlyWritersAct};
 ghost use Rattle.session_calls.specs.declared.op.Op.{Op};
-ghost use Rattle.session_calls.specs.declared.request.Request.TheVariants.{Insert as ToInsert};
-ghost use Rattle.schedule.specs.TheoremMoments.{snapshot_of};
 ghost use Rattle.schedule.specs.Sessions.{here, op_of, KeepsOthers};
 ghost use Rattle.session_calls.specs.Slots.{one_vacuums};
 ghost use Rattle.schedule.specs.Snapshots.{here_with};
 ghost use Rattle.schedule.specs.Events.{IsUnchanged, where_begun_at};
+ghost use Rattle.schedule.specs.TheoremKinds.{BeginsCall, kind_of};
 ghost use Rattle.schedule.specs.TheoremRuns.{Carries};
-ghost use Rattle.whole_calls.specs.Going.{CallGoes};
-ghost use Rattle.whole_calls.specs.Giving.{StepLeavesLess};
+ghost use Rattle.whole_calls.specs.Going.{CallGoes, GoesFrom};
 ghost use Rattle.whole_calls.specs.Inserting.{InsertGoes};
-ghost use Rattle.whole_calls.specs.Refusing.{CallIsCaused, FillsOnly, InsertCallIsCaused, is_full_vacuum};
-ghost use Rattle.whole_calls.specs.Spending.{TakesFewer};
-ghost use Rattle.whole_calls.specs.Sweeping.{Followed, CountsThrough};
-ghost use Rattle.whole_calls.specs.Telling.{RoomIsMade, IsSilent, TellsStep, TellsEnd, HasCome, left_behind, outcome_of, BeginTold, begun_of, step_came, begin_came, room_came};
+ghost use Rattle.whole_calls.specs.Refusing.{InsertCallIsCaused};
+ghost use Rattle.whole_calls.specs.Stepping.{RoomTold, BeginGoes, StepGoes, FinishGoes, RunGoes};
+ghost use Rattle.whole_calls.specs.Telling.{RoomIsMade, TellsEnd, left_behind, outcome_of, begun_of, begin_came, room_came};
 
 use crate::inserted::Inserted;
 use index_model::{DeadRows, Entry, Fault};
 use page_action::PageStore;
 use schedule::{Event, checkpoint, one};
-use session_calls::{Answer, Calls};
+use session_calls::{Answer, Calls, Request};
+use vacuum::nothing_is_counted;
 
 // Room for one more act: where there is less, a checkpoint is made.
-fn make_room<S: PageStore>(
-    store: &mut S,
-    least_room: u32,
-) -> Result<(), Fault>
+fn make_room<S: PageStore>(store: &mut S, least_room: u32) -> Result<(), Fault>
     ensures steps { Continues S.follows store.old store.new }
-    ensures state { S.state store.new ≡ S.state store.old }
     ensures goes { (session : ℕ) (slots : List (Option Op)) (sets : DeadSets)
-        → CallGoes S.PageStore session IsSilent (room_came result)
+        → CallGoes S.PageStore session (RoomTold S.PageStore) (room_came result)
         (here_with store.old slots sets) (here_with store.new slots sets) }
     ensures room { OnOk result
         (RoomIsMade least_room (S.state store.old).limits (S.backing store.new)) }
     // An act of four images, the most that one has, is not refused with `LogFull` then.
     ensures promise { OnOk result (5 ≤ least_room → 5 ≤ (S.backing store.new).promised) }
+    ensures state { S.state store.new ≡ S.state store.old }
     ensures cause { IfErr result
         (HasCause (where_forced (S.backing store.old) (S.backing store.new))) }
 {
@@ -66,86 +61,71 @@ pub(crate) fn step<S: PageStore, T: DeadRows>(
     sets: &[T],
     session: u32,
     least_room: u32,
-) -> Result<Answer, Fault>
+) -> Answer
     ensures steps { Continues S.follows store.old store.new }
     ensures others { KeepsOthers session calls.old calls.new }
-    ensures goes { CallGoes S.PageStore session (TellsStep session result) (step_came result)
-        (here T.DeadRows store.old calls.old sets.now)
+    ensures goes { CallGoes S.PageStore session (StepGoes S.PageStore session least_room result)
+        (Some result) (here T.DeadRows store.old calls.old sets.now)
         (here T.DeadRows store.new calls.new sets.now) }
-    ensures fewer { Carries S.PageStore (here T.DeadRows store.old calls.old sets.now)
-        (here T.DeadRows store.new calls.new sets.now) (λ start history calls.
-        TakesFewer (S.state store.old) (S.state store.new) (op_of calls.old session)
-        (op_of calls.new session) result) }
-    ensures entries { Carries S.PageStore (here T.DeadRows store.old calls.old sets.now)
-        (here T.DeadRows store.new calls.new sets.now) (λ start history calls.
-        (what : Followed) → CountsThrough what (map T.is_in sets.now) (S.state store.old)
-        (S.state store.new) (op_of calls.old session) (op_of calls.new session) result) }
-    ensures cause { Carries S.PageStore (here T.DeadRows store.old calls.old sets.now)
-        (here T.DeadRows store.new calls.new sets.now) (λ start history calls.
-        CallIsCaused S.PageStore session least_room (is_full_vacuum (op_of calls.old session))
-        (here T.DeadRows store.old calls.old sets.now) store.new result calls) }
     ensures limits { (S.state store.new).limits ≡ (S.state store.old).limits }
     ensures calm { OnlyWritersAct (op_of calls.old session) (S.state store.old)
         (S.state store.new) }
     ensures less { (S.backing store.new).honest ≡ true
-        → StepLeavesLess (S.state store.old) (S.state store.new)
+        → LeavesLess (S.state store.old) (S.state store.new)
         (op_of calls.old session) (op_of calls.new session) result }
-    ensures kind { IfOk result (AnswersStep (op_of calls.old session)
-        (op_of calls.new session)) }
+    ensures kind { AnswersStep (op_of calls.old session) (op_of calls.new session) result }
     // What the session runs then, if anything, is of the kind that it ran before.
     ensures runs_on { RunsOn (op_of calls.old session) (op_of calls.new session) }
 {
     match make_room(store, least_room) {
-        Ok(()) => Ok(one(store, calls, sets, Event::Step(session))),
-        Err(fault) => Err(fault),
+        Ok(()) => one(store, calls, sets, Event::Step(session)),
+        Err(fault) => Answer::Refused(fault),
     }
 }
 
-/// Steps of the session's call until one doesn't answer `Going`, and that answer. Refused, with the call as it is then, where
-/// a checkpoint before a step is refused: with `Io` (2) or `Stopped` (3). Over a device that breaks its model also with
-/// `PageDamaged(0)` (17), after 2^64 - 1 steps.
-pub fn finish<S: PageStore, T: DeadRows>(
+// Steps of the session's call until one doesn't answer `Going`, and that answer. Over a device that breaks its model also
+// refused with `PageDamaged(0)` (17), after 2^64 - 1 steps.
+fn finish<S: PageStore, T: DeadRows>(
     store: &mut S,
     calls: &mut Calls,
     sets: &[T],
     session: u32,
     least_room: u32,
-) -> Result<Answer, Fault>
+) -> Answer
     ensures steps { Continues S.follows store.old store.new }
     ensures others { KeepsOthers session calls.old calls.new }
-    ensures goes { CallGoes S.PageStore session (TellsStep session result) (step_came result)
-        (here T.DeadRows store.old calls.old sets.now)
+    ensures goes { GoesFrom S.PageStore session (FinishGoes S.PageStore session least_room result)
+        (Some result) (here T.DeadRows store.old calls.old sets.now)
         (here T.DeadRows store.new calls.new sets.now) }
-    ensures entries { Carries S.PageStore (here T.DeadRows store.old calls.old sets.now)
-        (here T.DeadRows store.new calls.new sets.now) (λ start history calls.
-        (what : Followed) → CountsThrough what (map T.is_in sets.now) (S.state store.old)
-        (S.state store.new) (op_of calls.old session) (op_of calls.new session) result) }
-    // With room for an act made before each step it is never refused with `LogFull`; where the session has a call, neither
-    // with `NoSession`, `SessionBusy` nor `VacuumRunning`; and for its cause alone with anything else.
-    ensures cause { let old = here T.DeadRows store.old calls.old sets.now in
-        Carries S.PageStore old (here T.DeadRows store.new calls.new sets.now)
-        (λ start history calls. (full : Bool)
-        → FillsOnly S.PageStore start session full (snapshot_of old history calls)
-        → CallIsCaused S.PageStore session least_room full old store.new result calls) }
-    ensures runs_on { RunsOn (op_of calls.old session) (op_of calls.new session) }
-    ensures over { result ≢ Ok Answer.Going }
+    ensures over { result ≢ Answer.Going }
 {
     let _limits = store.limits();
     // Over a device that breaks its model nothing else bounds the steps; over one that keeps it this many are never made.
     let mut left = u64::MAX;
     while left > 0 {
         match step(store, calls, sets, session, least_room) {
-            Ok(Answer::Going) => {}
-            Ok(answer) => return Ok(answer),
-            Err(fault) => return Err(fault),
+            Answer::Going => {}
+            answer => return answer,
         }
         left -= 1;
     }
-    Err(Fault::PageDamaged(0))
+    Answer::Refused(Fault::PageDamaged(0))
+}
+
+// The event that begins what is asked for.
+fn beginning(session: u32, request: Request) -> Event
+    ensures { kind_of result ≡ BeginsCall session request }
+{
+    match request {
+        Request::Insert(entry) => Event::Insert(session, entry),
+        Request::Scan(range) => Event::Scan(session, range),
+        Request::Bulk(set) => Event::Bulk(session, set),
+        Request::Cleanup => Event::Cleanup(session),
+    }
 }
 
 // Whether a call has begun.
-pub(crate) fn begun(answer: Answer) -> Result<(), Fault>
+fn begun(answer: Answer) -> Result<(), Fault>
     ensures { result ≡ begun_of answer }
 {
     match answer {
@@ -155,52 +135,75 @@ pub(crate) fn begun(answer: Answer) -> Result<(), Fault>
     }
 }
 
-// Begins an insert.
-fn begin<S: PageStore, T: DeadRows>(
+// Begins a call.
+pub(crate) fn begin<S: PageStore, T: DeadRows>(
     store: &mut S,
     calls: &mut Calls,
     sets: &[T],
     session: u32,
-    entry: Entry,
+    request: Request,
 ) -> Result<(), Fault>
     ensures steps { Continues S.follows store.old store.new }
     ensures others { KeepsOthers session calls.old calls.new }
-    ensures goes { CallGoes S.PageStore session (BeginTold session (ToInsert entry) result)
+    ensures goes { CallGoes S.PageStore session (BeginGoes S.PageStore session request result)
         (begin_came result)
         (here T.DeadRows store.old calls.old sets.now)
         (here T.DeadRows store.new calls.new sets.now) }
+    ensures begins { OnOk result (op_of calls.new session ≡ Some (op_before session request)) }
     ensures refused { OnErr result (IsUnchanged S.PageStore
         (here T.DeadRows store.old calls.old sets.now)
         (here T.DeadRows store.new calls.new sets.now)) }
     ensures cause { IfErr result
         (HasCause (where_begun_at S.PageStore store.old (one_vacuums calls.old.slots.items)
-        (map T.is_in sets.now) (ToInsert entry) (slice_get calls.old.slots.items session))) }
+        (map T.is_in sets.now) request (slice_get calls.old.slots.items session))) }
+    ensures limits { (S.state store.new).limits ≡ (S.state store.old).limits }
 {
-    begun(one(store, calls, sets, Event::Insert(session, entry)))
+    nothing_is_counted();
+    begun(one(store, calls, sets, beginning(session, request)))
 }
 
-/// Begins an insert and runs it until a step doesn't answer `Going`, and that answer. Refused as the beginning of a call is, and
-/// as `finish` is.
-pub fn put<S: PageStore, T: DeadRows>(
+// What a call came to that is over.
+#[derive(Clone, Copy)]
+pub(crate) struct Came {
+    // Its last answer, or the refusal of its beginning.
+    pub(crate) answer: Answer,
+    // The number of the action that added an insert's entry, where it still ran then.
+    pub(crate) added: Option<u64>,
+}
+
+// A call that is begun, run to its last answer and given up, if it still runs then. Refused, and nothing is changed, where it
+// can't be begun.
+pub(crate) fn run_call<S: PageStore, T: DeadRows>(
     store: &mut S,
     calls: &mut Calls,
     sets: &[T],
     session: u32,
-    entry: Entry,
+    request: Request,
     least_room: u32,
-) -> Result<Answer, Fault>
+) -> Came
     ensures steps { Continues S.follows store.old store.new }
     ensures others { KeepsOthers session calls.old calls.new }
-    ensures goes { CallGoes S.PageStore session (HasCome session (ToInsert entry) result)
-        (step_came result)
-        (here T.DeadRows store.old calls.old sets.now)
+    ensures over { op_of calls.old session ≡ None → op_of calls.new session ≡ None }
+    ensures ended { result.answer ≢ Answer.Going }
+    ensures goes { GoesFrom S.PageStore session
+        (RunGoes S.PageStore session least_room request result.answer result.added)
+        (Some result.answer) (here T.DeadRows store.old calls.old sets.now)
         (here T.DeadRows store.new calls.new sets.now) }
-    ensures over { result ≢ Ok Answer.Going }
 {
-    match begin(store, calls, sets, session, entry) {
-        Ok(()) => finish(store, calls, sets, session, least_room),
-        Err(fault) => Err(fault),
+    let _limits = store.limits();
+    match begin(store, calls, sets, session, request) {
+        Ok(()) => {}
+        Err(fault) => {
+            return Came {
+                answer: Answer::Refused(fault),
+                added: None,
+            };
+        }
     }
+    let answer = finish(store, calls, sets, session, least_room);
+    let added = calls.added(session);
+    give_up(store, calls, sets, session);
+    Came { answer, added }
 }
 
 // What an insert answers that is refused: where its entry is added, the fault is what it leaves behind.
@@ -217,13 +220,13 @@ fn refused(added: Option<u64>, fault: Fault) -> Result<Inserted, Fault>
 }
 
 // What an insert answers that came to this.
-fn outcome(came: Result<Answer, Fault>, added: Option<u64>) -> Result<Inserted, Fault>
-    ensures { result ≡ outcome_of came added }
+fn outcome(came: Came) -> Result<Inserted, Fault>
+    ensures { result ≡ outcome_of came.answer came.added }
 {
-    match came {
-        Ok(Answer::Added { action, unfinished }) => Ok(Inserted { action, unfinished }),
-        Ok(Answer::Refused(fault)) | Err(fault) => refused(added, fault),
-        Ok(_) => Err(Fault::NoSession),
+    match came.answer {
+        Answer::Added { action, unfinished } => Ok(Inserted { action, unfinished }),
+        Answer::Refused(fault) => refused(came.added, fault),
+        _ => Err(Fault::NoSession),
     }
 }
 
@@ -273,12 +276,6 @@ pub fn insert<S: PageStore, T: DeadRows>(
         (λ start history calls.
         InsertCallIsCaused S.PageStore session least_room entry old store.new result) }
 {
-    match begin(store, calls, sets, session, entry) {
-        Ok(()) => {}
-        Err(fault) => return Err(fault),
-    }
-    let came = finish(store, calls, sets, session, least_room);
-    let added = calls.added(session);
-    give_up(store, calls, sets, session);
-    outcome(came, added)
+    let request = Request::Insert(entry);
+    outcome(run_call(store, calls, sets, session, request, least_room))
 }

@@ -3,8 +3,7 @@
 use super::base::{FRAMES, entry};
 use crate::dead::Blocks;
 use crate::plain::{
-    begin_scan, bulk_delete, checkpoint_of, clean_up, end_scan, index_over, insert, next,
-    open,
+    begin_scan, bulk_delete, checkpoint_of, clean_up, end_scan, index_over, insert, next, open,
 };
 use crate::small::{ALL, keyed};
 use access_method::{Index, Inserted, ScanToken};

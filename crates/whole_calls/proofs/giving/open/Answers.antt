@@ -1,18 +1,15 @@
-use Rattle.std.proofs.Common.{refl}
-use Rattle.schedule.specs.declared.event.Event.TheVariants.{Scan}
+use Rattle.std.specs.Prelude.{map}
 use Rattle.session_calls.specs.declared.request.Request.TheVariants.{Scan as ToScan}
-use Rattle.schedule.proofs.Running.{makes_runs}
-use Rattle.whole_calls.proofs.Beginning.{goes_begun, caused_by, refused_by, begins_by}
+use Rattle.schedule.specs.Snapshots.{here_with}
+use Rattle.whole_calls.specs.Stepping.{BeginGoes}
+use Rattle.whole_calls.specs.Telling.{BeginTold, begin_came}
+use Rattle.whole_calls.proofs.Composing.{goes_told}
 use Rattle.whole_calls.proofs.giving.open.Goals as goal
 
 pub returns-clause-goes : goal.returns-clause-goes
-returns-clause-goes g c = goes_begun g.S.PageStore g.met.S.PageStore.laws c.args.session (ToScan c.args.range) (Scan c.args.session c.args.range) c.one.result c.begun.result _ _ refl c.begun.ensures c.one.ensures.makes.always.answers (makes_runs g.S.PageStore g.met.S.PageStore.laws _ _ _ _ c.one.ensures.makes)
-
-pub returns-clause-refused : goal.returns-clause-refused
-returns-clause-refused g c = refused_by _ c.one.result _ c.begun.ensures c.one.ensures.makes.always.answers c.one.ensures.makes.always.refused
-
-pub returns-clause-cause : goal.returns-clause-cause
-returns-clause-cause g c = caused_by _ c.one.result _ c.begun.ensures c.one.ensures.makes.always.answers c.one.ensures.makes.always.causes
-
-pub returns-clause-begins : goal.returns-clause-begins
-returns-clause-begins g c = begins_by _ c.one.result _ c.begun.ensures c.one.ensures.makes.always.answers c.one.ensures.makes.always.fresh
+returns-clause-goes g c =
+    let session = c.args.session in
+    let request = ToScan c.args.range in
+    let sets = map g.T.DeadRows.is_in c.args.sets.now in
+    goes_told g.S.PageStore session (λ s. BeginGoes g.S.PageStore session request c.begin.result) (λ s. BeginTold session request c.begin.result) (begin_came c.begin.result) (begin_came c.begin.result)
+    (here_with c.args.store.now c.args.calls.now.slots.items sets) (here_with c.begin.new.store c.begin.new.calls.slots.items sets) (λ start h hc k kc answers fits came begun. (came, begun.told)) c.begin.ensures.goes

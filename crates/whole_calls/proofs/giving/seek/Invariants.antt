@@ -1,4 +1,3 @@
-use Rattle.std.specs.Prelude.{map}
 use Rattle.std.proofs.Common.{◌≡◌, ◌+◌, ◌≤◌, true, None, length}
 use Rattle.page_action.specs.States.{Continues}
 use Rattle.session_calls.specs.Sessions.{work_in}
@@ -7,7 +6,7 @@ use Rattle.schedule.specs.Sessions.{here}
 use Rattle.session_calls.specs.Slots.{slot_of}
 use Rattle.schedule.specs.Events.{OthersStay}
 use Rattle.whole_calls.specs.Going.{CallGoes}
-use Rattle.whole_calls.specs.Giving.{ScanStays}
+use Rattle.whole_calls.specs.Stepping.{ScanWaits}
 use Rattle.whole_calls.proofs.giving.seek.Given as goal
 
 abbrev pub invariant-loop-left : goal.invariant-loop-left
@@ -16,7 +15,7 @@ invariant-loop-left g l = record {
   sessions : length l.calls.slots.items ≡ length l.fn.calls.slots.items;
   others : OthersStay l.session l.fn.calls.slots.items l.calls.slots.items;
   runs_on : RunsOn (slot_of l.fn.calls.slots.items l.session) (slot_of l.calls.slots.items l.session);
-  goes : CallGoes g.S.PageStore l.session (ScanStays l.session) None (here g.T.DeadRows l.fn.store l.fn.calls l.sets) (here g.T.DeadRows l.store l.calls l.sets);
+  goes : CallGoes g.S.PageStore l.session (ScanWaits g.S.PageStore l.session) None (here g.T.DeadRows l.fn.store l.fn.calls l.sets) (here g.T.DeadRows l.store l.calls l.sets);
   budget : (g.S.PageStore.backing l.store).honest ≡ true
       → 18446744073709551615 + work_in (g.S.PageStore.state l.store) (slot_of l.calls.slots.items l.session) ≤ l.left + work_in (g.S.PageStore.state l.fn.store) (slot_of l.fn.calls.slots.items l.session);
   fewer : l.left ≤ 18446744073709551615;

@@ -1,12 +1,32 @@
+use Rattle.std.specs.Prelude.{map}
 use Rattle.std.proofs.Common.{refl}
-use Rattle.schedule.specs.declared.event.Event.TheVariants.{Insert}
-use Rattle.session_calls.specs.declared.request.Request.TheVariants.{Insert as ToInsert}
+use Rattle.schedule.specs.Making.{Makes}
+use Rattle.schedule.specs.Snapshots.{here_with}
+use Rattle.schedule.specs.TheoremKinds.{BeginsCall}
 use Rattle.schedule.proofs.Running.{makes_runs}
-use Rattle.whole_calls.proofs.Beginning.{goes_begun, caused_by}
+use Rattle.whole_calls.proofs.Beginning.{goes_begun, caused_by, refused_by, begins_by}
+use Rattle.whole_calls.proofs.running.begin.Given.{Over}
+use Rattle.whole_calls.proofs.running.begin.Goals.{After-one}
 use Rattle.whole_calls.proofs.running.begin.Goals as goal
 
-pub returns-clause-goes : goal.returns-clause-goes
-returns-clause-goes g c = goes_begun g.S.PageStore g.met.S.PageStore.laws c.args.session (ToInsert c.args.entry) (Insert c.args.session c.args.entry) c.one.result c.begun.result _ _ refl c.begun.ensures c.one.ensures.makes.always.answers (makes_runs g.S.PageStore g.met.S.PageStore.laws _ _ _ _ c.one.ensures.makes)
+-- the event is the beginning of what is asked for
+makes : (g : Over) (c : After-one g) → Makes g.S.PageStore (BeginsCall c.args.session c.args.request) c.one.result
+    (here_with c.args.store.now c.args.calls.now.slots.items (map g.T.DeadRows.is_in c.args.sets.now)) (here_with c.one.new.store c.one.new.calls.slots.items (map g.T.DeadRows.is_in c.args.sets.now))
+makes g c = rw c.beginning.ensures at c.one.ensures.makes
 
-pub returns-clause-cause : goal.returns-clause-cause
-returns-clause-cause g c = caused_by _ c.one.result _ c.begun.ensures c.one.ensures.makes.always.answers c.one.ensures.makes.always.causes
+pub returns : goal.returns
+returns g c =
+    let laws = g.met.S.PageStore.laws in
+    let sets = map g.T.DeadRows.is_in c.args.sets.now in
+    let old = here_with c.args.store.now c.args.calls.now.slots.items sets in
+    let new = here_with c.one.new.store c.one.new.calls.slots.items sets in
+    let m = makes g ((goal.at.returns g c).After-one) in
+    record {
+      steps = c.one.ensures.steps;
+      others = record { sessions = m.sessions; others = m.always.others c.args.session refl };
+      goes = rw c.begun.ensures (goes_begun g.S.PageStore laws c.args.session c.args.request c.beginning.result c.one.result old new c.nothing_is_counted.ensures c.beginning.ensures m.always.answers m.always.fresh (makes_runs g.S.PageStore laws c.beginning.result c.one.result old new c.one.ensures.makes));
+      begins = rw c.begun.ensures (begins_by _ c.one.result m.always.answers m.always.fresh);
+      refused = rw c.begun.ensures (refused_by _ c.one.result m.always.answers m.always.refused);
+      cause = rw c.begun.ensures (caused_by _ c.one.result m.always.answers m.always.causes);
+      limits = m.always.kept.limits;
+    }

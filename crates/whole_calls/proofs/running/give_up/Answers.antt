@@ -1,10 +1,11 @@
 use Rattle.std.specs.Prelude.{map}
 use Rattle.std.proofs.Common.{Some, None, refl}
+use Rattle.schedule.specs.TheoremMoments.{snapshot_of}
 use Rattle.schedule.specs.Snapshots.{here_with}
 use Rattle.schedule.specs.declared.event.Event.TheVariants.{End}
 use Rattle.schedule.proofs.Running.{makes_runs}
 use Rattle.whole_calls.specs.Telling.{TellsEnd}
-use Rattle.whole_calls.proofs.Composing.{goes_by, goes_told}
+use Rattle.whole_calls.proofs.Composing.{goes_once, goes_told}
 use Rattle.whole_calls.proofs.Tellings.{ends_tells}
 use Rattle.whole_calls.proofs.running.give_up.Goals as goal
 
@@ -12,6 +13,9 @@ pub returns-clause-goes : goal.returns-clause-goes
 returns-clause-goes g c =
     let session = c.args.session in
     let answer = c.one-answer.result in
-    goes_told g.S.PageStore session (TellsEnd session) (TellsEnd session) (Some answer) None _ _ (λ start answers x y at fits came told. (tt, told))
-    (goes_by g.S.PageStore g.met.S.PageStore.laws session (TellsEnd session) (End session) answer (here_with c.args.store.now c.args.calls.now.slots.items (map g.T.DeadRows.is_in c.args.sets.now)) (here_with c.one-answer.new.store c.one-answer.new.calls.slots.items (map g.T.DeadRows.is_in c.args.sets.now)) refl (makes_runs g.S.PageStore g.met.S.PageStore.laws _ _ _ _ c.one-answer.ensures.makes)
-    (λ start x y from to fits does. ends_tells g.S.PageStore start x y session answer fits does))
+    let sets = map g.T.DeadRows.is_in c.args.sets.now in
+    let old = here_with c.args.store.now c.args.calls.now.slots.items sets in
+    let new = here_with c.one-answer.new.store c.one-answer.new.calls.slots.items sets in
+    goes_told g.S.PageStore session (λ s. TellsEnd session) (λ s. TellsEnd session) (Some answer) None old new (λ start h hc k kc answers fits came told. (tt, told))
+    (goes_once g.S.PageStore g.met.S.PageStore.laws session (TellsEnd session) (End session) answer old new refl (makes_runs g.S.PageStore g.met.S.PageStore.laws (End session) answer old new c.one-answer.ensures.makes)
+    (λ start h hc k kc honest fits does. ends_tells g.S.PageStore start (snapshot_of old h hc) (snapshot_of new k kc) session answer fits does))

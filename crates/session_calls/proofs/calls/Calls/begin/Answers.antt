@@ -15,9 +15,9 @@ returns-in-Ok-clause-changes g c begins =
     let at = found c.is_stopped.result c.is_of_sets.result _ session c.in-Ok.known (sym c.in-Ok.is ∙ c.find.ensures) in
     let free : slice_get slots session ≡ Some None = ap (λ (l : List (Option Op)). slice_get l session) (sym c.deref.ensures.value) ∙ at.2 in
     let excluded : c.is_excluded-excluded.result ≡ (asks_vacuum request && one_vacuums slots) =
-        c.is_excluded-excluded.ensures ∙ ap (λ (l : List (Option Op)). asks_vacuum request && one_vacuums l) c.deref-in-Ok.ensures.value in
+    c.is_excluded-excluded.ensures ∙ ap (λ (l : List (Option Op)). asks_vacuum request && one_vacuums l) c.deref-in-Ok.ensures.value in
     let By : ℕ → Bool → Type 0 = λ known alone.
-        BeginsBy (g.S.PageStore.state c.args.store.now) (g.S.PageStore.backing c.args.store.now) (g.S.PageStore.state c.begin.new.store) known request alone c.index_mut.result.now c.begin.new.slot c.begin.result in
+    BeginsBy (g.S.PageStore.state c.args.store.now) (g.S.PageStore.backing c.args.store.now) (g.S.PageStore.state c.begin.new.store) known request alone c.index_mut.result.now c.begin.new.slot c.begin.result in
     record {
       before = c.index_mut.result.now;
       after = c.begin.new.slot;

@@ -1,0 +1,112 @@
+-- A call that is begun, run to its last answer and given up.
+use Rattle.std.proofs.Common.{◌≡◌, ℕ, Bool, true, false, Option, Ok, List, length, refl, sym, ap, subst}
+use Rattle.index_model.specs.Actions.{Action}
+use Rattle.index_model.specs.Calls.{Ask, Call}
+use Rattle.index_model.specs.Limits.{AreLimits}
+use Rattle.index_model.specs.declared.entry.Entry.{Entry}
+use Rattle.page_action.specs.declared.page_store.PageStore.{Ghosts}
+use Rattle.session_calls.specs.TheoremCalls.{DeadSets, asked_by}
+use Rattle.session_calls.specs.Ops.{IsCaused, set_at}
+use Rattle.session_calls.specs.Sessions.{slot_add}
+use Rattle.session_calls.specs.declared.answer.Answer.{Answer}
+use Rattle.session_calls.specs.declared.answer.Answer.TheVariants.{Finished}
+use Rattle.session_calls.specs.declared.request.Request.{Request}
+use Rattle.session_calls.specs.declared.request.Request.TheVariants.{Insert as ToInsert, Scan as ToScan, Bulk as ToBulk, Cleanup as ToCleanup}
+use Rattle.schedule.specs.TheoremMoments.{Snapshot, IsRunningCall}
+use Rattle.schedule.specs.TheoremRuns.{Fits}
+use Rattle.session_calls.specs.Slots.{slot_of}
+use Rattle.schedule.specs.Snapshots.{here_at}
+use Rattle.schedule.proofs.Keeping.{Laws}
+use Rattle.whole_calls.specs.Refusing.{where_asked, is_full_vacuum}
+use Rattle.whole_calls.specs.Stepping.{Lasts, FinishGoes, BeginGoes, HasRun}
+use Rattle.whole_calls.specs.Sweeping.{Followed, of_sweep, of_cleanup, FollowsFrom, IsCountedAs, CountsThrough}
+use Rattle.whole_calls.specs.Telling.{noted_behind, first_call, TellsEnd}
+use Rattle.whole_calls.proofs.Counting.{tells_on}
+use Rattle.whole_calls.proofs.Filling.{bulk_fills, cleanup_fills}
+use Rattle.whole_calls.proofs.Gone.{gone_runs, same_ask, far_last}
+use Rattle.whole_calls.proofs.Lasting.{lasts_then, later_of, busier_of}
+use Rattle.whole_calls.proofs.Refusing.{AsksToCount, cause_wider, asked_wider, asked_behind}
+use Rattle.whole_calls.proofs.Tellings.{begun_next, begun_free, begun_runs}
+
+-- the one store's pages and log are the other's
+pub record LeavesAll {S : Type 0} (g : Ghosts S) (old new : S) : Type 0 where
+  pub backing : g.backing new ≡ g.backing old
+  pub acts : (g.state new).acts ≡ (g.state old).acts
+  pub frames : (g.state new).frames ≡ (g.state old).frames
+  pub limits : (g.state new).limits ≡ (g.state old).limits
+  pub pages : (g.state new).pages ≡ (g.state old).pages
+
+-- a call that has begun is run to its last answer, and given up
+pub record RunsOut {S : Type 0} (g : Ghosts S) (session least_room : ℕ) (answer : Answer) (added : Option ℕ) (start : Entry → Bool) (old new : Snapshot S) : Type 0 where
+  pub here : Snapshot S
+  pub fits : Fits g start here
+  pub finish : FinishGoes g session least_room answer start old here
+  pub add : added ≡ slot_add (slot_of here.slots session)
+  pub end : TellsEnd session here new
+  pub leaves : LeavesAll g here.store new.store
+
+-- the moments before the call, behind its beginning, behind its last step, and behind its end
+module _ {S : Type 0} (g : Ghosts S) (laws : Laws g) (start : Entry → Bool) (session least_room : ℕ) (request : Request) (answer : Answer) (added : Option ℕ) (x y w : Snapshot S)
+    (begun : BeginGoes g session request (Ok tt) x y) (fits_y : Fits g start y) (first : Lasts g session x y) (out : RunsOut g session least_room answer added start y w) where
+  abbrev z : Snapshot S
+  z = out.here
+
+  abbrev finish : FinishGoes g session least_room answer start y out.here
+  finish = out.finish
+
+  abbrev last : Snapshot S
+  last = finish.last
+
+  abbrev number : ℕ
+  number = length x.calls
+
+  abbrev call : Call
+  call = first_call session request x
+
+  runs : IsRunningCall y.calls session number call
+  runs = begun_runs session request x y z begun.told
+
+  -- what it has counted up to its last step
+  counted : (what : Followed) → FollowsFrom what request (g.state x.store) session → IsCountedAs what y.sets (g.state last.store) (slot_of last.slots session)
+  counted what follows = finish.gone.counted what (begun.counts what follows)
+
+  -- it had room to count more
+  has_room : AreLimits (g.state y.store).limits → AsksToCount (asked_by x.sets request) → is_full_vacuum (slot_of last.slots session) ≡ true → false ≡ true
+  has_room are counts full = of request runs begun.told.history_is counts counted
+    where
+      of : (req : Request) → IsRunningCall y.calls session number (first_call session req x) → y.history ≡ x.history → AsksToCount (asked_by x.sets req)
+          → ((what : Followed) → FollowsFrom what req (g.state x.store) session → IsCountedAs what y.sets (g.state last.store) (slot_of last.slots session)) → false ≡ true
+      of (ToInsert e) is history asks so = absurd asks
+      of (ToScan range) is history asks so = absurd asks
+      of (ToBulk set) is history asks so =
+          bulk_fills g laws start session y fits_y are number (first_call session (ToBulk set) x) (set_at x.sets set) is refl (sym (ap (λ (l : List Action). length l) history)) last finish.fits finish.gone (so of_sweep tt) full
+      of ToCleanup is history asks so = cleanup_fills g laws start session y fits_y are last finish.gone (so of_cleanup tt) full
+
+  -- why it is refused, told from the moment before it
+  caused : AreLimits (g.state y.store).limits → IsCaused (where_asked g session least_room false (asked_by x.sets request) answer (here_at x) z.store) answer
+  caused are =
+      let far = finish.gone.far number call runs in
+      let then_call = noted_behind call (length y.history) far.0 in
+      let then_runs = gone_runs number call far.0 y last last far.1 session runs in
+      let up_to = lasts_then g session x y last first finish.gone.lasts in
+      let behind = later_of g session laws last z finish.lasts in
+      let full = is_full_vacuum (slot_of last.slots session) in
+      let asked : then_call.ask ≡ call.ask = same_ask call (length y.history) far.0 in
+      let came = subst (λ (a : Ask). IsCaused (where_asked g session least_room full a answer (here_at last) z.store) answer) asked (finish.step.caused number then_call then_runs) in
+      cause_wider _ _ (asked_wider g session least_room (here_at x) (here_at last) z.store (later_of g session laws x last up_to) behind.failures (busier_of g session x last up_to) full false call.ask answer (has_room are)) answer came
+
+  pub has_run : AreLimits (g.state y.store).limits → HasRun g session least_room request answer added start x w
+  has_run are = record {
+    here = z;
+    fits = out.fits;
+    free = begun_free session request x y z begun.told g start fits_y;
+    told = begun_next session request x y z begun.told answer (far_last session answer y last z finish.gone.far finish.step.told);
+    add_is = sym out.add;
+    end = out.end;
+    caused = rw (asked_behind g session least_room false (asked_by x.sets request) answer (here_at x) z.store w.store out.leaves.backing out.leaves.acts out.leaves.frames out.leaves.limits out.leaves.pages) (caused are);
+    counts = λ what stats follows is. (
+        let counts : CountsThrough what last.sets (g.state last.store) (g.state z.store) (slot_of last.slots session) (slot_of z.slots session) (Finished stats) =
+        subst (λ (a : Answer). CountsThrough what last.sets (g.state last.store) (g.state z.store) (slot_of last.slots session) (slot_of z.slots session) a) is (finish.step.counts what) in
+        tells_on what (g.state z.store) (g.state w.store) stats out.leaves.pages
+        (counts (subst (λ (sets : DeadSets). IsCountedAs what sets (g.state last.store) (slot_of last.slots session)) (sym finish.gone.sets_are) (counted what follows))));
+  }

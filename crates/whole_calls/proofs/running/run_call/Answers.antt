@@ -1,0 +1,55 @@
+use Rattle.std.specs.Prelude.{map}
+use Rattle.std.proofs.Common.{Some, None, Ok, Err, refl, sym, subst, inl, inr, ◌∙◌}
+use Rattle.index_model.specs.Limits.{AreLimits}
+use Rattle.index_model.specs.declared.limits.Limits.{Limits}
+use Rattle.session_calls.specs.declared.answer.Answer.TheVariants.{Begun, Refused}
+use Rattle.schedule.specs.TheoremMoments.{snapshot_of}
+use Rattle.schedule.specs.Snapshots.{here_with}
+use Rattle.whole_calls.specs.Stepping.{BeginGoes, FinishGoes, RunGoes}
+use Rattle.whole_calls.specs.Telling.{TellsEnd}
+use Rattle.whole_calls.proofs.Composing.{joined, to_first, to_second, goes_told}
+use Rattle.whole_calls.proofs.Whole.{RunsOut, has_run}
+use Rattle.whole_calls.proofs.running.run_call.Goals as goal
+
+pub returns-clause-goes : goal.returns-clause-goes
+returns-clause-goes g c =
+    let laws = g.met.S.PageStore.laws in
+    let session = c.args.session in
+    let least = c.args.least_room in
+    let request = c.args.request in
+    let answer = c.finish-answer.result in
+    let added = c.added-added.result in
+    let sets = map g.T.DeadRows.is_in c.args.sets.now in
+    let old = here_with c.args.store.now c.args.calls.now.slots.items sets in
+    let begun = here_with c.begin.new.store c.begin.new.calls.slots.items sets in
+    let here = here_with c.finish-answer.new.store c.finish-answer.new.calls.slots.items sets in
+    let there = here_with c.give_up.new.store c.give_up.new.calls.slots.items sets in
+    let are = subst (λ (l : Limits). AreLimits l) (c.limits-limits.ensures.value ∙ sym c.begin.ensures.limits) c.limits-limits.ensures.allowed in
+    let end = c.give_up.ensures in
+    let out = joined g.S.PageStore laws session (FinishGoes g.S.PageStore session least answer) (λ s. TellsEnd session) (RunsOut g.S.PageStore session least answer added) (Some answer) None (Some answer) begun here there
+    c.finish-answer.ensures.steps end.steps (to_first (Some answer) None)
+    (λ start h hc k kc l lc fx fy fz one two. record {
+      here = snapshot_of here k kc;
+      fits = fy;
+      finish = one;
+      add = c.added-added.ensures;
+      end = two;
+      leaves = record { backing = end.backing; acts = end.acts; frames = end.frames; limits = end.limits; pages = end.pages };
+    }) c.finish-answer.ensures.goes end.goes in
+    joined g.S.PageStore laws session (λ s. BeginGoes g.S.PageStore session request (Ok tt)) (RunsOut g.S.PageStore session least answer added) (RunGoes g.S.PageStore session least request answer added) (Some Begun) (Some answer) (Some answer) old begun there
+    c.begin.ensures.steps (λ f h. end.steps f (c.finish-answer.ensures.steps f h)) (to_second (Some Begun) (Some answer))
+    (λ start h hc k kc l lc fx fy fz one two. inr (has_run g.S.PageStore laws start session least request answer added (snapshot_of old h hc) (snapshot_of begun k kc) (snapshot_of there l lc) one fy
+    (record { steps = c.begin.ensures.steps; others = c.begin.ensures.others.others }) two are))
+    (rw c.in-Ok.is at c.begin.ensures.goes) out
+
+pub returns-in-Err-clause-goes : goal.returns-in-Err-clause-goes
+returns-in-Err-clause-goes g c =
+    let session = c.args.session in
+    let request = c.args.request in
+    let fault = c.in-Err.fault in
+    let sets = map g.T.DeadRows.is_in c.args.sets.now in
+    let old = here_with c.args.store.now c.args.calls.now.slots.items sets in
+    let new = here_with c.begin.new.store c.begin.new.calls.slots.items sets in
+    goes_told g.S.PageStore session (λ s. BeginGoes g.S.PageStore session request (Err fault)) (RunGoes g.S.PageStore session c.args.least_room request (Refused fault) None) (Some (Refused fault)) (Some (Refused fault)) old new
+    (λ start h hc k kc answers fits came begun. (came, inl (record { fault = fault; refused = refl; none = refl; told = begun.told; cause = c.in-Err.ensures.cause })))
+    (rw c.in-Err.is at c.begin.ensures.goes)

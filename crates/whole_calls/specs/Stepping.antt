@@ -1,0 +1,104 @@
+-- A call that is begun, stepped and given up: what is told of it, why it is refused, and what is counted, by the moment before and the one
+-- behind.
+use Rattle.std.specs.Prelude.{◌≡◌, ◌⊎◌, ℕ, Bool, false, Option, None, Result, Ok, slice_get}
+use Rattle.index_model.specs.Faults.{HasCause}
+use Rattle.index_model.specs.declared.entry.Entry.{Entry}
+use Rattle.index_model.specs.declared.fault.Fault.{Fault}
+use Rattle.index_model.specs.declared.stats.VacuumStats.{VacuumStats}
+use Rattle.page_action.specs.States.{Continues}
+use Rattle.page_action.specs.declared.page_store.PageStore.{Ghosts}
+use Rattle.session_calls.specs.TheoremCalls.{asked_by}
+use Rattle.session_calls.specs.Ops.{IsCaused}
+use Rattle.session_calls.specs.Sessions.{slot_add}
+use Rattle.session_calls.specs.declared.answer.Answer.{Answer}
+use Rattle.session_calls.specs.declared.answer.Answer.TheVariants.{Finished, Refused}
+use Rattle.session_calls.specs.declared.request.Request.{Request}
+use Rattle.schedule.specs.TheoremMoments.{Snapshot}
+use Rattle.schedule.specs.TheoremRuns.{Fits}
+use Rattle.session_calls.specs.Slots.{slot_of, one_vacuums}
+use Rattle.schedule.specs.Snapshots.{here_at}
+use Rattle.schedule.specs.Events.{OthersStay, where_begun_at}
+use Rattle.whole_calls.specs.Giving.{TellsScan, ScanStays}
+use Rattle.whole_calls.specs.Refusing.{where_asked, is_full_vacuum, CallIsCaused, ScanIsCaused}
+use Rattle.whole_calls.specs.Spending.{TakesFewer}
+use Rattle.whole_calls.specs.Sweeping.{Followed, IsCountedAs, TellsAs, CountsThrough, BeginsToCount, FollowsFrom}
+use Rattle.whole_calls.specs.Telling.{IsSilent, TellsStep, HasGoneFar, HasNone, BeginTold, NextTold, NothingTold, TellsEnd}
+
+-- the room for an act is made, or not: nothing is told, and neither pages nor slots are changed
+pub record RoomTold {S : Type 0} (g : Ghosts S) (old new : Snapshot S) : Type 0 where
+  pub silent : IsSilent old new
+  pub state_is : g.state new.store ≡ g.state old.store
+  pub slots_are : new.slots ≡ old.slots
+  pub sets_are : new.sets ≡ old.sets
+
+-- the one store comes behind the other, and what other sessions run is as it was
+pub record Lasts {S : Type 0} (g : Ghosts S) (session : ℕ) (old new : Snapshot S) : Type 0 where
+  pub steps : Continues g.follows old.store new.store
+  pub others : OthersStay session old.slots new.slots
+
+-- What a step of the session's call tells, or the refusal of the room for it; why it is refused; what is counted on; and that fewer
+-- steps are left where it goes on.
+pub record StepGoes {S : Type 0} (g : Ghosts S) (session least_room : ℕ) (answer : Answer) (old new : Snapshot S) : Type 0 where
+  pub told : TellsStep session answer old new
+  pub caused : CallIsCaused g session least_room (is_full_vacuum (slot_of old.slots session)) answer old new
+  pub counts : (what : Followed) → CountsThrough what old.sets (g.state old.store) (g.state new.store) (slot_of old.slots session) (slot_of new.slots session) answer
+  pub fewer : TakesFewer (g.state old.store) (g.state new.store) (slot_of old.slots session) (slot_of new.slots session) answer
+
+-- the session's call has gone on so far, and has counted on
+pub record HasGoneTo {S : Type 0} (g : Ghosts S) (session : ℕ) (old new : Snapshot S) : Type 0 where
+  pub lasts : Lasts g session old new
+  pub sets_are : new.sets ≡ old.sets
+  pub limits_are : (g.state new.store).limits ≡ (g.state old.store).limits
+  pub far : HasGoneFar session old new
+  pub counted : (what : Followed) → IsCountedAs what old.sets (g.state old.store) (slot_of old.slots session) → IsCountedAs what old.sets (g.state new.store) (slot_of new.slots session)
+
+-- steps that went on, up to a moment that fits, and the last one
+pub record FinishGoes {S : Type 0} (g : Ghosts S) (session least_room : ℕ) (answer : Answer) (start : Entry → Bool) (old new : Snapshot S) : Type 0 where
+  pub last : Snapshot S
+  pub fits : Fits g start last
+  pub gone : HasGoneTo g session old last
+  pub lasts : Lasts g session last new
+  pub step : StepGoes g session least_room answer last new
+
+-- a call is begun, or nothing is told; and what a vacuum follows that has begun
+pub record BeginGoes {S : Type 0} (g : Ghosts S) (session : ℕ) (request : Request) (result : Result (Unit {0}) Fault) (old new : Snapshot S) : Type 0 where
+  pub told : BeginTold session request result old new
+  pub counts : (what : Followed) → FollowsFrom what request (g.state old.store) session → BeginsToCount what new.sets (g.state new.store) (slot_of new.slots session) result
+
+-- the call was not begun
+pub record NotRun {S : Type 0} (g : Ghosts S) (session : ℕ) (request : Request) (answer : Answer) (added : Option ℕ) (old new : Snapshot S) : Type 0 where
+  pub fault : Fault
+  pub refused : answer ≡ Refused fault
+  pub none : added ≡ None
+  pub told : NothingTold fault old new
+  pub cause : HasCause (where_begun_at g old.store (one_vacuums old.slots) old.sets request (slice_get old.slots session)) fault
+
+-- the call was begun in a session with none, came to this answer, and was given up, so far as it still ran: its Add was this then; why
+-- it was refused, and what is counted at its end
+pub record HasRun {S : Type 0} (g : Ghosts S) (session least_room : ℕ) (request : Request) (answer : Answer) (added : Option ℕ) (start : Entry → Bool) (old new : Snapshot S) : Type 0 where
+  pub here : Snapshot S
+  pub fits : Fits g start here
+  pub free : HasNone session old
+  pub told : NextTold session request answer old here
+  pub add_is : slot_add (slot_of here.slots session) ≡ added
+  pub end : TellsEnd session here new
+  pub caused : IsCaused (where_asked g session least_room false (asked_by old.sets request) answer (here_at old) new.store) answer
+  pub counts : (what : Followed) (stats : VacuumStats) → FollowsFrom what request (g.state old.store) session → answer ≡ Finished stats → TellsAs what (g.state new.store) (Ok stats)
+
+-- the one or the other
+abbrev pub RunGoes : {S : Type 0} → Ghosts S → ℕ → ℕ → Request → Answer → Option ℕ → (Entry → Bool) → Snapshot S → Snapshot S → Type 0
+RunGoes g session least_room request answer added start old new =
+    NotRun g session request answer added old new ⊎ HasRun g session least_room request answer added start old new
+
+-- nothing is told of the session's scan so far
+pub record ScanWaits {S : Type 0} (g : Ghosts S) (session : ℕ) (old new : Snapshot S) : Type 0 where
+  pub lasts : Lasts g session old new
+  pub stays : ScanStays session old new
+
+-- behind steps of the session's scan that told nothing, one with this answer, and why it is refused
+pub record ScanGoes {S : Type 0} (g : Ghosts S) (session least_room : ℕ) (answer : Answer) (old new : Snapshot S) : Type 0 where
+  pub last : Snapshot S
+  pub waits : ScanWaits g session old last
+  pub lasts : Lasts g session last new
+  pub told : TellsScan session answer last new
+  pub caused : ScanIsCaused g session least_room answer last new
