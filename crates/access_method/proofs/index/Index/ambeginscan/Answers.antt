@@ -6,6 +6,7 @@ use Rattle.access_method.proofs.index.Index.ambeginscan.Goals as goal
 
 pub invariant_of-self-2 : goal.invariant_of-self-2
 invariant_of-self-2 g c = record {
+  sessions = c.open.ensures.others.sessions ∙ c.args.self.now.sessions;
   agree = agree_taken c.args.self.now.calls.slots.items c.open.new.calls.slots.items c.args.self.now.seats c.in-Some.at c.args.self.now.agree (search rules) c.open.ensures.others.others (record { number = c.args.self.now.given; is_refused = false }) c.in-Some.ensures.low;
   none_vacuums = calm_still c.args.self.now.calls.slots.items c.open.new.calls.slots.items c.in-Some.at c.args.self.now.none_vacuums c.open.ensures.others.others (ap slot_vacuums (rw c.in_ok-open.was at c.open.ensures.begins));
 }

@@ -62,6 +62,7 @@ returns-in-Ok-clause-answers g c honest start history calls fits =
 
 pub invariant_of-self-in-Err : goal.invariant_of-self-in-Err
 invariant_of-self-in-Err g c = record {
+  sessions = c.give.ensures.others.sessions ∙ c.args.self.now.sessions;
   agree = agree_over c.args.self.now.calls.slots.items c.give.new.calls.slots.items c.args.self.now.seats c.args.token.session c.args.self.now.agree c.in-Some.ensures.low c.give.ensures.others.others
       (Some (record { number = c.args.token.number; is_refused = true })) c.in-Err.ensures.over;
   none_vacuums = calm_on c.args.self.now.calls.slots.items c.give.new.calls.slots.items c.args.token.session c.args.self.now.none_vacuums c.give.ensures.others.others c.give.ensures.runs_on;

@@ -1,14 +1,21 @@
-use Rattle.std.proofs.Common.{refl, ap, []}
+use Rattle.std.proofs.Common.{Option, List, [], length, refl, ap}
 use Rattle.session_calls.specs.Slots.{slot_vacuums}
+use Rattle.session_calls.specs.declared.op.Op.{Op}
 use Rattle.schedule.proofs.Unused.{empty_at, unused_fits}
 use Rattle.access_method.proofs.Seats.{closed_at}
 use Rattle.access_method.proofs.index.Index.new.Goals as goal
 
 pub invariant_of-result : goal.invariant_of-result
-invariant_of-result g c = record { agree = record { inserts = empty_at 64 63 c.empty_slots.result c.empty_slots.ensures; free = λ session h. empty_at 64 session c.empty_slots.result c.empty_slots.ensures }; none_vacuums = λ session. ap slot_vacuums (empty_at 64 session c.empty_slots.result c.empty_slots.ensures) }
+invariant_of-result g c =
+    let slots = c.in-Ok.calls.slots.items in
+    record {
+      sessions = ap (λ (l : List (Option Op)). length l) c.in-Ok.ensures.slots;
+      agree = record { inserts = empty_at 64 63 slots c.in-Ok.ensures.slots; free = λ session h. empty_at 64 session slots c.in-Ok.ensures.slots };
+      none_vacuums = λ session. ap slot_vacuums (empty_at 64 session slots c.in-Ok.ensures.slots);
+    }
 
-pub returns-clause-fits : goal.returns-clause-fits
-returns-clause-fits g c unused = unused_fits g.S.PageStore c.args.store c.empty_slots.result [] 64 c.empty_slots.ensures unused
+pub returns-in-Ok-clause-fits : goal.returns-in-Ok-clause-fits
+returns-in-Ok-clause-fits g c unused = unused_fits g.S.PageStore c.args.store c.in-Ok.calls.slots.items [] 64 c.in-Ok.ensures.slots unused
 
-pub returns-clause-closed : goal.returns-clause-closed
-returns-clause-closed g c token = closed_at 63 token.session token.number _ refl
+pub returns-in-Ok-clause-closed : goal.returns-in-Ok-clause-closed
+returns-in-Ok-clause-closed g c token = closed_at 63 token.session token.number _ refl
