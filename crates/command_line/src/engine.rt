@@ -108,8 +108,8 @@ impl Engine {
     pub fn run(&mut self, session: u32) -> Answer
         ensures goes { WorldCarries ⟦<Store<MemDevice> as PageStore>⟧ ⟦<DeadList as DeadRows>⟧
             self.old.world self.new.world
-            (IsStepped ⟦<Store<MemDevice> as PageStore>⟧ ⟦<DeadList as DeadRows>⟧ [] [] session result
-            self.old.world self.new.world) }
+            (IsStepped ⟦<Store<MemDevice> as PageStore>⟧ ⟦<DeadList as DeadRows>⟧
+            [] [] session result self.old.world self.new.world) }
         ensures over { result ≢ Answer.Going }
     {
         run_call(&mut self.world, session)
@@ -119,8 +119,8 @@ impl Engine {
     pub fn put(&mut self, session: u32, entry: &Entry) -> Answer
         ensures goes { WorldCarries ⟦<Store<MemDevice> as PageStore>⟧ ⟦<DeadList as DeadRows>⟧
             self.old.world self.new.world
-            (IsPut ⟦<Store<MemDevice> as PageStore>⟧ ⟦<DeadList as DeadRows>⟧ session entry.now result
-            self.old.world self.new.world) }
+            (IsPut ⟦<Store<MemDevice> as PageStore>⟧ ⟦<DeadList as DeadRows>⟧
+            session entry.now result self.old.world self.new.world) }
         ensures over { result ≢ Answer.Going }
     {
         run_insert(&mut self.world, session, *entry)
