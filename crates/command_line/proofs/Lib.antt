@@ -8,3 +8,4 @@ pub mod Fresh
 pub mod Opened
 pub mod Printed
 pub mod Listed
+pub mod Stepped

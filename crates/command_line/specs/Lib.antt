@@ -10,3 +10,4 @@ pub mod Dumping
 pub mod Listing
 pub mod Ends
 pub mod CommandLine
+pub mod Stepping

@@ -1,6 +1,6 @@
 //! The index that a script is run over: a device in memory, and the sessions of a world.
 
-ghost use Rattle.std.specs.Prelude.{◌≡◌, ◌≢◌, ◌∷◌, [], true, Bool, List, Ok, IfOk, OnOk, OnErr};
+ghost use Rattle.std.specs.Prelude.{◌≡◌, ◌≢◌, ◌∷◌, [], true, Bool, List, IfOk, OnOk, OnErr};
 ghost use Rattle.device.specs.Memory.{trace_of, plan_of, left_by};
 ghost use Rattle.device.specs.Plans.{failing_at, stopping_at};
 ghost use Rattle.index_model.specs.Actions.{Action};
@@ -12,13 +12,13 @@ ghost use Rattle.page_store.specs.Logged.{backing_of};
 ghost use Rattle.page_store.specs.Stores.{state_of, held_by, device_of};
 ghost use Rattle.recovery.specs.Index.{HasIndex};
 ghost use Rattle.tree_acts.specs.TheoremTree.{IsTree};
-ghost use Rattle.session_calls.specs.declared.request.Request.TheVariants.{Insert as ToInsert};
-ghost use Rattle.whole_calls.specs.Telling.{TellsStep, HasCome, step_came};
 ghost use Rattle.world.specs.Reopening.{BeginsWith, BeginsEmpty, BeginsAfterFirstPart};
-ghost use Rattle.world.specs.Worlds.{WorldFits, WorldKeeps, WorldCarries, WorldRuns, WorldGoes};
+ghost use Rattle.world.specs.Worlds.{WorldFits, WorldKeeps, WorldCarries, WorldRuns};
 ghost use Rattle.command_line.specs.Settings.{IsSetting};
+ghost use Rattle.command_line.specs.Stepping.{IsPut, IsStepped};
 
 use crate::dead::DeadList;
+use crate::stepping::{next_or_step, run_call, run_insert};
 use device::{CrashImage, Device, MemDevice};
 use device_layout::needed_len;
 use index_model::{DeadRows, Entry, Fault, Limits, Range};
@@ -105,22 +105,25 @@ impl Engine {
     }
 
     /// Steps of a session's call until one doesn't answer `Going`, and that answer. No checkpoint is made for them.
-    pub fn run(&mut self, session: u32) -> Result<Answer, Fault>
-        ensures goes { WorldGoes ⟦<Store<MemDevice> as PageStore>⟧ ⟦<DeadList as DeadRows>⟧ session
-            (TellsStep session result) (step_came result) self.old.world self.new.world }
-        ensures over { result ≢ Ok Answer.Going }
+    pub fn run(&mut self, session: u32) -> Answer
+        ensures goes { WorldCarries ⟦<Store<MemDevice> as PageStore>⟧ ⟦<DeadList as DeadRows>⟧
+            self.old.world self.new.world
+            (IsStepped ⟦<Store<MemDevice> as PageStore>⟧ ⟦<DeadList as DeadRows>⟧
+            [] [] session result self.old.world self.new.world) }
+        ensures over { result ≢ Answer.Going }
     {
-        self.world.finish(session, 0)
+        run_call(&mut self.world, session)
     }
 
     /// An insert, run until a step doesn't answer `Going`, and that answer.
-    pub fn put(&mut self, session: u32, entry: &Entry) -> Result<Answer, Fault>
-        ensures goes { WorldGoes ⟦<Store<MemDevice> as PageStore>⟧ ⟦<DeadList as DeadRows>⟧ session
-            (HasCome session (ToInsert entry.now) result) (step_came result)
-            self.old.world self.new.world }
-        ensures over { result ≢ Ok Answer.Going }
+    pub fn put(&mut self, session: u32, entry: &Entry) -> Answer
+        ensures goes { WorldCarries ⟦<Store<MemDevice> as PageStore>⟧ ⟦<DeadList as DeadRows>⟧
+            self.old.world self.new.world
+            (IsPut ⟦<Store<MemDevice> as PageStore>⟧ ⟦<DeadList as DeadRows>⟧
+            session entry.now result self.old.world self.new.world) }
+        ensures over { result ≢ Answer.Going }
     {
-        self.world.put(session, *entry, 0)
+        run_insert(&mut self.world, session, *entry)
     }
 
     /// A scan, run to its end: hands over each entry of the range in order, and answers their number. A scan that is
@@ -142,14 +145,19 @@ impl Engine {
     /// Runs a session's scan to its end, handing over what it gives, and answers how many entries.
     fn give_all<S: Sink>(&mut self, session: u32, sink: &mut S) -> io::Result<Result<u64, Fault>> {
         let mut count = 0u64;
-        loop {
-            match self.world.give(session, 0) {
-                Ok(Some(entry)) => sink.entry(&entry)?,
-                Ok(None) => return Ok(Ok(count)),
-                Err(fault) => return Ok(Err(fault)),
+        // Over a device that keeps its model this many events are never made.
+        for _ in 0..u64::MAX {
+            match next_or_step(&mut self.world, session) {
+                Answer::Going | Answer::Ready(_) => {}
+                Answer::Gave(Some(entry)) => {
+                    sink.entry(&entry)?;
+                    count = count.saturating_add(1);
+                }
+                Answer::Refused(fault) => return Ok(Err(fault)),
+                _ => return Ok(Ok(count)),
             }
-            count = count.saturating_add(1);
         }
+        Ok(Err(Fault::PageDamaged(0)))
     }
 
     /// Hands over each used page, lowest block first.

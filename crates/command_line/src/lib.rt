@@ -18,6 +18,7 @@ mod number;
 mod play;
 mod refusal;
 mod show;
+mod stepping;
 mod streams;
 mod words;
 

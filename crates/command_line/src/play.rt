@@ -14,7 +14,6 @@ use device::CrashImage;
 use index_model::{Entry, Fault, Range};
 use page_codec::Page;
 use schedule::Event;
-use session_calls::Answer;
 use std::alloc::{AllocError, Global};
 use std::io::{self, Read, Write};
 
@@ -172,8 +171,8 @@ fn play_event<W: Write>(
     }
     match line {
         Line::Nothing => {}
-        Line::Run(session) => print_outcome(out, engine.run(*session))?,
-        Line::Put(session, entry) => print_outcome(out, engine.put(*session, entry))?,
+        Line::Run(session) => print_answer(out, &engine.run(*session))?,
+        Line::Put(session, entry) => print_answer(out, &engine.put(*session, entry))?,
         Line::List(session, range) => play_list(engine, *session, range, out)?,
         Line::Dump => play_dump(engine, out)?,
         Line::Fail(n) => {
@@ -248,13 +247,6 @@ fn play_list<W: Write>(
 ) -> io::Result<()> {
     match engine.list(session, range, &mut Printer { out })? {
         Ok(count) => writeln!(out, "done {count}"),
-        Err(fault) => print_refused(out, fault),
-    }
-}
-
-fn print_outcome<W: Write>(out: &mut W, outcome: Result<Answer, Fault>) -> io::Result<()> {
-    match outcome {
-        Ok(answer) => print_answer(out, &answer),
         Err(fault) => print_refused(out, fault),
     }
 }

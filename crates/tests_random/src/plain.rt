@@ -13,6 +13,9 @@ use session_calls::Answer;
 use std::alloc::Global;
 use world::{NotOpened, World};
 
+/// More steps than an insert makes.
+const LIMIT: u32 = 1_000_000;
+
 /// A device of so many zeros.
 pub fn device(alloc: Global, len: u64) -> Result<MemDevice, Fault> {
     MemDevice::new(alloc, len)
@@ -99,13 +102,37 @@ pub fn one<S: PageStore>(world: &mut World<S, Blocks>, event: Event) -> Answer {
     world.one(event)
 }
 
+/// A step of a session's call; where there is room for fewer images, behind a checkpoint.
+fn step<S: PageStore>(
+    world: &mut World<S, Blocks>,
+    session: u32,
+    least_room: u32,
+) -> Result<Answer, Fault> {
+    if world.room() < least_room
+        && let Answer::Refused(fault) = world.one(Event::Checkpoint)
+    {
+        return Err(fault);
+    }
+    Ok(world.one(Event::Step(session)))
+}
+
+/// An insert, stepped until a step doesn't answer `Going`, and that answer.
 pub fn put<S: PageStore>(
     world: &mut World<S, Blocks>,
     session: u32,
     entry: Entry,
     least_room: u32,
 ) -> Result<Answer, Fault> {
-    world.put(session, entry, least_room)
+    if let Answer::Refused(fault) = world.one(Event::Insert(session, entry)) {
+        return Err(fault);
+    }
+    for _ in 0..LIMIT {
+        match step(world, session, least_room)? {
+            Answer::Going => {}
+            answer => return Ok(answer),
+        }
+    }
+    Err(Fault::PageDamaged(0))
 }
 
 /// The page of a block of a world.

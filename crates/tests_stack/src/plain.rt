@@ -13,6 +13,9 @@ use session_calls::Answer;
 use std::alloc::Global;
 use world::{NotOpened, World};
 
+/// More steps than any call of a test makes.
+const LIMIT: u32 = 1_000_000;
+
 /// A device of so many zeros.
 pub fn device(alloc: Global, len: u64) -> Result<MemDevice, Fault> {
     MemDevice::new(alloc, len)
@@ -129,29 +132,98 @@ pub fn run<S: PageStore, T: DeadRows + Drop>(
     world.run(events, answers)
 }
 
+/// Room for so many images: where there is less, a checkpoint.
+fn make_room<S: PageStore, T: DeadRows + Drop>(
+    world: &mut World<S, T>,
+    least_room: u32,
+) -> Result<(), Fault> {
+    if world.room() >= least_room {
+        return Ok(());
+    }
+    match world.one(Event::Checkpoint) {
+        Answer::Refused(fault) => Err(fault),
+        _ => Ok(()),
+    }
+}
+
+/// A step of a session's call, for which there is room.
+fn step<S: PageStore, T: DeadRows + Drop>(
+    world: &mut World<S, T>,
+    session: u32,
+    least_room: u32,
+) -> Result<Answer, Fault> {
+    make_room(world, least_room)?;
+    Ok(world.one(Event::Step(session)))
+}
+
+/// Steps of a session's call until one doesn't answer `Going`, and that answer.
+pub fn finish<S: PageStore, T: DeadRows + Drop>(
+    world: &mut World<S, T>,
+    session: u32,
+    least_room: u32,
+) -> Result<Answer, Fault> {
+    for _ in 0..LIMIT {
+        match step(world, session, least_room)? {
+            Answer::Going => {}
+            answer => return Ok(answer),
+        }
+    }
+    Err(Fault::PageDamaged(0))
+}
+
+/// An insert, stepped until a step doesn't answer `Going`, and that answer.
 pub fn put<S: PageStore, T: DeadRows + Drop>(
     world: &mut World<S, T>,
     session: u32,
     entry: Entry,
     least_room: u32,
 ) -> Result<Answer, Fault> {
-    world.put(session, entry, least_room)
+    match world.one(Event::Insert(session, entry)) {
+        Answer::Refused(fault) => Err(fault),
+        _ => finish(world, session, least_room),
+    }
 }
 
-pub fn finish<S: PageStore, T: DeadRows + Drop>(
+/// The next entry that a session's scan has ready; where none is, a step of it.
+fn advance<S: PageStore, T: DeadRows + Drop>(
     world: &mut World<S, T>,
     session: u32,
     least_room: u32,
 ) -> Result<Answer, Fault> {
-    world.finish(session, least_room)
+    match world.one(Event::Next(session)) {
+        Answer::Gave(None) => step(world, session, least_room),
+        answer => Ok(answer),
+    }
 }
 
+/// The next entry of a session's scan, or None at its end.
+fn seek<S: PageStore, T: DeadRows + Drop>(
+    world: &mut World<S, T>,
+    session: u32,
+    least_room: u32,
+) -> Result<Option<Entry>, Fault> {
+    for _ in 0..LIMIT {
+        match advance(world, session, least_room)? {
+            Answer::Going | Answer::Ready(_) => {}
+            Answer::Gave(given) => return Ok(given),
+            Answer::Refused(fault) => return Err(fault),
+            _ => return Ok(None),
+        }
+    }
+    Err(Fault::PageDamaged(0))
+}
+
+/// The next entry of a session's scan, or None at its end. The scan is given up then, and where it is refused.
 pub fn give<S: PageStore, T: DeadRows + Drop>(
     world: &mut World<S, T>,
     session: u32,
     least_room: u32,
 ) -> Result<Option<Entry>, Fault> {
-    world.give(session, least_room)
+    let given = seek(world, session, least_room);
+    if !matches!(given, Ok(Some(_))) {
+        world.abandon(session);
+    }
+    given
 }
 
 /// The page of a block of a world.

@@ -23,6 +23,9 @@ const LIMITS: Limits = Limits {
     log_bytes: 65_536,
 };
 
+/// More steps than an insert makes.
+const STEPS: u32 = 1_000_000;
+
 /// A device in memory with an empty index.
 pub fn made(alloc: Global) -> Result<MemDevice, Fault> {
     let mut device = MemDevice::new(alloc, 331_776)?;
@@ -48,10 +51,15 @@ pub fn store(alloc: Global, device: MemDevice) -> Result<Store<MemDevice>, Fault
 
 /// An insert that is run to its end.
 pub fn put(world: &mut Memory, entry: Entry) -> Result<(), Fault> {
-    match world.put(0, entry, 0)? {
-        Answer::Refused(fault) => Err(fault),
-        _ => Ok(()),
+    one(world, Event::Insert(0, entry))?;
+    for _ in 0..STEPS {
+        match world.one(Event::Step(0)) {
+            Answer::Going => {}
+            Answer::Refused(fault) => return Err(fault),
+            _ => return Ok(()),
+        }
     }
+    Err(Fault::PageDamaged(0))
 }
 
 pub fn one(world: &mut Memory, event: Event) -> Result<(), Fault> {

@@ -1,0 +1,19 @@
+use Rattle.std.proofs.Common.{◌≡◌}
+use Rattle.page_action.specs.States.{Continues}
+use Rattle.world.specs.Worlds.{WorldCarries}
+use Rattle.command_line.proofs.Stepped.{HasGone, IsWithin}
+use Rattle.command_line.proofs.stepping.run_call.Given as goal
+
+abbrev pub invariant-loop-left : goal.invariant-loop-left
+invariant-loop-left g l =
+    let store = g.S.PageStore in
+    let rows = g.T.DeadRows in
+    record {
+      steps : Continues store.follows l.fn.world.store l.world.store;
+      limits : (store.state l.world.store).limits ≡ (store.state l.fn.world.store).limits;
+      gone : WorldCarries store rows l.fn.world l.world (HasGone store rows l.session l.fn.world l.world);
+      within : WorldCarries store rows l.fn.world l.world (λ start history calls. IsWithin store rows l.session l.left l.fn.world l.world);
+    }
+
+abbrev pub decreases-loop-left : goal.decreases-loop-left
+decreases-loop-left g l = l.left
