@@ -1,6 +1,6 @@
 -- Steps of a session's call, one behind the other.
 use Rattle.std.specs.Prelude.{replicate}
-use Rattle.std.proofs.Common.{◌≡◌, ◌≢◌, ◌⊎◌, ℕ, ◌+◌, ◌≤◌, Bool, Ok, List, [], ◌∷◌, ◌++◌, refl, ap, inl, inr, subst, arith}
+use Rattle.std.proofs.Common.{◌≡◌, ◌≢◌, ◌⊎◌, ℕ, ◌+◌, ◌≤◌, Bool, List, [], ◌∷◌, ◌++◌, refl, inl, inr, subst, arith}
 use Rattle.std.proofs.lemmas.List.{replicate-append-replicate}
 use Rattle.index_model.specs.Actions.{Action}
 use Rattle.index_model.specs.Calls.{Call}
@@ -10,16 +10,21 @@ use Rattle.index_model.specs.declared.fault.Fault.{Fault}
 use Rattle.page_action.specs.States.{Continues}
 use Rattle.page_action.specs.declared.page_store.PageStore.{Ghosts}
 use Rattle.schedule.specs.Events.{AnswersBeginning}
-use Rattle.schedule.specs.Snapshots.{slot_of}
+use Rattle.schedule.specs.Making.{EventDoes}
+use Rattle.schedule.specs.TheoremKinds.{kind_of}
+use Rattle.schedule.specs.TheoremMoments.{StoreAndSlots, Snapshot, snapshot_of}
+use Rattle.schedule.specs.TheoremRuns.{EventGoes, Runs}
 use Rattle.schedule.specs.declared.event.Event.{Event}
 use Rattle.schedule.specs.declared.event.Event.TheVariants.{Insert, Step}
+use Rattle.schedule.proofs.Fitting.{goes_does}
 use Rattle.schedule.proofs.Joining.{ran_then}
 use Rattle.schedule.proofs.Keeping.{Laws}
 use Rattle.schedule.proofs.Running.{none_ran}
+use Rattle.session_calls.specs.Slots.{slot_of}
 use Rattle.session_calls.specs.declared.answer.Answer.{Answer}
 use Rattle.session_calls.specs.declared.answer.Answer.TheVariants.{Begun, Going, Added, Ready, Done, Finished, Gave, Ended, Forced, Flushed, Checkpointed, Refused}
 use Rattle.whole_calls.specs.Spending.{steps_left}
-use Rattle.whole_calls.proofs.Spending.{steps_few, run_fewer}
+use Rattle.whole_calls.proofs.Spending.{steps_few, takes_fewer}
 use Rattle.world.specs.Worlds.{WorldCarries, WorldRuns, inside, snapshot_in}
 use Rattle.world.specs.declared.world.World.{World}
 use Rattle.command_line.specs.Stepping.{steps_of, answers_to, IsStepped, IsPut}
@@ -39,6 +44,12 @@ begun_or_refused (Flushed block) may = absurd may
 begun_or_refused (Checkpointed count) may = absurd may
 begun_or_refused (Refused fault) may = inr (fault, refl)
 
+-- what the one event of a run does
+event_of : {S : Type 0} (g : Ghosts S) (event : Event) (answer : Answer) (a b : StoreAndSlots S) (start : Entry → Bool) (history : List Action) (calls : List Call) → (r : Runs g a b (event ∷ []) (answer ∷ []) start history calls)
+    → EventDoes g start (kind_of event) answer (snapshot_of a history calls) (snapshot_of b r.then_history r.then_calls)
+event_of {S} g event answer a b start history calls r =
+    goes_does (subst (λ (m : Snapshot S). EventGoes g start event answer (snapshot_of a history calls) m) r.ran.run.1.2 r.ran.run.1.1)
+
 -- the session's call has gone on, by so many steps
 pub record HasGone {S T : Type 0} (g : Ghosts S) (rows : SetGhosts T) (session : ℕ) (old new : World S T) (start : Entry → Bool) (history : List Action) (calls : List Call) : Type 0 where
   pub count : ℕ
@@ -47,7 +58,7 @@ pub record HasGone {S T : Type 0} (g : Ghosts S) (rows : SetGhosts T) (session :
 -- as many steps as may still be made, of 2^64 - 1, and those that are left for the call, are no fewer than were left at first
 abbrev pub IsWithin : {S T : Type 0} → Ghosts S → SetGhosts T → ℕ → ℕ → World S T → World S T → Type 0
 IsWithin g rows session left old new =
-    18446744073709551615 + steps_left (g.state new.store) (slot_of new.slots.items session) ≤ left + steps_left (g.state old.store) (slot_of old.slots.items session)
+    18446744073709551615 + steps_left (g.state new.store) (slot_of new.calls.slots.items session) ≤ left + steps_left (g.state old.store) (slot_of old.calls.slots.items session)
 
 module _ {S T : Type 0} (g : Ghosts S) (laws : Laws g) (rows : SetGhosts T) where
   -- a run behind a run
@@ -97,7 +108,9 @@ module _ {S T : Type 0} (g : Ghosts S) (laws : Laws g) (rows : SetGhosts T) wher
           let later = laws.follows_later b.store c.store (next b.store (laws.follows_same b.store)) in
           let most = within (later.honest honest) start history calls fits in
           let r = gone (later.honest honest) start history calls fits in
-          let fewer = run_fewer g session answer (inside rows b) (inside rows c) one honest start r.runs.then_history r.runs.then_calls r.runs.ran.fits low (ap (λ (x : Answer). Ok x) going) in
+          let t = one honest start r.runs.then_history r.runs.then_calls r.runs.ran.fits in
+          let does = event_of g (Step session) answer (inside rows b) (inside rows c) start r.runs.then_history r.runs.then_calls t in
+          let fewer = takes_fewer g start session answer (snapshot_in rows b r.runs.then_history r.runs.then_calls) (snapshot_in rows c t.then_history t.then_calls) honest r.runs.ran.fits does low going in
           omega (arith, most, fewer)
 
     -- so the steps that may be made are never used up
