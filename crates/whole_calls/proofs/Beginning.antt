@@ -1,32 +1,14 @@
 -- Beginnings as runs of one event.
 use Rattle.std.proofs.Common.{◌≡◌, ℕ, Bool, Option, Some, None, List, [], ◌∷◌, slice_get, refl, sym, subst, inl, inr}
-use Rattle.std.specs.Prelude.{IfErr, OnOk, OnErr}
-use Rattle.index_model.specs.Faults.{Circumstances, HasCause}
-use Rattle.index_model.specs.declared.entry.Entry.{Entry}
-use Rattle.index_model.specs.declared.fault.Fault.{Fault}
-use Rattle.page_action.specs.States.{State}
-use Rattle.page_action.specs.declared.page_store.PageStore.{Ghosts}
-use Rattle.page_codec.specs.declared.page.Page.{Page}
 use Rattle.page_codec.specs.declared.page.PageState.TheVariants.{HalfDead}
 use Rattle.tree_shape.specs.Nodes.{nodes_of}
 use Rattle.vacuum.specs.Laws.{NothingIsCounted}
 use Rattle.page_delete.specs.Spares.{IsAlone}
 use Rattle.page_delete.proofs.Cleaning.{nothing_cleaned}
 use Rattle.page_delete.proofs.Sparing.{nothing_spared}
-use Rattle.session_calls.specs.Ops.{op_before, set_at, IsCaused}
-use Rattle.session_calls.specs.declared.answer.Answer.{Answer}
-use Rattle.session_calls.specs.declared.answer.Answer.TheVariants.{Begun, Refused}
-use Rattle.session_calls.specs.declared.op.Op.{Op}
-use Rattle.session_calls.specs.declared.request.Request.{Request}
 use Rattle.session_calls.specs.declared.request.Request.TheVariants.{Bulk as ToBulk, Cleanup as ToCleanup}
-use Rattle.schedule.specs.TheoremMoments.{StoreAndSlots, Snapshot, snapshot_of}
-use Rattle.schedule.specs.TheoremKinds.{Kind, BeginsCall, kind_of}
-use Rattle.schedule.specs.Making.{EventDoes}
-use Rattle.schedule.specs.Events.{IsOfSession, AnswersBeginning, MayBegin}
-use Rattle.session_calls.specs.Slots.{slot_of}
-use Rattle.schedule.specs.TheoremRuns.{Carries, Runs}
 use Rattle.schedule.specs.declared.event.Event.{Event}
-use Rattle.schedule.proofs.Keeping.{Laws}
+use Rattle.whole_calls.proofs.Words.{Entry, State, Ghosts, Page, op_before, set_at, Answer, Begun, Refused, Op, Request, StoreAndSlots, Snapshot, snapshot_of, Kind, BeginsCall, kind_of, EventDoes, IsOfSession, AnswersBeginning, MayBegin, slot_of, Carries, Runs, Laws}
 use Rattle.whole_calls.specs.Going.{CameBy, CallGoes}
 use Rattle.whole_calls.specs.Stepping.{BeginGoes}
 use Rattle.whole_calls.specs.Sweeping.{Followed, of_sweep, of_cleanup, of_leaves, FollowsFrom, IsCountedAs, BeginsToCount}
@@ -40,24 +22,6 @@ begun_by : (answer : Answer) (answers : List Answer) → AnswersBeginning answer
 begun_by Begun answers kind h = h
 begun_by (Refused fault) answers kind h = h
 begun_by answer answers kind h = absurd kind
-
--- a beginning that is refused has its cause
-pub caused_by : (at : Circumstances) (answer : Answer) → AnswersBeginning answer → IsCaused at answer → IfErr (begun_of answer) (HasCause at)
-caused_by at Begun kind h = tt
-caused_by at (Refused fault) kind h = h
-caused_by at answer kind h = absurd kind
-
--- ... and changes nothing
-pub refused_by : (Unchanged : Type 0) (answer : Answer) → AnswersBeginning answer → ((fault : Fault) → answer ≡ Refused fault → Unchanged) → OnErr (begun_of answer) Unchanged
-refused_by Unchanged Begun kind h = tt
-refused_by Unchanged (Refused fault) kind h = h fault refl
-refused_by Unchanged answer kind h = absurd kind
-
--- one that isn't refused begins what was asked for
-pub begins_by : (Fresh : Type 0) (answer : Answer) → AnswersBeginning answer → (answer ≡ Begun → Fresh) → OnOk (begun_of answer) Fresh
-begins_by Fresh Begun kind h = h refl
-begins_by Fresh (Refused fault) kind h = tt
-begins_by Fresh answer kind h = absurd kind
 
 -- a vacuum that has just begun has counted nothing, and cleaned nothing
 module _ {S : Type 0} (g : Ghosts S) (start : Entry → Bool) (session : ℕ) (request : Request) (answer : Answer) (x y : Snapshot S) (does : EventDoes g start (BeginsCall session request) answer x y) where

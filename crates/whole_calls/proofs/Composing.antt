@@ -1,22 +1,9 @@
 -- Runs of one session's events, one behind the other.
 use Rattle.std.proofs.Common.{◌≡◌, ℕ, Bool, true, Option, Some, None, List, [], ◌∷◌, ◌++◌, refl, subst, inl, inr}
-use Rattle.index_model.specs.Actions.{Action}
-use Rattle.index_model.specs.Calls.{Call}
-use Rattle.index_model.specs.declared.entry.Entry.{Entry}
-use Rattle.page_action.specs.States.{IsLater, Continues}
-use Rattle.page_action.specs.declared.page_store.PageStore.{Ghosts}
-use Rattle.session_calls.specs.declared.answer.Answer.{Answer}
-use Rattle.schedule.specs.TheoremMoments.{StoreAndSlots, Snapshot, snapshot_of}
-use Rattle.schedule.specs.Making.{EventDoes}
-use Rattle.schedule.specs.TheoremRuns.{Fits}
-use Rattle.schedule.specs.Snapshots.{here_at}
-use Rattle.schedule.specs.TheoremKinds.{kind_of}
-use Rattle.schedule.specs.Events.{IsOf}
-use Rattle.schedule.specs.TheoremRuns.{EventGoes, Carries, Runs}
 use Rattle.schedule.specs.declared.event.Event.{Event}
 use Rattle.schedule.proofs.Joining.{ran_then, are_of_both}
-use Rattle.schedule.proofs.Keeping.{Laws}
 use Rattle.schedule.proofs.Running.{none_ran}
+use Rattle.whole_calls.proofs.Words.{Action, Call, Entry, IsLater, Continues, Ghosts, Answer, StoreAndSlots, Snapshot, snapshot_of, EventDoes, Fits, here_at, kind_of, IsOf, EventGoes, Carries, Runs, Laws}
 use Rattle.whole_calls.specs.Going.{IsAmong, CameBy, CallRuns, CallGoes, GoesFrom}
 use Rattle.schedule.proofs.Fitting.{goes_does}
 

@@ -1,12 +1,6 @@
 -- What a bulk delete or a cleanup counts, step by step.
-use Rattle.std.proofs.Common.{◌≡◌, ℕ, ◌<◌, Bool, true, false, Option, Some, None, Ok, List, [], length, slice_get, refl, sym, ap, subst, ◌∙◌}
-use Rattle.std.specs.Prelude.{unwrap_or}
-use Rattle.index_model.specs.Calls.{Call}
-use Rattle.index_model.specs.declared.entry.Entry.{Entry}
+use Rattle.std.proofs.Common.{◌≡◌, ℕ, ◌<◌, Bool, true, false, Option, Some, None, Ok, List, [], length, slice_get, refl, sym, ap, subst, ◌∙◌, unwrap_or}
 use Rattle.index_model.specs.declared.stats.VacuumStats.{VacuumStats}
-use Rattle.page_action.specs.States.{State}
-use Rattle.page_action.specs.declared.page_store.PageStore.{Ghosts}
-use Rattle.page_codec.specs.declared.page.Page.{Page}
 use Rattle.vacuum.specs.Counts.{entries_below}
 use Rattle.page_codec.specs.declared.page.PageState.TheVariants.{Live, HalfDead}
 use Rattle.tree_shape.specs.Nodes.{nodes_of}
@@ -14,22 +8,10 @@ use Rattle.tree_shape.specs.Staying.{MustStay}
 use Rattle.tree_acts.specs.Deletions.{StartsAreBelow}
 use Rattle.page_delete.specs.Counts.{AllIsCleaned}
 use Rattle.page_delete.specs.Spares.{IsAlone, OnlyNeededStay}
-use Rattle.session_calls.specs.TheoremCalls.{DeadSets}
-use Rattle.session_calls.specs.Ops.{asked_of, session_of, OpFits}
-use Rattle.session_calls.specs.Sessions.{CountsEntries, SparesLeaves}
-use Rattle.session_calls.specs.declared.answer.Answer.{Answer}
-use Rattle.session_calls.specs.declared.answer.Answer.TheVariants.{Going, Finished}
-use Rattle.session_calls.specs.declared.op.Op.{Op}
 use Rattle.session_calls.specs.declared.op.Op.TheVariants.{Bulk, Cleanup}
-use Rattle.schedule.specs.TheoremMoments.{Snapshot, IsRunningCall}
-use Rattle.schedule.specs.Making.{EventDoes}
-use Rattle.schedule.specs.TheoremRuns.{Fits}
-use Rattle.session_calls.specs.Slots.{slot_of, has_call}
-use Rattle.schedule.specs.Snapshots.{SlotRuns}
-use Rattle.schedule.specs.TheoremKinds.{MovesCall, Steps}
-use Rattle.schedule.specs.Events.{CallMoves, MovesOn}
 use Rattle.schedule.proofs.Lists.{get_set_same, get_within}
 use Rattle.schedule.proofs.Standing.{slot_found}
+use Rattle.whole_calls.proofs.Words.{Call, Entry, State, Ghosts, Page, DeadSets, asked_of, session_of, OpFits, CountsEntries, SparesLeaves, Answer, Going, Finished, Op, Snapshot, IsRunningCall, EventDoes, Fits, slot_of, SlotRuns, has_call, MovesCall, Steps, CallMoves, MovesOn}
 use Rattle.whole_calls.specs.Sweeping.{Followed, of_sweep, of_cleanup, of_leaves, IsCountedAs, TellsAs, CountsThrough}
 use Rattle.descent.specs.Shared.{IsInOrder, OthersRely}
 use Rattle.whole_calls.proofs.Tellings.{runs_in_slot, one_runs}
@@ -121,17 +103,14 @@ module _ {S : Type 0} (g : Ghosts S) (start : Entry → Bool) (session : ℕ) (x
       of true c = on c
       of false s = absurd (let e = s.refused in cc)
 
+  -- what is counted is what the session runs
+  with_op : (what : Followed) (Then : Type 0) → ((op : Op) → slot_of x.slots session ≡ Some op → IsCountedAs what x.sets old (Some op) → Then) → (o : Option Op) → slot_of x.slots session ≡ o → IsCountedAs what x.sets old o → Then
+  with_op what Then so None is counted = absurd counted
+  with_op what Then so (Some op) is counted = so op is counted
+
   pub step_counts : (what : Followed) (answer : Answer) → EventDoes g start (MovesCall session Steps) answer x y → CountsThrough what x.sets old now (slot_of x.slots session) (slot_of y.slots session) answer
-  step_counts what Going does = of (slot_of x.slots session) refl
-    where
-      of : (o : Option Op) → slot_of x.slots session ≡ o → IsCountedAs what x.sets old (slot_of x.slots session) → IsCountedAs what x.sets now (slot_of y.slots session)
-      of None is counted = absurd (subst (λ (s : Option Op). IsCountedAs what x.sets old s) is counted)
-      of (Some op) is counted = goes_on what op does is (subst (λ (s : Option Op). IsCountedAs what x.sets old s) is counted)
-  step_counts what (Finished stats) does = of (slot_of x.slots session) refl
-    where
-      of : (o : Option Op) → slot_of x.slots session ≡ o → IsCountedAs what x.sets old (slot_of x.slots session) → TellsAs what now (Ok stats)
-      of None is counted = absurd (subst (λ (s : Option Op). IsCountedAs what x.sets old s) is counted)
-      of (Some op) is counted = counted_last what x.sets old now op (slot_of y.slots session) stats (subst (λ (s : Option Op). IsCountedAs what x.sets old s) is counted) (stands op (Finished stats) does is)
+  step_counts what Going does = λ counted. with_op what (IsCountedAs what x.sets now (slot_of y.slots session)) (λ op is so. goes_on what op does is so) (slot_of x.slots session) refl counted
+  step_counts what (Finished stats) does = λ counted. with_op what (TellsAs what now (Ok stats)) (λ op is so. counted_last what x.sets old now op (slot_of y.slots session) stats so (stands op (Finished stats) does is)) (slot_of x.slots session) refl counted
   step_counts what answer does = tt
 
 -- what is clean is of the pages alone

@@ -1,32 +1,20 @@
 -- The counts of a bulk delete and of a cleanup stay far from their end.
-use Rattle.std.proofs.Common.{◌≡◌, ℕ, ◌<◌, ◌≤◌, ◌||◌, Bool, true, false, Option, Some, None, List, [], ◌∷◌, ◌++◌, length, drop, refl, sym, ap, subst, arith, inl, inr, ◌∙◌}
-use Rattle.std.specs.Prelude.{unwrap_or}
+use Rattle.std.proofs.Common.{◌≡◌, ℕ, ◌<◌, ◌≤◌, ◌||◌, Bool, true, false, Option, Some, None, List, [], ◌∷◌, ◌++◌, length, drop, refl, sym, ap, subst, arith, inl, inr, ◌∙◌, unwrap_or}
 use Rattle.std.proofs.lemmas.Bool.{or_cases, ltb-true, eqb-true}
 use Rattle.std.proofs.Math.Seq.{drop-append_seam}
-use Rattle.index_model.specs.Actions.{Effect, Action}
-use Rattle.index_model.specs.Calls.{AskBulkDelete, Call, removed_by}
 use Rattle.index_model.specs.Limits.{AreLimits}
 use Rattle.index_model.specs.Row.{Row}
-use Rattle.index_model.specs.declared.entry.Entry.{Entry}
-use Rattle.index_model.specs.declared.limits.Limits.{Limits}
-use Rattle.page_action.specs.declared.page_store.PageStore.{Ghosts}
 use Rattle.vacuum.specs.BulkDeletes.{is_counted_out, is_full_count}
 use Rattle.vacuum.specs.Counts.{entries_below}
 use Rattle.vacuum.specs.declared.steps.BulkDeleteOp.{BulkDeleteOp}
 use Rattle.page_delete.specs.Counts.{come_to}
 use Rattle.page_delete.specs.Ops.{is_last_number, is_counted_out as is_cleanup_full}
 use Rattle.page_delete.specs.declared.steps.CleanupAt.{CleanupAt}
-use Rattle.page_delete.specs.declared.steps.CleanupAt.TheVariants.{Look, Start, Down, Judge, Unlink}
+use Rattle.page_delete.specs.declared.steps.CleanupAt.TheVariants.{Look}
 use Rattle.page_delete.specs.declared.steps.CleanupOp.{CleanupOp}
-use Rattle.session_calls.specs.Ops.{asked_of}
-use Rattle.session_calls.specs.Sessions.{noted}
 use Rattle.session_calls.specs.Sweeps.{OpSweeps}
-use Rattle.session_calls.specs.declared.op.Op.{Op}
-use Rattle.session_calls.specs.declared.op.Op.TheVariants.{Insert, Scan, Bulk, Cleanup}
-use Rattle.schedule.specs.TheoremMoments.{Snapshot, IsRunningCall}
-use Rattle.schedule.specs.TheoremRuns.{Fits}
-use Rattle.session_calls.specs.Slots.{slot_of}
-use Rattle.schedule.proofs.Keeping.{Laws}
+use Rattle.session_calls.specs.declared.op.Op.TheVariants.{Bulk, Cleanup}
+use Rattle.whole_calls.proofs.Words.{Effect, Action, AskBulkDelete, Call, removed_by, Entry, Limits, Ghosts, asked_of, noted, Op, Snapshot, IsRunningCall, Fits, slot_of, Laws}
 use Rattle.whole_calls.specs.Refusing.{is_full_vacuum}
 use Rattle.whole_calls.specs.Stepping.{HasGoneTo}
 use Rattle.whole_calls.specs.Sweeping.{of_cleanup, IsCountedAs, IsCountedIn, removed_of}
@@ -59,10 +47,7 @@ cleanup_not_full op left cursor fewer h = elim (or_cases (is_full_count op.left)
 -- the cursor is no further than the cleanup has come
 cursor_low : (cursor : ℕ) (at : CleanupAt) → cursor ≤ come_to cursor at
 cursor_low cursor Look = omega arith
-cursor_low cursor (Start high) = omega arith
-cursor_low cursor (Down high way) = omega arith
-cursor_low cursor (Judge parent) = omega arith
-cursor_low cursor Unlink = omega arith
+cursor_low cursor at = omega arith
 
 -- one that has just begun comes to no full count
 module _ {S : Type 0} (g : Ghosts S) (laws : Laws g) (start : Entry → Bool) (session : ℕ) (first : Snapshot S) (fits : Fits g start first) (are : AreLimits (g.state first.store).limits) where
@@ -113,27 +98,22 @@ module _ {S : Type 0} (g : Ghosts S) (laws : Laws g) (start : Entry → Bool) (s
     where
       of : (op : Op) (n b : ℕ) → asked_of now.sets op ≡ AskBulkDelete dead → OpSweeps (g.state now.store) now.sets start now.history n b op → IsCountedIn first.sets (g.state now.store) (Some op)
           → (count : ℕ) → removed_by n (drop b now.history) ≡ count → count ≤ 3276800 → (g.state now.store).limits ≡ (g.state first.store).limits → is_full_vacuum (Some op) ≡ true → false ≡ true
-      of (Insert op) n b asks sweeps counts count many low limits out = out
-      of (Scan op) n b asks sweeps counts count many low limits out = out
-      of (Cleanup op) n b asks sweeps counts count many low limits out = absurd counts
       of (Bulk set op) n b asks sweeps counts count many low limits out =
           let left = left_low now limits op.cursor in
           let is_left = counts.counted in
           let is_removed = sweeps.1.removed in
           not_out op (omega (arith, left, is_left)) (omega (arith, low, many, is_removed)) out
+      of op n b asks sweeps counts count many low limits out = absurd counts
 
   -- nor does a cleanup
   pub cleanup_fills : (now : Snapshot S) → HasGoneTo g session first now → IsCountedAs of_cleanup first.sets (g.state now.store) (slot_of now.slots session) → is_full_vacuum (slot_of now.slots session) ≡ true → false ≡ true
   cleanup_fills now to counted out = of (slot_of now.slots session) counted (λ n. left_low now to.limits_are n) (used_low now to.limits_are) out
     where
       of : (slot : Option Op) → IsCountedAs of_cleanup first.sets (g.state now.store) slot → ((n : ℕ) → entries_below (g.state now.store).pages n ≤ 3276800) → length (g.state now.store).pages ≤ 65536 → is_full_vacuum slot ≡ true → false ≡ true
-      of None is_counted left used full = full
-      of (Some (Insert op)) is_counted left used full = full
-      of (Some (Scan op)) is_counted left used full = full
-      of (Some (Bulk set op)) is_counted left used full = absurd is_counted
       of (Some (Cleanup op)) is_counted left used full =
           let few = left op.cursor in
           let is_left = is_counted.counted in
           let come = cursor_low op.cursor op.at in
           let within = is_counted.within in
           cleanup_not_full op (omega (arith, few, is_left)) (omega (arith, come, within, used)) is_counted.fewer full
+      of slot is_counted left used full = absurd is_counted

@@ -1,96 +1,23 @@
 -- What a scan gives tells.
-use Rattle.std.proofs.Common.{◌≡◌, ◌⊎◌, ℕ, ◌<◌, ◌≤◌, arith, Bool, Option, Some, None, Ok, List, [], ◌∷◌, ◌++◌, length, slice_get, slice_set, refl, sym, ap, subst, inl, inr, ◌∙◌}
-use Rattle.std.specs.Prelude.{IfErr}
+use Rattle.std.proofs.Common.{◌≡◌, ◌⊎◌, ℕ, ◌<◌, ◌≤◌, arith, Bool, Option, Some, None, Ok, List, [], ◌∷◌, ◌++◌, length, slice_get, slice_set, refl, sym, ap, subst, inl, inr, ◌∙◌, IfErr}
 use Rattle.std.proofs.lemmas.List.{append-nil}
 use Rattle.std.proofs.lemmas.Bool.{cases_eq}
-use Rattle.index_model.specs.Actions.{Effect, Add, Remove, Shape, Action}
-use Rattle.index_model.specs.Calls.{AskScan, Running, Finished as EndsFinished, Call}
-use Rattle.index_model.specs.Faults.{Circumstances, HasCause}
-use Rattle.index_model.specs.declared.entry.Entry.{Entry}
+use Rattle.index_model.specs.Calls.{Finished as EndsFinished}
 use Rattle.index_model.specs.declared.range.Range.{Range}
-use Rattle.page_action.specs.States.{State}
-use Rattle.page_action.specs.declared.page_store.PageStore.{Ghosts}
-use Rattle.session_calls.specs.Ops.{IsCaused}
-use Rattle.session_calls.specs.Sessions.{IsDrained, OwesLess, LeavesLess, GivesLess, OnlyWritersAct, AnswersStep, AnswersNext, work_in, noted, given_one, ended}
-use Rattle.session_calls.specs.declared.answer.Answer.{Answer}
-use Rattle.session_calls.specs.declared.answer.Answer.TheVariants.{Going, Ready, Done, Gave, Refused}
-use Rattle.session_calls.specs.declared.op.Op.{Op}
-use Rattle.session_calls.specs.declared.op.Op.TheVariants.{Insert as Inserts, Scan as Scans, Bulk as Bulks, Cleanup as Cleanups}
-use Rattle.schedule.specs.TheoremMoments.{Snapshot, IsRunningCall}
-use Rattle.schedule.specs.TheoremRuns.{Fits}
+use Rattle.session_calls.specs.declared.op.Op.TheVariants.{Bulk as Bulks, Cleanup as Cleanups}
 use Rattle.schedule.proofs.Lists.{get_set_same, get_set_other, get_within}
+use Rattle.whole_calls.proofs.Words.{Effect, Add, Remove, Shape, Action, AskScan, Running, Call, Circumstances, HasCause, Entry, State, Ghosts, IsCaused, OwesLess, work_in, noted, given_one, ended, Answer, Going, Ready, Done, Gave, Refused, Op, Snapshot, IsRunningCall, Fits}
 use Rattle.whole_calls.specs.Going.{CameBy}
-use Rattle.whole_calls.specs.Giving.{GoesDown, AnswersAdvance, AnswersSeek, given_of, give_came, Becomes, GivenTold, TellsScan, ScanStays, TellsGiven}
+use Rattle.whole_calls.specs.Giving.{GoesDown, AnswersSeek, given_of, give_came, Becomes, GivenTold, TellsScan, ScanStays, TellsGiven}
 use Rattle.whole_calls.specs.Telling.{IsSilent, acts_by, noted_behind, AreOwnEffects, IsOwnEffect, IsTold, StepTold, TellsStep, HasNone, TellsEnd}
 use Rattle.whole_calls.proofs.Gone.{set_same, same_ask, gone_nowhere, gone_runs, gone_then, whole_told}
 use Rattle.whole_calls.proofs.Tellings.{one_runs, was_told}
 
--- behind a `next` that gave none, a step leaves less to do
-no_gave : (mid after : Option Op) (entry : Option Entry) → AnswersStep mid after (Gave entry) → ⊥
-no_gave None after entry h = h
-no_gave (Some (Inserts op)) after entry h = h
-no_gave (Some (Scans op)) after entry h = h
-no_gave (Some (Bulks set op)) after entry h = h
-no_gave (Some (Cleanups op)) after entry h = h
-
--- only a scan gives none, so the step behind it does no act
-pub calm_scan : (old new : State) (before mid : Option Op) → AnswersNext before (Gave None) → mid ≡ before → OnlyWritersAct mid old new → new.acts ≡ old.acts
-calm_scan old new before mid gave same calm = of before gave (subst (λ (o : Option Op). OnlyWritersAct o old new) same calm)
-  where
-    of : (b : Option Op) → AnswersNext b (Gave None) → OnlyWritersAct b old new → new.acts ≡ old.acts
-    of (Some (Scans op)) gave h = h
-    of None gave h = absurd gave
-    of b gave h = absurd gave
-
 -- where no act is done, every step owes to leave less
 pub owes : (slot : Option Op) (old new : State) → new.acts ≡ old.acts → OwesLess slot old new
-owes None old new calm = calm
-owes (Some (Inserts op)) old new calm = calm
-owes (Some (Scans op)) old new calm = calm
 owes (Some (Bulks set op)) old new calm = tt
 owes (Some (Cleanups op)) old new calm = tt
-
-pub step_down : (old new : State) (before mid after : Option Op) (answer : Answer) → GivesLess before mid (Gave None) → new.acts ≡ old.acts → LeavesLess old new mid after answer → AnswersStep mid after answer → GoesDown old new before after answer
-step_down old new before mid after Going gives calm h kind = subst (λ (o : Option Op). work_in new after < work_in old o) gives.0 (h (owes mid old new calm))
-step_down old new before mid after (Ready r) gives calm h kind = subst (λ (o : Option Op). work_in new after < work_in old o) gives.0 (h (subst IsDrained (sym gives.0) gives.1))
-step_down old new before mid after (Gave (Some e)) gives calm h kind = absurd (no_gave mid after (Some e) kind)
-step_down old new before mid after answer gives calm h kind = tt
-
--- what a `next` answers leaves nothing to go on with, and is what a scan may answer, or a refusal
-pub next_down : (old new : State) (before after : Option Op) (answer : Answer) → AnswersNext before answer → GivesLess before after answer → new ≡ old → GoesDown old new before after answer
-next_down old new (Some (Scans op)) after (Gave (Some e)) h less same = subst (λ (st : State). work_in st after < work_in old (Some (Scans op))) (sym same) (less old.limits.pages old.pages)
-next_down old new before after (Gave (Some e)) h less same = absurd h
-next_down old new before after Going h less same = absurd h
-next_down old new before after (Ready r) h less same = absurd h
-next_down old new before after answer h less same = tt
-
--- a `next` that isn't without an entry is one of the answers
-pub next_kind : (before : Option Op) (answer : Answer) → AnswersNext before answer → (answer ≡ Gave None → ⊥) → AnswersAdvance answer
-next_kind (Some (Scans op)) (Gave (Some e)) h none = tt
-next_kind before (Gave None) h none = absurd (none refl)
-next_kind before (Refused f) h none = tt
-next_kind before answer h none = absurd h
-
--- only a scan gives none, so the step behind it is a scan's
-pub step_kind : (before mid after : Option Op) (answer : Answer) → AnswersNext before (Gave None) → mid ≡ before → AnswersStep mid after answer → AnswersAdvance answer
-step_kind before mid after answer gave same h = of before gave answer (subst (λ (o : Option Op). AnswersStep o after answer) same h)
-  where
-    of : (b : Option Op) → AnswersNext b (Gave None) → (a : Answer) → AnswersStep b after a → AnswersAdvance a
-    of (Some (Scans op)) gave Going h = tt
-    of (Some (Scans op)) gave (Ready r) h = tt
-    of (Some (Scans op)) gave Done h = tt
-    of (Some (Scans op)) gave (Refused f) h = tt
-    of (Some (Scans op)) gave a h = absurd h
-    of b gave a h = absurd gave
-
--- an answer that needn't go on is what the scan has come to
-pub sought : (answer : Answer) → AnswersAdvance answer → (answer ≡ Going → ⊥) → ((count : ℕ) → answer ≡ Ready count → ⊥) → AnswersSeek answer
-sought Going h going ready = absurd (going refl)
-sought (Ready r) h going ready = absurd (ready r refl)
-sought (Gave (Some e)) h going ready = tt
-sought Done h going ready = tt
-sought (Refused f) h going ready = tt
-sought answer h going ready = absurd h
+owes slot old new calm = calm
 
 -- what a scan gives is what it came to
 pub give_comes : (came : Answer) (answers : List Answer) → AnswersSeek came → CameBy answers (Some came) → CameBy answers (give_came (given_of came))
@@ -229,13 +156,6 @@ down_after old mid new before between after Going most down = omega (arith, most
 down_after old mid new before between after (Ready r) most down = omega (arith, most, down)
 down_after old mid new before between after (Gave (Some e)) most down = omega (arith, most, down)
 down_after old mid new before between after answer most down = tt
-
--- ... and so does an entry that is given
-pub given_down : (old new : State) (before after : Option Op) (came : Answer) (entry : Entry) → AnswersSeek came → given_of came ≡ Ok (Some entry) → GoesDown old new before after came → work_in new after < work_in old before
-given_down old new before after (Gave (Some e)) entry kind is down = down
-given_down old new before after Done entry kind is down = absurd cc
-given_down old new before after (Refused f) entry kind is down = absurd cc
-given_down old new before after came entry kind is down = absurd kind
 
 -- an answer with which the scan goes on leaves less to do
 pub down_on : (old new : State) (before after : Option Op) (answer : Answer) → (answer ≡ Going) ⊎ ((count : ℕ) × (answer ≡ Ready count)) → GoesDown old new before after answer → work_in new after < work_in old before

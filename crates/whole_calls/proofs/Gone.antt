@@ -1,14 +1,8 @@
 -- A call that goes on over several events: what is told of the one and then of the other is told of both.
 use Rattle.std.proofs.Common.{◌≡◌, ℕ, zero, suc, ◌+◌, Option, Some, None, List, [], ◌∷◌, ◌++◌, length, slice_get, slice_set, refl, sym, ap, subst, arith, inl, inr, ◌∙◌, length-append, append_assoc}
 use Rattle.std.proofs.lemmas.List.{append-nil}
-use Rattle.index_model.specs.Actions.{Effect, Action}
-use Rattle.index_model.specs.Calls.{Ask, Call}
-use Rattle.session_calls.specs.TheoremCalls.{acts_of}
-use Rattle.session_calls.specs.Sessions.{Told, noted}
-use Rattle.session_calls.specs.declared.answer.Answer.{Answer}
-use Rattle.session_calls.specs.declared.answer.Answer.TheVariants.{Going}
-use Rattle.schedule.specs.TheoremMoments.{Snapshot, IsRunningCall}
 use Rattle.schedule.proofs.Lists.{get_set_same, get_within}
+use Rattle.whole_calls.proofs.Words.{Effect, Action, Ask, Call, acts_of, Told, noted, Answer, Going, Snapshot, IsRunningCall}
 use Rattle.whole_calls.specs.Telling.{IsSilent, MayAnswer, acts_by, noted_behind, AreOwnEffects, IsOwnEffect, HasGoneOn, HasGoneFar, IsTold, StepTold, TellsStep}
 
 pub set_same : {X : Type 0} (xs : List X) (i : ℕ) (x : X) → slice_get xs i ≡ Some x → slice_set xs i x ≡ xs

@@ -1,26 +1,11 @@
 -- What an insert tells that is run to its end.
-use Rattle.std.proofs.Common.{◌≡◌, ◌≢◌, ℕ, suc, ◌+◌, ◌⊎◌, Bool, true, false, if◌then◌else◌, Option, Some, None, List, [], ◌∷◌, ◌++◌, length, slice_get, slice_set, refl, sym, ap, subst, arith, inl, inr, ◌∙◌, length-append, append_assoc}
+use Rattle.std.proofs.Common.{◌≡◌, ◌≢◌, ℕ, suc, ◌+◌, ◌⊎◌, Bool, true, false, if◌then◌else◌, Option, Some, None, List, [], ◌∷◌, ◌++◌, length, slice_get, slice_set, refl, sym, ap, subst, arith, inl, inr, ◌∙◌, length-append, append_assoc, unwrap_or}
 use Rattle.std.proofs.lemmas.List.{append-nil}
-use Rattle.std.specs.Prelude.{unwrap_or}
-use Rattle.index_model.specs.Actions.{Effect, Add, Remove, Shape, Action}
-use Rattle.index_model.specs.Calls.{Ask, AskInsert, Ending, Running, Added as EndsAdded, GivenUp, Failed, AnswersRight, end_of, Meets, Call}
-use Rattle.index_model.specs.Faults.{HasCause}
-use Rattle.index_model.specs.declared.entry.Entry.{Entry}
-use Rattle.index_model.specs.declared.fault.Fault.{Fault}
+use Rattle.index_model.specs.Calls.{Added as EndsAdded}
 use Rattle.index_model.specs.declared.fault.Fault.TheVariants.{Exists, IndexFull, TooTall}
-use Rattle.page_action.specs.declared.page_store.PageStore.{Ghosts}
-use Rattle.session_calls.specs.Ops.{ends_call, IsCaused}
-use Rattle.session_calls.specs.TheoremCalls.{acts_of}
-use Rattle.session_calls.specs.Sessions.{act_count, noted, ended, slot_add}
-use Rattle.session_calls.specs.declared.answer.Answer.{Answer}
-use Rattle.session_calls.specs.declared.answer.Answer.TheVariants.{Going, Added, Refused}
-use Rattle.session_calls.specs.declared.op.Op.{Op}
 use Rattle.session_calls.specs.declared.request.Request.TheVariants.{Insert as ToInsert}
-use Rattle.schedule.specs.TheoremMoments.{StoreAndSlots, Snapshot, snapshot_of, IsRunningCall}
-use Rattle.schedule.specs.TheoremRuns.{Fits}
-use Rattle.session_calls.specs.Slots.{slot_of}
-use Rattle.schedule.specs.Snapshots.{here_at}
 use Rattle.schedule.proofs.Lists.{get_append_new, get_append_cases}
+use Rattle.whole_calls.proofs.Words.{Effect, Add, Remove, Shape, Action, Ask, AskInsert, Ending, Running, GivenUp, Failed, AnswersRight, end_of, Meets, Call, HasCause, Entry, Fault, Ghosts, ends_call, IsCaused, acts_of, act_count, noted, ended, slot_add, Answer, Going, Added, Refused, Op, StoreAndSlots, Snapshot, snapshot_of, IsRunningCall, Fits, here_at, slot_of}
 use Rattle.whole_calls.specs.Going.{CallGoes, GoesFrom}
 use Rattle.whole_calls.specs.Inserting.{InsertGoes}
 use Rattle.whole_calls.specs.Refusing.{where_inserted, where_asked, is_used_up, is_tall, InsertCallIsCaused}

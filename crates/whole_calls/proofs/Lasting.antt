@@ -1,26 +1,7 @@
 -- One moment behind another, while a session's call goes on.
-use Rattle.std.proofs.Common.{◌≡◌, ◌≤◌, ◌⊎◌, ℕ, Bool, true, false, Option, Some, None, Result, Ok, List, [], refl, sym, ap, subst, inl, inr, ◌∙◌}
-use Rattle.std.specs.Prelude.{unwrap_or}
-use Rattle.index_model.specs.Calls.{Ask, AskScan, Call}
-use Rattle.index_model.specs.Faults.{HasCause}
-use Rattle.index_model.specs.declared.entry.Entry.{Entry}
-use Rattle.index_model.specs.declared.fault.Fault.{Fault}
+use Rattle.std.proofs.Common.{◌≡◌, ◌≤◌, ◌⊎◌, ℕ, Bool, true, false, Option, Some, None, Result, Ok, List, [], refl, sym, ap, subst, inl, inr, ◌∙◌, unwrap_or}
 use Rattle.page_action.specs.Causes.{where_forced}
-use Rattle.page_action.specs.States.{State, IsLater, Continues}
-use Rattle.page_action.specs.declared.page_store.PageStore.{Ghosts}
-use Rattle.session_calls.specs.TheoremCalls.{DeadSets}
-use Rattle.session_calls.specs.Ops.{IsCaused, asked_of}
-use Rattle.session_calls.specs.Sessions.{AnswersNext}
-use Rattle.session_calls.specs.declared.answer.Answer.{Answer}
-use Rattle.session_calls.specs.declared.answer.Answer.TheVariants.{Going, Ready, Gave, Refused}
-use Rattle.session_calls.specs.declared.op.Op.{Op}
-use Rattle.schedule.specs.TheoremMoments.{StoreAndSlots, Snapshot, snapshot_of, IsRunningCall}
-use Rattle.schedule.specs.TheoremRuns.{Fits}
-use Rattle.schedule.specs.TheoremKinds.{MovesCall, Steps, Takes}
-use Rattle.schedule.specs.Making.{EventDoes}
-use Rattle.session_calls.specs.Slots.{slot_of}
-use Rattle.schedule.specs.Snapshots.{here_at}
-use Rattle.schedule.proofs.Keeping.{Laws}
+use Rattle.whole_calls.proofs.Words.{Ask, AskScan, Call, HasCause, Entry, Fault, State, IsLater, Continues, Ghosts, DeadSets, IsCaused, asked_of, AnswersNext, Answer, Going, Ready, Gave, Refused, Op, StoreAndSlots, Snapshot, snapshot_of, IsRunningCall, Fits, MovesCall, Steps, Takes, EventDoes, here_at, slot_of, Laws}
 use Rattle.whole_calls.specs.Going.{CameBy, CallGoes}
 use Rattle.whole_calls.specs.Giving.{AnswersSeek, TellsScan, ScanStays, TellsGiven, given_of, give_came}
 use Rattle.whole_calls.specs.Refusing.{another_runs, is_full_vacuum, where_asked, ScanIsCaused}

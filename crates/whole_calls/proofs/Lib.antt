@@ -1,3 +1,4 @@
+pub mod Words
 pub mod Gone
 pub mod Composing
 pub mod Tellings

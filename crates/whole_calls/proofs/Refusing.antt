@@ -1,16 +1,8 @@
 -- Why a running call is refused: the causes of its events, told from the moment before the call to the moment behind it.
-use Rattle.std.proofs.Common.{◌≡◌, ◌≢◌, ℕ, zero, suc, ◌+◌, ◌<◌, ◌≤◌, Bool, true, false, not, ◌&&◌, ◌||◌, ◌==◌, nat_lt, nat_le, Option, Some, None, List, [], ◌∷◌, ◌++◌, length, slice_get, refl, sym, ap, subst, arith, inl, inr, ◌∙◌}
-use Rattle.std.specs.Prelude.{if◌then◌else◌, unwrap_or, is_none}
+use Rattle.std.proofs.Common.{◌≡◌, ◌≢◌, ◌⊎◌, ℕ, zero, suc, ◌+◌, ◌<◌, ◌≤◌, Bool, true, false, not, ◌&&◌, ◌||◌, ◌==◌, nat_lt, nat_le, Option, Some, None, List, [], ◌∷◌, ◌++◌, length, slice_get, refl, sym, ap, subst, arith, inl, inr, ◌∙◌, if◌then◌else◌, unwrap_or, is_none}
 use Rattle.std.proofs.lemmas.Bool.{or_cases, and_parts, ne_eqb, ltb-true, lt-ltb, ltb-false, leb-true, le-leb, eqb-true, eq-eqb}
 use Rattle.std.proofs.lemmas.List.{append-nil}
-use Rattle.index_model.specs.Actions.{Effect}
-use Rattle.index_model.specs.Calls.{Ask, AskInsert, AskScan, AskBulkDelete, AskCleanup, Call}
-use Rattle.index_model.specs.Faults.{Circumstances, HasCause}
-use Rattle.index_model.specs.Limits.{AreLimits}
-use Rattle.index_model.specs.declared.entry.Entry.{Entry}
-use Rattle.index_model.specs.declared.fault.Fault.{Fault}
 use Rattle.index_model.specs.declared.fault.Fault.TheVariants.{Io, Stopped, Blocked, Exists, KeyTooLong, BadRow, IndexFull, LogFull, NoFrame, VacuumRunning, NoSession, SessionBusy, BadSuper, BadVersion, LogDamaged, BadLimits, TooTall, DeviceTooSmall}
-use Rattle.index_model.specs.declared.limits.Limits.{Limits}
 use Rattle.index_model.specs.declared.range.Range.{Range}
 use Rattle.latch_table.specs.Holdings.{Holding, Table, nothing_held, holding_of, holding_excludes, is_held_by_another}
 use Rattle.latch_table.specs.declared.mode.Mode.{Mode}
@@ -18,15 +10,11 @@ use Rattle.latch_table.specs.declared.mode.Mode.TheVariants.{Shared, Exclusive, 
 use Rattle.latch_table.proofs.Tables.{is_held_by_another-by}
 use Rattle.page_action.specs.Contents.{entry_on_live_leaf}
 use Rattle.page_action.specs.Causes.{nothing_wrong, where_forced, has_failed, is_at_end, pinned_blocks, count_apart}
-use Rattle.page_action.specs.Room.{IsPromised, whole_room}
-use Rattle.page_action.specs.States.{State, Backing, IsLater}
-use Rattle.page_action.specs.declared.page_store.PageStore.{Ghosts}
-use Rattle.page_codec.specs.declared.page.Page.{Page}
 use Rattle.descent.specs.Shared.{is_out_of_blocks, any_is_reusable}
 use Rattle.descent.specs.Ways.{root_level}
 use Rattle.split_finish.specs.Finishes.{images_of, frames_of}
 use Rattle.split_finish.specs.declared.finish.FinishAt.{FinishAt}
-use Rattle.split_finish.specs.declared.finish.FinishAt.TheVariants.{Start as FinishStart, Down, Link, Root}
+use Rattle.split_finish.specs.declared.finish.FinishAt.TheVariants.{Start as FinishStart}
 use Rattle.insert_split.specs.Inserts.{InsertFits, InsertStands, leaf_held, is_full_page, images_at, frames_at, takes_block_at, splits_root_at, where_inserting}
 use Rattle.insert_split.specs.declared.insert.InsertAt.{InsertAt}
 use Rattle.insert_split.specs.declared.insert.InsertAt.TheVariants.{Start, At, Holding as Holds, Finishing}
@@ -38,23 +26,9 @@ use Rattle.vacuum.specs.declared.steps.BulkDeleteOp.{BulkDeleteOp}
 use Rattle.page_delete.specs.Cleanups.{CleanupFits, where_cleaning}
 use Rattle.page_delete.specs.Ops.{is_counted_out as is_cleanup_full}
 use Rattle.page_delete.specs.declared.steps.CleanupOp.{CleanupOp}
-use Rattle.session_calls.specs.TheoremCalls.{DeadSets, acts_of}
-use Rattle.session_calls.specs.Ops.{OpFits, IsCaused, once_added, where_stepped, asked_of, session_of}
-use Rattle.session_calls.specs.Sessions.{Told, is_busy, AnswersNext}
-use Rattle.session_calls.specs.declared.answer.Answer.{Answer}
-use Rattle.session_calls.specs.declared.answer.Answer.TheVariants.{Added, Gave, Refused}
-use Rattle.session_calls.specs.declared.op.Op.{Op}
 use Rattle.session_calls.specs.declared.op.Op.TheVariants.{Insert, Scan, Bulk, Cleanup}
-use Rattle.session_calls.specs.declared.request.Request.{Request}
-use Rattle.schedule.specs.TheoremMoments.{StoreAndSlots, Snapshot, IsRunningCall}
-use Rattle.schedule.specs.Making.{EventDoes}
-use Rattle.schedule.specs.TheoremRuns.{Fits}
-use Rattle.session_calls.specs.Slots.{slot_of, one_vacuums, is_of_sets}
-use Rattle.schedule.specs.Snapshots.{here_at}
-use Rattle.schedule.specs.TheoremKinds.{MovesCall, Steps}
-use Rattle.schedule.specs.Events.{CallMoves, MovesOn, where_moving, where_begun_at, OthersStay}
+use Rattle.whole_calls.proofs.Words.{Effect, Ask, AskInsert, AskScan, AskBulkDelete, AskCleanup, Call, Circumstances, HasCause, Entry, Fault, Limits, State, Backing, IsLater, Ghosts, Page, DeadSets, acts_of, OpFits, IsCaused, once_added, where_stepped, asked_of, session_of, Told, is_busy, AnswersNext, Answer, Added, Gave, Refused, Op, Request, StoreAndSlots, Snapshot, IsRunningCall, EventDoes, Fits, here_at, slot_of, one_vacuums, MovesCall, Steps, CallMoves, MovesOn, where_moving, where_begun_at, is_of_sets, OthersStay}
 use Rattle.whole_calls.specs.Refusing.{others_run, another_runs, is_full_vacuum, where_gone, where_inserted, is_used_up, is_tall, is_added, where_asked, where_called}
-use Rattle.whole_calls.specs.Telling.{RoomIsMade}
 use Rattle.whole_calls.proofs.Tellings.{runs_in_slot, runs_has_call, one_runs, true_false}
 use Rattle.schedule.proofs.Fitting.{beyond_of, running_of}
 
@@ -69,6 +43,10 @@ or_right false b h = h
 pub or_none : (a b : Bool) → (a || b) ≡ false → (a ≡ false) × (b ≡ false)
 or_none true b h = absurd cc
 or_none false b h = (refl, h)
+
+or_wider : (a b c d : Bool) → (a ≡ true → c ≡ true) → (b ≡ true → d ≡ true) → (a || b) ≡ true → (c || d) ≡ true
+or_wider true b c d f k h = or_left c d (f refl)
+or_wider false b c d f k h = or_right c d (k h)
 
 -- causes
 
@@ -165,8 +143,7 @@ holds_none g start now fits other empty = of (slice_get now.slots other) refl
 
 nothing_excludes : (block : ℕ) (mode : Mode) → holding_excludes nothing_held block mode ≡ false
 nothing_excludes block Shared = refl
-nothing_excludes block Exclusive = refl
-nothing_excludes block Cleanup = refl
+nothing_excludes block mode = refl
 
 free_of_others : (table : Table) (session block : ℕ) (mode : Mode) → ((other : ℕ) → other ≢ session → holding_of table other ≡ nothing_held) → is_held_by_another table session block mode ≡ true → ⊥
 free_of_others table session block mode none h =
@@ -197,9 +174,7 @@ pins_own (holding ∷ table) (suc session) none =
 
 few_of : (at : FinishAt) → images_of at ≤ 4
 few_of FinishStart = omega arith
-few_of (Down way) = omega arith
-few_of (Link way) = omega arith
-few_of Root = omega arith
+few_of at = omega arith
 
 few_at : (st : State) (at : InsertAt) → images_at st at ≤ 4
 few_at st Start = omega arith
@@ -220,18 +195,6 @@ enough least_room promised images room few full = by_bool (nat_lt least_room 5) 
   where
     at_least : (n : ℕ) → nat_lt n 5 ≡ false → 5 ≤ n
     at_least n h = ltb-false n 5 h
-
--- the log has room for an act where it was made
-pub room_for_act : (least_room : ℕ) (limits : Limits) (backing : Backing) → AreLimits limits → IsPromised backing → RoomIsMade least_room limits backing → 5 ≤ least_room → 5 ≤ backing.promised
-room_for_act least_room limits backing are promised (inl room) least = (let k = promised.most in omega (arith, k, room, least))
-room_for_act least_room limits backing are promised (inr whole) least =
-    let k = are.log_from in
-    let p : backing.promised ≡ whole_room limits = whole.promised in
-    omega (arith, k, p)
-
--- what is a cause up to here is one up to the moment behind
-nat_more : (a b c : ℕ) → b ≤ c → nat_lt a b ≡ true → nat_lt a c ≡ true
-nat_more a b c le h = (let k = ltb-true a b h in lt-ltb a c (omega (arith, k, le)))
 
 nat_less : (a b c : ℕ) → a ≤ b → nat_lt b c ≡ true → nat_lt a c ≡ true
 nat_less a b c le h = (let k = ltb-true b c h in lt-ltb a c (omega (arith, k, le)))
@@ -264,10 +227,12 @@ module _ {S : Type 0} (g : Ghosts S) (start : Entry → Bool) (session least_roo
           lt-ltb (g.state y.store).frames 4 (omega (arith, k, m, few, low, frames))
 
   -- the log had failed, or a counter is at its end
+  at_end : is_at_end st.acts ≡ true → nat_le 18446744073709551615 (g.state y.store).acts ≡ true
+  at_end h = (let is : st.acts ≡ 18446744073709551615 = eqb-true st.acts 18446744073709551615 h in le-leb 18446744073709551615 (g.state y.store).acts (omega (arith, is, acts)))
+
   stopped_cause : (old_stopped failed full : Bool) → (old_stopped || is_at_end st.acts) ≡ true → (old_stopped || (failed || (nat_le 18446744073709551615 (g.state y.store).acts || full))) ≡ true
   stopped_cause true failed full h = refl
-  stopped_cause false failed full h = or_right failed (nat_le 18446744073709551615 (g.state y.store).acts || full) (or_left (nat_le 18446744073709551615 (g.state y.store).acts) full
-      (let is : st.acts ≡ 18446744073709551615 = eqb-true st.acts 18446744073709551615 h in le-leb 18446744073709551615 (g.state y.store).acts (omega (arith, is, acts))))
+  stopped_cause false failed full h = or_right failed (nat_le 18446744073709551615 (g.state y.store).acts || full) (or_left (nat_le 18446744073709551615 (g.state y.store).acts) full (at_end h))
 
   -- frames that a step of an insert needs, beside what it holds
   insert_frames : (of start_number : ℕ) (e : Entry) (at : InsertAt) → of ≡ session → InsertStands st of start_number e at → nat_lt st.frames (frames_at st at + count_apart (pinned_blocks st.table)) ≡ true
@@ -285,9 +250,7 @@ module _ {S : Type 0} (g : Ghosts S) (start : Entry → Bool) (session least_roo
     where
       few : (a : FinishAt) → frames_of a + 0 ≤ 4
       few FinishStart = omega arith
-      few (Down way) = omega arith
-      few (Link way) = omega arith
-      few Root = omega arith
+      few a = omega arith
 
   inserting : (was_there used_up tall : Bool) (op : InsertOp) → op.session ≡ session → InsertFits st op → ((takes_block_at st op.at && is_out_of_blocks st) ≡ true → used_up ≡ true) → ((splits_root_at op.at && nat_le 31 (root_level st.pages)) ≡ true → tall ≡ true)
       → (fault : Fault) → HasCause (record (where_inserting st (g.backing x.store) (g.backing y.store) op.session op.entry op.at) { entry_was_there = was_there }) fault
@@ -320,26 +283,19 @@ module _ {S : Type 0} (g : Ghosts S) (start : Entry → Bool) (session least_roo
   scanning op is f fault h = h
 
   -- ... or the call has no room to count more
-  counts_cause : (full : Bool) → ((g.backing x.store).stopped || (is_at_end st.acts || full)) ≡ true
-      → ((g.backing x.store).stopped || (has_failed (g.backing x.store) (g.backing y.store) || (nat_le 18446744073709551615 (g.state y.store).acts || full))) ≡ true
-  counts_cause full h = elim (or_cases (g.backing x.store).stopped (is_at_end st.acts || full) h) [
-    | inl stopped ↦ stopped_cause (g.backing x.store).stopped (has_failed (g.backing x.store) (g.backing y.store)) full (or_left (g.backing x.store).stopped (is_at_end st.acts) stopped)
-    | inr ended ↦ elim (or_cases (is_at_end st.acts) full ended) [
-      | inl last ↦ stopped_cause (g.backing x.store).stopped (has_failed (g.backing x.store) (g.backing y.store)) full (or_right (g.backing x.store).stopped (is_at_end st.acts) last)
-      | inr out ↦ or_right (g.backing x.store).stopped (has_failed (g.backing x.store) (g.backing y.store) || (nat_le 18446744073709551615 (g.state y.store).acts || full))
-          (or_right (has_failed (g.backing x.store) (g.backing y.store)) (nat_le 18446744073709551615 (g.state y.store).acts || full) (or_right (nat_le 18446744073709551615 (g.state y.store).acts) full out))
-    ]
-  ]
+  counts_cause : (old_stopped failed full : Bool) → (old_stopped || (is_at_end st.acts || full)) ≡ true → (old_stopped || (failed || (nat_le 18446744073709551615 (g.state y.store).acts || full))) ≡ true
+  counts_cause true failed full h = refl
+  counts_cause false failed full h = or_right failed (nat_le 18446744073709551615 (g.state y.store).acts || full) (or_wider (is_at_end st.acts) full (nat_le 18446744073709551615 (g.state y.store).acts) full at_end (λ k. k) h)
 
   deleting : (op : BulkDeleteOp) → op.session ≡ session → BulkDeleteFits st op → (fault : Fault) → HasCause (where_deleting st (g.backing x.store) (g.backing y.store) op) fault → HasCause (where_gone g session least_room (is_counted_out op) (here_at x) y.store) fault
-  deleting op is f Stopped h = counts_cause (is_counted_out op) h
+  deleting op is f Stopped h = counts_cause (g.backing x.store).stopped (has_failed (g.backing x.store) (g.backing y.store)) (is_counted_out op) h
   deleting op is f (Blocked b) h = held_cause b Cleanup (subst (λ (s : ℕ). is_held_by_another st.table s b Cleanup ≡ true) is h)
   deleting op is f LogFull h = enough least_room (g.backing x.store).promised 1 room (omega arith) h
   deleting op is f NoFrame h = pins_cause 1 1 nothing_held (subst (λ (s : ℕ). holding_of st.table s ≡ nothing_held) is f.held) (omega arith) (omega arith) h
   deleting op is f fault h = h
 
   cleaning : (op : CleanupOp) → op.session ≡ session → CleanupFits st op → (fault : Fault) → HasCause (where_cleaning st (g.backing x.store) (g.backing y.store) op) fault → HasCause (where_gone g session least_room (is_cleanup_full op) (here_at x) y.store) fault
-  cleaning op is f Stopped h = counts_cause (is_cleanup_full op) h
+  cleaning op is f Stopped h = counts_cause (g.backing x.store).stopped (has_failed (g.backing x.store) (g.backing y.store)) (is_cleanup_full op) h
   cleaning op is f (Blocked b) h = elim (or_cases (is_held_by_another st.table op.session b Shared) (is_held_by_another st.table op.session b Exclusive) h) [
     | inl shared ↦ held_cause b Shared (subst (λ (s : ℕ). is_held_by_another st.table s b Shared ≡ true) is shared)
     | inr alone ↦ held_cause b Exclusive (subst (λ (s : ℕ). is_held_by_another st.table s b Exclusive ≡ true) is alone)
@@ -418,32 +374,23 @@ module _ {S : Type 0} (g : Ghosts S) (session least_room : ℕ) (old mid : Store
   stopped_wider : (rest wide : Bool) → (rest ≡ true → wide ≡ true) → ((g.backing mid.store).stopped || (has_failed (g.backing mid.store) (g.backing new) || rest)) ≡ true
       → ((g.backing old.store).stopped || (has_failed (g.backing old.store) (g.backing new) || wide)) ≡ true
   stopped_wider rest wide more h = elim (or_cases (g.backing mid.store).stopped (has_failed (g.backing mid.store) (g.backing new) || rest) h) [
-    | inl stopped ↦ elim (later.stop_has_cause stopped) [
-      | inl before ↦ or_left (g.backing old.store).stopped (has_failed (g.backing old.store) (g.backing new) || wide) before
-      | inr since ↦ or_right (g.backing old.store).stopped (has_failed (g.backing old.store) (g.backing new) || wide)
-          (or_left (has_failed (g.backing old.store) (g.backing new)) wide (lt-ltb (g.backing old.store).failures (g.backing new).failures (omega (arith, since, after))))
-    ]
-    | inr other ↦ or_right (g.backing old.store).stopped (has_failed (g.backing old.store) (g.backing new) || wide) (elim (or_cases (has_failed (g.backing mid.store) (g.backing new)) rest other) [
-      | inl failed ↦ or_left (has_failed (g.backing old.store) (g.backing new)) wide (failed_wider failed)
-      | inr by ↦ or_right (has_failed (g.backing old.store) (g.backing new)) wide (more by)
+    | inl stopped ↦ or_since (g.backing old.store).stopped (has_failed (g.backing old.store) (g.backing new)) wide (elim (later.stop_has_cause stopped) [
+      | inl before ↦ inl before
+      | inr since ↦ inr (lt-ltb (g.backing old.store).failures (g.backing new).failures (omega (arith, since, after)))
     ])
+    | inr other ↦ or_right (g.backing old.store).stopped (has_failed (g.backing old.store) (g.backing new) || wide) (or_wider (has_failed (g.backing mid.store) (g.backing new)) rest (has_failed (g.backing old.store) (g.backing new)) wide failed_wider more other)
   ]
-
-  full_wider : (full wide : Bool) → (full ≡ true → wide ≡ true) → (nat_le 18446744073709551615 (g.state new).acts || full) ≡ true → (nat_le 18446744073709551615 (g.state new).acts || wide) ≡ true
-  full_wider full wide more h = elim (or_cases (nat_le 18446744073709551615 (g.state new).acts) full h) [
-    | inl ended ↦ or_left (nat_le 18446744073709551615 (g.state new).acts) wide ended
-    | inr out ↦ or_right (nat_le 18446744073709551615 (g.state new).acts) wide (more out)
-  ]
+    where
+      or_since : (a b c : Bool) → (a ≡ true) ⊎ (b ≡ true) → (a || (b || c)) ≡ true
+      or_since a b c (inl h) = or_left a (b || c) h
+      or_since a b c (inr h) = or_right a (b || c) (or_left b c h)
 
   pub gone_wider : (full wide : Bool) → (full ≡ true → wide ≡ true) → IsNarrower (where_gone g session least_room full mid new) (where_gone g session least_room wide old new)
   gone_wider full wide more Io h = failed_wider h
   gone_wider full wide more Stopped h =
-      stopped_wider (nat_le 18446744073709551615 (g.state new).acts || full) (nat_le 18446744073709551615 (g.state new).acts || wide) (full_wider full wide more) h
+      stopped_wider (nat_le 18446744073709551615 (g.state new).acts || full) (nat_le 18446744073709551615 (g.state new).acts || wide) (or_wider (nat_le 18446744073709551615 (g.state new).acts) full (nat_le 18446744073709551615 (g.state new).acts) wide (λ k. k) more) h
   gone_wider full wide more (Blocked b) h = busier h
-  gone_wider full wide more NoFrame h = elim (or_cases (another_runs mid.slots session) (nat_lt (g.state new).frames 4) h) [
-    | inl busy ↦ or_left (another_runs old.slots session) (nat_lt (g.state new).frames 4) (busier busy)
-    | inr few ↦ or_right (another_runs old.slots session) (nat_lt (g.state new).frames 4) few
-  ]
+  gone_wider full wide more NoFrame h = or_wider (another_runs mid.slots session) (nat_lt (g.state new).frames 4) (another_runs old.slots session) (nat_lt (g.state new).frames 4) busier (λ k. k) h
   gone_wider full wide more fault h = h
 
   inserted_wider : (was_there used_up tall : Bool) → IsNarrower (where_inserted g session least_room was_there used_up tall mid new) (where_inserted g session least_room was_there used_up tall old new)
@@ -456,8 +403,7 @@ module _ {S : Type 0} (g : Ghosts S) (session least_room : ℕ) (old mid : Store
       → IsNarrower (where_asked g session least_room full ask answer mid new) (where_asked g session least_room wide ask answer old new)
   asked_wider full wide (AskInsert e) answer more = inserted_wider true (is_added answer || is_used_up (g.state new)) (is_added answer || is_tall (g.state new))
   asked_wider full wide (AskScan range) answer more = gone_wider false false (λ f. f)
-  asked_wider full wide (AskBulkDelete dead) answer more = gone_wider full wide (more tt)
-  asked_wider full wide AskCleanup answer more = gone_wider full wide (more tt)
+  asked_wider full wide ask answer more = gone_wider full wide (more tt)
 
 -- a log that had failed before stops the call
 pub stopped_before : {S : Type 0} (g : Ghosts S) (session least_room : ℕ) (full : Bool) (old : StoreAndSlots S) (new : S) → (g.backing old.store).stopped ≡ true → (where_gone g session least_room full old new).is_stopped ≡ true
@@ -510,8 +456,7 @@ pub asked_behind : {S : Type 0} (g : Ghosts S) (session least_room : ℕ) (full 
     → where_asked g session least_room full ask answer old new ≡ where_asked g session least_room full ask answer old mid
 asked_behind g session least_room full (AskInsert e) answer old mid new backing acts frames limits pages = rw (backing, acts, frames, limits, pages) refl
 asked_behind g session least_room full (AskScan range) answer old mid new backing acts frames limits pages = gone_behind g session least_room false old mid new backing acts frames
-asked_behind g session least_room full (AskBulkDelete dead) answer old mid new backing acts frames limits pages = gone_behind g session least_room full old mid new backing acts frames
-asked_behind g session least_room full AskCleanup answer old mid new backing acts frames limits pages = gone_behind g session least_room full old mid new backing acts frames
+asked_behind g session least_room full ask answer old mid new backing acts frames limits pages = gone_behind g session least_room full old mid new backing acts frames
 
 -- asking a scan for its next entry alone isn't refused
 pub next_caused : (at : Circumstances) (sets : DeadSets) (op : Op) (range : Range) (answer : Answer) → asked_of sets op ≡ AskScan range → AnswersNext (Some op) answer → IsCaused at answer

@@ -1,30 +1,25 @@
 -- What a bulk delete removes, as one list of entries, each once; and how many entries there are at most.
-use Rattle.std.proofs.Common.{◌≡◌, ℕ, suc, zero, ◌+◌, ◌*◌, ◌≤◌, Bool, true, false, not, ◌&&◌, ◌||◌, Option, Some, None, List, [], ◌∷◌, ◌++◌, length, slice_get, take, refl, sym, ap, subst, arith, inl, inr, ◌∙◌, length-append, append_assoc}
-use Rattle.std.specs.Prelude.{if◌then◌else◌, unwrap_or}
+use Rattle.std.proofs.Common.{◌≡◌, ℕ, suc, zero, ◌+◌, ◌*◌, ◌≤◌, Bool, true, false, not, ◌&&◌, ◌||◌, Option, Some, None, List, [], ◌∷◌, ◌++◌, length, slice_get, take, refl, sym, ap, subst, arith, inl, inr, ◌∙◌, length-append, append_assoc, if◌then◌else◌, unwrap_or}
 use Rattle.std.specs.Cmp.{IsEquivalence}
 use Rattle.std.specs.List.{AllByRecursion, IsDistinct}
 use Rattle.std.specs.Set.{is_member}
 use Rattle.std.proofs.lemmas.Bool.{or_cases, eq-eqb}
 use Rattle.std.proofs.lemmas.List.{append-nil, take_at}
 use Rattle.std.proofs.lemmas.Map.Made.{length-le_from_is_member}
-use Rattle.index_model.specs.Actions.{Effect, Add, Remove, Shape, Action, contents_after}
-use Rattle.index_model.specs.Calls.{AskBulkDelete, Call, removed_count, removed_by, MayAct, ActionsAreOwned}
 use Rattle.index_model.specs.Order.{IsAscending, AscendsPast, is_among, is_past, bound_of, same_entry}
 use Rattle.index_model.specs.Row.{Row}
-use Rattle.index_model.specs.declared.entry.Entry.{Entry}
-use Rattle.index_model.specs.declared.limits.Limits.{Limits}
 use Rattle.index_model.proofs.Ascending.{same_entry-is, same_entry-self, same_entry-sym, is_past-trans, is_past-not_same, is_among-append}
 use Rattle.index_model.proofs.Histories.{contents_after-append}
 use Rattle.page_codec.specs.Spelling.{count_of}
 use Rattle.page_codec.specs.declared.page.Items.{Items}
 use Rattle.page_codec.specs.declared.page.Items.TheVariants.{Meta, Entries, Downlinks}
-use Rattle.page_codec.specs.declared.page.Page.{Page}
 use Rattle.page_codec.specs.declared.page.PageState.{PageState}
 use Rattle.page_codec.specs.declared.page.PageState.TheVariants.{Live, HalfDead, Deleted}
 use Rattle.page_action.specs.Contents.{live_entries, is_on, entry_on_live_leaf}
 use Rattle.page_action.specs.Stored.{AreStored}
 use Rattle.vacuum.specs.Counts.{entry_count, entries_below}
 use Rattle.schedule.proofs.Lists.{get_append_new, get_append_some, get_within, same_some}
+use Rattle.whole_calls.proofs.Words.{Effect, Add, Remove, Shape, Action, contents_after, AskBulkDelete, Call, removed_count, removed_by, MayAct, ActionsAreOwned, Entry, Limits, Page}
 use Rattle.whole_calls.specs.Sweeping.{removed_of}
 use Rattle.whole_calls.specs.Telling.{acts_by}
 use Rattle.whole_calls.proofs.Refusing.{or_left, or_right, or_none}
@@ -124,24 +119,22 @@ module _ (start : Entry → Bool) (number : ℕ) where
   pub left_by_all : (history : List Action) (effects : List Effect) → RemoveThere start number history effects → (e : Entry)
       → contents_after start (history ++ acts_by number effects) e ≡ (contents_after start history e && not (is_among (removed_of effects) e))
   left_by_all history [] apt e = ap (λ (l : List Action). contents_after start l e) (append-nil history) ∙ sym (and_all (contents_after start history e))
-  left_by_all history (Add x ∷ effects) apt e = absurd apt.0
-  left_by_all history (Shape ∷ effects) apt e = absurd apt.0
   left_by_all history (Remove es ∷ effects) apt e =
       ap (λ (l : List Action). contents_after start l e) (sym (append_assoc history (act_of number (Remove es) ∷ []) (acts_by number effects)))
       ∙ left_by_all (history ++ act_of number (Remove es) ∷ []) effects apt.1 e
       ∙ ap (λ (b : Bool). b && not (is_among (removed_of effects) e)) (after_remove start history number es e)
       ∙ and_apart (contents_after start history e) (is_among es e) (is_among (removed_of effects) e)
       ∙ ap (λ (b : Bool). contents_after start history e && not b) (sym (is_among-append es (removed_of effects) e))
+  left_by_all history (effect ∷ effects) apt e = absurd apt.0
 
   -- all were there
   pub all_were : (history : List Action) (effects : List Effect) → RemoveThere start number history effects → (e : Entry) → is_among (removed_of effects) e ≡ true → contents_after start history e ≡ true
   all_were history [] apt e h = absurd (true_false (sym h))
-  all_were history (Add x ∷ effects) apt e h = absurd apt.0
-  all_were history (Shape ∷ effects) apt e h = absurd apt.0
   all_were history (Remove es ∷ effects) apt e h = elim (or_cases (is_among es e) (is_among (removed_of effects) e) (sym (is_among-append es (removed_of effects) e) ∙ h)) [
     | inl here ↦ apt.0.1 e here
     | inr later ↦ and_first (contents_after start history e) (not (is_among es e)) (sym (after_remove start history number es e) ∙ all_were (history ++ act_of number (Remove es) ∷ []) effects apt.1 e later)
   ]
+  all_were history (effect ∷ effects) apt e h = absurd apt.0
 
   -- none is removed twice
   pub all_once : (history : List Action) (effects : List Effect) → RemoveThere start number history effects → IsDistinct same_entry (removed_of effects)

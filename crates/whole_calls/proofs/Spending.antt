@@ -1,33 +1,13 @@
 -- Each step of a call that goes on leaves fewer, and there are fewer than 2^64 - 1.
-use Rattle.std.proofs.Common.{◌≡◌, ℕ, zero, suc, ◌+◌, ◌*◌, ◌<◌, ◌≤◌, Bool, true, false, Option, Some, None, List, ◌++◌, length, slice_get, refl, sym, ap, subst, arith, ◌∙◌}
-use Rattle.std.specs.Prelude.{unwrap_or}
+use Rattle.std.proofs.Common.{◌≡◌, ℕ, zero, suc, ◌+◌, ◌*◌, ◌<◌, ◌≤◌, Bool, true, false, Option, Some, None, List, ◌++◌, length, slice_get, refl, sym, ap, subst, arith, ◌∙◌, unwrap_or}
 use Rattle.std.proofs.lemmas.List.{append-nil}
-use Rattle.index_model.specs.Actions.{Effect, Add, Remove, Shape, Action, contents_after}
-use Rattle.index_model.specs.Calls.{Ask, AskInsert, AskScan, AskBulkDelete, AskCleanup, Call}
-use Rattle.index_model.specs.declared.entry.Entry.{Entry}
-use Rattle.index_model.specs.declared.limits.Limits.{Limits}
-use Rattle.page_action.specs.States.{State}
-use Rattle.page_action.specs.declared.page_store.PageStore.{Ghosts}
-use Rattle.page_codec.specs.declared.page.Page.{Page}
 use Rattle.tree_shape.specs.Nodes.{Node, nodes_of}
 use Rattle.tree_acts.specs.Weights.{weight_of, weight_up_to, weight}
 use Rattle.descent.specs.Shared.{MovesFlags}
-use Rattle.session_calls.specs.TheoremCalls.{DeadSets, acts_of}
-use Rattle.session_calls.specs.Ops.{asked_of, add_of}
-use Rattle.session_calls.specs.Sessions.{IsAsked, MovesShape, add_after, work_in, OwesLess}
-use Rattle.session_calls.specs.declared.answer.Answer.{Answer}
-use Rattle.session_calls.specs.declared.answer.Answer.TheVariants.{Going}
-use Rattle.session_calls.specs.declared.op.Op.{Op}
 use Rattle.session_calls.specs.declared.op.Op.TheVariants.{Insert, Scan, Bulk, Cleanup}
-use Rattle.schedule.specs.TheoremMoments.{Snapshot, IsRunningCall}
-use Rattle.schedule.specs.Making.{EventDoes}
-use Rattle.schedule.specs.TheoremRuns.{Fits}
-use Rattle.session_calls.specs.Slots.{slot_of, has_call}
-use Rattle.schedule.specs.TheoremKinds.{MovesCall, Steps}
-use Rattle.schedule.specs.Events.{CallMoves, MovesOn}
 use Rattle.schedule.proofs.Bounds.{work_bounded}
-use Rattle.schedule.proofs.Keeping.{Laws}
 use Rattle.schedule.proofs.Lists.{get_set_same, get_within}
+use Rattle.whole_calls.proofs.Words.{Effect, Add, Shape, Action, contents_after, Ask, AskInsert, AskScan, AskBulkDelete, AskCleanup, Call, Entry, Limits, State, Ghosts, Page, DeadSets, acts_of, asked_of, add_of, IsAsked, MovesShape, add_after, work_in, OwesLess, Answer, Going, Op, Snapshot, IsRunningCall, EventDoes, Fits, slot_of, has_call, MovesCall, Steps, CallMoves, MovesOn, Laws}
 use Rattle.whole_calls.specs.Spending.{brought_by, acts_left, steps_left, TakesFewer}
 use Rattle.whole_calls.proofs.Given.{owes}
 use Rattle.whole_calls.proofs.Tellings.{runs_in_slot, one_runs}
@@ -74,9 +54,7 @@ left_by st AskCleanup added = 0
 
 left_is : (st : State) (sets : DeadSets) (op : Op) → acts_left st (Some op) ≡ left_by st (asked_of sets op) (add_of op)
 left_is st sets (Insert op) = refl
-left_is st sets (Scan op) = refl
-left_is st sets (Bulk set op) = refl
-left_is st sets (Cleanup op) = refl
+left_is st sets op = refl
 
 -- what the session runs may append what its running call may
 slot_left : {S : Type 0} (g : Ghosts S) (start : Entry → Bool) (now : Snapshot S) (session number : ℕ) (call : Call) (st : State) → Fits g start now → IsRunningCall now.calls session number call
@@ -100,20 +78,16 @@ acts_fewer : (was_there : Entry → Bool) (sets : DeadSets) (op : Op) (added : O
     → left_by new (asked_of sets op) (add_after added (suc count) (Some effect)) < left_by old (asked_of sets op) added
 acts_fewer was_there sets (Insert op) None count (Add e) old new anew asked flags = (let m = flags.most in omega (arith, m))
 acts_fewer was_there sets (Insert op) (Some a) count (Add e) old new anew asked flags = absurd (let n : Some a ≡ None = asked.0.1 in cc)
-acts_fewer was_there sets (Insert op) added count (Remove es) old new anew asked flags = absurd asked.0
 acts_fewer was_there sets (Insert op) added count Shape old new anew asked flags = (let l = flags.less in omega (arith, l))
-acts_fewer was_there sets (Scan op) added count (Add e) old new anew asked flags = absurd asked.0
-acts_fewer was_there sets (Scan op) added count (Remove es) old new anew asked flags = absurd asked.0
-acts_fewer was_there sets (Scan op) added count Shape old new anew asked flags = absurd asked.0
 acts_fewer was_there sets (Bulk set op) added count effect old new anew asked flags = absurd anew
 acts_fewer was_there sets (Cleanup op) added count effect old new anew asked flags = absurd anew
+acts_fewer was_there sets op added count effect old new anew asked flags = absurd asked.0
 
 -- pages that weigh the same leave as much
 same_left : (old new : State) (ask : Ask) (added : Option ℕ) → weight new ≡ weight old → left_by new ask added ≡ left_by old ask added
 same_left old new (AskInsert e) added same = ap (λ (n : ℕ). n + brought_by added) same
 same_left old new (AskScan range) added same = same
-same_left old new (AskBulkDelete dead) added same = refl
-same_left old new AskCleanup added same = refl
+same_left old new ask added same = refl
 
 -- a step that goes on leaves fewer
 module _ {S : Type 0} (g : Ghosts S) (start : Entry → Bool) (session : ℕ) (x y : Snapshot S) (honest : (g.backing y.store).honest ≡ true) (fits : Fits g start x) (does : EventDoes g start (MovesCall session Steps) Going x y)
@@ -171,11 +145,7 @@ module _ {S : Type 0} (g : Ghosts S) (start : Entry → Bool) (session : ℕ) (x
           → acts_left now (slot_of y.slots session) ≡ left_by now c.call.ask (add_after c.call.added (suc (length x.history)) c.effect) → fewer_left
       by (Insert op) slot ask before behind = goes_by c (Insert op) c.effect tt ask c.history_is c.asked (subst (λ (a : Ask). MovesShape a c.effect old now) ask c.shape) before behind
       by (Scan op) slot ask before behind = goes_by c (Scan op) c.effect tt ask c.history_is c.asked (subst (λ (a : Ask). MovesShape a c.effect old now) ask c.shape) before behind
-      by (Cleanup op) slot ask before behind =
-          let none : acts_left now (slot_of y.slots session) ≡ 0 = behind ∙ ap (λ (a : Ask). left_by now a (add_after c.call.added (suc (length x.history)) c.effect)) ask in
-          let less = less_by (subst (λ (o : Option Op). OwesLess o old now) (sym slot) tt) in
-          omega (arith, none, less)
-      by (Bulk set op) slot ask before behind =
+      by op slot ask before behind =
           let none : acts_left now (slot_of y.slots session) ≡ 0 = behind ∙ ap (λ (a : Ask). left_by now a (add_after c.call.added (suc (length x.history)) c.effect)) ask in
           let less = less_by (subst (λ (o : Option Op). OwesLess o old now) (sym slot) tt) in
           omega (arith, none, less)

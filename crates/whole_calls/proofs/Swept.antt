@@ -1,28 +1,13 @@
 -- What a bulk delete or a cleanup tells that is run to its end.
-use Rattle.std.proofs.Common.{◌≡◌, ◌≢◌, ℕ, suc, Bool, true, false, Option, Some, Ok, List, [], ◌∷◌, ◌++◌, length, refl, sym, ap, subst, inl, inr, ◌∙◌}
-use Rattle.std.specs.Prelude.{IfErr}
+use Rattle.std.proofs.Common.{◌≡◌, ◌≢◌, ℕ, suc, Bool, true, false, Option, Some, Ok, List, [], ◌∷◌, ◌++◌, length, refl, sym, ap, subst, inl, inr, ◌∙◌, IfErr}
 use Rattle.std.proofs.lemmas.List.{append-nil}
-use Rattle.index_model.specs.Faults.{Circumstances, HasCause}
-use Rattle.index_model.specs.Actions.{Effect, Add, Remove, Shape, Action}
-use Rattle.index_model.specs.Calls.{Vacuumed, Call}
-use Rattle.index_model.specs.declared.fault.Fault.{Fault}
 use Rattle.index_model.specs.declared.stats.VacuumStats.{VacuumStats}
-use Rattle.index_model.specs.declared.entry.Entry.{Entry}
-use Rattle.page_action.specs.States.{State}
-use Rattle.page_action.specs.declared.page_store.PageStore.{Ghosts}
-use Rattle.session_calls.specs.TheoremCalls.{DeadSets, asked_by}
-use Rattle.session_calls.specs.Ops.{asks_vacuum, IsCaused}
-use Rattle.session_calls.specs.Sessions.{MayDo, ended}
-use Rattle.session_calls.specs.declared.answer.Answer.{Answer}
-use Rattle.session_calls.specs.declared.answer.Answer.TheVariants.{Going, Finished, Refused}
-use Rattle.session_calls.specs.declared.request.Request.{Request}
-use Rattle.session_calls.specs.declared.request.Request.TheVariants.{Insert as ToInsert, Scan as ToScan, Bulk as ToBulk, Cleanup as ToCleanup}
-use Rattle.schedule.specs.TheoremMoments.{StoreAndSlots, Snapshot, snapshot_of}
-use Rattle.schedule.specs.Snapshots.{here_at}
+use Rattle.session_calls.specs.declared.request.Request.TheVariants.{Insert as ToInsert, Scan as ToScan}
+use Rattle.whole_calls.proofs.Words.{Circumstances, HasCause, Effect, Add, Action, Vacuumed, Call, Fault, Entry, State, Ghosts, DeadSets, asked_by, asks_vacuum, IsCaused, MayDo, ended, Answer, Going, Finished, Refused, Request, StoreAndSlots, Snapshot, snapshot_of, here_at}
 use Rattle.whole_calls.specs.Going.{CameBy, CallGoes, GoesFrom}
 use Rattle.whole_calls.specs.Refusing.{where_gone, where_asked, where_called}
 use Rattle.whole_calls.specs.Stepping.{RunGoes}
-use Rattle.whole_calls.specs.Sweeping.{Followed, of_sweep, of_cleanup, of_leaves, FollowsFrom, TellsAs, swept_of, swept_came, IsSweptNow, IsSweptSoFar, SweepTold}
+use Rattle.whole_calls.specs.Sweeping.{Followed, of_sweep, FollowsFrom, TellsAs, swept_of, swept_came, IsSweptNow, IsSweptSoFar, SweepTold}
 use Rattle.whole_calls.specs.Telling.{MayAnswer, acts_by, noted_behind, AreOwnEffects, IsTold, StepTold, HasNone, TellsEnd, with_call, first_call, NextTold, NothingTold}
 use Rattle.whole_calls.proofs.Composing.{goes_told}
 use Rattle.whole_calls.proofs.Gone.{whole_told}
@@ -34,14 +19,12 @@ use Rattle.whole_calls.proofs.Tellings.{true_false, set_new, came_may}
 adds_nothing : (sets : DeadSets) (request : Request) → asks_vacuum request ≡ true → (added : Option ℕ) (e : Entry) → MayDo (asked_by sets request) added (Add e) → ⊥
 adds_nothing sets (ToInsert x) vacuums added e h = true_false (sym vacuums)
 adds_nothing sets (ToScan range) vacuums added e h = true_false (sym vacuums)
-adds_nothing sets (ToBulk set) vacuums added e h = h
-adds_nothing sets ToCleanup vacuums added e h = h
+adds_nothing sets request vacuums added e h = h
 
 as_it_was : (call : Call) (count : ℕ) (effects : List Effect) → ((added : Option ℕ) (e : Entry) → MayDo call.ask added (Add e) → ⊥) → AreOwnEffects call count effects → noted_behind call count effects ≡ call
 as_it_was call count [] none own = refl
 as_it_was call count (Add e ∷ effects) none own = absurd (none call.added e own.0)
-as_it_was call count (Remove es ∷ effects) none own = as_it_was call (suc count) effects none own.1
-as_it_was call count (Shape ∷ effects) none own = as_it_was call (suc count) effects none own.1
+as_it_was call count (effect ∷ effects) none own = as_it_was call (suc count) effects none own.1
 
 -- what they may have come to
 abbrev IsVacuumAnswer : Answer → Type 0
@@ -113,12 +96,9 @@ not_swept session request fault x y t = record { effects = []; own = tt; history
 
 -- what it counts, by the answer
 swept_counts : (what : Followed) (st : State) (answer : Answer) → ((stats : VacuumStats) → answer ≡ Finished stats → TellsAs what st (Ok stats)) → TellsAs what st (swept_of answer)
-swept_counts of_sweep st (Finished stats) h = h stats refl
-swept_counts of_cleanup st (Finished stats) h = h stats refl
-swept_counts of_leaves st (Finished stats) h = h stats refl
+swept_counts what st (Finished stats) h = h stats refl
 swept_counts of_sweep st answer h = tt
-swept_counts of_cleanup st answer h = tt
-swept_counts of_leaves st answer h = tt
+swept_counts what st answer h = tt
 
 -- a bulk delete or a cleanup that is run to its end
 module _ {S : Type 0} (g : Ghosts S) (session least_room : ℕ) (request : Request) (vacuums : asks_vacuum request ≡ true) (answer : Answer) (added : Option ℕ) (over : answer ≢ Going) where
@@ -154,5 +134,4 @@ module _ {S : Type 0} (g : Ghosts S) (session least_room : ℕ) (request : Reque
       gone_of : (req : Request) → asks_vacuum req ≡ true → IsCaused (where_asked g session least_room false (asked_by x.sets req) answer (here_at x) z.store) answer → IsCaused (where_gone g session least_room false (here_at x) z.store) answer
       gone_of (ToInsert e) vac h = absurd (true_false (sym vac))
       gone_of (ToScan range) vac h = absurd (true_false (sym vac))
-      gone_of (ToBulk set) vac h = h
-      gone_of ToCleanup vac h = h
+      gone_of req vac h = h

@@ -1,32 +1,11 @@
 -- What each event of a session tells of its running call.
-use Rattle.std.proofs.Common.{◌≡◌, ◌≢◌, ℕ, ◌<◌, ◌⊎◌, Bool, true, false, Option, Some, None, List, [], ◌∷◌, ◌++◌, length, slice_get, slice_set, refl, sym, ap, subst, arith, inl, inr, ◌∙◌}
-use Rattle.std.specs.Prelude.{unwrap_or}
+use Rattle.std.proofs.Common.{◌≡◌, ◌≢◌, ℕ, ◌<◌, Bool, true, false, Option, Some, None, List, [], ◌∷◌, ◌++◌, length, slice_get, slice_set, refl, sym, ap, subst, arith, inl, inr, ◌∙◌, unwrap_or}
 use Rattle.std.proofs.lemmas.List.{append-nil}
-use Rattle.index_model.specs.Actions.{Effect, Action, contents_after}
-use Rattle.index_model.specs.Calls.{Ask, AskInsert, AskScan, AskBulkDelete, AskCleanup, GivenUp, Call}
-use Rattle.index_model.specs.Faults.{Circumstances, HasCause}
-use Rattle.index_model.specs.declared.entry.Entry.{Entry}
-use Rattle.index_model.specs.declared.fault.Fault.{Fault}
-use Rattle.index_model.specs.declared.fault.Fault.TheVariants.{Exists, NoSession}
+use Rattle.index_model.specs.declared.fault.Fault.TheVariants.{Exists}
 use Rattle.page_action.specs.Causes.{where_forced}
-use Rattle.page_action.specs.States.{Backing}
-use Rattle.page_action.specs.declared.page_store.PageStore.{Ghosts}
-use Rattle.session_calls.specs.TheoremCalls.{DeadSets, acts_of}
-use Rattle.session_calls.specs.Ops.{asked_of, IsCaused}
-use Rattle.session_calls.specs.Sessions.{Told, IsAsked, ended, AnswersStep, AnswersNext, AnswersEnd}
-use Rattle.session_calls.specs.declared.answer.Answer.{Answer}
-use Rattle.session_calls.specs.declared.answer.Answer.TheVariants.{Going, Added, Ready, Done, Finished, Gave, Ended, Refused}
-use Rattle.session_calls.specs.declared.op.Op.{Op}
 use Rattle.session_calls.specs.declared.op.Op.TheVariants.{Insert as Inserts, Scan as Scans, Bulk as Bulks, Cleanup as Cleanups}
-use Rattle.session_calls.specs.declared.request.Request.{Request}
-use Rattle.schedule.specs.TheoremMoments.{Snapshot, IsRunningCall}
-use Rattle.schedule.specs.Making.{EventDoes}
-use Rattle.schedule.specs.TheoremRuns.{Fits}
-use Rattle.session_calls.specs.Slots.{slot_of, has_call, one_vacuums}
-use Rattle.schedule.specs.Snapshots.{SlotRuns, SlotMatches}
-use Rattle.schedule.specs.TheoremKinds.{Move, Steps, Takes, Upkeep, KeepsStore, BeginsCall, MovesCall, GivesUp}
-use Rattle.schedule.specs.Events.{CallMoves, CallBegins, Stays, MovesOn, MayBegin, where_begun_at, AnswersMove}
 use Rattle.schedule.proofs.Lists.{get_some, get_within, get_append_new, get_append_some, same_some}
+use Rattle.whole_calls.proofs.Words.{Effect, Action, contents_after, Ask, AskInsert, GivenUp, Call, Circumstances, HasCause, Entry, Fault, Backing, Ghosts, DeadSets, acts_of, asked_of, IsCaused, Told, IsAsked, ended, AnswersStep, AnswersNext, AnswersEnd, Answer, Going, Added, Ready, Done, Finished, Gave, Ended, Refused, Op, Request, Snapshot, IsRunningCall, EventDoes, Fits, slot_of, SlotRuns, SlotMatches, has_call, one_vacuums, Move, Steps, Takes, Upkeep, KeepsStore, BeginsCall, MovesCall, GivesUp, CallMoves, CallBegins, Stays, MovesOn, MayBegin, where_begun_at, AnswersMove}
 use Rattle.whole_calls.specs.Telling.{IsSilent, MayAnswer, IsOwnEffect, IsTold, StepTold, TellsStep, HasNone, HasBegun, begun_of, BeginTold, TellsEnd, with_call, first_call, NextTold}
 use Rattle.whole_calls.proofs.Gone.{silent_then}
 use Rattle.schedule.proofs.Fitting.{running_of}
@@ -49,10 +28,6 @@ module _ {S : Type 0} (g : Ghosts S) (start : Entry → Bool) (now : Snapshot S)
   pub runs_has_call : (number : ℕ) (call : Call) → IsRunningCall now.calls session number call → has_call now.slots session ≡ true
   runs_has_call number call is = let r = runs_in_slot number call is in rw (r.1) refl
 
-  -- an empty slot has no running call
-  pub none_runs : slot_of now.slots session ≡ None → HasNone session now
-  none_runs empty number call is = let r = runs_in_slot number call is in let e : slot_of now.slots session ≡ Some r.0 = ap (λ (o : Option (Option Op)). unwrap_or o None) r.1 in absurd cc
-
   -- a session without a running call has an empty slot
   pub is_empty : HasNone session now → slot_of now.slots session ≡ None
   is_empty none = of (slice_get now.slots session) refl
@@ -71,27 +46,19 @@ module _ {S : Type 0} (g : Ghosts S) (start : Entry → Bool) (now : Snapshot S)
 
 -- a step of what was asked may answer this, and so may asking it for its next entry
 step_may : (sets : DeadSets) (op : Op) (after : Option Op) (answer : Answer) → AnswersStep (Some op) after answer → MayAnswer (asked_of sets op) answer
-step_may sets (Inserts op) after Going h = tt
 step_may sets (Inserts op) after (Added a u) h = tt
-step_may sets (Inserts op) after (Refused f) h = tt
-step_may sets (Scans op) after Going h = tt
 step_may sets (Scans op) after (Ready r) h = tt
 step_may sets (Scans op) after Done h = tt
-step_may sets (Scans op) after (Refused f) h = tt
-step_may sets (Bulks set op) after Going h = tt
 step_may sets (Bulks set op) after (Finished s) h = tt
-step_may sets (Bulks set op) after (Refused f) h = tt
-step_may sets (Cleanups op) after Going h = tt
 step_may sets (Cleanups op) after (Finished s) h = tt
-step_may sets (Cleanups op) after (Refused f) h = tt
+step_may sets op after Going h = tt
+step_may sets op after (Refused f) h = tt
 step_may sets op after answer h = absurd h
 
 next_may : (sets : DeadSets) (op : Op) (answer : Answer) → AnswersNext (Some op) answer → MayAnswer (asked_of sets op) answer
 next_may sets (Scans op) (Gave e) h = tt
 next_may sets (Scans op) answer h = absurd h
-next_may sets (Inserts op) (Refused f) h = tt
-next_may sets (Bulks set op) (Refused f) h = tt
-next_may sets (Cleanups op) (Refused f) h = tt
+next_may sets op (Refused f) h = tt
 next_may sets op answer h = absurd h
 
 -- an answer that is no refusal was told by a step
@@ -99,19 +66,9 @@ pub was_told : {S : Type 0} (number : ℕ) (call : Call) (answer : Answer) (x y 
 was_told number call answer x y apart (inl t) = t
 was_told number call answer x y apart (inr h) = absurd (apart h.fault h.refused)
 
--- any step may be refused
-pub refused_kind : (before after : Option Op) (fault : Fault) → AnswersStep before after (Refused fault)
-refused_kind None after fault = tt
-refused_kind (Some (Inserts op)) after fault = tt
-refused_kind (Some (Scans op)) after fault = tt
-refused_kind (Some (Bulks set op)) after fault = tt
-refused_kind (Some (Cleanups op)) after fault = tt
-
 refused_may : (ask : Ask) (fault : Fault) → MayAnswer ask (Refused fault)
 refused_may (AskInsert e) fault = tt
-refused_may (AskScan range) fault = tt
-refused_may (AskBulkDelete dead) fault = tt
-refused_may AskCleanup fault = tt
+refused_may ask fault = tt
 
 -- what a call came to it may answer
 pub came_may : {S : Type 0} (number : ℕ) (call : Call) (answer : Answer) (x y : Snapshot S) → StepTold number call answer x y → MayAnswer call.ask answer
@@ -200,14 +157,6 @@ keeps_silent g start upkeep answer x y does = elim does.also.happens [
 pub ends_tells : {S : Type 0} (g : Ghosts S) (start : Entry → Bool) (x y : Snapshot S) (session : ℕ) (answer : Answer) → Fits g start x → EventDoes g start (MovesCall session GivesUp) answer x y → TellsEnd session x y
 ends_tells {S} g start x y session answer fits does = of (has_call x.slots session) refl does.also.happens
   where
-    ended_of : (o : Option Op) → AnswersEnd o answer → (answer ≡ Ended) ⊎ (answer ≡ Refused NoSession)
-    ended_of None h = inr h
-    ended_of (Some op) h = inl h
-
-    no_effect : (a : Answer) (n : ℕ) (effect : Option Effect) (call after : Call) → (a ≡ Ended) ⊎ (a ≡ Refused NoSession) → Told a n effect call after → effect ≡ None
-    no_effect a n effect call after (inl is) told = (subst (λ (b : Answer). Told b n effect call after) is told).none
-    no_effect a n effect call after (inr is) told = (subst (λ (b : Answer). Told b n effect call after) is told).0
-
     given_up : (number : ℕ) (call : Call) → IsRunningCall x.calls session number call → answer ≡ Ended
     given_up number call is =
         let r = runs_in_slot g start x fits session number call is in
@@ -215,16 +164,15 @@ ends_tells {S} g start x y session answer fits does = of (has_call x.slots sessi
         subst (λ (o : Option Op). AnswersEnd o answer) was does.also.always.answers
 
     of : (b : Bool) → has_call x.slots session ≡ b → MovesOn g start b session answer x y → TellsEnd session x y
-    of true is goes = record {
-      history_is = goes.history_is ∙ ap (λ (o : Option Effect). x.history ++ acts_of goes.number o)
-          (no_effect answer (length x.history) goes.effect goes.call goes.after (ended_of (slot_of x.slots session) does.also.always.answers) goes.told) ∙ append-nil x.history;
-      calls_is = λ free. absurd (free goes.number goes.call goes.is);
-      ended_is = λ number call runs. (
-          let same = one_runs g start x fits session number goes.number call goes.call runs goes.is in
-          let told = subst (λ (b : Answer). Told b (length x.history) goes.effect goes.call goes.after) (given_up number call runs) goes.told in
-          let after : goes.after ≡ ended call GivenUp (length x.history) = told.after_is ∙ ap (λ (c : Call). ended c GivenUp (length x.history)) same.1 in
-          goes.calls_is ∙ ap (λ (n : ℕ). slice_set x.calls n goes.after) same.0 ∙ ap (λ (c : Call). slice_set x.calls number c) after);
-    }
+    of true is goes =
+        let told = subst (λ (b : Answer). Told b (length x.history) goes.effect goes.call goes.after) (given_up goes.number goes.call goes.is) goes.told in
+        record {
+          history_is = goes.history_is ∙ ap (λ (o : Option Effect). x.history ++ acts_of goes.number o) told.none ∙ append-nil x.history;
+          calls_is = λ free. absurd (free goes.number goes.call goes.is);
+          ended_is = λ number call runs. (
+              let same = one_runs g start x fits session number goes.number call goes.call runs goes.is in
+              goes.calls_is ∙ ap (λ (n : ℕ). slice_set x.calls n goes.after) same.0 ∙ ap (λ (c : Call). slice_set x.calls number c) (told.after_is ∙ ap (λ (c : Call). ended c GivenUp (length x.history)) same.1));
+        }
     of false is stays = record {
       history_is = stays.still.history_is;
       calls_is = λ free. stays.still.calls_is;

@@ -1,22 +1,8 @@
 -- A call that is begun, run to its last answer and given up.
 use Rattle.std.proofs.Common.{◌≡◌, ℕ, Bool, true, false, Option, Ok, List, length, refl, sym, ap, subst}
-use Rattle.index_model.specs.Actions.{Action}
-use Rattle.index_model.specs.Calls.{Ask, Call}
 use Rattle.index_model.specs.Limits.{AreLimits}
-use Rattle.index_model.specs.declared.entry.Entry.{Entry}
-use Rattle.page_action.specs.declared.page_store.PageStore.{Ghosts}
-use Rattle.session_calls.specs.TheoremCalls.{DeadSets, asked_by}
-use Rattle.session_calls.specs.Ops.{IsCaused, set_at}
-use Rattle.session_calls.specs.Sessions.{slot_add}
-use Rattle.session_calls.specs.declared.answer.Answer.{Answer}
-use Rattle.session_calls.specs.declared.answer.Answer.TheVariants.{Finished}
-use Rattle.session_calls.specs.declared.request.Request.{Request}
 use Rattle.session_calls.specs.declared.request.Request.TheVariants.{Insert as ToInsert, Scan as ToScan, Bulk as ToBulk, Cleanup as ToCleanup}
-use Rattle.schedule.specs.TheoremMoments.{Snapshot, IsRunningCall}
-use Rattle.schedule.specs.TheoremRuns.{Fits}
-use Rattle.session_calls.specs.Slots.{slot_of}
-use Rattle.schedule.specs.Snapshots.{here_at}
-use Rattle.schedule.proofs.Keeping.{Laws}
+use Rattle.whole_calls.proofs.Words.{Action, Ask, Call, Entry, Ghosts, DeadSets, asked_by, IsCaused, set_at, slot_add, Answer, Finished, Request, Snapshot, IsRunningCall, Fits, here_at, slot_of, Laws}
 use Rattle.whole_calls.specs.Refusing.{where_asked, is_full_vacuum}
 use Rattle.whole_calls.specs.Stepping.{Lasts, FinishGoes, BeginGoes, HasRun}
 use Rattle.whole_calls.specs.Sweeping.{Followed, of_sweep, of_cleanup, FollowsFrom, IsCountedAs, CountsThrough}

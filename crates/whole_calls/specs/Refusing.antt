@@ -89,8 +89,8 @@ abbrev pub CallIsCaused : {S : Type 0} → Ghosts S → ℕ → ℕ → Bool →
 CallIsCaused g session least_room counts_full answer old new =
     (number : ℕ) (call : Call) → IsRunningCall old.calls session number call → IsCaused (where_asked g session least_room counts_full call.ask answer (here_at old) new.store) answer
 
--- why a call is refused that is run from its beginning on: for one of these causes, or since it wasn't begun: the log had failed or a counter was at its end; there is no such session, or no such set; the
--- session has a call; a bulk delete or a cleanup runs
+-- why a call is refused that is run from its beginning on: for one of these causes, or since it wasn't begun: the log had failed or a
+-- counter was at its end; there is no such session, or no such set; the session has a call; a bulk delete or a cleanup runs
 abbrev pub where_called : {S : Type 0} → Ghosts S → ℕ → Request → StoreAndSlots S → Circumstances → Circumstances
 where_called g session request old at = record at {
   is_stopped = at.is_stopped || is_at_end (g.state old.store).begun;

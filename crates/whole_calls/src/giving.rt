@@ -91,9 +91,10 @@ fn given(came: Answer) -> Result<Option<Entry>, Fault>
     }
 }
 
-/// The next entry of the session's scan, or None where it has given all; it is over then, and where it is refused: as a step of
-/// it is, and with `Io` (2) or `Stopped` (3) where a checkpoint before a step is; over a device that breaks its model also with
-/// `PageDamaged(0)` (17), after 2^64 - 1 steps.
+/// The next entry of the session's scan, or None where it has given all; it is over then, and where
+/// it is refused: as a step of it is, and with `Io` (2) or `Stopped` (3) where a checkpoint before
+/// a step is; over a device that breaks its model also with `PageDamaged(0)` (17), after 2^64 - 1
+/// steps.
 pub fn give<S: PageStore, T: DeadRows>(
     store: &mut S,
     calls: &mut Calls,
@@ -131,8 +132,8 @@ pub fn give<S: PageStore, T: DeadRows>(
     }
 }
 
-/// Begins a scan. Refused as the beginning of a call is: with `Stopped` (3), `NoSession` (12), `SessionBusy` (13), in this
-/// order; nothing is changed then.
+/// Begins a scan. Refused as the beginning of a call is: with `Stopped` (3), `NoSession` (12),
+/// `SessionBusy` (13), in this order; nothing is changed then.
 pub fn open<S: PageStore, T: DeadRows>(
     store: &mut S,
     calls: &mut Calls,

@@ -1,6 +1,6 @@
-//! Calls that run to their end. Before each step for which the log has room for fewer than `least_room` images a checkpoint is
-//! made; one that is refused counts as the refusal of the step. With 0 none is made. Each step is given the sets of dead rows
-//! that calls name by their places.
+//! Calls that run to their end. Before each step for which the log has room for fewer than
+//! `least_room` images a checkpoint is made; one that is refused counts as the refusal of the step.
+//! With 0 none is made. Each step is given the sets of dead rows that calls name by their places.
 
 ghost use Rattle.std.specs.Prelude.{◌≡◌, ◌≢◌, ◌≤◌, ℕ, true, List, Option, Some, None, OnOk, OnErr, IfErr, map, slice_get};
 ghost use Rattle.index_model.specs.Faults.{HasCause};
@@ -53,8 +53,8 @@ fn make_room<S: PageStore>(store: &mut S, least_room: u32) -> Result<(), Fault>
     }
 }
 
-// One step of the session's call, for which there is room in the log. Refused, with no step made, where the room can't be
-// made.
+// One step of the session's call, for which there is room in the log. Refused, with no step made,
+// where the room can't be made.
 pub(crate) fn step<S: PageStore, T: DeadRows>(
     store: &mut S,
     calls: &mut Calls,
@@ -83,8 +83,8 @@ pub(crate) fn step<S: PageStore, T: DeadRows>(
     }
 }
 
-// Steps of the session's call until one doesn't answer `Going`, and that answer. Over a device that breaks its model also
-// refused with `PageDamaged(0)` (17), after 2^64 - 1 steps.
+// Steps of the session's call until one doesn't answer `Going`, and that answer. Over a device that
+// breaks its model also refused with `PageDamaged(0)` (17), after 2^64 - 1 steps.
 fn finish<S: PageStore, T: DeadRows>(
     store: &mut S,
     calls: &mut Calls,
@@ -100,7 +100,8 @@ fn finish<S: PageStore, T: DeadRows>(
     ensures over { result ≢ Answer.Going }
 {
     let _limits = store.limits();
-    // Over a device that breaks its model nothing else bounds the steps; over one that keeps it this many are never made.
+    // Over a device that breaks its model nothing else bounds the steps; over one that keeps it
+    // this many are never made.
     let mut left = u64::MAX;
     while left > 0 {
         match step(store, calls, sets, session, least_room) {
@@ -171,8 +172,8 @@ pub(crate) struct Came {
     pub(crate) added: Option<u64>,
 }
 
-// A call that is begun, run to its last answer and given up, if it still runs then. Refused, and nothing is changed, where it
-// can't be begun.
+// A call that is begun, run to its last answer and given up, if it still runs then. Refused, and
+// nothing is changed, where it can't be begun.
 pub(crate) fn run_call<S: PageStore, T: DeadRows>(
     store: &mut S,
     calls: &mut Calls,
@@ -206,7 +207,8 @@ pub(crate) fn run_call<S: PageStore, T: DeadRows>(
     Came { answer, added }
 }
 
-// What an insert answers that is refused: where its entry is added, the fault is what it leaves behind.
+// What an insert answers that is refused: where its entry is added, the fault is what it leaves
+// behind.
 fn refused(added: Option<u64>, fault: Fault) -> Result<Inserted, Fault>
     ensures { result ≡ left_behind added fault }
 {
@@ -253,9 +255,10 @@ pub fn give_up<S: PageStore, T: DeadRows>(
     let _answer = one(store, calls, sets, Event::End(session));
 }
 
-/// An insert, run to its end in a session. Refused as the beginning of a call is: with `Stopped` (3), `NoSession` (12),
-/// `SessionBusy` (13), in this order; nothing is changed then. Where a step of it is refused, it is given up: refused then
-/// too, unless its entry is added, when the fault stands in `unfinished`.
+/// An insert, run to its end in a session. Refused as the beginning of a call is: with `Stopped`
+/// (3), `NoSession` (12), `SessionBusy` (13), in this order; nothing is changed then. Where a step
+/// of it is refused, it is given up: refused then too, unless its entry is added, when the fault
+/// stands in `unfinished`.
 pub fn insert<S: PageStore, T: DeadRows>(
     store: &mut S,
     calls: &mut Calls,

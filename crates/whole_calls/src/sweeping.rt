@@ -27,11 +27,13 @@ fn swept(came: Answer) -> Result<VacuumStats, Fault>
     }
 }
 
-/// A bulk delete of the set at this place among the sets, run to its end in a session. Refused as the beginning of a call is:
-/// with `Stopped` (3), `NoSession` (12), also where the set isn't there, `SessionBusy` (13), `VacuumRunning` (11), in this
-/// order; nothing is changed then. Where a step of it is refused, or a checkpoint before one, it is given up and refused
-/// too: with `Blocked` (4) where another session's scan stands on a leaf, with `Io` (2), `Stopped` (3), `LogFull` (9),
-/// `NoFrame` (10), and on pages that are no tree with `PageDamaged` (17); what it has removed stays removed.
+/// A bulk delete of the set at this place among the sets, run to its end in a session. Refused as
+/// the beginning of a call is: with `Stopped` (3), `NoSession` (12), also where the set isn't
+/// there, `SessionBusy` (13), `VacuumRunning` (11), in this order; nothing is changed then. Where a
+/// step of it is refused, or a checkpoint before one, it is given up and refused too: with
+/// `Blocked` (4) where another session's scan stands on a leaf, with `Io` (2), `Stopped` (3),
+/// `LogFull` (9), `NoFrame` (10), and on pages that are no tree with `PageDamaged` (17); what it
+/// has removed stays removed.
 pub fn bulk_delete<S: PageStore, T: DeadRows>(
     store: &mut S,
     calls: &mut Calls,
@@ -50,7 +52,8 @@ pub fn bulk_delete<S: PageStore, T: DeadRows>(
     ensures entries { Carries S.PageStore (here T.DeadRows store.old calls.old sets.now)
         (here T.DeadRows store.new calls.new sets.now) (λ start history calls.
         TellsEntries (S.state store.new) result) }
-    // With `least_room` 5 or more it never answers `LogFull`; and it is never refused because it had no room to count.
+    // With `least_room` 5 or more it never answers `LogFull`; and it is never refused because it
+    // had no room to count.
     ensures cause { let old = here T.DeadRows store.old calls.old sets.now in
         Carries S.PageStore old (here T.DeadRows store.new calls.new sets.now)
         (λ start history calls. IfErr result
@@ -61,11 +64,12 @@ pub fn bulk_delete<S: PageStore, T: DeadRows>(
     swept(run_call(store, calls, sets, session, request, least_room).answer)
 }
 
-/// A cleanup run to its end in a session: empty leaves leave the tree, and the contents stay. Refused as the beginning of a call
-/// is: with `Stopped` (3), `NoSession` (12), `SessionBusy` (13), `VacuumRunning` (11), in this order; nothing is changed then.
-/// Where a step of it is refused, or a checkpoint before one, it is given up and refused too: with `Blocked` (4) where another
-/// session holds a page, with `Io` (2), `Stopped` (3), `LogFull` (9), `NoFrame` (10), and on pages that are no tree with
-/// `PageDamaged` (17); the contents stay then too.
+/// A cleanup run to its end in a session: empty leaves leave the tree, and the contents stay.
+/// Refused as the beginning of a call is: with `Stopped` (3), `NoSession` (12), `SessionBusy` (13),
+/// `VacuumRunning` (11), in this order; nothing is changed then. Where a step of it is refused, or
+/// a checkpoint before one, it is given up and refused too: with `Blocked` (4) where another
+/// session holds a page, with `Io` (2), `Stopped` (3), `LogFull` (9), `NoFrame` (10), and on pages
+/// that are no tree with `PageDamaged` (17); the contents stay then too.
 pub fn clean_up<S: PageStore, T: DeadRows>(
     store: &mut S,
     calls: &mut Calls,
@@ -86,7 +90,8 @@ pub fn clean_up<S: PageStore, T: DeadRows>(
     ensures spares { Carries S.PageStore (here T.DeadRows store.old calls.old sets.now)
         (here T.DeadRows store.new calls.new sets.now) (λ start history calls.
         IsUndisturbed (S.state store.old) session → LeavesOnlyNeeded (S.state store.new) result) }
-    // With `least_room` 5 or more it never answers `LogFull`; and it is never refused because it had no room to count.
+    // With `least_room` 5 or more it never answers `LogFull`; and it is never refused because it
+    // had no room to count.
     ensures cause { let old = here T.DeadRows store.old calls.old sets.now in
         Carries S.PageStore old (here T.DeadRows store.new calls.new sets.now)
         (λ start history calls. IfErr result

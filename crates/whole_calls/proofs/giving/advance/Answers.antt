@@ -1,20 +1,10 @@
-use Rattle.std.specs.Prelude.{map}
-use Rattle.std.proofs.Common.{rules, ◌≡◌, Some, None, refl, subst}
-use Rattle.page_action.specs.States.{State}
-use Rattle.session_calls.specs.Sessions.{AnswersNext, GivesLess}
-use Rattle.session_calls.specs.declared.answer.Answer.{Answer}
-use Rattle.session_calls.specs.declared.answer.Answer.TheVariants.{Gave}
-use Rattle.schedule.specs.TheoremMoments.{snapshot_of}
-use Rattle.session_calls.specs.Slots.{slot_of}
-use Rattle.schedule.specs.Snapshots.{here_with}
+use Rattle.std.proofs.Common.{map, rules, ◌≡◌, Some, None, refl}
 use Rattle.schedule.specs.declared.event.Event.TheVariants.{Next}
 use Rattle.schedule.proofs.Running.{makes_runs}
-use Rattle.session_calls.proofs.RunningOn.{runs_on_then}
-use Rattle.whole_calls.specs.Giving.{GoesDown}
+use Rattle.whole_calls.proofs.Words.{Gave, snapshot_of, here_with}
 use Rattle.whole_calls.specs.Going.{CallGoes}
 use Rattle.whole_calls.specs.Stepping.{StepGoes, ScanGoes}
 use Rattle.whole_calls.proofs.Composing.{joined, to_second, goes_once}
-use Rattle.whole_calls.proofs.Given.{calm_scan, step_down, step_kind}
 use Rattle.whole_calls.proofs.Lasting.{scan_steps, scan_nexts, waits_behind, waits_none}
 use Rattle.whole_calls.proofs.giving.advance.Given.{Over}
 use Rattle.whole_calls.proofs.giving.advance.Goals.{After-one-answer}
@@ -57,25 +47,3 @@ returns-in-Gave-None-clause-goes g c =
     (waits_none g.S.PageStore session least c.one-answer.result (snapshot_of old h hc) (snapshot_of mid k kc) none one)
     (scan_steps g.S.PageStore session least answer (snapshot_of mid k kc) (snapshot_of new l lc) (record { steps = c.step.ensures.steps; others = c.step.ensures.others.others }) two))
     (asked g ((goal.at.returns-in-Gave-None-clause-goes g c).After-one-answer)) c.step.ensures.goes
-
-pub returns-in-Gave-None-clause-less : goal.returns-in-Gave-None-clause-less
-returns-in-Gave-None-clause-less g c honest =
-    let session = c.args.session in
-    let none : c.one-answer.result ≡ Gave None = search rules in
-    let gives = subst (λ (a : Answer). GivesLess (slot_of c.args.calls.now.slots.items session) (slot_of c.one-answer.new.calls.slots.items session) a) none c.one-answer.ensures.makes.always.less in
-    let gave = subst (λ (a : Answer). AnswersNext (slot_of c.args.calls.now.slots.items session) a) none c.one-answer.ensures.makes.always.answers in
-    let calm = calm_scan (g.S.PageStore.state c.one-answer.new.store) (g.S.PageStore.state c.step.new.store) (slot_of c.args.calls.now.slots.items session) (slot_of c.one-answer.new.calls.slots.items session) gave gives.0 c.step.ensures.calm in
-    subst (λ (st : State). GoesDown st (g.S.PageStore.state c.step.new.store) (slot_of c.args.calls.now.slots.items session) (slot_of c.step.new.calls.slots.items session) c.step.result) c.one-answer.ensures.makes.always.left
-    (step_down (g.S.PageStore.state c.one-answer.new.store) (g.S.PageStore.state c.step.new.store) (slot_of c.args.calls.now.slots.items session) (slot_of c.one-answer.new.calls.slots.items session) (slot_of c.step.new.calls.slots.items session) c.step.result gives calm (c.step.ensures.less honest) c.step.ensures.kind)
-
-pub returns-in-Gave-None-clause-kind : goal.returns-in-Gave-None-clause-kind
-returns-in-Gave-None-clause-kind g c =
-    let session = c.args.session in
-    let none : c.one-answer.result ≡ Gave None = search rules in
-    let gives = subst (λ (a : Answer). GivesLess (slot_of c.args.calls.now.slots.items session) (slot_of c.one-answer.new.calls.slots.items session) a) none c.one-answer.ensures.makes.always.less in
-    let gave = subst (λ (a : Answer). AnswersNext (slot_of c.args.calls.now.slots.items session) a) none c.one-answer.ensures.makes.always.answers in
-    step_kind (slot_of c.args.calls.now.slots.items session) (slot_of c.one-answer.new.calls.slots.items session) (slot_of c.step.new.calls.slots.items session) c.step.result gave gives.0 c.step.ensures.kind
-
-pub returns-in-Gave-None-clause-runs_on : goal.returns-in-Gave-None-clause-runs_on
-returns-in-Gave-None-clause-runs_on g c =
-    runs_on_then (slot_of c.args.calls.now.slots.items c.args.session) (slot_of c.one-answer.new.calls.slots.items c.args.session) (slot_of c.step.new.calls.slots.items c.args.session) c.one-answer.ensures.makes.always.runs_on c.step.ensures.runs_on

@@ -1,14 +1,9 @@
-use Rattle.std.specs.Prelude.{map}
-use Rattle.std.proofs.Common.{◌≡◌, false, Ok, Err, Option, None, Some, sym, ap, ◌∙◌}
-use Rattle.index_model.specs.declared.entry.Entry.{Entry}
-use Rattle.session_calls.proofs.RunningOn.{runs_over}
-use Rattle.schedule.specs.TheoremMoments.{snapshot_of}
-use Rattle.session_calls.specs.Slots.{slot_of}
-use Rattle.schedule.specs.Snapshots.{here_with}
+use Rattle.std.proofs.Common.{map, ◌≡◌, false, Ok, Err, Option, None, Some, sym, ap, ◌∙◌}
+use Rattle.whole_calls.proofs.Words.{Entry, snapshot_of, here_with}
 use Rattle.whole_calls.specs.Giving.{TellsGiven, given_of, give_came}
 use Rattle.whole_calls.specs.Stepping.{ScanGoes}
 use Rattle.whole_calls.proofs.Composing.{goes_told}
-use Rattle.whole_calls.proofs.Given.{given_down, some_given, give_comes, given_caused}
+use Rattle.whole_calls.proofs.Given.{some_given, give_comes, given_caused}
 use Rattle.whole_calls.proofs.Lasting.{scan_caused, scan_tells, scan_ends}
 use Rattle.whole_calls.proofs.Refusing.{gone_behind}
 use Rattle.whole_calls.proofs.giving.give.Goals as goal
@@ -28,12 +23,6 @@ returns-in-Ok-Some-clause-goes g c =
       rw is at (give_comes came answers c.seek-came.ensures.kind by),
       some_given session came entry (snapshot_of old h hc) (snapshot_of new k kc) c.seek-came.ensures.kind is (scan_tells g.S.PageStore session least came (snapshot_of old h hc) (snapshot_of new k kc) t),
     )) c.seek-came.ensures.goes
-
-pub returns-in-Ok-Some-clause-less : goal.returns-in-Ok-Some-clause-less
-returns-in-Ok-Some-clause-less g c honest =
-    let session = c.args.session in
-    let is : given_of c.seek-came.result ≡ Ok (Some c.in-Ok-Some.entry) = sym c.given.ensures ∙ c.in-Ok-Some.is ∙ ap (λ (o : Option Entry). Ok o) c.in-Ok-Some.field-0-is in
-    given_down (g.S.PageStore.state c.args.store.now) (g.S.PageStore.state c.seek-came.new.store) (slot_of c.args.calls.now.slots.items session) (slot_of c.seek-came.new.calls.slots.items session) c.seek-came.result c.in-Ok-Some.entry c.seek-came.ensures.kind is (c.seek-came.ensures.less honest)
 
 pub returns-in-Ok-None-clause-goes : goal.returns-in-Ok-None-clause-goes
 returns-in-Ok-None-clause-goes g c =
@@ -63,9 +52,3 @@ returns-in-Err-clause-cause g c honest start history calls fits number call rang
     let why = scan_caused g.S.PageStore session least laws came (snapshot_of old history calls) (snapshot_of (here_with c.seek-came.new.store c.seek-came.new.calls.slots.items sets) r.then_history r.then_calls) r.tells number call range is ask in
     let is_err : given_of came ≡ Err c.in-Err.fault = sym c.given.ensures ∙ c.in-Err.is in
     rw (gone_behind g.S.PageStore session least false old c.seek-came.new.store c.give_up-in-Err.new.store end.backing end.acts end.frames) (rw is_err at (given_caused _ came c.seek-came.ensures.kind why))
-
-pub returns-in-Ok-None-clause-runs_on : goal.returns-in-Ok-None-clause-runs_on
-returns-in-Ok-None-clause-runs_on g c = runs_over (slot_of c.args.calls.now.slots.items c.args.session) (slot_of c.give_up.new.calls.slots.items c.args.session) c.give_up.ensures.over
-
-pub returns-in-Err-clause-runs_on : goal.returns-in-Err-clause-runs_on
-returns-in-Err-clause-runs_on g c = runs_over (slot_of c.args.calls.now.slots.items c.args.session) (slot_of c.give_up-in-Err.new.calls.slots.items c.args.session) c.give_up-in-Err.ensures.over

@@ -1,6 +1,6 @@
-use Rattle.std.specs.Prelude.{map}
+use Rattle.std.proofs.Common.{map}
 use Rattle.session_calls.specs.declared.request.Request.TheVariants.{Scan as ToScan}
-use Rattle.schedule.specs.Snapshots.{here_with}
+use Rattle.whole_calls.proofs.Words.{here_with}
 use Rattle.whole_calls.specs.Stepping.{BeginGoes}
 use Rattle.whole_calls.specs.Telling.{BeginTold, begin_came}
 use Rattle.whole_calls.proofs.Composing.{goes_told}

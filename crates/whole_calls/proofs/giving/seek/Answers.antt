@@ -1,14 +1,10 @@
-use Rattle.std.specs.Prelude.{map}
-use Rattle.std.proofs.Common.{◌≤◌, arith, Some, None, refl, subst, ◌∙◌, rules}
-use Rattle.index_model.specs.declared.limits.Limits.{Limits}
+use Rattle.std.proofs.Common.{map, ◌≤◌, arith, Some, None, refl, subst, ◌∙◌}
 use Rattle.session_calls.proofs.RunningOn.{runs_on_same, runs_on_then}
-use Rattle.schedule.specs.TheoremMoments.{snapshot_of}
-use Rattle.session_calls.specs.Slots.{slot_of}
-use Rattle.schedule.specs.Snapshots.{here_with}
 use Rattle.schedule.proofs.Bounds.{work_bounded}
+use Rattle.whole_calls.proofs.Words.{Limits, snapshot_of, here_with, slot_of}
 use Rattle.whole_calls.specs.Stepping.{ScanWaits, ScanGoes}
 use Rattle.whole_calls.proofs.Composing.{joined, to_second, goes_nowhere}
-use Rattle.whole_calls.proofs.Given.{sought, down_after, down_on}
+use Rattle.whole_calls.proofs.Given.{down_after, down_on}
 use Rattle.whole_calls.proofs.Lasting.{lasts_here, waits_then, waits_behind, waits_on}
 use Rattle.whole_calls.proofs.giving.seek.Goals as goal
 
@@ -24,9 +20,8 @@ loop-left-init g c = record {
   fewer = omega arith;
 }
 
-pub returns-in_default : goal.returns-in_default
-returns-in_default g c =
-    let laws = g.met.S.PageStore.laws in
+pub returns-in_default-clause-goes : goal.returns-in_default-clause-goes
+returns-in_default-clause-goes g c =
     let session = c.args.session in
     let least = c.args.least_room in
     let answer = c.advance.result in
@@ -34,20 +29,9 @@ returns-in_default g c =
     let old = here_with c.args.store.now c.args.calls.now.slots.items sets in
     let mid = here_with c.loop-left.store c.loop-left.calls.slots.items sets in
     let new = here_with c.advance.new.store c.advance.new.calls.slots.items sets in
-    let later = laws.follows_later c.loop-left.store c.advance.new.store (c.advance.ensures.steps _ (laws.follows_same _)) in
-    let fewer = c.loop-left.invariant.fewer in
-    record {
-      steps = λ f h. c.advance.ensures.steps f (c.loop-left.invariant.steps f h);
-      others = record { sessions = c.advance.ensures.others.sessions ∙ c.loop-left.invariant.sessions; others = λ o ne. c.advance.ensures.others.others o ne ∙ c.loop-left.invariant.others o ne };
-      runs_on = runs_on_then (slot_of c.args.calls.now.slots.items session) (slot_of c.loop-left.calls.slots.items session) (slot_of c.advance.new.calls.slots.items session) c.loop-left.invariant.runs_on c.advance.ensures.runs_on;
-      goes = joined g.S.PageStore laws session (λ s. ScanWaits g.S.PageStore session) (λ s. ScanGoes g.S.PageStore session least answer) (λ s. ScanGoes g.S.PageStore session least answer) None (Some answer) (Some answer) old mid new
-          c.loop-left.invariant.steps c.advance.ensures.steps (to_second None (Some answer))
-          (λ start h hc k kc l lc fx fy fz one two. waits_behind g.S.PageStore session least answer (snapshot_of old h hc) (snapshot_of mid k kc) (snapshot_of new l lc) one two) c.loop-left.invariant.goes c.advance.ensures.goes;
-      kind = sought answer c.advance.ensures.kind (λ is. search rules) (λ count is. search rules);
-      less = λ honest. (
-          let most = c.loop-left.invariant.budget (later.honest honest) in
-          down_after (g.S.PageStore.state c.args.store.now) (g.S.PageStore.state c.loop-left.store) (g.S.PageStore.state c.advance.new.store) (slot_of c.args.calls.now.slots.items session) (slot_of c.loop-left.calls.slots.items session) (slot_of c.advance.new.calls.slots.items session) answer (omega (arith, most, fewer)) (c.advance.ensures.less honest));
-    }
+    joined g.S.PageStore g.met.S.PageStore.laws session (λ s. ScanWaits g.S.PageStore session) (λ s. ScanGoes g.S.PageStore session least answer) (λ s. ScanGoes g.S.PageStore session least answer) None (Some answer) (Some answer) old mid new
+    c.loop-left.invariant.steps c.advance.ensures.steps (to_second None (Some answer))
+    (λ start h hc k kc l lc fx fy fz one two. waits_behind g.S.PageStore session least answer (snapshot_of old h hc) (snapshot_of mid k kc) (snapshot_of new l lc) one two) c.loop-left.invariant.goes c.advance.ensures.goes
 
 pub loop-left-preserved : goal.loop-left-preserved
 loop-left-preserved g c =
@@ -84,3 +68,13 @@ returns-clause-goes g c honest start history calls fits =
     let most = c.loop-left.invariant.budget honest in
     let out = c.loop-left-test.false in
     absurd (omega (arith, few, most, out))
+
+pub returns-in_default-clause-less : goal.returns-in_default-clause-less
+returns-in_default-clause-less g c honest =
+    let laws = g.met.S.PageStore.laws in
+    let session = c.args.session in
+    let later = laws.follows_later c.loop-left.store c.advance.new.store (c.advance.ensures.steps _ (laws.follows_same _)) in
+    let fewer = c.loop-left.invariant.fewer in
+    let most = c.loop-left.invariant.budget (later.honest honest) in
+    down_after (g.S.PageStore.state c.args.store.now) (g.S.PageStore.state c.loop-left.store) (g.S.PageStore.state c.advance.new.store) (slot_of c.args.calls.now.slots.items session) (slot_of c.loop-left.calls.slots.items session) (slot_of c.advance.new.calls.slots.items session) c.advance.result
+    (omega (arith, most, fewer)) (c.advance.ensures.less honest)

@@ -1,10 +1,6 @@
 use Rattle.std.proofs.Common.{◌≡◌, ◌+◌, ◌≤◌, true, None, length}
-use Rattle.page_action.specs.States.{Continues}
-use Rattle.session_calls.specs.Sessions.{work_in}
-use Rattle.session_calls.specs.Ops.{RunsOn}
+use Rattle.whole_calls.proofs.Words.{Continues, work_in, RunsOn, slot_of, OthersStay}
 use Rattle.schedule.specs.Sessions.{here}
-use Rattle.session_calls.specs.Slots.{slot_of}
-use Rattle.schedule.specs.Events.{OthersStay}
 use Rattle.whole_calls.specs.Going.{CallGoes}
 use Rattle.whole_calls.specs.Stepping.{ScanWaits}
 use Rattle.whole_calls.proofs.giving.seek.Given as goal

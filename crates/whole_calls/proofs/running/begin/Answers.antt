@@ -1,10 +1,7 @@
-use Rattle.std.specs.Prelude.{map}
-use Rattle.std.proofs.Common.{refl}
-use Rattle.schedule.specs.Making.{Makes}
-use Rattle.schedule.specs.Snapshots.{here_with}
-use Rattle.schedule.specs.TheoremKinds.{BeginsCall}
+use Rattle.std.proofs.Common.{map, refl}
 use Rattle.schedule.proofs.Running.{makes_runs}
-use Rattle.whole_calls.proofs.Beginning.{goes_begun, caused_by, refused_by, begins_by}
+use Rattle.whole_calls.proofs.Words.{Makes, here_with, BeginsCall}
+use Rattle.whole_calls.proofs.Beginning.{goes_begun}
 use Rattle.whole_calls.proofs.running.begin.Given.{Over}
 use Rattle.whole_calls.proofs.running.begin.Goals.{After-one}
 use Rattle.whole_calls.proofs.running.begin.Goals as goal
@@ -14,19 +11,17 @@ makes : (g : Over) (c : After-one g) → Makes g.S.PageStore (BeginsCall c.args.
     (here_with c.args.store.now c.args.calls.now.slots.items (map g.T.DeadRows.is_in c.args.sets.now)) (here_with c.one.new.store c.one.new.calls.slots.items (map g.T.DeadRows.is_in c.args.sets.now))
 makes g c = rw c.beginning.ensures at c.one.ensures.makes
 
-pub returns : goal.returns
-returns g c =
+pub returns-clause-goes : goal.returns-clause-goes
+returns-clause-goes g c =
     let laws = g.met.S.PageStore.laws in
     let sets = map g.T.DeadRows.is_in c.args.sets.now in
     let old = here_with c.args.store.now c.args.calls.now.slots.items sets in
     let new = here_with c.one.new.store c.one.new.calls.slots.items sets in
-    let m = makes g ((goal.at.returns g c).After-one) in
-    record {
-      steps = c.one.ensures.steps;
-      others = record { sessions = m.sessions; others = m.always.others c.args.session refl };
-      goes = rw c.begun.ensures (goes_begun g.S.PageStore laws c.args.session c.args.request c.beginning.result c.one.result old new c.nothing_is_counted.ensures c.beginning.ensures m.always.answers m.always.fresh (makes_runs g.S.PageStore laws c.beginning.result c.one.result old new c.one.ensures.makes));
-      begins = rw c.begun.ensures (begins_by _ c.one.result m.always.answers m.always.fresh);
-      refused = rw c.begun.ensures (refused_by _ c.one.result m.always.answers m.always.refused);
-      cause = rw c.begun.ensures (caused_by _ c.one.result m.always.answers m.always.causes);
-      limits = m.always.kept.limits;
-    }
+    let m = makes g ((goal.at.returns-clause-goes g c).After-one) in
+    rw c.begun.ensures (goes_begun g.S.PageStore laws c.args.session c.args.request c.beginning.result c.one.result old new c.nothing_is_counted.ensures c.beginning.ensures m.always.answers m.always.fresh
+    (makes_runs g.S.PageStore laws c.beginning.result c.one.result old new c.one.ensures.makes))
+
+pub returns-clause-others : goal.returns-clause-others
+returns-clause-others g c =
+    let m = makes g ((goal.at.returns-clause-others g c).After-one) in
+    record { sessions = m.sessions; others = m.always.others c.args.session refl }

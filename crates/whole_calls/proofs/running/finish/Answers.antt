@@ -1,10 +1,5 @@
-use Rattle.std.specs.Prelude.{map}
-use Rattle.std.proofs.Common.{◌≡◌, ◌≤◌, Some, None, refl, sym, subst, arith, ◌∙◌, rules}
-use Rattle.index_model.specs.declared.limits.Limits.{Limits}
-use Rattle.session_calls.specs.declared.answer.Answer.{Answer}
-use Rattle.session_calls.specs.declared.answer.Answer.TheVariants.{Going}
-use Rattle.schedule.specs.TheoremMoments.{snapshot_of}
-use Rattle.schedule.specs.Snapshots.{here_with}
+use Rattle.std.proofs.Common.{map, ◌≡◌, ◌≤◌, Some, None, refl, sym, subst, arith, ◌∙◌, rules}
+use Rattle.whole_calls.proofs.Words.{Limits, Answer, Going, snapshot_of, here_with}
 use Rattle.whole_calls.specs.Stepping.{StepGoes, HasGoneTo, FinishGoes}
 use Rattle.whole_calls.proofs.Composing.{joined, to_second, goes_nowhere}
 use Rattle.whole_calls.proofs.Gone.{far_nowhere}
@@ -23,8 +18,8 @@ loop-left-init g c = record {
   budget = λ low honest start history calls fits. omega arith;
 }
 
-pub returns-in_default : goal.returns-in_default
-returns-in_default g c =
+pub returns-in_default-clause-goes : goal.returns-in_default-clause-goes
+returns-in_default-clause-goes g c =
     let session = c.args.session in
     let least = c.args.least_room in
     let answer = c.step.result in
@@ -32,15 +27,10 @@ returns-in_default g c =
     let old = here_with c.args.store.now c.args.calls.now.slots.items sets in
     let mid = here_with c.loop-left.store c.loop-left.calls.slots.items sets in
     let new = here_with c.step.new.store c.step.new.calls.slots.items sets in
-    record {
-      steps = λ f h. c.step.ensures.steps f (c.loop-left.invariant.steps f h);
-      others = record { sessions = c.step.ensures.others.sessions ∙ c.loop-left.invariant.sessions; others = λ o ne. c.step.ensures.others.others o ne ∙ c.loop-left.invariant.others o ne };
-      goes = joined g.S.PageStore g.met.S.PageStore.laws session (λ s. HasGoneTo g.S.PageStore session) (λ s. StepGoes g.S.PageStore session least answer) (FinishGoes g.S.PageStore session least answer) None (Some answer) (Some answer) old mid new
-          c.loop-left.invariant.steps c.step.ensures.steps (to_second None (Some answer))
-          (λ start h hc k kc l lc fx fy fz one two. record { last = snapshot_of mid k kc; fits = fy; gone = one; lasts = record { steps = c.step.ensures.steps; others = c.step.ensures.others.others }; step = two })
-          c.loop-left.invariant.goes c.step.ensures.goes;
-      over = λ is. search rules;
-    }
+    joined g.S.PageStore g.met.S.PageStore.laws session (λ s. HasGoneTo g.S.PageStore session) (λ s. StepGoes g.S.PageStore session least answer) (FinishGoes g.S.PageStore session least answer) None (Some answer) (Some answer) old mid new
+    c.loop-left.invariant.steps c.step.ensures.steps (to_second None (Some answer))
+    (λ start h hc k kc l lc fx fy fz one two. record { last = snapshot_of mid k kc; fits = fy; gone = one; lasts = record { steps = c.step.ensures.steps; others = c.step.ensures.others.others }; step = two })
+    c.loop-left.invariant.goes c.step.ensures.goes
 
 pub loop-left-preserved : goal.loop-left-preserved
 loop-left-preserved g c =

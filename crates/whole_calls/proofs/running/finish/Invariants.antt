@@ -1,9 +1,6 @@
 use Rattle.std.proofs.Common.{◌≡◌, ◌+◌, ◌≤◌, None, length}
-use Rattle.page_action.specs.States.{Continues}
+use Rattle.whole_calls.proofs.Words.{Continues, slot_of, OthersStay, Carries}
 use Rattle.schedule.specs.Sessions.{here}
-use Rattle.session_calls.specs.Slots.{slot_of}
-use Rattle.schedule.specs.Events.{OthersStay}
-use Rattle.schedule.specs.TheoremRuns.{Carries}
 use Rattle.whole_calls.specs.Going.{CallGoes}
 use Rattle.whole_calls.specs.Spending.{steps_left}
 use Rattle.whole_calls.specs.Stepping.{HasGoneTo}

@@ -1,9 +1,7 @@
-use Rattle.std.specs.Prelude.{map}
-use Rattle.std.proofs.Common.{Some, None, refl}
-use Rattle.schedule.specs.TheoremMoments.{snapshot_of}
-use Rattle.schedule.specs.Snapshots.{here_with}
+use Rattle.std.proofs.Common.{map, Some, None, refl}
 use Rattle.schedule.specs.declared.event.Event.TheVariants.{End}
 use Rattle.schedule.proofs.Running.{makes_runs}
+use Rattle.whole_calls.proofs.Words.{snapshot_of, here_with}
 use Rattle.whole_calls.specs.Telling.{TellsEnd}
 use Rattle.whole_calls.proofs.Composing.{goes_once, goes_told}
 use Rattle.whole_calls.proofs.Tellings.{ends_tells}

@@ -1,6 +1,5 @@
-use Rattle.std.specs.Prelude.{map}
-use Rattle.schedule.specs.TheoremMoments.{snapshot_of}
-use Rattle.schedule.specs.Snapshots.{here_with}
+use Rattle.std.proofs.Common.{map}
+use Rattle.whole_calls.proofs.Words.{snapshot_of, here_with}
 use Rattle.whole_calls.proofs.Inserting.{insert_goes, insert_caused}
 use Rattle.whole_calls.proofs.running.insert.Goals as goal
 

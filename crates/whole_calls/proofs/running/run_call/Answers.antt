@@ -1,10 +1,6 @@
-use Rattle.std.specs.Prelude.{map}
-use Rattle.std.proofs.Common.{Some, None, Ok, Err, refl, sym, subst, inl, inr, ◌∙◌}
+use Rattle.std.proofs.Common.{map, Some, None, Ok, Err, refl, sym, subst, inl, inr, ◌∙◌}
 use Rattle.index_model.specs.Limits.{AreLimits}
-use Rattle.index_model.specs.declared.limits.Limits.{Limits}
-use Rattle.session_calls.specs.declared.answer.Answer.TheVariants.{Begun, Refused}
-use Rattle.schedule.specs.TheoremMoments.{snapshot_of}
-use Rattle.schedule.specs.Snapshots.{here_with}
+use Rattle.whole_calls.proofs.Words.{Limits, Begun, Refused, snapshot_of, here_with}
 use Rattle.whole_calls.specs.Stepping.{BeginGoes, FinishGoes, RunGoes}
 use Rattle.whole_calls.specs.Telling.{TellsEnd}
 use Rattle.whole_calls.proofs.Composing.{joined, to_first, to_second, goes_told}

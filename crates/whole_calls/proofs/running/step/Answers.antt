@@ -1,17 +1,11 @@
-use Rattle.std.specs.Prelude.{map}
-use Rattle.std.proofs.Common.{Some, refl}
-use Rattle.schedule.specs.TheoremMoments.{snapshot_of}
-use Rattle.session_calls.specs.Slots.{slot_of}
-use Rattle.schedule.specs.Snapshots.{here_with}
+use Rattle.std.proofs.Common.{map, Some, refl}
 use Rattle.schedule.specs.declared.event.Event.TheVariants.{Step}
 use Rattle.schedule.proofs.Running.{makes_runs}
-use Rattle.session_calls.specs.declared.answer.Answer.TheVariants.{Refused}
-use Rattle.session_calls.proofs.RunningOn.{runs_on_same}
+use Rattle.whole_calls.proofs.Words.{snapshot_of, here_with, Refused}
 use Rattle.whole_calls.specs.Stepping.{RoomTold, StepGoes}
 use Rattle.whole_calls.specs.Telling.{room_came}
 use Rattle.whole_calls.proofs.Composing.{joined, to_second, goes_once, goes_told}
 use Rattle.whole_calls.proofs.Lasting.{step_goes, room_then, held_goes}
-use Rattle.whole_calls.proofs.Tellings.{refused_kind}
 use Rattle.whole_calls.proofs.running.step.Goals as goal
 
 pub returns-in-Ok-clause-goes : goal.returns-in-Ok-clause-goes
@@ -44,9 +38,3 @@ returns-in-Err-clause-goes g c =
     goes_told g.S.PageStore session (λ s. RoomTold g.S.PageStore) (λ s. StepGoes g.S.PageStore session least (Refused fault)) (room_came c.make_room.result) (Some (Refused fault)) old here
     (λ start h hc k kc answers fits came room. (rw c.in-Err.is at came, held_goes g.S.PageStore session least fault (snapshot_of old h hc) (snapshot_of here k kc) room c.in-Err.ensures.cause))
     (c.make_room.ensures.goes session c.args.calls.now.slots.items sets)
-
-pub returns-in-Err-clause-kind : goal.returns-in-Err-clause-kind
-returns-in-Err-clause-kind g c = refused_kind (slot_of c.args.calls.now.slots.items c.args.session) (slot_of c.args.calls.now.slots.items c.args.session) c.in-Err.fault
-
-pub returns-in-Err-clause-runs_on : goal.returns-in-Err-clause-runs_on
-returns-in-Err-clause-runs_on g c = runs_on_same (slot_of c.args.calls.now.slots.items c.args.session)

@@ -1,8 +1,6 @@
-use Rattle.std.specs.Prelude.{map}
-use Rattle.std.proofs.Common.{refl}
+use Rattle.std.proofs.Common.{map, refl}
 use Rattle.session_calls.specs.declared.request.Request.TheVariants.{Cleanup as ToCleanup}
-use Rattle.schedule.specs.TheoremMoments.{snapshot_of}
-use Rattle.schedule.specs.Snapshots.{here_with}
+use Rattle.whole_calls.proofs.Words.{snapshot_of, here_with}
 use Rattle.whole_calls.specs.Sweeping.{of_cleanup, of_leaves}
 use Rattle.whole_calls.proofs.Swept.{sweep_goes, sweep_counts, sweep_caused}
 use Rattle.whole_calls.proofs.sweeping.clean_up.Goals as goal
