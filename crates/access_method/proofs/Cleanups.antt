@@ -16,7 +16,8 @@ use Rattle.whole_calls.specs.Telling.{acts_by, AreOwnEffects, first_call}
 use Rattle.access_method.specs.Indexes.{IsCleanedUp}
 
 -- what a cleanup does says nothing of any entry
-says_nothing : (number : ℕ) (call : Call) (count : ℕ) (effects : List Effect) (e : Entry) → call.ask ≡ AskCleanup → AreOwnEffects call count effects → last_said (acts_by number effects) e ≡ None
+says_nothing : (number : ℕ) (call : Call) (count : ℕ) (effects : List Effect) (e : Entry) → call.ask ≡ AskCleanup → AreOwnEffects call count effects
+    → last_said (acts_by number effects) e ≡ None
 says_nothing number call count [] e ask own = refl
 says_nothing number call count (Add x ∷ effects) e ask own = absurd (rw ask at own.0)
 says_nothing number call count (Remove es ∷ effects) e ask own = absurd (rw ask at own.0)
@@ -24,13 +25,17 @@ says_nothing number call count (Shape ∷ effects) e ask own = ap (λ (o : Optio
 
 -- so the contents are those before
 module _ {S : Type 0} (g : Ghosts S) (old new : StoreAndSlots S) (start : Entry → Bool) (history : List Action) (calls : List Call) (fits : Fits g start (snapshot_of old history calls)) where
-  stays : (then_history : List Action) (effects : List Effect) → AreOwnEffects (first_call 63 ToCleanup (snapshot_of old history calls)) (length history) effects → then_history ≡ history ++ acts_by (length calls) effects
+  stays : (then_history : List Action) (effects : List Effect)
+      → AreOwnEffects (first_call 63 ToCleanup (snapshot_of old history calls)) (length history) effects
+      → then_history ≡ history ++ acts_by (length calls) effects
       → (e : Entry) → contents_after start then_history e ≡ contents_after start history e
   stays then_history effects own is e =
       ap (λ (l : List Action). contents_after start l e) is ∙ contents_after-append start history (acts_by (length calls) effects) e
       ∙ ap (λ (o : Option Bool). unwrap_or o (contents_after start history e)) (says_nothing (length calls) (first_call 63 ToCleanup (snapshot_of old history calls)) (length history) effects e refl own)
 
-  pub cleaned_up : (result : Result VacuumStats Fault) → (r : CallRuns g 63 (SweepTold 63 ToCleanup result) (swept_came result) old new start history calls) → TellsCleaned (g.state new.store) result → IsCleanedUp g result old.store new.store
+  pub cleaned_up : (result : Result VacuumStats Fault)
+      → (r : CallRuns g 63 (SweepTold 63 ToCleanup result) (swept_came result) old new start history calls) → TellsCleaned (g.state new.store) result
+      → IsCleanedUp g result old.store new.store
   cleaned_up (Ok stats) r told =
       let t = r.tells in
       record { contents = λ e. r.ran.fits.explains.contents e ∙ stays r.then_history t.effects t.own t.history_is e ∙ sym (fits.explains.contents e); told = told }

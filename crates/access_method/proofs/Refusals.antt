@@ -96,12 +96,14 @@ module _ {S : Type 0} (g : Ghosts S) (old : Index S) (new : S) where
     refused_cause was_there used_up tall SessionBusy was h = absurd (true_false (sym h ∙ free))
     refused_cause was_there used_up tall fault was h = h
 
-    left_cause : (unfinished : Option Fault) → IsFaultCaused (where_inserted g 63 5 false true true (slots_within old) new) unfinished → IsFaultCaused (where_inserting g false true true old new) unfinished
+    left_cause : (unfinished : Option Fault) → IsFaultCaused (where_inserted g 63 5 false true true (slots_within old) new) unfinished
+        → IsFaultCaused (where_inserting g false true true old new) unfinished
     left_cause None h = tt
     left_cause (Some Stopped) h = stopped_run h
     left_cause (Some fault) h = h
 
-    pub insert_cause : (result : Result Inserted Fault) → InsertsOrKeeps g entry result old.store new → InsertCallIsCaused g 63 5 entry (slots_within old) new result → InsertHasCause g entry result old new
+    pub insert_cause : (result : Result Inserted Fault) → InsertsOrKeeps g entry result old.store new
+        → InsertCallIsCaused g 63 5 entry (slots_within old) new result → InsertHasCause g entry result old new
     insert_cause (Ok inserted) told h = left_cause inserted.unfinished h
     insert_cause (Err fault) told h = refused_cause (has_entry g old.store entry) (is_used_up (g.state new)) (is_tall (g.state new)) fault told.was_there h
 
@@ -117,7 +119,8 @@ pub frames_stay : {S : Type 0} (g : Ghosts S) (session : ℕ) (Tells : Snapshot 
     → CallRuns g session Tells came old new start history calls → (g.state new.store).frames ≡ (g.state old.store).frames
 frames_stay g session Tells came old new start history calls r = run_frames g start [] r.events r.answers (snapshot_of old history calls) (snapshot_of new r.then_history r.then_calls) r.ran.run
 
-pub insert_frames : {S : Type 0} (g : Ghosts S) (entry : Entry) (result : Result Inserted Fault) (old new : StoreAndSlots S) → InsertGoes g 63 entry result old new → Carries g old new (λ start history calls. (g.state new.store).frames ≡ (g.state old.store).frames)
+pub insert_frames : {S : Type 0} (g : Ghosts S) (entry : Entry) (result : Result Inserted Fault) (old new : StoreAndSlots S)
+    → InsertGoes g 63 entry result old new → Carries g old new (λ start history calls. (g.state new.store).frames ≡ (g.state old.store).frames)
 insert_frames g entry (Ok inserted) old new (inl goes) honest start history calls fits = frames_stay g 63 _ _ old new start history calls (goes honest start history calls fits)
 insert_frames g entry (Ok inserted) old new (inr cut) honest start history calls fits = frames_stay g 63 _ _ old new start history calls (cut.goes honest start history calls fits)
 insert_frames g entry (Err fault) old new goes honest start history calls fits = frames_stay g 63 _ _ old new start history calls (goes honest start history calls fits)
@@ -190,7 +193,8 @@ module _ {S : Type 0} (g : Ghosts S) (entry : Entry) (old : Index S) (new : S) (
   insert_unhindered (Err fault) h = refused_unhindered fault h
 
 -- no session runs a bulk delete or a cleanup
-none_vacuums : (slots : List (Option Op)) → ((session : ℕ) (op : Op) → slice_get slots session ≡ Some (Some op) → is_vacuum op ≡ true → ⊥) → one_vacuums slots ≡ false
+none_vacuums : (slots : List (Option Op)) → ((session : ℕ) (op : Op) → slice_get slots session ≡ Some (Some op) → is_vacuum op ≡ true → ⊥)
+    → one_vacuums slots ≡ false
 none_vacuums [] none = refl
 none_vacuums (None ∷ slots) none = none_vacuums slots (λ session op at. none (suc session) op at)
 none_vacuums (Some (Insert op) ∷ slots) none = none_vacuums slots (λ session op at. none (suc session) op at)
@@ -202,7 +206,8 @@ pub calm_slots : (slots : List (Option Op)) → NoneVacuums slots → one_vacuum
 calm_slots slots none = none_vacuums slots (λ session op at is. true_false (sym is ∙ sym (ap (λ (o : Option (Option Op)). slot_vacuums (unwrap_or o None)) at) ∙ none session))
 
 -- where no open scan's call runs, nobody else holds a page
-pub all_alone : {S : Type 0} (g : Ghosts S) (start : Entry → Bool) (now : Snapshot S) → Fits g start now → another_runs now.slots 63 ≡ false → IsAlone (g.state now.store) 63
+pub all_alone : {S : Type 0} (g : Ghosts S) (start : Entry → Bool) (now : Snapshot S) → Fits g start now → another_runs now.slots 63 ≡ false
+    → IsAlone (g.state now.store) 63
 all_alone g start now fits idle other differ = by (slice_get now.slots other) refl
   where
     none : slot_of now.slots other ≡ None
@@ -234,29 +239,36 @@ module _ {S : Type 0} (g : Ghosts S) (dead : Row → Bool) (old : Index S) (new 
   sweep_cause SessionBusy h = absurd (true_false (sym h ∙ ap is_busy inserts))
   sweep_cause fault h = h
 
-  pub swept_cause : (result : Result VacuumStats Fault) → IfErr result (HasCause (where_called g 63 (ToBulk 0) (slots_with dead old) (where_gone g 63 5 false (slots_with dead old) new))) → IfErr result (HasCause (where_run g 63 old new))
+  pub swept_cause : (result : Result VacuumStats Fault)
+      → IfErr result (HasCause (where_called g 63 (ToBulk 0) (slots_with dead old) (where_gone g 63 5 false (slots_with dead old) new)))
+      → IfErr result (HasCause (where_run g 63 old new))
   swept_cause (Ok stats) h = tt
   swept_cause (Err fault) h = sweep_cause fault h
 
 -- why a cleanup is refused
 module _ {S : Type 0} (g : Ghosts S) (old : Index S) (new : S) (inserts : slot_of old.calls.slots.items 63 ≡ None) (slots : length old.calls.slots.items ≡ 64) (none : one_vacuums old.calls.slots.items ≡ false) where
-  clean_cause : (fault : Fault) → HasCause (where_called g 63 ToCleanup (slots_within old) (where_gone g 63 5 false (slots_within old) new)) fault → HasCause (where_run g 63 old new) fault
+  clean_cause : (fault : Fault) → HasCause (where_called g 63 ToCleanup (slots_within old) (where_gone g 63 5 false (slots_within old) new)) fault
+      → HasCause (where_run g 63 old new) fault
   clean_cause Stopped h = stopped_called g old new h
   clean_cause VacuumRunning h = absurd (true_false (sym h ∙ none))
   clean_cause NoSession h = absurd (true_false (sym h ∙ there_at old slots))
   clean_cause SessionBusy h = absurd (true_false (sym h ∙ ap is_busy inserts))
   clean_cause fault h = h
 
-  pub cleaned_cause : (result : Result VacuumStats Fault) → IfErr result (HasCause (where_called g 63 ToCleanup (slots_within old) (where_gone g 63 5 false (slots_within old) new))) → IfErr result (HasCause (where_run g 63 old new))
+  pub cleaned_cause : (result : Result VacuumStats Fault)
+      → IfErr result (HasCause (where_called g 63 ToCleanup (slots_within old) (where_gone g 63 5 false (slots_within old) new)))
+      → IfErr result (HasCause (where_run g 63 old new))
   cleaned_cause (Ok stats) h = tt
   cleaned_cause (Err fault) h = clean_cause fault h
 
 -- why a scan gives nothing
-pub give_cause : {S : Type 0} (g : Ghosts S) (session : ℕ) (old : Index S) (new : S) (fault : Fault) → HasCause (where_gone g session 5 false (slots_within old) new) fault → HasCause (where_run g session old new) fault
+pub give_cause : {S : Type 0} (g : Ghosts S) (session : ℕ) (old : Index S) (new : S) (fault : Fault)
+    → HasCause (where_gone g session 5 false (slots_within old) new) fault → HasCause (where_run g session old new) fault
 give_cause g session old new Stopped h = stopped_run g old new h
 give_cause g session old new fault h = h
 
 -- a call that nothing hinders, and that is refused for nothing of its own
-pub finishes : {S X : Type 0} (g : Ghosts S) (session : ℕ) (old : Index S) (new : S) (result : Result X Fault) → IsUnhindered g session old new → (g.state new).frames ≡ (g.state old.store).frames → IfErr result (HasCause (where_run g session old new)) → IsOk result
+pub finishes : {S X : Type 0} (g : Ghosts S) (session : ℕ) (old : Index S) (new : S) (result : Result X Fault) → IsUnhindered g session old new
+    → (g.state new).frames ≡ (g.state old.store).frames → IfErr result (HasCause (where_run g session old new)) → IsOk result
 finishes g session old new (Ok x) un same h = refl
 finishes g session old new (Err fault) un same h = absurd (run_unhindered g session old new un same fault h)

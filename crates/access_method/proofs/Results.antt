@@ -103,7 +103,8 @@ told_or_kept g entry (Err fault) came old new start history calls fits r =
           ∙ ap (λ (l : List Action). contents_after start l entry) (sym first) ∙ at.there);
     }
 
-pub inserts_or_keeps : {S : Type 0} (g : Ghosts S) (entry : Entry) (result : Result Inserted Fault) (old new : StoreAndSlots S) → InsertGoes g 63 entry result old new → Carries g old new (λ start history calls. InsertsOrKeeps g entry result old.store new.store)
+pub inserts_or_keeps : {S : Type 0} (g : Ghosts S) (entry : Entry) (result : Result Inserted Fault) (old new : StoreAndSlots S)
+    → InsertGoes g 63 entry result old new → Carries g old new (λ start history calls. InsertsOrKeeps g entry result old.store new.store)
 inserts_or_keeps g entry (Ok inserted) old new (inl goes) honest start history calls fits = told_or_kept g entry (Ok inserted) (Some (Added inserted.action inserted.unfinished)) old new start history calls fits (goes honest start history calls fits)
 inserts_or_keeps g entry (Ok inserted) old new (inr short) honest start history calls fits = told_or_kept g entry (Ok inserted) (Some (Refused short.fault)) old new start history calls fits (short.goes honest start history calls fits)
 inserts_or_keeps g entry (Err fault) old new goes honest start history calls fits = told_or_kept g entry (Err fault) (Some (Refused fault)) old new start history calls fits (goes honest start history calls fits)
@@ -177,7 +178,8 @@ came_of upkeep answer (number n is told) = ap (λ (r : Result ℕ Fault). kept_c
 came_of upkeep answer (refusal fault) = refl
 
 -- it is a run of one event, of which nothing is told
-goes_kept : {S : Type 0} (g : Ghosts S) (laws : Laws g) (upkeep : Upkeep) (event : Event) (answer : Answer) (a b : StoreAndSlots S) → kind_of event ≡ KeepsStore upkeep → IsCounted upkeep answer
+goes_kept : {S : Type 0} (g : Ghosts S) (laws : Laws g) (upkeep : Upkeep) (event : Event) (answer : Answer) (a b : StoreAndSlots S)
+    → kind_of event ≡ KeepsStore upkeep → IsCounted upkeep answer
     → Carries g a b (Runs g a b (event ∷ []) (answer ∷ [])) → CallGoes g 0 IsSilent (kept_came upkeep (counted answer)) a b
 goes_kept {S} g laws upkeep event answer a b kind answers runs = subst (λ (came : Option Answer). CallGoes g 0 IsSilent came a b) (sym (came_of upkeep answer answers))
     (goes_by g laws 0 IsSilent event answer a b (subst (λ (k : Kind). IsOfSession 0 k) (sym kind) tt) runs
@@ -193,7 +195,8 @@ module _ {S : Type 0} (g : Ghosts S) (upkeep : Upkeep) (answer : Answer) (old ne
   durable_of r a told same (number n was ok) = subst (λ (x : Result ℕ Fault). OnOk x ((g.backing new).durable ≡ (g.state old).acts)) (sym (told ∙ ok)) (kept.durable n (was ∙ ap Some same))
   durable_of r a told same (refusal fault) = subst (λ (x : Result ℕ Fault). OnOk x ((g.backing new).durable ≡ (g.state old).acts)) (sym told) tt
 
-  cause_of : (r : Result ℕ Fault) (a : Answer) → r ≡ counted a → a ≡ answer → IsCounted upkeep a → IfErr r (HasCause (where_forced (g.backing old) (g.backing new)))
+  cause_of : (r : Result ℕ Fault) (a : Answer) → r ≡ counted a → a ≡ answer → IsCounted upkeep a
+      → IfErr r (HasCause (where_forced (g.backing old) (g.backing new)))
   cause_of r a told same (number n was ok) = subst (λ (x : Result ℕ Fault). IfErr x (HasCause (where_forced (g.backing old) (g.backing new)))) (sym (told ∙ ok)) tt
   cause_of r a told same (refusal fault) = subst (λ (x : Result ℕ Fault). IfErr x (HasCause (where_forced (g.backing old) (g.backing new)))) (sym told) (kept.caused fault (sym same))
 
@@ -207,7 +210,8 @@ module _ {S : Type 0} (g : Ghosts S) (upkeep : Upkeep) (answer : Answer) (old ne
   cause_told = cause_of result answer is refl (is_counted upkeep answer counts kind)
 
 -- a checkpoint leaves the whole room of the log
-pub room_told : (Room : Type 0) (answer : Answer) (result : Result ℕ Fault) → result ≡ counted answer → AnswersUpkeep Checkpoints answer → ((count : ℕ) → answer ≡ Checkpointed count → Room) → OnOk result Room
+pub room_told : (Room : Type 0) (answer : Answer) (result : Result ℕ Fault) → result ≡ counted answer → AnswersUpkeep Checkpoints answer
+    → ((count : ℕ) → answer ≡ Checkpointed count → Room) → OnOk result Room
 room_told Room answer result is kind h = subst (λ (r : Result ℕ Fault). OnOk r Room) (sym is) (of answer (is_counted Checkpoints answer tt kind) h)
   where
     of : (a : Answer) → IsCounted Checkpoints a → ((count : ℕ) → a ≡ Checkpointed count → Room) → OnOk (counted a) Room

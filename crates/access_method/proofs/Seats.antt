@@ -41,16 +41,19 @@ closed_at n i number seats is = of (slice_get seats i) refl
     of (Some (Some seat)) at = (let e : Some seat ≡ None = in_replicate n None (Some seat) i (ap (λ (l : List (Option Seat)). slice_get l i) (sym is) ∙ at) in absurd cc)
 
 -- the seat that is read there is the token's, or another's
-pub seat_found : (seats : List (Option Seat)) (session number : ℕ) (seat : Seat) → session < length seats → get_or seats session None ≡ Some seat → seat.number ≡ number
+pub seat_found : (seats : List (Option Seat)) (session number : ℕ) (seat : Seat) → session < length seats → get_or seats session None ≡ Some seat
+    → seat.number ≡ number
     → Some seat ≡ seat_for number (slice_get seats session)
 seat_found seats session number seat within is same = rw (slice_get-get_or seats session None within, is, eq-eqb seat.number number same) refl
 
-pub seat_of_another : (seats : List (Option Seat)) (session number : ℕ) (seat : Seat) → session < length seats → get_or seats session None ≡ Some seat → seat.number ≢ number
+pub seat_of_another : (seats : List (Option Seat)) (session number : ℕ) (seat : Seat) → session < length seats → get_or seats session None ≡ Some seat
+    → seat.number ≢ number
     → None ≡ seat_for number (slice_get seats session)
 seat_of_another seats session number seat within is other = rw (slice_get-get_or seats session None within, is, ne_eqb seat.number number other) refl
 
 -- a token is open and not refused: its seat is not none, and not a refused one
-pub not_refused : (found : Option Seat) (seat : Seat) (number : ℕ) → found ≡ Some seat → seat.is_refused ≡ true → found ≡ Some (record { number = number; is_refused = false }) → ⊥
+pub not_refused : (found : Option Seat) (seat : Seat) (number : ℕ) → found ≡ Some seat → seat.is_refused ≡ true
+    → found ≡ Some (record { number = number; is_refused = false }) → ⊥
 not_refused found seat number is refused is_open = true_false (sym refused ∙ ap is_refused_in (sym is ∙ is_open))
   where
     is_refused_in : Option Seat → Bool
@@ -109,7 +112,8 @@ module _ (old new : List (Option Op)) (seats : List (Option Seat)) (session : �
   }
 
 -- an end, and then a beginning
-pub rescan_told : {S : Type 0} (session : ℕ) (range : Range) (u : Unit {0}) (x y z : Snapshot S) → TellsEnd session x y → BeginTold session (ToScan range) (Ok u) y z → RescanTold session range x z
+pub rescan_told : {S : Type 0} (session : ℕ) (range : Range) (u : Unit {0}) (x y z : Snapshot S) → TellsEnd session x y
+    → BeginTold session (ToScan range) (Ok u) y z → RescanTold session range x z
 rescan_told session range u x y z end began = record {
   history_is = began.history_is ∙ end.history_is;
   given_up = y.calls;
@@ -164,8 +168,10 @@ may_begin g old store slots session fault at_end may backing begun within over v
         ∙ first (g.backing old).stopped (is_at_end (g.state old).begun) at_end may
 
 -- an index begins with the contents of these pages, by whatever name they are called
-pub same_start : {S : Type 0} (g : Ghosts S) (index : Index S) (read pages : List Page) → read ≡ pages → IndexFits g index (entry_on_live_leaf read) [] [] → IndexFits g index (entry_on_live_leaf pages) [] []
+pub same_start : {S : Type 0} (g : Ghosts S) (index : Index S) (read pages : List Page) → read ≡ pages
+    → IndexFits g index (entry_on_live_leaf read) [] [] → IndexFits g index (entry_on_live_leaf pages) [] []
 same_start g index read pages same fits = subst (λ (ps : List Page). IndexFits g index (entry_on_live_leaf ps) [] []) same fits
 
-pub same_kept : {S : Type 0} (g : Ghosts S) (index : Index S) (read pages : List Page) → read ≡ pages → IndexKeeps g index (entry_on_live_leaf read) [] [] → IndexKeeps g index (entry_on_live_leaf pages) [] []
+pub same_kept : {S : Type 0} (g : Ghosts S) (index : Index S) (read pages : List Page) → read ≡ pages
+    → IndexKeeps g index (entry_on_live_leaf read) [] [] → IndexKeeps g index (entry_on_live_leaf pages) [] []
 same_kept g index read pages same keeps = subst (λ (ps : List Page). IndexKeeps g index (entry_on_live_leaf ps) [] []) same keeps

@@ -30,7 +30,8 @@ use Rattle.whole_calls.specs.Telling.{acts_by, AreOwnEffects, first_call}
 use Rattle.access_method.specs.Indexes.{IsSweptOrLess}
 
 -- what a bulk delete does says of no entry that it is there,
-says_none : (dead : Row → Bool) (number : ℕ) (call : Call) (count : ℕ) (effects : List Effect) (e : Entry) → call.ask ≡ AskBulkDelete dead → AreOwnEffects call count effects
+says_none : (dead : Row → Bool) (number : ℕ) (call : Call) (count : ℕ) (effects : List Effect) (e : Entry) → call.ask ≡ AskBulkDelete dead
+    → AreOwnEffects call count effects
     → last_said (acts_by number effects) e ≡ Some true → ⊥
 says_none dead number call count [] e ask own says = cc
 says_none dead number call count (Add x ∷ effects) e ask own says = rw ask at own.0
@@ -41,12 +42,14 @@ says_none dead number call count (Remove es ∷ effects) e ask own says = of (la
     removed true h = cc
     removed false h = cc
 
-    of : (o : Option Bool) → (last_said (acts_by number effects) e ≡ Some true → ⊥) → last_said (acts_by number effects) e ≡ o → later_or o (said_of (Remove es) e) ≡ Some true → ⊥
+    of : (o : Option Bool) → (last_said (acts_by number effects) e ≡ Some true → ⊥) → last_said (acts_by number effects) e ≡ o
+        → later_or o (said_of (Remove es) e) ≡ Some true → ⊥
     of None later is h = removed (is_among es e) h
     of (Some b) later is h = later (is ∙ h)
 
 -- and nothing of one whose row isn't dead;
-says_nothing : (dead : Row → Bool) (number : ℕ) (call : Call) (count : ℕ) (effects : List Effect) (e : Entry) → call.ask ≡ AskBulkDelete dead → AreOwnEffects call count effects → dead e.row ≡ false
+says_nothing : (dead : Row → Bool) (number : ℕ) (call : Call) (count : ℕ) (effects : List Effect) (e : Entry) → call.ask ≡ AskBulkDelete dead
+    → AreOwnEffects call count effects → dead e.row ≡ false
     → last_said (acts_by number effects) e ≡ None
 says_nothing dead number call count [] e ask own alive = refl
 says_nothing dead number call count (Add x ∷ effects) e ask own alive = absurd (rw ask at own.0)
@@ -59,7 +62,8 @@ says_nothing dead number call count (Remove es ∷ effects) e ask own alive =
     of true is = absurd (let own_rows : (x : Entry) → is_among es x ≡ true → dead x.row ≡ true = rw ask at own.0 in let gone : dead e.row ≡ true = own_rows e is in cc)
 
 -- it adds none
-adds_none : (dead : Row → Bool) (number : ℕ) (call : Call) (count : ℕ) (effects : List Effect) (e : Entry) → call.ask ≡ AskBulkDelete dead → AreOwnEffects call count effects → IsAddedIn (acts_by number effects) e → ⊥
+adds_none : (dead : Row → Bool) (number : ℕ) (call : Call) (count : ℕ) (effects : List Effect) (e : Entry) → call.ask ≡ AskBulkDelete dead
+    → AreOwnEffects call count effects → IsAddedIn (acts_by number effects) e → ⊥
 adds_none dead number call count [] e ask own added = added
 adds_none dead number call count (Add x ∷ effects) e ask own added = rw ask at own.0
 adds_none dead number call count (Shape ∷ effects) e ask own added = rw ask at own.0
@@ -100,7 +104,8 @@ module _ {S : Type 0} (g : Ghosts S) (dead : Row → Bool) (old new : StoreAndSl
     between : actions_between (length history) (length then_history) then_history ≡ acts_by (length calls) effects
     between = ap (λ (l : List Action). drop (length history) l) (take_all (length then_history) then_history (omega arith) ∙ is) ∙ drop_front history (acts_by (length calls) effects)
 
-    dead_is_gone : (stats : VacuumStats) → IsBulkDeleteAnswer start then_history (length calls) (length history) (length then_history) dead stats → (e : Entry) → dead e.row ≡ true → contents_after start then_history e ≡ false
+    dead_is_gone : (stats : VacuumStats) → IsBulkDeleteAnswer start then_history (length calls) (length history) (length then_history) dead stats
+        → (e : Entry) → dead e.row ≡ true → contents_after start then_history e ≡ false
     dead_is_gone stats right e gone = of (contents_after start then_history e) refl
       where
         of : (b : Bool) → contents_after start then_history e ≡ b → b ≡ false
@@ -120,7 +125,9 @@ module _ {S : Type 0} (g : Ghosts S) (dead : Row → Bool) (old new : StoreAndSl
   removed_so false true dies same there = sym (there refl)
   removed_so false false dies same there = refl
 
-  pub swept_or_less : (result : Result VacuumStats Fault) → (r : CallRuns g 63 (SweepTold 63 (ToBulk 0) result) (swept_came result) old new start history calls) → TellsEntries (g.state new.store) result → IsSweptOrLess g dead result old.store new.store
+  pub swept_or_less : (result : Result VacuumStats Fault)
+      → (r : CallRuns g 63 (SweepTold 63 (ToBulk 0) result) (swept_came result) old new start history calls) → TellsEntries (g.state new.store) result
+      → IsSweptOrLess g dead result old.store new.store
   swept_or_less (Ok stats) r left =
       let t = r.tells in
       let call : Call = ended sweep_call (Vacuumed stats) (length r.then_history) in
@@ -151,7 +158,8 @@ module _ {S : Type 0} (g : Ghosts S) (dead : Row → Bool) (old new : StoreAndSl
       and_false true = refl
       and_false false = refl
 
-      of : (e : Entry) (d : Bool) → dead e.row ≡ d → (effects : List Effect) → AreOwnEffects sweep_call (length history) effects → r.then_history ≡ history ++ acts_by (length calls) effects
+      of : (e : Entry) (d : Bool) → dead e.row ≡ d → (effects : List Effect) → AreOwnEffects sweep_call (length history) effects
+          → r.then_history ≡ history ++ acts_by (length calls) effects
           → IsBulkDeleteAnswer start r.then_history (length calls) (length history) (length r.then_history) dead stats → contents_after start r.then_history e ≡ (contents_after start history e && not (dead e.row))
       of e false alive effects own is right = alive_stays r.then_history effects own is e alive ∙ and_true (contents_after start history e) ∙ ap (λ (d : Bool). contents_after start history e && not d) (sym alive)
       of e true gone effects own is right = dead_is_gone r.then_history effects own is stats right e gone ∙ and_false (contents_after start history e) ∙ ap (λ (d : Bool). contents_after start history e && not d) (sym gone)
@@ -163,7 +171,8 @@ module _ {S : Type 0} (g : Ghosts S) (dead : Row → Bool) (old new : StoreAndSl
       }
 
 -- the sessions of an index run no bulk delete behind one
-pub none_sweeps : (old new : List (Option Op)) → OthersStay 63 old new → slot_of new 63 ≡ None → ((session set : ℕ) (op : BulkDeleteOp) → slice_get old session ≡ Some (Some (Bulk set op)) → ⊥)
+pub none_sweeps : (old new : List (Option Op)) → OthersStay 63 old new → slot_of new 63 ≡ None
+    → ((session set : ℕ) (op : BulkDeleteOp) → slice_get old session ≡ Some (Some (Bulk set op)) → ⊥)
     → (session set : ℕ) (op : BulkDeleteOp) → slice_get new session ≡ Some (Some (Bulk set op)) → ⊥
 none_sweeps old new others over before session set op at = elim (cases_eq session 63) [
   | inl same ↦ (
@@ -174,7 +183,8 @@ none_sweeps old new others over before session set op at = elim (cases_eq sessio
 ]
 
 -- a stretch is crash-safe whatever the sets are
-pub safe_within : {S : Type 0} (g : Ghosts S) (start : Entry → Bool) (first last : Snapshot S) (sets then_sets : List (Row → Bool)) → (KeepsHistory g start (record first { sets = sets }) → IsCrashSafe g start (record first { sets = sets }) last)
+pub safe_within : {S : Type 0} (g : Ghosts S) (start : Entry → Bool) (first last : Snapshot S) (sets then_sets : List (Row → Bool))
+    → (KeepsHistory g start (record first { sets = sets }) → IsCrashSafe g start (record first { sets = sets }) last)
     → KeepsHistory g start first → IsCrashSafe g start first (record last { sets = then_sets })
 safe_within g start first last sets then_sets safe keeps =
     let s = safe (record { own = keeps.own; parts = keeps.parts; durable = keeps.durable }) in

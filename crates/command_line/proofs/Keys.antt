@@ -26,7 +26,8 @@ length-key_text-le [] short = omega arith
 length-key_text-le (byte ∷ key) short = omega (arith, short, length-encode_lower (byte ∷ key))
 
 -- half as many bytes as there are digits are room for the key
-pub room_of_key : (key text cells : List ℕ) → length text ≤ 128 → text ≡ encode_lower key → length cells ≡ 64 → length key ≡ length (take (length text / 2) cells)
+pub room_of_key : (key text cells : List ℕ) → length text ≤ 128 → text ≡ encode_lower key → length cells ≡ 64
+    → length key ≡ length (take (length text / 2) cells)
 room_of_key key text cells short spelled all =
     let long : length text ≡ length (encode_lower key) = ap length spelled in
     let twice = length-encode_lower key in

@@ -10,7 +10,8 @@ use Rattle.command_line.specs.Dumping.{page_text, pages_text}
 use Rattle.command_line.specs.Listing.{Lists}
 
 -- the lines of a page stand behind those of the pages before it
-next_lines : (pages : List Page) (i : ℕ) (page : Page) → slice_get pages i ≡ Some page → pages_text (take i pages) ++ page_text page ≡ pages_text (take (i + 1) pages)
+next_lines : (pages : List Page) (i : ℕ) (page : Page) → slice_get pages i ≡ Some page
+    → pages_text (take i pages) ++ page_text page ≡ pages_text (take (i + 1) pages)
 next_lines pages i page found =
     let there : get_or pages i page ≡ page = get_or_from_slice_get pages i page page found in
     flat_map_more page_text [] (take i pages) page

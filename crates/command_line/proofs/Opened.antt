@@ -18,7 +18,8 @@ front_refusal honest frames file fault (inr (allowed, inl short)) = subst IsOpen
 front_refusal honest frames file fault (inr (allowed, inr other)) = front fault other.1
 
 -- whatever an open is refused with is one of the faults of opening
-pub open_fault : (honest : Bool) (frames : ℕ) (old new : Trace) (failed fails : ℕ) (fault : Fault) → IsIoOr (IsRefusal honest frames old new) failed fails fault → IsOpenFault fault
+pub open_fault : (honest : Bool) (frames : ℕ) (old new : Trace) (failed fails : ℕ) (fault : Fault)
+    → IsIoOr (IsRefusal honest frames old new) failed fails fault → IsOpenFault fault
 open_fault honest frames old new failed fails fault (inl io) = subst IsOpenFault (sym io.0) tt
 open_fault honest frames old new failed fails fault (inr (inl first, same)) = front_refusal honest frames old.now.seen fault first.0
 open_fault honest frames old new failed fails fault (inr (inr (limits, allowed, front, inl memory), same)) = subst IsOpenFault (sym memory) tt

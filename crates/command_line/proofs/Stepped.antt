@@ -27,7 +27,7 @@ use Rattle.whole_calls.specs.Spending.{steps_left}
 use Rattle.whole_calls.proofs.Spending.{steps_few, takes_fewer}
 use Rattle.world.specs.Worlds.{WorldCarries, WorldRuns, inside, snapshot_in}
 use Rattle.world.specs.declared.world.World.{World}
-use Rattle.command_line.specs.Stepping.{steps_of, answers_to, IsStepped, IsPut}
+use Rattle.command_line.specs.Stepping.{steps_of, answers_to, IsStepped, IsSteppedInsert}
 
 -- a beginning is answered with Begun, or with a refusal
 pub begun_or_refused : (answer : Answer) → AnswersBeginning answer → (answer ≡ Begun) ⊎ ((fault : Fault) × (answer ≡ Refused fault))
@@ -62,7 +62,8 @@ IsWithin g rows session left old new =
 
 module _ {S T : Type 0} (g : Ghosts S) (laws : Laws g) (rows : SetGhosts T) where
   -- a run behind a run
-  pub runs_then : (events more : List Event) (answers told : List Answer) (a b c : World S T) → Continues g.follows a.store b.store → Continues g.follows b.store c.store
+  pub runs_then : (events more : List Event) (answers told : List Answer) (a b c : World S T) → Continues g.follows a.store b.store
+      → Continues g.follows b.store c.store
       → (start : Entry → Bool) (history : List Action) (calls : List Call) (r : WorldRuns g rows a b events answers start history calls) → WorldRuns g rows b c more told start r.then_history r.then_calls
       → WorldRuns g rows a c (events ++ more) (answers ++ told) start history calls
   runs_then events more answers told a b c step next start history calls r t = record {
@@ -102,7 +103,8 @@ module _ {S T : Type 0} (g : Ghosts S) (laws : Laws g) (rows : SetGhosts T) wher
           }
 
       -- ... and leaves fewer steps for the call
-      pub within_more : (before behind : ℕ) → before ≤ behind + 1 → answer ≡ Going → (g.state b.store).limits.pages ≤ 65536 → WorldCarries g rows a b (λ start history calls. IsWithin g rows session before a b)
+      pub within_more : (before behind : ℕ) → before ≤ behind + 1 → answer ≡ Going → (g.state b.store).limits.pages ≤ 65536
+          → WorldCarries g rows a b (λ start history calls. IsWithin g rows session before a b)
           → WorldCarries g rows a c (λ start history calls. IsWithin g rows session behind a c)
       within_more before behind one_less going low within honest start history calls fits =
           let later = laws.follows_later b.store c.store (next b.store (laws.follows_same b.store)) in
@@ -114,7 +116,8 @@ module _ {S T : Type 0} (g : Ghosts S) (laws : Laws g) (rows : SetGhosts T) wher
           omega (arith, most, fewer)
 
     -- so the steps that may be made are never used up
-    pub within_some : (a b : World S T) (left : ℕ) → left ≤ 0 → (g.state a.store).limits.pages ≤ 65536 → WorldCarries g rows a b (λ start history calls. IsWithin g rows session left a b → ⊥)
+    pub within_some : (a b : World S T) (left : ℕ) → left ≤ 0 → (g.state a.store).limits.pages ≤ 65536
+        → WorldCarries g rows a b (λ start history calls. IsWithin g rows session left a b → ⊥)
     within_some a b left out low honest start history calls fits most =
         let few = steps_few g laws start (snapshot_in rows a history calls) session fits low in
         omega (arith, few, most)
@@ -123,7 +126,7 @@ module _ {S T : Type 0} (g : Ghosts S) (laws : Laws g) (rows : SetGhosts T) (ses
     (one : WorldCarries g rows a b (WorldRuns g rows a b (Insert session entry ∷ []) (answer ∷ []))) where
   -- an insert that has begun and is stepped to this
   pub put_begun : (last : Answer) (c : World S T) → Continues g.follows a.store b.store → Continues g.follows b.store c.store → answer ≡ Begun
-      → WorldCarries g rows b c (IsStepped g rows [] [] session last b c) → WorldCarries g rows a c (IsPut g rows session entry last a c)
+      → WorldCarries g rows b c (IsStepped g rows [] [] session last b c) → WorldCarries g rows a c (IsSteppedInsert g rows session entry last a c)
   put_begun last c step next begun stepped honest start history calls fits =
       let later = laws.follows_later b.store c.store (next b.store (laws.follows_same b.store)) in
       let r = one (later.honest honest) start history calls fits in
@@ -135,9 +138,9 @@ module _ {S T : Type 0} (g : Ghosts S) (laws : Laws g) (rows : SetGhosts T) (ses
       })
 
   -- ... or one that is refused as it begins
-  pub put_refused : AnswersBeginning answer → answer ≢ Begun → WorldCarries g rows a b (IsPut g rows session entry answer a b)
+  pub put_refused : AnswersBeginning answer → answer ≢ Begun → WorldCarries g rows a b (IsSteppedInsert g rows session entry answer a b)
   put_refused may not_begun honest start history calls fits = by (begun_or_refused answer may)
     where
-      by : (answer ≡ Begun) ⊎ ((fault : Fault) × (answer ≡ Refused fault)) → IsPut g rows session entry answer a b start history calls
+      by : (answer ≡ Begun) ⊎ ((fault : Fault) × (answer ≡ Refused fault)) → IsSteppedInsert g rows session entry answer a b start history calls
       by (inl begun) = absurd (not_begun begun)
       by (inr refused) = inr (record { fault = refused.0; refused = refused.1; runs = one honest start history calls fits })

@@ -29,13 +29,13 @@ pub record IsStepped {S T : Type 0} (g : Ghosts S) (rows : SetGhosts T) (events 
   pub runs : WorldRuns g rows old new (events ++ steps_of session count) (answers ++ answers_to answer count) start history calls
 
 -- the one event of such a run is the beginning of an insert, which is refused
-pub record IsNotBegun {S T : Type 0} (g : Ghosts S) (rows : SetGhosts T) (session : ℕ) (entry : Entry) (answer : Answer) (old new : World S T) (start : Entry → Bool) (history : List Action) (calls : List Call) : Type 0 where
+pub record IsRefusedInsert {S T : Type 0} (g : Ghosts S) (rows : SetGhosts T) (session : ℕ) (entry : Entry) (answer : Answer) (old new : World S T) (start : Entry → Bool) (history : List Action) (calls : List Call) : Type 0 where
   pub fault : Fault
   pub refused : answer ≡ Refused fault
   pub runs : WorldRuns g rows old new (Insert session entry ∷ []) (answer ∷ []) start history calls
 
 -- the session has begun an insert and stepped it to this answer, or was refused as it began
-abbrev pub IsPut : {S T : Type 0} → Ghosts S → SetGhosts T → ℕ → Entry → Answer → World S T → World S T → (Entry → Bool) → List Action → List Call → Type 0
-IsPut g rows session entry answer old new start history calls =
+abbrev pub IsSteppedInsert : {S T : Type 0} → Ghosts S → SetGhosts T → ℕ → Entry → Answer → World S T → World S T → (Entry → Bool) → List Action → List Call → Type 0
+IsSteppedInsert g rows session entry answer old new start history calls =
     IsStepped g rows (Insert session entry ∷ []) (Begun ∷ []) session answer old new start history calls
-    ⊎ IsNotBegun g rows session entry answer old new start history calls
+    ⊎ IsRefusedInsert g rows session entry answer old new start history calls

@@ -15,7 +15,7 @@ ghost use Rattle.tree_acts.specs.TheoremTree.{IsTree};
 ghost use Rattle.world.specs.Reopening.{BeginsWith, BeginsEmpty, BeginsAfterFirstPart};
 ghost use Rattle.world.specs.Worlds.{WorldFits, WorldKeeps, WorldCarries, WorldRuns};
 ghost use Rattle.command_line.specs.Settings.{IsSetting};
-ghost use Rattle.command_line.specs.Stepping.{IsPut, IsStepped};
+ghost use Rattle.command_line.specs.Stepping.{IsSteppedInsert, IsStepped};
 
 use crate::dead::DeadList;
 use crate::stepping::{next_or_step, run_call, run_insert};
@@ -119,7 +119,7 @@ impl Engine {
     pub fn put(&mut self, session: u32, entry: &Entry) -> Answer
         ensures goes { WorldCarries ⟦<Store<MemDevice> as PageStore>⟧ ⟦<DeadList as DeadRows>⟧
             self.old.world self.new.world
-            (IsPut ⟦<Store<MemDevice> as PageStore>⟧ ⟦<DeadList as DeadRows>⟧
+            (IsSteppedInsert ⟦<Store<MemDevice> as PageStore>⟧ ⟦<DeadList as DeadRows>⟧
             session entry.now result self.old.world self.new.world) }
         ensures over { result ≢ Answer.Going }
     {

@@ -4,7 +4,7 @@
 ghost use Rattle.std.specs.Prelude.{◌≡◌, ◌≢◌, ◌≤◌, ◌∷◌, []};
 ghost use Rattle.page_action.specs.States.{Continues};
 ghost use Rattle.world.specs.Worlds.{WorldCarries};
-ghost use Rattle.command_line.specs.Stepping.{IsPut, IsStepped};
+ghost use Rattle.command_line.specs.Stepping.{IsSteppedInsert, IsStepped};
 
 use index_model::{DeadRows, Entry, Fault};
 use page_action::PageStore;
@@ -41,7 +41,7 @@ pub fn run_insert<S: PageStore, T: DeadRows + Drop>(
 ) -> Answer
     requires pages { (S.state world.old.store).limits.pages ≤ 65536 }
     ensures goes { WorldCarries S.PageStore T.DeadRows world.old world.new
-        (IsPut S.PageStore T.DeadRows session entry result world.old world.new) }
+        (IsSteppedInsert S.PageStore T.DeadRows session entry result world.old world.new) }
     ensures over { result ≢ Answer.Going }
 {
     match world.one(Event::Insert(session, entry)) {
