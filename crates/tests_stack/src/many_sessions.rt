@@ -8,7 +8,7 @@ use index_model::{Entry, Fault};
 use page_action::{MapStore, PageStore};
 use page_codec::Items;
 use page_store::Store;
-use schedule::{Event, is_running};
+use schedule::Event;
 use session_calls::Answer;
 use std::alloc::Global;
 use std::test::{Fail, *};
@@ -148,6 +148,7 @@ fn block_in(world: &mut World<MapStore, Blocks>, block: u32) -> Result<u32, Faul
 fn readers_and_abandon(rt: HostRuntime) -> Result<(), Fail> {
     let mut world = world(rt.alloc(), 64)?;
     assert!(rt; begins_and_abandons(&mut world) == [false, true, true, true, false]);
+    assert!(rt; world.sessions() == 64);
     assert!(rt; !world.is_running(64));
     assert!(rt; (world.used(), world.actions(), world.room()) == (2, 0, 15));
     assert!(rt; block_in(&mut world, 1) == Ok(1));
