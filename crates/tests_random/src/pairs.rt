@@ -53,7 +53,8 @@ fn filled(run: Run, few: OverDevice, dice: &mut Dice, entries: u32) -> Result<Ov
 /// Puts some entries and makes a checkpoint: what a crash leaves then.
 fn fill(run: Run, few: &mut OverDevice, dice: &mut Dice, entries: u32) -> Result<MemDevice, Fault> {
     for _ in 0..entries {
-        put(few, 0, dice.entry(run.space), 8)?;
+        let entry = dice.entry(run.space);
+        put(few, 0, entry, 8)?;
     }
     one(few, Event::Checkpoint);
     left_by(run.alloc, few, CrashImage::Drop)

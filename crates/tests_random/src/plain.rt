@@ -102,34 +102,33 @@ pub fn one<S: PageStore>(world: &mut World<S, Blocks>, event: Event) -> Answer {
     world.one(event)
 }
 
-/// A step of a session's call; where there is room for fewer images, behind a checkpoint.
+/// A step of a session's call; where there is room for fewer images, behind a checkpoint. Answers whether it goes on.
 fn step<S: PageStore>(
     world: &mut World<S, Blocks>,
     session: u32,
     least_room: u32,
-) -> Result<Answer, Fault> {
+) -> Result<bool, Fault> {
     if world.room() < least_room
         && let Answer::Refused(fault) = world.one(Event::Checkpoint)
     {
         return Err(fault);
     }
-    Ok(world.one(Event::Step(session)))
+    Ok(matches!(world.one(Event::Step(session)), Answer::Going))
 }
 
-/// An insert, stepped until a step doesn't answer `Going`, and that answer.
+/// An insert, stepped until a step doesn't answer `Going`. Refused where it can't begin, or a checkpoint is refused.
 pub fn put<S: PageStore>(
     world: &mut World<S, Blocks>,
     session: u32,
     entry: Entry,
     least_room: u32,
-) -> Result<Answer, Fault> {
+) -> Result<(), Fault> {
     if let Answer::Refused(fault) = world.one(Event::Insert(session, entry)) {
         return Err(fault);
     }
     for _ in 0..LIMIT {
-        match step(world, session, least_room)? {
-            Answer::Going => {}
-            answer => return Ok(answer),
+        if !step(world, session, least_room)? {
+            return Ok(());
         }
     }
     Err(Fault::PageDamaged(0))
