@@ -10,22 +10,18 @@ use Rattle.index_model.specs.declared.fault.Fault.{Fault}
 use Rattle.page_action.specs.States.{Continues}
 use Rattle.page_action.specs.declared.page_store.PageStore.{Ghosts}
 use Rattle.schedule.specs.Events.{AnswersBeginning}
-use Rattle.schedule.specs.Making.{EventDoes}
-use Rattle.schedule.specs.TheoremKinds.{kind_of}
-use Rattle.schedule.specs.TheoremMoments.{StoreAndSlots, Snapshot, snapshot_of}
-use Rattle.schedule.specs.TheoremRuns.{EventGoes, Runs}
 use Rattle.schedule.specs.declared.event.Event.{Event}
 use Rattle.schedule.specs.declared.event.Event.TheVariants.{Insert, Step}
 use Rattle.schedule.proofs.Fitting.{goes_does}
 use Rattle.schedule.proofs.Joining.{ran_then}
 use Rattle.schedule.proofs.Keeping.{Laws}
-use Rattle.schedule.proofs.Running.{none_ran}
+use Rattle.schedule.proofs.Running.{none_ran, follow_runs}
 use Rattle.session_calls.specs.Slots.{slot_of}
 use Rattle.session_calls.specs.declared.answer.Answer.{Answer}
 use Rattle.session_calls.specs.declared.answer.Answer.TheVariants.{Begun, Going, Added, Ready, Done, Finished, Gave, Ended, Forced, Flushed, Checkpointed, Refused}
 use Rattle.whole_calls.specs.Spending.{steps_left}
 use Rattle.whole_calls.proofs.Spending.{steps_few, takes_fewer}
-use Rattle.world.specs.Worlds.{WorldCarries, WorldRuns, inside, snapshot_in}
+use Rattle.world.specs.Worlds.{WorldCarries, WorldGoes, WorldRuns, inside, snapshot_in}
 use Rattle.world.specs.declared.world.World.{World}
 use Rattle.command_line.specs.Stepping.{steps_of, answers_to, IsStepped, IsSteppedInsert}
 
@@ -43,12 +39,6 @@ begun_or_refused (Forced count) may = absurd may
 begun_or_refused (Flushed block) may = absurd may
 begun_or_refused (Checkpointed count) may = absurd may
 begun_or_refused (Refused fault) may = inr (fault, refl)
-
--- what the one event of a run does
-event_of : {S : Type 0} (g : Ghosts S) (event : Event) (answer : Answer) (a b : StoreAndSlots S) (start : Entry → Bool) (history : List Action) (calls : List Call) → (r : Runs g a b (event ∷ []) (answer ∷ []) start history calls)
-    → EventDoes g start (kind_of event) answer (snapshot_of a history calls) (snapshot_of b r.then_history r.then_calls)
-event_of {S} g event answer a b start history calls r =
-    goes_does (subst (λ (m : Snapshot S). EventGoes g start event answer (snapshot_of a history calls) m) r.ran.run.1.2 r.ran.run.1.1)
 
 -- the session's call has gone on, by so many steps
 pub record HasGone {S T : Type 0} (g : Ghosts S) (rows : SetGhosts T) (session : ℕ) (old new : World S T) (start : Entry → Bool) (history : List Action) (calls : List Call) : Type 0 where
@@ -82,13 +72,13 @@ module _ {S T : Type 0} (g : Ghosts S) (laws : Laws g) (rows : SetGhosts T) wher
     }
 
     module _ (a b c : World S T) (step : Continues g.follows a.store b.store) (next : Continues g.follows b.store c.store) (gone : WorldCarries g rows a b (HasGone g rows session a b)) (answer : Answer)
-        (one : WorldCarries g rows b c (WorldRuns g rows b c (Step session ∷ []) (answer ∷ []))) where
+        (one : WorldCarries g rows b c (WorldGoes g rows b c (Step session) answer)) where
       -- one step more, which answers this
       pub gone_then : WorldCarries g rows a c (IsStepped g rows [] [] session answer a c)
       gone_then honest start history calls fits =
           let later = laws.follows_later b.store c.store (next b.store (laws.follows_same b.store)) in
           let r = gone (later.honest honest) start history calls fits in
-          let t = one honest start r.runs.then_history r.runs.then_calls r.runs.ran.fits in
+          let t = follow_runs g (Step session) answer (inside rows b) (inside rows c) one honest start r.runs.then_history r.runs.then_calls r.runs.ran.fits in
           record { count = r.count; runs = runs_then (replicate r.count (Step session)) (Step session ∷ []) (replicate r.count Going) (answer ∷ []) a b c step next start history calls r.runs t }
 
       -- ... and goes on
@@ -111,8 +101,7 @@ module _ {S T : Type 0} (g : Ghosts S) (laws : Laws g) (rows : SetGhosts T) wher
           let most = within (later.honest honest) start history calls fits in
           let r = gone (later.honest honest) start history calls fits in
           let t = one honest start r.runs.then_history r.runs.then_calls r.runs.ran.fits in
-          let does = event_of g (Step session) answer (inside rows b) (inside rows c) start r.runs.then_history r.runs.then_calls t in
-          let fewer = takes_fewer g start session answer (snapshot_in rows b r.runs.then_history r.runs.then_calls) (snapshot_in rows c t.then_history t.then_calls) honest r.runs.ran.fits does low going in
+          let fewer = takes_fewer g start session answer (snapshot_in rows b r.runs.then_history r.runs.then_calls) (snapshot_in rows c t.then_history t.then_calls) honest r.runs.ran.fits (goes_does t.goes) low going in
           omega (arith, most, fewer)
 
     -- so the steps that may be made are never used up
@@ -123,7 +112,10 @@ module _ {S T : Type 0} (g : Ghosts S) (laws : Laws g) (rows : SetGhosts T) wher
         omega (arith, few, most)
 
 module _ {S T : Type 0} (g : Ghosts S) (laws : Laws g) (rows : SetGhosts T) (session : ℕ) (entry : Entry) (answer : Answer) (a b : World S T)
-    (one : WorldCarries g rows a b (WorldRuns g rows a b (Insert session entry ∷ []) (answer ∷ []))) where
+    (goes : WorldCarries g rows a b (WorldGoes g rows a b (Insert session entry) answer)) where
+  one : WorldCarries g rows a b (WorldRuns g rows a b (Insert session entry ∷ []) (answer ∷ []))
+  one = follow_runs g (Insert session entry) answer (inside rows a) (inside rows b) goes
+
   -- an insert that has begun and is stepped to this
   pub put_begun : (last : Answer) (c : World S T) → Continues g.follows a.store b.store → Continues g.follows b.store c.store → answer ≡ Begun
       → WorldCarries g rows b c (IsStepped g rows [] [] session last b c) → WorldCarries g rows a c (IsSteppedInsert g rows session entry last a c)

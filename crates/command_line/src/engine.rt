@@ -13,7 +13,7 @@ ghost use Rattle.page_store.specs.Stores.{state_of, held_by, device_of};
 ghost use Rattle.recovery.specs.Index.{HasIndex};
 ghost use Rattle.tree_acts.specs.TheoremTree.{IsTree};
 ghost use Rattle.world.specs.Reopening.{BeginsWith, BeginsEmpty, BeginsAfterFirstPart};
-ghost use Rattle.world.specs.Worlds.{WorldFits, WorldKeeps, WorldCarries, WorldRuns};
+ghost use Rattle.world.specs.Worlds.{WorldFits, WorldKeeps, WorldCarries, WorldGoes};
 ghost use Rattle.command_line.specs.Settings.{IsSetting};
 ghost use Rattle.command_line.specs.Stepping.{IsSteppedInsert, IsStepped};
 
@@ -96,10 +96,10 @@ impl Engine {
 
     /// One event.
     pub fn one(&mut self, event: Event) -> Answer
-        ensures runs { WorldCarries ⟦<Store<MemDevice> as PageStore>⟧ ⟦<DeadList as DeadRows>⟧
+        ensures goes { WorldCarries ⟦<Store<MemDevice> as PageStore>⟧ ⟦<DeadList as DeadRows>⟧
             self.old.world self.new.world
-            (WorldRuns ⟦<Store<MemDevice> as PageStore>⟧ ⟦<DeadList as DeadRows>⟧
-            self.old.world self.new.world (event ∷ []) (result ∷ [])) }
+            (WorldGoes ⟦<Store<MemDevice> as PageStore>⟧ ⟦<DeadList as DeadRows>⟧
+            self.old.world self.new.world event result) }
     {
         self.world.one(event)
     }

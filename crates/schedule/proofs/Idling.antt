@@ -85,6 +85,7 @@ module _ {S : Type 0} (g : Ghosts S) (laws : Laws g) (store : S) (slots : List (
     causes = tt;
     order = tt;
     fresh = tt;
+    keeps_up = tt;
     runs_on = subst (λ (x : Option Op). RunsOn x x) (sym none) tt;
   }
 
@@ -117,6 +118,7 @@ module _ {S : Type 0} (g : Ghosts S) (laws : Laws g) (store : S) (slots : List (
         causes = tt;
         order = tt;
         fresh = tt;
+        keeps_up = tt;
         runs_on = subst (λ (x : Option Op). RunsOn x x) (sym none) tt;
       }
 
@@ -139,6 +141,7 @@ module _ {S : Type 0} (g : Ghosts S) (laws : Laws g) (store : S) (slots : List (
         causes = tt;
         order = tt;
         fresh = tt;
+        keeps_up = tt;
         runs_on = subst (λ (x : Option Op). RunsOn x x) (sym none) tt;
       }
 

@@ -16,3 +16,4 @@ pub mod Running
 pub mod Joining
 pub mod Bounds
 pub mod Standing
+pub mod CallLists

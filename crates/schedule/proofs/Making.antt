@@ -25,7 +25,7 @@ use Rattle.schedule.specs.TheoremRuns.{Fits}
 use Rattle.session_calls.specs.Slots.{slot_of, one_vacuums, is_of_sets, session_to_begin}
 use Rattle.schedule.specs.Snapshots.{here_with}
 use Rattle.schedule.specs.TheoremKinds.{Steps, Takes, GivesUp, Upkeep, Forces, Flushes, Checkpoints, BeginsCall, MovesCall, KeepsStore}
-use Rattle.schedule.specs.Events.{kept_answer, where_begun_at, DoesOneAct, EventAlways, CallIsFollowed, AnswersUpkeep}
+use Rattle.schedule.specs.Events.{kept_answer, where_begun_at, DoesOneAct, EventAlways, CallIsFollowed, AnswersUpkeep, IsFlushed, UpkeepLeaves}
 use Rattle.schedule.specs.Making.{EventRuns, Makes}
 use Rattle.schedule.proofs.Events.{at_slots, others_stay_set, moves_on, stays_on, refused_stay, keeps_on_store, flushes_on_store, begins_on, named_of, request_pages, request_limits, request_frames, request_acts, not_begun, not_found_why, not_found_first, set_same}
 use Rattle.schedule.proofs.Keeping.{Laws}
@@ -105,6 +105,7 @@ module _ {S : Type 0} (g : Ghosts S) (laws : Laws g) (old new : S) (follows_stor
         causes = tt;
         order = tt;
         fresh = tt;
+        keeps_up = tt;
         runs_on = at_slots slots session before slot (λ x y. RunsOn x y) found_at made.runs_on;
       }
 
@@ -137,6 +138,7 @@ module _ {S : Type 0} (g : Ghosts S) (laws : Laws g) (old new : S) (follows_stor
         causes = tt;
         order = tt;
         fresh = tt;
+        keeps_up = tt;
         runs_on = at_slots slots session before slot (λ x y. RunsOn x y) found_at (runs_over before slot over);
       }
 
@@ -188,11 +190,12 @@ module _ {S : Type 0} (g : Ghosts S) (laws : Laws g) (store : S) (slots : List (
         causes = tt;
         order = tt;
         fresh = tt;
+        keeps_up = tt;
         runs_on = at_slots slots session before slot (λ x y. RunsOn x y) found_at runs_on;
       }
 
 -- what is done for the store
-module _ {S : Type 0} (g : Ghosts S) (laws : Laws g) (old new : S) (follows : g.follows old new) (slots : List (Option Op)) (sets : DeadSets) (upkeep : Upkeep) (same : g.state new ≡ g.state old) where
+module _ {S : Type 0} (g : Ghosts S) (laws : Laws g) (old new : S) (follows : g.follows old new) (slots : List (Option Op)) (sets : DeadSets) (upkeep : Upkeep) (answer : Answer) (same : g.state new ≡ g.state old) (leaves : UpkeepLeaves g upkeep answer old new) where
   told_so : (u : Upkeep) (count : ℕ) (answer : Answer) → kept_answer u count ≡ Some answer → AnswersUpkeep u answer
   told_so Forces count answer is = subst (λ (a : Answer). AnswersUpkeep Forces a) (same_some (kept_answer Forces count) (Forced count) answer refl is) tt
   told_so Flushes count answer is = absurd (let none : kept_answer Flushes count ≡ Some answer = is in cc)
@@ -208,9 +211,9 @@ module _ {S : Type 0} (g : Ghosts S) (laws : Laws g) (old new : S) (follows : g.
   refused_so Flushes fault = tt
   refused_so Checkpoints fault = tt
 
-  pub kept_makes : (count : ℕ) (answer : Answer) → kept_answer upkeep count ≡ Some answer → count ≡ (g.state old).acts → (g.backing new).durable ≡ (g.state old).acts → ((g.backing old).stopped ≡ true → ⊥)
+  pub kept_makes : (count : ℕ) → kept_answer upkeep count ≡ Some answer → count ≡ (g.state old).acts → (g.backing new).durable ≡ (g.state old).acts → ((g.backing old).stopped ≡ true → ⊥)
       → Makes g (KeepsStore upkeep) answer (here_with old slots sets) (here_with new slots sets)
-  kept_makes count answer told number durable alive = record {
+  kept_makes count told number durable alive = record {
     sessions = refl;
     always = always;
     does = λ honest start history calls fits.
@@ -230,12 +233,13 @@ module _ {S : Type 0} (g : Ghosts S) (laws : Laws g) (old new : S) (follows : g.
         causes = tt;
         order = tt;
         fresh = tt;
+        keeps_up = leaves;
         runs_on = tt;
       }
 
-  pub not_kept_makes : (fault : Fault) → ((g.backing old).stopped ≡ true → fault ≡ Stopped) → HasCause (where_forced (g.backing old) (g.backing new)) fault
+  pub not_kept_makes : (fault : Fault) → answer ≡ Refused fault → ((g.backing old).stopped ≡ true → fault ≡ Stopped) → HasCause (where_forced (g.backing old) (g.backing new)) fault
       → Makes g (KeepsStore upkeep) (Refused fault) (here_with old slots sets) (here_with new slots sets)
-  not_kept_makes fault stopped cause = record {
+  not_kept_makes fault is stopped cause = record {
     sessions = refl;
     always = always;
     does = λ honest start history calls fits.
@@ -257,17 +261,18 @@ module _ {S : Type 0} (g : Ghosts S) (laws : Laws g) (old new : S) (follows : g.
         causes = tt;
         order = tt;
         fresh = tt;
+        keeps_up = subst (λ (a : Answer). UpkeepLeaves g upkeep a old new) is leaves;
         runs_on = tt;
       }
 
 -- a changed page is written to its place
 pub flush_makes : {S : Type 0} (g : Ghosts S) (laws : Laws g) (old new : S) (follows : g.follows old new) (slots : List (Option Op)) (sets : DeadSets) (same : g.state new ≡ g.state old) (block : Option ℕ)
-    → block ≡ slice_get (g.backing old).changed 0 → ((g.backing old).stopped ≡ true → ⊥) → Makes g (KeepsStore Flushes) (Flushed block) (here_with old slots sets) (here_with new slots sets)
-flush_makes g laws old new follows slots sets same block first alive = record {
+    → IsFlushed g block old new → ((g.backing old).stopped ≡ true → ⊥) → Makes g (KeepsStore Flushes) (Flushed block) (here_with old slots sets) (here_with new slots sets)
+flush_makes g laws old new follows slots sets same block flushed alive = record {
   sessions = refl;
   always = always;
   does = λ honest start history calls fits.
-      flushes_on_store g start (snapshot_of (here_with old slots sets) history calls) new fits same follows (laws.follows_later old new follows) block first always;
+      flushes_on_store g start (snapshot_of (here_with old slots sets) history calls) new fits same follows (laws.follows_later old new follows) block flushed.first always;
 }
   where
     always : EventAlways g (KeepsStore Flushes) (Flushed block) (here_with old slots sets) (here_with new slots sets)
@@ -283,6 +288,7 @@ flush_makes g laws old new follows slots sets same block first alive = record {
       causes = tt;
       order = tt;
       fresh = tt;
+      keeps_up = flushed;
       runs_on = tt;
     }
 
@@ -330,6 +336,7 @@ module _ {S : Type 0} (g : Ghosts S) (laws : Laws g) (old new : S) (follows : g.
     causes = tt;
     order = λ fault e. absurd (found_one fault e);
     fresh = λ begun. set_is slots session slot (get_within slots session None free) ∙ h.runs;
+    keeps_up = tt;
     runs_on = tt;
   }
   always_of (Refused fault) h = record {
@@ -344,6 +351,7 @@ module _ {S : Type 0} (g : Ghosts S) (laws : Laws g) (old new : S) (follows : g.
     causes = cause_of fault h.cause;
     order = λ f e. absurd (found_one f e);
     fresh = λ e. absurd cc;
+    keeps_up = tt;
     runs_on = tt;
   }
   always_of Going h = absurd h
@@ -430,5 +438,6 @@ not_found_makes g laws store slots sets session request fault none = record {
       causes = not_found_why g store (one_vacuums slots) sets request session (g.backing store).stopped (is_of_sets sets request) (slice_get slots session) fault refl refl none;
       order = λ f e. ap Refused (let both : Err fault ≡ Err f = none ∙ e in cc);
       fresh = λ e. absurd cc;
+      keeps_up = tt;
       runs_on = tt;
     }

@@ -6,11 +6,12 @@ use Rattle.page_action.specs.declared.page_store.PageStore.{Ghosts}
 use Rattle.session_calls.specs.declared.answer.Answer.{Answer}
 use Rattle.session_calls.specs.declared.answer.Answer.TheVariants.{Begun, Going, Added, Ready, Done, Finished, Gave, Ended, Forced, Flushed, Checkpointed, Refused}
 use Rattle.schedule.specs.TheoremMoments.{StoreAndSlots, Snapshot, snapshot_of}
-use Rattle.schedule.specs.Making.{EventDoes, Makes}
+use Rattle.schedule.specs.Making.{EventDoes, Makes, EachAlways}
+use Rattle.schedule.specs.Events.{EventAlways}
 use Rattle.schedule.specs.TheoremRuns.{Fits}
 use Rattle.schedule.specs.TheoremKinds.{kind_of}
 use Rattle.schedule.specs.TheoremEvents.{IsDurable}
-use Rattle.schedule.specs.TheoremRuns.{AreDurable, EventGoes, IsRun, Ran, Carries, Runs}
+use Rattle.schedule.specs.TheoremRuns.{AreDurable, EventGoes, IsRun, Ran, Carries, Runs, EventFollows}
 use Rattle.schedule.specs.declared.event.Event.{Event}
 use Rattle.schedule.proofs.Keeping.{Laws, safe, keeps_on}
 use Rattle.schedule.proofs.Fitting.{fits_behind, goes_does, matches_of}
@@ -70,18 +71,33 @@ one_ran g start event answer old new goes = record {
   crash = goes.crash;
 }
 
--- what an event of a kind makes is a run of it
-pub makes_runs : {S : Type 0} (g : Ghosts S) (laws : Laws g) (event : Event) (answer : Answer) (old new : StoreAndSlots S) → Makes g (kind_of event) answer old new
-    → Carries g old new (Runs g old new (event ∷ []) (answer ∷ []))
-makes_runs g laws event answer old new makes honest start history calls fits =
+-- what an event of a kind makes follows
+pub makes_follow : {S : Type 0} (g : Ghosts S) (laws : Laws g) (event : Event) (answer : Answer) (old new : StoreAndSlots S) → Makes g (kind_of event) answer old new
+    → Carries g old new (EventFollows g old new event answer)
+makes_follow g laws event answer old new makes honest start history calls fits =
     let d = makes.does honest start history calls fits in
-    let first = snapshot_of old history calls in
-    let last = snapshot_of new d.then_history d.then_calls in
     record {
       then_history = d.then_history;
       then_calls = d.then_calls;
-      ran = one_ran g start event answer first last (event_goes g laws start event answer first last fits d.does);
+      goes = event_goes g laws start event answer (snapshot_of old history calls) (snapshot_of new d.then_history d.then_calls) fits d.does;
+      fits = fits_behind d.does;
     }
+
+-- an event that follows is a run of it
+pub follow_runs : {S : Type 0} (g : Ghosts S) (event : Event) (answer : Answer) (old new : StoreAndSlots S) → Carries g old new (EventFollows g old new event answer)
+    → Carries g old new (Runs g old new (event ∷ []) (answer ∷ []))
+follow_runs g event answer old new follow honest start history calls fits =
+    let d = follow honest start history calls fits in
+    record {
+      then_history = d.then_history;
+      then_calls = d.then_calls;
+      ran = one_ran g start event answer (snapshot_of old history calls) (snapshot_of new d.then_history d.then_calls) d.goes;
+    }
+
+-- what an event of a kind makes is a run of it
+pub makes_runs : {S : Type 0} (g : Ghosts S) (laws : Laws g) (event : Event) (answer : Answer) (old new : StoreAndSlots S) → Makes g (kind_of event) answer old new
+    → Carries g old new (Runs g old new (event ∷ []) (answer ∷ []))
+makes_runs g laws event answer old new makes = follow_runs g event answer old new (makes_follow g laws event answer old new makes)
 
 -- a run goes on by one event
 pub ran_more : {S : Type 0} (g : Ghosts S) (laws : Laws g) (start : Entry → Bool) (events : List Event) (answers : List Answer) (event : Event) (answer : Answer) (first mid last : Snapshot S)
@@ -95,6 +111,17 @@ ran_more {S} g laws start events answers event answer first mid last follows ran
       follows = follows;
       crash = λ keeps. safe g laws start first last follows keeps.own (matches_of one.fits) (one.crash (ran.crash keeps).keeps).keeps;
     }
+
+-- what always holds of each event of a list, with one event more
+pub always_more : {S : Type 0} (g : Ghosts S) (events : List Event) (answers : List Answer) (event : Event) (answer : Answer) (first mid last : StoreAndSlots S)
+    → EachAlways g events answers first mid → g.follows mid.store last.store → EventAlways g (kind_of event) answer mid last
+    → EachAlways g (events ++ event ∷ []) (answers ++ answer ∷ []) first last
+always_more {S} g [] [] event answer first mid last each follows always =
+    subst (λ (m : StoreAndSlots S). EachAlways g (event ∷ []) (answer ∷ []) m last) (sym each) (last, follows, always, refl)
+always_more g (x ∷ xs) (y ∷ ys) event answer first mid last each follows always =
+    (each.0, each.1, each.2, always_more g xs ys event answer each.0 mid last each.3 follows always)
+always_more g [] (y ∷ ys) event answer first mid last each follows always = absurd each
+always_more g (x ∷ xs) [] event answer first mid last each follows always = absurd each
 
 -- a run of no event
 pub none_ran : {S : Type 0} (g : Ghosts S) (laws : Laws g) (start : Entry → Bool) (now : Snapshot S) → Fits g start now → Ran g start [] [] now now

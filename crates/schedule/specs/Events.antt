@@ -1,5 +1,5 @@
 -- What an event does beside what it means: what keeps the theorem, and what holds of an event whatever the pages are.
-use Rattle.std.specs.Prelude.{◌≡◌, ◌≢◌, ◌⊎◌, ℕ, suc, ◌≤◌, ◌&&◌, not, Bool, true, false, Option, Some, None, Err, List, [], ◌∷◌, ◌++◌, length, slice_get, slice_set}
+use Rattle.std.specs.Prelude.{◌≡◌, ◌≢◌, ◌⊎◌, ℕ, suc, ◌≤◌, ◌&&◌, not, Bool, true, false, Option, Some, None, Err, List, [], ◌∷◌, ◌++◌, length, drop, slice_get, slice_set}
 use Rattle.index_model.specs.Actions.{Effect, Action, contents_after}
 use Rattle.index_model.specs.Calls.{Call}
 use Rattle.index_model.specs.Faults.{Circumstances, HasCause}
@@ -7,6 +7,8 @@ use Rattle.index_model.specs.declared.entry.Entry.{Entry}
 use Rattle.index_model.specs.declared.fault.Fault.{Fault}
 use Rattle.index_model.specs.declared.fault.Fault.TheVariants.{Stopped}
 use Rattle.page_action.specs.Causes.{nothing_wrong, where_forced}
+use Rattle.page_action.specs.Order.{IsRestOf}
+use Rattle.page_action.specs.Room.{KeepsRoom, HasWholeRoom}
 use Rattle.page_action.specs.States.{State, IsLater}
 use Rattle.page_action.specs.declared.page_store.PageStore.{Ghosts}
 use Rattle.latch_table.specs.Holdings.{has_pin, holding_of}
@@ -101,6 +103,54 @@ pub record StoreIsKept {S : Type 0} (g : Ghosts S) (upkeep : Upkeep) (answer : A
   pub number : (count : ℕ) → kept_answer upkeep count ≡ Some answer → count ≡ (g.state old).acts
   pub durable : (count : ℕ) → kept_answer upkeep count ≡ Some answer → (g.backing new).durable ≡ (g.state old).acts
   pub caused : (fault : Fault) → answer ≡ Refused fault → HasCause (where_forced (g.backing old) (g.backing new)) fault
+
+-- a force leaves the changed pages waiting to be written to their places
+pub record IsForced {S : Type 0} (g : Ghosts S) (old new : S) : Type 0 where
+  pub waiting : (g.backing new).changed ≡ (g.backing old).changed
+  pub room : KeepsRoom (g.state old) (g.backing old) (g.backing new)
+
+-- a flush writes the page that waited longest, which it answers, and no other
+pub record IsFlushed {S : Type 0} (g : Ghosts S) (block : Option ℕ) (old new : S) : Type 0 where
+  pub first : block ≡ slice_get (g.backing old).changed 0
+  pub others : (g.backing new).changed ≡ drop 1 (g.backing old).changed
+  pub room : KeepsRoom (g.state old) (g.backing old) (g.backing new)
+
+-- behind a checkpoint no page waits, and the log has its whole room
+pub record IsCheckpointed {S : Type 0} (g : Ghosts S) (old new : S) : Type 0 where
+  pub none : (g.backing new).changed ≡ []
+  pub room : HasWholeRoom (g.state old).limits (g.backing new)
+
+-- a force that fails leaves the log stopped
+pub record IsNotForced {S : Type 0} (g : Ghosts S) (old new : S) : Type 0 where
+  pub stopped : (g.backing new).stopped ≡ true
+  pub waiting : (g.backing new).changed ≡ (g.backing old).changed
+  pub room : KeepsRoom (g.state old) (g.backing old) (g.backing new)
+
+-- a flush that fails leaves each page waiting
+pub record IsNotFlushed {S : Type 0} (g : Ghosts S) (old new : S) : Type 0 where
+  pub waiting : (g.backing new).changed ≡ (g.backing old).changed
+  pub room : KeepsRoom (g.state old) (g.backing old) (g.backing new)
+
+-- a checkpoint that fails leaves the log stopped, or all actions durable; the first of the pages that waited were written, or none
+pub record IsNotCheckpointed {S : Type 0} (g : Ghosts S) (old new : S) : Type 0 where
+  pub kept : ((g.backing new).stopped ≡ true) ⊎ ((g.backing new).durable ≡ (g.state old).acts)
+  pub rest : IsRestOf (g.backing new).changed (g.backing old).changed
+  pub room : KeepsRoom (g.state old) (g.backing old) (g.backing new)
+
+-- what an event of the store does to the pages that wait to be written and to the log's room, by what it answers
+abbrev pub UpkeepLeaves : {S : Type 0} → Ghosts S → Upkeep → Answer → S → S → Type 0
+UpkeepLeaves g Forces (Forced count) old new = IsForced g old new
+UpkeepLeaves g Flushes (Flushed block) old new = IsFlushed g block old new
+UpkeepLeaves g Checkpoints (Checkpointed count) old new = IsCheckpointed g old new
+UpkeepLeaves g Forces (Refused fault) old new = IsNotForced g old new
+UpkeepLeaves g Flushes (Refused fault) old new = IsNotFlushed g old new
+UpkeepLeaves g Checkpoints (Refused fault) old new = IsNotCheckpointed g old new
+UpkeepLeaves g upkeep answer old new = ⊥
+
+-- ... of an event of a call nothing is said
+abbrev pub KeepsUp : {S : Type 0} → Ghosts S → Kind → Answer → S → S → Type 0
+KeepsUp g (KeepsStore upkeep) answer old new = UpkeepLeaves g upkeep answer old new
+KeepsUp g kind answer old new = Unit {0}
 
 -- a session's running call goes on; without one the event is refused
 abbrev pub MovesOn : {S : Type 0} → Ghosts S → (Entry → Bool) → Bool → ℕ → Answer → Snapshot S → Snapshot S → Type 0
@@ -290,6 +340,8 @@ pub record EventAlways {S : Type 0} (g : Ghosts S) (kind : Kind) (answer : Answe
   pub order : RefusesInOrder g kind answer old
   -- what has begun is the call that was asked for, before its first step
   pub fresh : StartsFresh kind answer (slot_of new.slots (session_at kind))
+  -- what a force, a flush and a checkpoint do to the pages that wait to be written, and to the log's room
+  pub keeps_up : KeepsUp g kind answer old.store new.store
   -- behind a move of its call a session runs nothing, or a call of the same kind
   pub runs_on : MoveRunsOn kind (slot_of old.slots (session_at kind)) (slot_of new.slots (session_at kind))
 

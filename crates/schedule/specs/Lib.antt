@@ -10,3 +10,4 @@ pub mod TheoremRuns
 pub mod Making
 pub mod Stands
 pub mod Bounds
+pub mod CallLists

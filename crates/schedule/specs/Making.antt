@@ -1,15 +1,16 @@
 -- What each function that does one event promises.
-use Rattle.std.specs.Prelude.{◌≡◌, Bool, List, drop, length}
+use Rattle.std.specs.Prelude.{◌≡◌, Bool, List, [], ◌∷◌, drop, length}
 use Rattle.index_model.specs.Actions.{Action}
 use Rattle.index_model.specs.Calls.{Call}
 use Rattle.index_model.specs.declared.entry.Entry.{Entry}
 use Rattle.page_action.specs.declared.page_store.PageStore.{Ghosts}
 use Rattle.session_calls.specs.declared.answer.Answer.{Answer}
 use Rattle.schedule.specs.TheoremMoments.{StoreAndSlots, Snapshot, snapshot_of}
-use Rattle.schedule.specs.TheoremKinds.{Kind}
+use Rattle.schedule.specs.TheoremKinds.{Kind, kind_of}
 use Rattle.schedule.specs.TheoremEvents.{EventMeans}
 use Rattle.schedule.specs.TheoremRuns.{Carries}
 use Rattle.schedule.specs.Events.{EventAlways, EventAlso}
+use Rattle.schedule.specs.declared.event.Event.{Event}
 
 -- one event of this kind with this answer: what it means, and what it also leaves
 pub record EventDoes {S : Type 0} (g : Ghosts S) (start : Entry → Bool) (kind : Kind) (answer : Answer) (old new : Snapshot S) : Type 0 where
@@ -27,6 +28,14 @@ pub record Makes {S : Type 0} (g : Ghosts S) (kind : Kind) (answer : Answer) (ol
   pub sessions : length new.slots ≡ length old.slots
   pub always : EventAlways g kind answer old new
   pub does : Carries g old new (EventRuns g old new kind answer)
+
+-- events with an answer each, from one moment to another: of each holds what always holds, and each store follows the one before
+abbrev pub EachAlways : {S : Type 0} → Ghosts S → List Event → List Answer → StoreAndSlots S → StoreAndSlots S → Type 0
+EachAlways g [] [] first last = first ≡ last
+EachAlways {S} g (event ∷ events) (answer ∷ answers) first last =
+    (next : StoreAndSlots S) × g.follows first.store next.store × EventAlways g (kind_of event) answer first next × EachAlways g events answers next last
+EachAlways g [] (answer ∷ answers) first last = ⊥
+EachAlways g (event ∷ events) [] first last = ⊥
 
 -- the answers that a run has put behind those that were there
 abbrev pub answers_behind : List Answer → List Answer → List Answer

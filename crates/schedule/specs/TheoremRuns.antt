@@ -61,3 +61,10 @@ pub record Runs {S : Type 0} (g : Ghosts S) (old new : StoreAndSlots S) (events 
   pub then_history : List Action
   pub then_calls : List Call
   pub ran : Ran g start events answers (snapshot_of old history calls) (snapshot_of new then_history then_calls)
+
+-- there is a continuation of the history and of the calls that fits now, as this event with this answer makes it
+pub record EventFollows {S : Type 0} (g : Ghosts S) (old new : StoreAndSlots S) (event : Event) (answer : Answer) (start : Entry → Bool) (history : List Action) (calls : List Call) : Type 0 where
+  pub then_history : List Action
+  pub then_calls : List Call
+  pub goes : EventGoes g start event answer (snapshot_of old history calls) (snapshot_of new then_history then_calls)
+  pub fits : Fits g start (snapshot_of new then_history then_calls)

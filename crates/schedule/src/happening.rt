@@ -9,7 +9,7 @@ ghost use Rattle.schedule.specs.Sessions.{here};
 ghost use Rattle.schedule.specs.Snapshots.{here_with};
 ghost use Rattle.schedule.specs.TheoremKinds.{KeepsStore, Forces, Flushes, Checkpoints, kind_of};
 ghost use Rattle.schedule.specs.Events.{AnswersUpkeep, StoreIsKept};
-ghost use Rattle.schedule.specs.Making.{Makes, answers_behind};
+ghost use Rattle.schedule.specs.Making.{Makes, EachAlways, answers_behind};
 ghost use Rattle.schedule.specs.TheoremRuns.{Carries, Runs};
 
 use crate::event::Event;
@@ -64,6 +64,12 @@ pub fn run<S: PageStore, T: DeadRows>(
         let new = here T.DeadRows store.new calls.new sets.now in
         Carries S.PageStore old new (Runs S.PageStore old new events.now
         (answers_behind answers.old.items answers.new.items))) }
+    // Of each event holds what always holds, whatever the pages are.
+    ensures always { OnOk result
+        (EachAlways S.PageStore events.now
+        (answers_behind answers.old.items answers.new.items)
+        (here T.DeadRows store.old calls.old sets.now)
+        (here T.DeadRows store.new calls.new sets.now)) }
     ensures each { OnOk result (length answers.new.items
         ≡ length answers.old.items + length events.now) }
     ensures kept { take (length answers.old.items) answers.new.items ≡ answers.old.items }

@@ -1,6 +1,7 @@
 //! The laws.
 
 ghost use Rattle.schedule.specs.Bounds.{WorkIsBounded};
+ghost use Rattle.schedule.specs.CallLists.{OneCallRuns, RefusedCallsFit};
 ghost use Rattle.schedule.specs.Stands.{ScansStandOnLeaves, BulkDeletesWait, BegunBulkDeletesWait};
 
 use page_action::PageStore;
@@ -21,4 +22,14 @@ pub fn scans_stand_on_leaves<S: PageStore>()
 pub fn bulk_deletes_wait_for_scans<S: PageStore>()
     ensures begun { BegunBulkDeletesWait S.PageStore }
     ensures running { BulkDeletesWait S.PageStore }
+{}
+
+/// Does nothing: its clause says that a session has one running call at most among the calls that tell of a moment.
+pub fn one_call_runs<S: PageStore>()
+    ensures { OneCallRuns S.PageStore }
+{}
+
+/// Does nothing: its clause says that what fits a moment fits with a call more that was refused as it began.
+pub fn refused_calls_fit<S: PageStore>()
+    ensures { RefusedCallsFit S.PageStore }
 {}

@@ -14,6 +14,7 @@ use Rattle.session_calls.specs.declared.answer.Answer.{Answer}
 use Rattle.session_calls.specs.declared.answer.Answer.TheVariants.{Begun, Going, Added, Ready, Done, Finished, Gave, Refused}
 use Rattle.session_calls.specs.declared.request.Request.{Request}
 use Rattle.schedule.specs.TheoremMoments.{Snapshot, IsRunningCall}
+pub use Rattle.schedule.specs.CallLists.{with_call}
 use Rattle.whole_calls.specs.declared.inserted.Inserted.{Inserted}
 
 -- the history and the calls are as they were
@@ -127,10 +128,6 @@ pub record TellsEnd {S : Type 0} (session : ℕ) (old new : Snapshot S) : Type 0
   pub history_is : new.history ≡ old.history
   pub calls_is : HasNone session old → new.calls ≡ old.calls
   pub ended_is : (number : ℕ) (call : Call) → IsRunningCall old.calls session number call → new.calls ≡ slice_set old.calls number (ended call GivenUp (length old.history))
-
--- the moment, with one call more
-abbrev pub with_call : {S : Type 0} → Snapshot S → Call → Snapshot S
-with_call now call = record now { calls = now.calls ++ call ∷ [] }
 
 -- the call that a request begins now
 abbrev pub first_call : {S : Type 0} → ℕ → Request → Snapshot S → Call

@@ -7,7 +7,7 @@ use Rattle.index_model.specs.declared.dead_rows.DeadRows.{Ghosts as SetGhosts}
 use Rattle.page_action.specs.declared.page_store.PageStore.{Ghosts}
 use Rattle.session_calls.specs.declared.answer.Answer.{Answer}
 use Rattle.schedule.specs.TheoremCrashes.{KeepsHistory, IsCrashSafe}
-use Rattle.schedule.specs.TheoremRuns.{Carries, Runs, Fits}
+use Rattle.schedule.specs.TheoremRuns.{Carries, Runs, EventFollows, Fits}
 use Rattle.schedule.specs.TheoremMoments.{StoreAndSlots, Snapshot, snapshot_of}
 use Rattle.schedule.specs.declared.event.Event.{Event}
 use Rattle.world.specs.declared.world.World.{World}
@@ -35,6 +35,10 @@ WorldIsSafe g rows old new start history calls = WorldKeeps g rows old start his
 -- where the device has kept its model up to now, this holds of whatever fitted the world before
 abbrev pub WorldCarries : {S T : Type 0} → Ghosts S → SetGhosts T → World S T → World S T → ((Entry → Bool) → List Action → List Call → Type 0) → Type 0
 WorldCarries g rows old new goes = Carries g (inside rows old) (inside rows new) goes
+
+-- there is a continuation of the history and of the calls that fits the world now, by this event with this answer
+abbrev pub WorldGoes : {S T : Type 0} → Ghosts S → SetGhosts T → World S T → World S T → Event → Answer → (Entry → Bool) → List Action → List Call → Type 0
+WorldGoes g rows old new event answer start history calls = EventFollows g (inside rows old) (inside rows new) event answer start history calls
 
 -- there is a continuation of the history and of the calls that fits the world now, by a run of these events with these
 -- answers

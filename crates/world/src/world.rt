@@ -14,11 +14,12 @@ use std::alloc::Global;
 /// device, a crash at any moment leaves the contents after some first part of that history, with all that was durable.
 ///
 /// Of what its clauses name: `steps`, that what its store followed it follows still; `same`, that the sessions and the sets
-/// stay; `always`, of one event, what holds of it whatever the pages are (what it may answer; that a refusal changes nothing; that
+/// stay; `always`, of each event, what holds of it whatever the pages are (what it may answer; that a refusal changes nothing; that
 /// a stopped log refuses first; that a step that goes on leaves less to do, over a device that keeps its model, unless it
 /// does an act; that an event does one act at most, and only a step does one; that no other session is touched; what an end
-/// leaves; and why a beginning is refused); `runs`, the continuation, in which each event also says this, how many steps
-/// its call takes, which pages it leaves flagged, that no low of a page rises, and what it leaves as it was.
+/// leaves; which pages wait to be written behind a force, a flush and a checkpoint; and why a beginning is refused); `goes` of
+/// one event and `runs` of a list, the continuation, in which each event also says this, how many steps its call takes, which
+/// pages it leaves flagged, that no low of a page rises, and what it leaves as it was.
 #[derive(Drop)]
 pub struct World<S, T> {
     pub(crate) store: S,
@@ -43,10 +44,11 @@ impl<S: PageStore, T: DeadRows + Drop> World<S, T> {
     ghost use Rattle.page_action.specs.States.{Continues};
     ghost use Rattle.schedule.specs.TheoremKinds.{MovesCall, GivesUp, kind_of};
     ghost use Rattle.schedule.specs.Events.{EventAlways, IsUnchanged};
+    ghost use Rattle.schedule.specs.Making.{EachAlways};
     ghost use Rattle.schedule.specs.TheoremRuns.{Carries, Runs};
     ghost use Rattle.session_calls.specs.Slots.{has_call};
     ghost use Rattle.schedule.specs.Snapshots.{IsUnused};
-    ghost use Rattle.world.specs.Worlds.{WorldFits, WorldKeeps, WorldIsSafe, WorldRuns, WorldCarries, KeepsSessions, inside};
+    ghost use Rattle.world.specs.Worlds.{WorldFits, WorldKeeps, WorldIsSafe, WorldGoes, WorldCarries, KeepsSessions, inside};
 
     /// A world over the store with so many sessions, none of which has a call, and the sets of dead rows that its events
     /// may name. Refused with `BadLimits` unless it is 1 to 64 sessions, and with `NoMemory`; the store and the sets are
@@ -91,8 +93,8 @@ impl<S: PageStore, T: DeadRows + Drop> World<S, T> {
     pub fn one(&mut self, event: Event) -> Answer
         ensures steps { Continues S.follows self.old.store self.new.store }
         ensures same { KeepsSessions self.old self.new }
-        ensures runs { WorldCarries S.PageStore T.DeadRows self.old self.new
-            (WorldRuns S.PageStore T.DeadRows self.old self.new (event ∷ []) (result ∷ [])) }
+        ensures goes { WorldCarries S.PageStore T.DeadRows self.old self.new
+            (WorldGoes S.PageStore T.DeadRows self.old self.new event result) }
         ensures always { EventAlways S.PageStore (kind_of event) result
             (inside T.DeadRows self.old) (inside T.DeadRows self.new) }
     {
@@ -108,6 +110,9 @@ impl<S: PageStore, T: DeadRows + Drop> World<S, T> {
             let new = inside T.DeadRows self.new in
             Carries S.PageStore old new (Runs S.PageStore old new events.now
             (drop (length answers.old.items) answers.new.items))) }
+        ensures always { OnOk result (EachAlways S.PageStore events.now
+            (drop (length answers.old.items) answers.new.items)
+            (inside T.DeadRows self.old) (inside T.DeadRows self.new)) }
         ensures each { OnOk result
             (length answers.new.items ≡ length answers.old.items + length events.now) }
         ensures kept { take (length answers.old.items) answers.new.items ≡ answers.old.items }
@@ -150,9 +155,8 @@ impl<S: PageStore, T: DeadRows + Drop> World<S, T> {
     pub fn abandon(&mut self, session: u32) -> Answer
         ensures steps { Continues S.follows self.old.store self.new.store }
         ensures same { KeepsSessions self.old self.new }
-        ensures runs { WorldCarries S.PageStore T.DeadRows self.old self.new
-            (WorldRuns S.PageStore T.DeadRows self.old self.new
-            (Event.End session ∷ []) (result ∷ [])) }
+        ensures goes { WorldCarries S.PageStore T.DeadRows self.old self.new
+            (WorldGoes S.PageStore T.DeadRows self.old self.new (Event.End session) result) }
         ensures always { EventAlways S.PageStore (MovesCall session GivesUp) result
             (inside T.DeadRows self.old) (inside T.DeadRows self.new) }
     {

@@ -21,9 +21,9 @@ loop-left-preserved g c =
       steps = λ first h. c.one.ensures.steps first (old.steps first h);
       limits = c.one.ensures.always.kept.limits ∙ old.limits;
       gone = gone_more g.S.PageStore g.met.S.PageStore.laws g.T.DeadRows c.args.session c.args.world.now c.loop-left.world c.one.new.self
-          old.steps c.one.ensures.steps old.gone c.one.result c.one.ensures.runs going;
+          old.steps c.one.ensures.steps old.gone c.one.result c.one.ensures.goes going;
       within = within_more g.S.PageStore g.met.S.PageStore.laws g.T.DeadRows c.args.session c.args.world.now c.loop-left.world c.one.new.self
-          old.steps c.one.ensures.steps old.gone c.one.result c.one.ensures.runs c.loop-left.left _ (omega arith) going low old.within;
+          old.steps c.one.ensures.steps old.gone c.one.result c.one.ensures.goes c.loop-left.left _ (omega arith) going low old.within;
     }
 
 pub returns-clause-goes : goal.returns-clause-goes
@@ -37,6 +37,6 @@ returns-in_default g c =
     record {
       steps = λ first h. c.one.ensures.steps first (old.steps first h);
       goes = gone_then g.S.PageStore g.met.S.PageStore.laws g.T.DeadRows c.args.session c.args.world.now c.loop-left.world c.one.new.self
-          old.steps c.one.ensures.steps old.gone c.one.result c.one.ensures.runs;
+          old.steps c.one.ensures.steps old.gone c.one.result c.one.ensures.goes;
       over = search rules;
     }

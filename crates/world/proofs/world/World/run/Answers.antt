@@ -1,6 +1,6 @@
 use Rattle.std.specs.Prelude.{OnOk}
 use Rattle.std.proofs.Common.{List, subst}
-use Rattle.schedule.specs.Making.{answers_behind}
+use Rattle.schedule.specs.Making.{EachAlways, answers_behind}
 use Rattle.schedule.specs.Sessions.{here}
 use Rattle.schedule.specs.TheoremRuns.{Carries, Runs}
 use Rattle.world.proofs.world.World.run.Goals as goal
@@ -13,3 +13,11 @@ returns-clause-runs g c =
     subst (λ (ts : List g.row.T.Denot). OnOk c.run.result (Carries g.S.PageStore (here rows old.store old.calls ts) (here rows c.run.new.store c.run.new.calls ts)
     (Runs g.S.PageStore (here rows old.store old.calls ts) (here rows c.run.new.store c.run.new.calls ts) c.args.events.now answers)))
     c.deref.ensures.value c.run.ensures.runs
+
+pub returns-clause-always : goal.returns-clause-always
+returns-clause-always g c =
+    let rows = g.T.DeadRows in
+    let old = c.args.self.now in
+    let answers = answers_behind c.args.answers.now.items c.run.new.answers.items in
+    subst (λ (ts : List g.row.T.Denot). OnOk c.run.result (EachAlways g.S.PageStore c.args.events.now answers (here rows old.store old.calls ts) (here rows c.run.new.store c.run.new.calls ts)))
+    c.deref.ensures.value c.run.ensures.always
