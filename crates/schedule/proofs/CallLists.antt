@@ -1,5 +1,5 @@
 -- The list of calls: one running call a session, and calls that were refused as they began.
-use Rattle.std.proofs.Common.{◌≡◌, ◌≢◌, ℕ, ◌<◌, ◌≤◌, Bool, Option, Some, None, List, [], ◌∷◌, ◌++◌, length, slice_get, refl, sym, subst, ap, arith, inl, inr, ◌∙◌}
+use Rattle.std.proofs.Common.{◌≡◌, ◌≢◌, ℕ, ◌<◌, Bool, Option, Some, None, List, [], ◌∷◌, length, refl, sym, subst, ap, arith, inl, inr, ◌∙◌}
 use Rattle.index_model.specs.Actions.{Action}
 use Rattle.index_model.specs.Calls.{Ask, AskInsert, AskScan, AskBulkDelete, AskCleanup, Running, Failed, Call, Meets, IsOwned}
 use Rattle.index_model.specs.declared.entry.Entry.{Entry}

@@ -17,3 +17,4 @@ pub mod Joining
 pub mod Bounds
 pub mod Standing
 pub mod CallLists
+pub mod Spans

@@ -1,5 +1,5 @@
 -- Laws of the list of calls that tells of a moment: one running call a session, and calls that were refused as they began.
-use Rattle.std.specs.Prelude.{◌≡◌, ◌≢◌, ℕ, ◌<◌, Bool, List, [], ◌∷◌, ◌++◌, length}
+use Rattle.std.specs.Prelude.{◌≡◌, ◌≢◌, ℕ, ◌<◌, Bool, [], ◌∷◌, ◌++◌, length}
 use Rattle.index_model.specs.Calls.{Ask, Failed, Call}
 use Rattle.index_model.specs.declared.entry.Entry.{Entry}
 use Rattle.index_model.specs.declared.fault.Fault.{Fault}

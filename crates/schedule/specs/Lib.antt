@@ -11,3 +11,4 @@ pub mod Making
 pub mod Stands
 pub mod Bounds
 pub mod CallLists
+pub mod Spans

@@ -2,6 +2,7 @@
 
 ghost use Rattle.schedule.specs.Bounds.{WorkIsBounded};
 ghost use Rattle.schedule.specs.CallLists.{OneCallRuns, RefusedCallsFit};
+ghost use Rattle.schedule.specs.Spans.{LowsStay, CallsComeInTime};
 ghost use Rattle.schedule.specs.Stands.{ScansStandOnLeaves, BulkDeletesWait, BegunBulkDeletesWait};
 
 use page_action::PageStore;
@@ -32,4 +33,15 @@ pub fn one_call_runs<S: PageStore>()
 /// Does nothing: its clause says that what fits a moment fits with a call more that was refused as it began.
 pub fn refused_calls_fit<S: PageStore>()
     ensures { RefusedCallsFit S.PageStore }
+{}
+
+/// Does nothing: its clause says that the low of a page doesn't rise over a run in which the page isn't deleted.
+pub fn lows_stay<S: PageStore>()
+    ensures { LowsStay S.PageStore }
+{}
+
+/// Does nothing: its clause says that a scan's entries are ready at its step whose number is the root's level and 2, and an
+/// insert whose leaf has room is added at the root's level and 3, where no page is flagged and no action is logged meanwhile.
+pub fn calls_come_in_time<S: PageStore>()
+    ensures { CallsComeInTime S.PageStore }
 {}

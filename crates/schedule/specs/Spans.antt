@@ -1,0 +1,78 @@
+-- What holds over whole runs: lows that don't rise, and calls that come to their answers in time.
+use Rattle.std.specs.Prelude.{◌≡◌, ◌≢◌, ℕ, suc, ◌+◌, ◌==◌, if◌then◌else◌, Bool, Option, List, ◌∷◌}
+use Rattle.index_model.specs.declared.bound.Bound.{Bound}
+use Rattle.index_model.specs.declared.entry.Entry.{Entry}
+use Rattle.index_model.specs.declared.fault.Fault.TheVariants.{Blocked}
+use Rattle.page_codec.specs.declared.page.PageState.TheVariants.{Deleted}
+use Rattle.page_action.specs.declared.page_store.PageStore.{Ghosts}
+use Rattle.tree_shape.specs.Nodes.{nodes_of}
+use Rattle.tree_acts.specs.Lows.{HasLow, HasLowUpTo}
+use Rattle.descent.specs.Ways.{root_level, NoneIsFlagged}
+use Rattle.session_calls.specs.Due.{IsDueIn, IsServable, steps_for}
+use Rattle.session_calls.specs.Slots.{slot_of}
+use Rattle.session_calls.specs.declared.answer.Answer.{Answer}
+use Rattle.session_calls.specs.declared.answer.Answer.TheVariants.{Begun, Going, Refused}
+use Rattle.session_calls.specs.declared.request.Request.{Request}
+use Rattle.schedule.specs.Stands.{BeforeEach}
+use Rattle.schedule.specs.TheoremKinds.{Steps, Takes, GivesUp, Kind, BeginsCall, MovesCall, KeepsStore, kind_of}
+use Rattle.schedule.specs.TheoremMoments.{Snapshot}
+use Rattle.schedule.specs.TheoremRuns.{IsRun}
+use Rattle.schedule.specs.declared.event.Event.{Event}
+
+-- the page of the block isn't deleted at this moment
+abbrev pub IsNotDeleted : {S : Type 0} → Ghosts S → ℕ → Snapshot S → Type 0
+IsNotDeleted g block now = (nodes_of (g.state now.store).pages block).state ≢ Deleted
+
+-- Over a run at no moment of which a page of the tree is deleted, its low doesn't rise.
+abbrev pub LowsStay : {S : Type 0} → Ghosts S → Type 0
+LowsStay {S} g =
+    (start : Entry → Bool) (told : List Answer) (events : List Event) (answers : List Answer) (first last : Snapshot S) (run : IsRun g start told events answers first last)
+    (level block : ℕ) (low : Option Bound) → BeforeEach g start (IsNotDeleted g block) told events answers first last run → IsNotDeleted g block last
+    → HasLow (g.state first.store).pages level block low → HasLowUpTo (g.state last.store).pages level block low
+
+-- a step that goes on, or is blocked
+abbrev pub IsUnanswered : Answer → Type 0
+IsUnanswered Going = Unit {0}
+IsUnanswered (Refused (Blocked block)) = Unit {0}
+IsUnanswered answer = ⊥
+
+-- the session's call still waits for its answer behind this event: a step of it goes on or is blocked, and it isn't given up
+abbrev pub LeavesUnanswered : ℕ → Kind → Answer → Type 0
+LeavesUnanswered session (MovesCall of Steps) answer = of ≡ session → IsUnanswered answer
+LeavesUnanswered session (MovesCall of GivesUp) answer = of ≢ session
+LeavesUnanswered session (MovesCall of Takes) answer = Unit {0}
+LeavesUnanswered session (BeginsCall of request) answer = Unit {0}
+LeavesUnanswered session (KeepsStore upkeep) answer = Unit {0}
+
+-- ... behind each of these
+abbrev pub AllLeaveUnanswered : ℕ → List Event → List Answer → Type 0
+AllLeaveUnanswered session (event ∷ events) (answer ∷ answers) = LeavesUnanswered session (kind_of event) answer × AllLeaveUnanswered session events answers
+AllLeaveUnanswered session events answers = Unit {0}
+
+-- an event is a step of the session that goes on: 1, else 0
+abbrev pub goes_on : ℕ → Kind → Answer → ℕ
+goes_on session (MovesCall of Steps) Going = if of == session then 1 else 0
+goes_on session kind answer = 0
+
+-- how many of the session's steps go on
+abbrev pub steps_gone : ℕ → List Event → List Answer → ℕ
+steps_gone session (event ∷ events) (answer ∷ answers) = goes_on session (kind_of event) answer + steps_gone session events answers
+steps_gone session events answers = 0
+
+-- behind a run from the beginning of a session's call on, one step more at least is to be made, and so many are made and to be
+-- made in sum
+pub record IsStillDue {S : Type 0} (g : Ghosts S) (session steps gone : ℕ) (last : Snapshot S) : Type 0 where
+  pub left : ℕ
+  pub due : IsDueIn (g.state last.store) (slot_of last.slots session) (suc left)
+  pub sum : gone + suc left ≡ steps
+
+-- In time: a call begins where no page is flagged and its leaf can serve it, and then no action is logged. Of its steps, blocked ones
+-- not counted, fewer than the root's level and a few go on, 2 of a scan, 3 of an insert: the next one behind these brings what is
+-- awaited (`CountsDown`), entries that are ready, or the entry added and nothing left unfinished, unless the device, the log or the
+-- frames hinder it.
+abbrev pub CallsComeInTime : {S : Type 0} → Ghosts S → Type 0
+CallsComeInTime {S} g =
+    (start : Entry → Bool) (told : List Answer) (event : Event) (events : List Event) (answers : List Answer) (first last : Snapshot S) (session : ℕ) (request : Request)
+    → IsRun g start told (event ∷ events) (Begun ∷ answers) first last → kind_of event ≡ BeginsCall session request
+    → NoneIsFlagged (g.state first.store).pages → IsServable (g.state first.store) request → last.history ≡ first.history → AllLeaveUnanswered session events answers
+    → IsStillDue g session (root_level (g.state first.store).pages + steps_for request) (steps_gone session events answers) last
