@@ -18,3 +18,4 @@ pub mod Bounds
 pub mod Standing
 pub mod CallLists
 pub mod Spans
+pub mod Flags

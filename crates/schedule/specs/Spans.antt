@@ -1,5 +1,5 @@
--- What holds over whole runs: lows that don't rise, and calls that come to their answers in time.
-use Rattle.std.specs.Prelude.{◌≡◌, ◌≢◌, ℕ, suc, ◌+◌, ◌==◌, if◌then◌else◌, Bool, Option, List, ◌∷◌}
+-- What holds over whole runs: lows that don't rise, calls that come to their answers in time, and splits that are finished.
+use Rattle.std.specs.Prelude.{◌≡◌, ◌≢◌, ℕ, suc, ◌+◌, ◌==◌, if◌then◌else◌, Bool, false, Option, Some, List, [], ◌∷◌, ◌++◌}
 use Rattle.index_model.specs.declared.bound.Bound.{Bound}
 use Rattle.index_model.specs.declared.entry.Entry.{Entry}
 use Rattle.index_model.specs.declared.fault.Fault.TheVariants.{Blocked}
@@ -9,10 +9,13 @@ use Rattle.tree_shape.specs.Nodes.{nodes_of}
 use Rattle.tree_acts.specs.Lows.{HasLow, HasLowUpTo}
 use Rattle.descent.specs.Ways.{root_level, NoneIsFlagged}
 use Rattle.session_calls.specs.Due.{IsDueIn, IsServable, steps_for}
+use Rattle.session_calls.specs.Ops.{ends_call}
+use Rattle.session_calls.specs.Sessions.{OnlyOwnAreFlagged}
 use Rattle.session_calls.specs.Slots.{slot_of}
 use Rattle.session_calls.specs.declared.answer.Answer.{Answer}
-use Rattle.session_calls.specs.declared.answer.Answer.TheVariants.{Begun, Going, Refused}
+use Rattle.session_calls.specs.declared.answer.Answer.TheVariants.{Begun, Going, Added, Refused}
 use Rattle.session_calls.specs.declared.request.Request.{Request}
+use Rattle.schedule.specs.Events.{IsOf}
 use Rattle.schedule.specs.Stands.{BeforeEach}
 use Rattle.schedule.specs.TheoremKinds.{Steps, Takes, GivesUp, Kind, BeginsCall, MovesCall, KeepsStore, kind_of}
 use Rattle.schedule.specs.TheoremMoments.{Snapshot}
@@ -76,3 +79,40 @@ CallsComeInTime {S} g =
     → IsRun g start told (event ∷ events) (Begun ∷ answers) first last → kind_of event ≡ BeginsCall session request
     → NoneIsFlagged (g.state first.store).pages → IsServable (g.state first.store) request → last.history ≡ first.history → AllLeaveUnanswered session events answers
     → IsStillDue g session (root_level (g.state first.store).pages + steps_for request) (steps_gone session events answers) last
+
+-- a step behind which no split is left unfinished: no fault ends its call, nor stands in the answer of an insert
+abbrev pub IsUnfailed : Answer → Type 0
+IsUnfailed (Added action (Some fault)) = ⊥
+IsUnfailed (Refused fault) = ends_call fault ≡ false
+IsUnfailed answer = Unit {0}
+
+-- behind this event the session's call has left no split unfinished: no fault ends it, and it isn't given up
+abbrev pub LeavesNoneUnfinished : ℕ → Kind → Answer → Type 0
+LeavesNoneUnfinished session (MovesCall of Steps) answer = of ≡ session → IsUnfailed answer
+LeavesNoneUnfinished session (MovesCall of GivesUp) answer = of ≢ session
+LeavesNoneUnfinished session (MovesCall of Takes) answer = Unit {0}
+LeavesNoneUnfinished session (BeginsCall of request) answer = Unit {0}
+LeavesNoneUnfinished session (KeepsStore upkeep) answer = Unit {0}
+
+-- ... behind each of these
+abbrev pub AllLeaveNoneUnfinished : ℕ → List Event → List Answer → Type 0
+AllLeaveNoneUnfinished session (event ∷ events) (answer ∷ answers) = LeavesNoneUnfinished session (kind_of event) answer × AllLeaveNoneUnfinished session events answers
+AllLeaveNoneUnfinished session events answers = Unit {0}
+
+-- no event of another session appends an action in a run
+abbrev pub OthersLogNothing : {S : Type 0} (g : Ghosts S) (start : Entry → Bool) (session : ℕ) (told : List Answer) (events : List Event) (answers : List Answer) (first last : Snapshot S)
+    → IsRun g start told events answers first last → Type 0
+OthersLogNothing g start session told [] [] first last run = Unit {0}
+OthersLogNothing g start session told (event ∷ events) (answer ∷ answers) first last run =
+    ((IsOf session event → ⊥) → run.1.0.history ≡ first.history) × OthersLogNothing g start session (told ++ answer ∷ []) events answers run.1.0 last run.1.2
+OthersLogNothing g start session told [] (answer ∷ answers) first last run = ⊥
+OthersLogNothing g start session told (event ∷ events) [] first last run = ⊥
+
+-- Over a run in which no other session appends an action, and no call of this one is given up or ended by a fault: where at first only
+-- those pages are flagged whose splits the session's insert is to finish, so it is at last. So none is flagged where the session runs
+-- nothing then.
+abbrev pub SplitsAreFinished : {S : Type 0} → Ghosts S → Type 0
+SplitsAreFinished {S} g =
+    (start : Entry → Bool) (told : List Answer) (events : List Event) (answers : List Answer) (first last : Snapshot S) (run : IsRun g start told events answers first last) (session : ℕ)
+    → OthersLogNothing g start session told events answers first last run → AllLeaveNoneUnfinished session events answers
+    → OnlyOwnAreFlagged (g.state first.store) (slot_of first.slots session) → OnlyOwnAreFlagged (g.state last.store) (slot_of last.slots session)

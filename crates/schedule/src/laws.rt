@@ -2,7 +2,7 @@
 
 ghost use Rattle.schedule.specs.Bounds.{WorkIsBounded};
 ghost use Rattle.schedule.specs.CallLists.{OneCallRuns, RefusedCallsFit};
-ghost use Rattle.schedule.specs.Spans.{LowsStay, CallsComeInTime};
+ghost use Rattle.schedule.specs.Spans.{LowsStay, CallsComeInTime, SplitsAreFinished};
 ghost use Rattle.schedule.specs.Stands.{ScansStandOnLeaves, BulkDeletesWait, BegunBulkDeletesWait};
 
 use page_action::PageStore;
@@ -44,4 +44,10 @@ pub fn lows_stay<S: PageStore>()
 /// insert whose leaf has room is added at the root's level and 3, where no page is flagged and no action is logged meanwhile.
 pub fn calls_come_in_time<S: PageStore>()
     ensures { CallsComeInTime S.PageStore }
+{}
+
+/// Does nothing: its clause says that an insert leaves no page flagged that it began to split, over a run in which no other
+/// session's event appends an action, unless a fault ends it or stands in its answer, or it is given up.
+pub fn splits_are_finished<S: PageStore>()
+    ensures { SplitsAreFinished S.PageStore }
 {}
