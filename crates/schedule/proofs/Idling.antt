@@ -6,9 +6,10 @@ use Rattle.index_model.specs.declared.fault.Fault.{Fault}
 use Rattle.index_model.specs.declared.fault.Fault.TheVariants.{Stopped, NoSession}
 use Rattle.page_action.specs.States.{State}
 use Rattle.page_action.specs.declared.page_store.PageStore.{Ghosts}
+use Rattle.session_calls.specs.Following.{StepTells}
 use Rattle.session_calls.specs.TheoremCalls.{DeadSets}
 use Rattle.session_calls.specs.Ops.{RunsOn, AnswersStopped}
-use Rattle.session_calls.specs.Sessions.{no_call, slot_add, GivesLess, AnswersStep, AnswersNext, AnswersEnd, RefusalChangesNothing, OnlyWritersAct}
+use Rattle.session_calls.specs.Sessions.{no_call, slot_add, GivesLess, AnswersStep, AnswersNext, AnswersEnd, RefusalChangesNothing, RunsUntilLast, OnlyWritersAct}
 use Rattle.session_calls.specs.declared.answer.Answer.{Answer}
 use Rattle.session_calls.specs.declared.answer.Answer.TheVariants.{Refused}
 use Rattle.session_calls.specs.declared.op.Op.{Op}
@@ -75,6 +76,9 @@ module _ {S : Type 0} (g : Ghosts S) (laws : Laws g) (store : S) (slots : List (
       → EventAlways g (MovesCall session Steps) (Refused fault) (here_with store slots sets) (here_with store slots sets)
   step_always fault stopped = record {
     answers = subst (λ (x : Option Op). AnswersStep x x (Refused fault)) (sym none) tt;
+    until_last = subst (λ (x : Option Op). RunsUntilLast x x (Refused fault)) (sym none) refl;
+    stands = tt;
+    tells = subst (λ (x : Option Op). StepTells (g.backing store).stopped (g.state store) (g.state store) x x (Refused fault)) (sym none) (record { stats = tt; waits = λ alive some. absurd (some tt) });
     refused = subst (λ (x : Option Op). RefusalChangesNothing (g.state store) (g.state store) x x (Refused fault)) (sym none) (refl, refl);
     stopped = λ h. subst (λ (x : Option Op). AnswersStopped (slot_add x) (Refused fault)) (sym none) (stopped h);
     less = λ honest. tt;
@@ -107,6 +111,9 @@ module _ {S : Type 0} (g : Ghosts S) (laws : Laws g) (store : S) (slots : List (
       always : EventAlways g (MovesCall session Takes) (Refused NoSession) (here_with store slots sets) (here_with store slots sets)
       always = record {
         answers = subst (λ (x : Option Op). AnswersNext x (Refused NoSession)) (sym none) tt;
+        until_last = subst (λ (x : Option Op). RunsUntilLast x x (Refused NoSession)) (sym none) refl;
+        stands = refl;
+        tells = tt;
         refused = λ fault h. record { state_is = refl; slots_is = refl };
         stopped = tt;
         less = subst (λ (x : Option Op). GivesLess x x (Refused NoSession)) (sym none) (refl, tt);
@@ -129,6 +136,9 @@ module _ {S : Type 0} (g : Ghosts S) (laws : Laws g) (store : S) (slots : List (
       always : EventAlways g (MovesCall session GivesUp) (Refused NoSession) (here_with store slots sets) (here_with store slots sets)
       always = record {
         answers = subst (λ (x : Option Op). AnswersEnd x (Refused NoSession)) (sym none) refl;
+        until_last = subst (λ (x : Option Op). RunsUntilLast x x (Refused NoSession)) (sym none) refl;
+        stands = tt;
+        tells = tt;
         refused = λ fault h. record { state_is = refl; slots_is = refl };
         stopped = tt;
         less = tt;

@@ -7,7 +7,7 @@ use Rattle.session_calls.specs.declared.op.Op.{Op}
 use Rattle.session_calls.proofs.Counting.{insert_counts, scan_counts}
 use Rattle.session_calls.proofs.Hindering.{insert_hindered}
 use Rattle.session_calls.proofs.Inserting.{insert_goes_on, insert_ends, insert_is_refused}
-use Rattle.session_calls.proofs.Scanning.{moving_goes, ready_goes, done_goes}
+use Rattle.session_calls.proofs.Scanning.{moving_goes, ready_goes, done_goes, moving_stands, ready_stands}
 use Rattle.std.proofs.Common.{Bool}
 use Rattle.index_model.specs.Row.{Row}
 use Rattle.vacuum.specs.BulkDeletes.{BulkDeleteGoesOn, IsDueOf}
@@ -19,7 +19,7 @@ use Rattle.session_calls.specs.declared.answer.Answer.TheVariants.{Refused}
 use Rattle.insert_split.specs.declared.insert.InsertOp.{InsertOp}
 use Rattle.vacuum.specs.declared.steps.BulkDeleteOp.{BulkDeleteOp}
 use Rattle.page_delete.specs.declared.steps.CleanupOp.{CleanupOp}
-use Rattle.session_calls.proofs.Refusing.{refused_steps, told_stopped, insert_told_stopped}
+use Rattle.session_calls.proofs.Refusing.{refused_steps, told_stopped, insert_told_stopped, scan_told_waiting}
 use Rattle.session_calls.proofs.Going.{step_is_refused}
 use Rattle.vacuum.specs.Counts.{IsCounted}
 use Rattle.session_calls.proofs.Deleting.{counted_on, counted_still, set_found, bulk_goes_on, bulk_finishes, bulk_is_refused}
@@ -92,6 +92,18 @@ returns-in-Ok-Going-step-clause-due g c honest order fits left due =
     let counted = rw c.in-Ok-Going-step.field-0-is at (all.straight honest order mine_due.whole mine_due.none mine_due.way) in
     scan_counts old (g.S.PageStore.state c.step-in-Scan.new.store) c.in-Scan.op c.step-in-Scan.new.self left mine_due
     (rw c.in-Ok-Going-step.field-0-is at (all.stepped honest order mine)) counted.0 counted.1
+
+pub returns-in-Ok-Going-step-clause-stands : goal.returns-in-Ok-Going-step-clause-stands
+returns-in-Ok-Going-step-clause-stands g c honest order fits =
+    let mine = subst (λ (op : Op). OpFits (g.S.PageStore.state c.args.store.now) op) c.in-Scan.is fits in
+    rw c.in-Scan.is (moving_stands (g.S.PageStore.state c.args.store.now) (g.S.PageStore.state c.step-in-Scan.new.store) c.in-Scan.op c.step-in-Scan.new.self
+    (rw c.in-Ok-Going-step.field-0-is at (c.in-Ok-Going-step.ensures.stepped honest order mine)))
+
+pub returns-in-Ok-Ready-clause-stands : goal.returns-in-Ok-Ready-clause-stands
+returns-in-Ok-Ready-clause-stands g c honest order fits =
+    let mine = subst (λ (op : Op). OpFits (g.S.PageStore.state c.args.store.now) op) c.in-Scan.is fits in
+    rw c.in-Scan.is (ready_stands (g.S.PageStore.state c.args.store.now) (g.S.PageStore.state c.step-in-Scan.new.store) c.in-Scan.op c.step-in-Scan.new.self c.in-Ok-Ready.count
+    (rw c.in-Ok-Ready.field-0-is at (c.in-Ok-Ready.ensures.stepped honest order mine)))
 
 pub returns-in-Ok-Going-step-2-clause-goes : goal.returns-in-Ok-Going-step-2-clause-goes
 returns-in-Ok-Going-step-2-clause-goes g c honest start history number call fits =
@@ -217,7 +229,7 @@ returns-in-Err-clause-all g c =
     let told = c.in-Err.ensures.all in
     subst (λ (op : Op). OpSteps g.S.PageStore op (Insert c.step.new.self) c.args.store.now c.step.new.store (Refused c.in-Err.fault)) (sym c.in-Insert.is)
     (refused_steps g.S.PageStore (Insert before) (Insert c.step.new.self) c.args.store.now c.step.new.store c.in-Err.fault told.steps told.kept told.refused.state (ap (λ (op : InsertOp). Insert op) told.refused.op)
-    (λ is_stopped. insert_told_stopped before.added c.in-Err.fault (told.stopped is_stopped)))
+    (λ is_stopped. insert_told_stopped before.added c.in-Err.fault (told.stopped is_stopped)) (λ alive some. absurd (some refl)))
 
 pub returns-in-Err-step-clause-all : goal.returns-in-Err-step-clause-all
 returns-in-Err-step-clause-all g c =
@@ -225,7 +237,8 @@ returns-in-Err-step-clause-all g c =
     let told = c.in-Err-step.ensures in
     subst (λ (op : Op). OpSteps g.S.PageStore op (Scan c.step-in-Scan.new.self) c.args.store.now c.step-in-Scan.new.store (Refused c.in-Err-step.fault)) (sym c.in-Scan.is)
     (refused_steps g.S.PageStore (Scan before) (Scan c.step-in-Scan.new.self) c.args.store.now c.step-in-Scan.new.store c.in-Err-step.fault told.steps told.kept told.refused.state (ap (λ (op : ScanOp). Scan op) told.refused.op)
-    (λ is_stopped. told_stopped c.in-Err-step.fault (told.stopped is_stopped)))
+    (λ is_stopped. told_stopped c.in-Err-step.fault (told.stopped is_stopped))
+    (scan_told_waiting _ _ _ before c.step-in-Scan.new.self c.in-Err-step.fault told.waits))
 
 pub returns-in-Err-step-2-clause-all : goal.returns-in-Err-step-2-clause-all
 returns-in-Err-step-2-clause-all g c =
@@ -233,7 +246,7 @@ returns-in-Err-step-2-clause-all g c =
     let told = c.in-Err-step-2.ensures in
     subst (λ (op : Op). OpSteps g.S.PageStore op (Bulk c.in-Bulk.set c.step-in-Some.new.self) c.args.store.now c.step-in-Some.new.store (Refused c.in-Err-step-2.fault)) (sym c.in-Bulk.is)
     (refused_steps g.S.PageStore (Bulk c.in-Bulk.set before) (Bulk c.in-Bulk.set c.step-in-Some.new.self) c.args.store.now c.step-in-Some.new.store c.in-Err-step-2.fault told.steps told.kept told.refused.state (ap (λ (op : BulkDeleteOp). Bulk c.in-Bulk.set op) told.refused.op)
-    (λ is_stopped. told_stopped c.in-Err-step-2.fault (told.stopped is_stopped)))
+    (λ is_stopped. told_stopped c.in-Err-step-2.fault (told.stopped is_stopped)) (λ alive some. absurd (some refl)))
 
 pub returns-in-Err-step-3-clause-all : goal.returns-in-Err-step-3-clause-all
 returns-in-Err-step-3-clause-all g c =
@@ -241,7 +254,7 @@ returns-in-Err-step-3-clause-all g c =
     let told = c.in-Err-step-3.ensures in
     subst (λ (op : Op). OpSteps g.S.PageStore op (Cleanup c.step-in-Cleanup.new.self) c.args.store.now c.step-in-Cleanup.new.store (Refused c.in-Err-step-3.fault)) (sym c.in-Cleanup.is)
     (refused_steps g.S.PageStore (Cleanup before) (Cleanup c.step-in-Cleanup.new.self) c.args.store.now c.step-in-Cleanup.new.store c.in-Err-step-3.fault told.steps told.kept told.refused.state (ap (λ (op : CleanupOp). Cleanup op) told.refused.op)
-    (λ is_stopped. told_stopped c.in-Err-step-3.fault (told.stopped is_stopped)))
+    (λ is_stopped. told_stopped c.in-Err-step-3.fault (told.stopped is_stopped)) (λ alive some. absurd (some refl)))
 
 pub returns-in-Err-step-2-clause-entries : goal.returns-in-Err-step-2-clause-entries
 returns-in-Err-step-2-clause-entries g c honest =
