@@ -1,6 +1,6 @@
 -- What is promised of an index.
 use Rattle.std.specs.List.{IsDistinct}
-use Rattle.std.specs.Prelude.{◌||◌, ◌&&◌, not, ◌≡◌, ◌<◌, ◌≤◌, ℕ, suc, Bool, true, false, Option, Some, None, Result, Ok, Err, List, ◌∷◌, [], ◌++◌, length, slice_get, slice_set}
+use Rattle.std.specs.Prelude.{◌||◌, ◌&&◌, not, ◌≡◌, ◌≢◌, ◌<◌, ◌≤◌, ℕ, suc, Bool, true, false, Option, Some, None, Result, Ok, Err, List, ◌∷◌, [], ◌++◌, length, slice_get, slice_set}
 use Rattle.device.specs.declared.device.Device.{Ghosts as DeviceGhosts}
 use Rattle.index_model.specs.Actions.{Action}
 use Rattle.index_model.specs.Calls.{AskScan, Call, IsScanAnswer, IsScanAnswerSoFar}
@@ -28,6 +28,7 @@ use Rattle.schedule.specs.TheoremMoments.{StoreAndSlots, Snapshot, snapshot_of, 
 use Rattle.vacuum.specs.Counts.{entries_below}
 use Rattle.whole_calls.specs.Going.{CallRuns, CallGoes}
 use Rattle.whole_calls.specs.Inserting.{InsertGoes}
+use Rattle.whole_calls.specs.Made.{IsMadeOf}
 use Rattle.whole_calls.specs.Sweeping.{SweepTold, swept_came, TellsCleaned}
 use Rattle.whole_calls.specs.Telling.{HasNone}
 use Rattle.whole_calls.specs.declared.inserted.Inserted.{Inserted}
@@ -56,6 +57,11 @@ IndexGoes g session Tells came old new = CallGoes g session Tells came (slots_wi
 -- ... of an insert that is run to its end
 abbrev pub IndexInserts : {S : Type 0} → Ghosts S → ℕ → Entry → Result Inserted Fault → Index S → Index S → Type 0
 IndexInserts g session entry result old new = InsertGoes g session entry result (slots_within old) (slots_within new)
+
+-- whatever the pages are, the call is made of events of this session and of checkpoints, one before a step exactly where the log has room for
+-- fewer than five images; what it came to, it came to by their answers
+abbrev pub IndexMakes : {S : Type 0} → Ghosts S → ℕ → (List Answer → Type 0) → Index S → Index S → Type 0
+IndexMakes g session Came old new = IsMadeOf g session 5 Came (slots_within old) (slots_within new)
 
 -- where the device has kept its model up to now, this holds of whatever fitted the index before
 abbrev pub IndexCarries : {S : Type 0} → Ghosts S → Index S → Index S → ((Entry → Bool) → List Action → List Call → Type 0) → Type 0
@@ -104,9 +110,9 @@ NotOpenedFor g index Stopped = cannot_begin g index ≡ true
 NotOpenedFor g index NoSession = AreTaken index.seats
 NotOpenedFor g index fault = ⊥
 
--- why no scan is begun under a token: none can begin, or the token is not open
+-- why no scan is begun under a token: the token is not open; or it is, and none can begin
 abbrev pub NotRescannedFor : {S : Type 0} → Ghosts S → Index S → ScanToken → Fault → Type 0
-NotRescannedFor g index token Stopped = cannot_begin g index ≡ true
+NotRescannedFor g index token Stopped = (seat_of index.seats token ≢ None) × (cannot_begin g index ≡ true)
 NotRescannedFor g index token NoSession = seat_of index.seats token ≡ None
 NotRescannedFor g index token fault = ⊥
 

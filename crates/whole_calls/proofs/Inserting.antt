@@ -6,6 +6,7 @@ use Rattle.index_model.specs.declared.fault.Fault.TheVariants.{Exists, IndexFull
 use Rattle.session_calls.specs.declared.request.Request.TheVariants.{Insert as ToInsert}
 use Rattle.schedule.proofs.Lists.{get_append_new, get_append_cases}
 use Rattle.whole_calls.proofs.Words.{Effect, Add, Remove, Shape, Action, Ask, AskInsert, Ending, Running, GivenUp, Failed, AnswersRight, end_of, Meets, Call, HasCause, Entry, Fault, Ghosts, ends_call, IsCaused, acts_of, act_count, noted, ended, slot_add, Answer, Going, Added, Refused, Op, StoreAndSlots, Snapshot, snapshot_of, IsRunningCall, Fits, here_at, slot_of}
+use Rattle.whole_calls.specs.Made.{Answered, InsertComesTo}
 use Rattle.whole_calls.specs.Going.{CallGoes, GoesFrom}
 use Rattle.whole_calls.specs.Inserting.{InsertGoes}
 use Rattle.whole_calls.specs.Refusing.{where_inserted, where_asked, is_used_up, is_tall, InsertCallIsCaused}
@@ -99,6 +100,14 @@ insert_may entry (Added action unfinished) over may = tt
 insert_may entry (Refused fault) over may = tt
 insert_may entry Going over may = absurd (over refl)
 insert_may entry answer over may = absurd may
+
+-- what it answers was answered
+pub insert_comes : (entry : Entry) (answer : Answer) (added : Option ℕ) (answers : List Answer) → answer ≢ Going → MayAnswer (AskInsert entry) answer → Answered answer answers → InsertComesTo (outcome_of answer added) answers
+insert_comes entry (Added action unfinished) added answers over may (inl so) = inl so
+insert_comes entry (Added action unfinished) added answers over may (inr so) = absurd (let e = so.0 in cc)
+insert_comes entry (Refused fault) None answers over may so = so
+insert_comes entry (Refused fault) (Some action) answers over may so = inr (fault, refl, so)
+insert_comes entry answer added answers over may so = absurd (insert_may entry answer over may)
 
 -- an insert that was refused: where it stands then
 pub record IsLeftSo {S : Type 0} (number : ℕ) (call : Call) (fault : Fault) (x y : Snapshot S) : Type 0 where

@@ -1,6 +1,7 @@
 pub mod Words
 pub mod Gone
 pub mod Composing
+pub mod Made
 pub mod Tellings
 pub mod Inserting
 pub mod Spending

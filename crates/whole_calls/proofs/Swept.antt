@@ -5,6 +5,7 @@ use Rattle.index_model.specs.declared.stats.VacuumStats.{VacuumStats}
 use Rattle.session_calls.specs.declared.request.Request.TheVariants.{Insert as ToInsert, Scan as ToScan}
 use Rattle.whole_calls.proofs.Words.{Circumstances, HasCause, Effect, Add, Action, Vacuumed, Call, Fault, Entry, State, Ghosts, DeadSets, asked_by, asks_vacuum, IsCaused, MayDo, ended, Answer, Going, Finished, Refused, Request, StoreAndSlots, Snapshot, snapshot_of, here_at}
 use Rattle.whole_calls.specs.Going.{CameBy, CallGoes, GoesFrom}
+use Rattle.whole_calls.specs.Made.{Answered, ComesTo}
 use Rattle.whole_calls.specs.Refusing.{where_gone, where_asked, where_called}
 use Rattle.whole_calls.specs.Stepping.{RunGoes}
 use Rattle.whole_calls.specs.Sweeping.{Followed, of_sweep, FollowsFrom, TellsAs, swept_of, swept_came, IsSweptNow, IsSweptSoFar, SweepTold}
@@ -39,6 +40,16 @@ vacuum_may sets request vacuums (Finished stats) over h = tt
 vacuum_may sets request vacuums (Refused fault) over h = tt
 vacuum_may sets request vacuums Going over h = absurd (over refl)
 vacuum_may sets request vacuums answer over h = absurd h
+
+-- what it answers was answered
+pub sweep_comes : (sets : DeadSets) (request : Request) → asks_vacuum request ≡ true → (answer : Answer) (answers : List Answer) → answer ≢ Going → MayAnswer (asked_by sets request) answer → Answered answer answers
+    → ComesTo (swept_came (swept_of answer)) answers
+sweep_comes sets request vacuums answer answers over may = of answer (vacuum_may sets request vacuums answer over may)
+  where
+    of : (a : Answer) → IsVacuumAnswer a → Answered a answers → ComesTo (swept_came (swept_of a)) answers
+    of (Finished stats) may so = so
+    of (Refused fault) may so = so
+    of a may so = absurd may
 
 -- ... and then an end
 module _ {S : Type 0} (session : ℕ) (request : Request) (vacuums : asks_vacuum request ≡ true) (x y z : Snapshot S) (free : HasNone session x) (end : TellsEnd session y z) where

@@ -8,6 +8,7 @@ ghost use Rattle.schedule.specs.Sessions.{here, op_of, KeepsOthers};
 ghost use Rattle.schedule.specs.Events.{OthersStay};
 ghost use Rattle.schedule.specs.TheoremRuns.{Carries};
 ghost use Rattle.whole_calls.specs.Going.{CallGoes};
+ghost use Rattle.whole_calls.specs.Made.{IsMadeOf, ComesTo};
 ghost use Rattle.whole_calls.specs.Refusing.{where_called, where_gone};
 ghost use Rattle.whole_calls.specs.Sweeping.{SweepTold, swept_of, swept_came, TellsEntries, TellsCleaned, LeavesOnlyNeeded, IsUndisturbed};
 
@@ -49,6 +50,10 @@ pub fn bulk_delete<S: PageStore, T: DeadRows>(
         (swept_came result)
         (here T.DeadRows store.old calls.old sets.now)
         (here T.DeadRows store.new calls.new sets.now) }
+    // Whatever the pages are.
+    ensures made { IsMadeOf S.PageStore session least_room (ComesTo (swept_came result))
+        (here T.DeadRows store.old calls.old sets.now)
+        (here T.DeadRows store.new calls.new sets.now) }
     ensures entries { Carries S.PageStore (here T.DeadRows store.old calls.old sets.now)
         (here T.DeadRows store.new calls.new sets.now) (λ start history calls.
         TellsEntries (S.state store.new) result) }
@@ -82,6 +87,10 @@ pub fn clean_up<S: PageStore, T: DeadRows>(
     ensures over { op_of calls.old session ≡ None → op_of calls.new session ≡ None }
     ensures goes { CallGoes S.PageStore session (SweepTold session ToCleanup result)
         (swept_came result)
+        (here T.DeadRows store.old calls.old sets.now)
+        (here T.DeadRows store.new calls.new sets.now) }
+    // Whatever the pages are.
+    ensures made { IsMadeOf S.PageStore session least_room (ComesTo (swept_came result))
         (here T.DeadRows store.old calls.old sets.now)
         (here T.DeadRows store.new calls.new sets.now) }
     ensures entries { Carries S.PageStore (here T.DeadRows store.old calls.old sets.now)

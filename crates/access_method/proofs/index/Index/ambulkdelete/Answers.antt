@@ -15,6 +15,7 @@ use Rattle.schedule.specs.Snapshots.{here_with}
 use Rattle.schedule.specs.TheoremRuns.{Carries}
 use Rattle.schedule.proofs.Unused.{fits_with, no_set_runs}
 use Rattle.whole_calls.specs.Going.{CallGoes}
+use Rattle.whole_calls.specs.Made.{IsMadeOf, ComesTo}
 use Rattle.whole_calls.specs.Sweeping.{SweepTold, swept_came, TellsEntries}
 use Rattle.session_calls.specs.declared.request.Request.TheVariants.{Bulk as ToBulk}
 use Rattle.access_method.specs.Indexes.{slots_within, slots_with, IndexFits}
@@ -35,6 +36,11 @@ counted : (g : Over) (c : After-bulk_delete g)
 counted g c = subst (λ (l : List (Row → Bool)). Carries g.S.PageStore (here_with c.args.self.now.store c.args.self.now.calls.slots.items l) (here_with c.bulk_delete.new.store c.bulk_delete.new.calls.slots.items l) (λ start history calls.
     TellsEntries (g.S.PageStore.state c.bulk_delete.new.store) c.bulk_delete.result))
     refl c.bulk_delete.ensures.entries
+
+pub returns-clause-made : goal.returns-clause-made
+returns-clause-made g c =
+    subst (λ (l : List (Row → Bool)). IsMadeOf g.S.PageStore 63 5 (ComesTo (swept_came c.bulk_delete.result)) (here_with c.args.self.now.store c.args.self.now.calls.slots.items l) (here_with c.bulk_delete.new.store c.bulk_delete.new.calls.slots.items l))
+    refl c.bulk_delete.ensures.made
 
 -- what fitted fits with the set
 fits_then : (g : Over) (c : After-bulk_delete g) (start : Entry → Bool) (history : List Action) (calls : List Call) → IndexFits g.S.PageStore c.args.self.now start history calls
