@@ -19,3 +19,4 @@ pub mod Standing
 pub mod CallLists
 pub mod Spans
 pub mod Flags
+pub mod Spent

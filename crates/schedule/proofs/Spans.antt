@@ -61,7 +61,7 @@ lows_stay g start told [] (answer ∷ answers) first last run level block low ea
 lows_stay g start told (event ∷ events) [] first last run level block low each there has = absurd run
 
 -- a history only grows over a run
-history_grows : {S : Type 0} (g : Ghosts S) (start : Entry → Bool) (told : List Answer) (events : List Event) (answers : List Answer) (first last : Snapshot S)
+pub history_grows : {S : Type 0} (g : Ghosts S) (start : Entry → Bool) (told : List Answer) (events : List Event) (answers : List Answer) (first last : Snapshot S)
     → IsRun g start told events answers first last → length first.history ≤ length last.history
 history_grows {S} g start told [] [] first last run = subst (λ (m : Snapshot S). length first.history ≤ length m.history) run (omega arith)
 history_grows g start told (event ∷ events) (answer ∷ answers) first last run =
@@ -73,12 +73,12 @@ history_grows g start told [] (answer ∷ answers) first last run = absurd run
 history_grows g start told (event ∷ events) [] first last run = absurd run
 
 -- a list that is no longer with more behind it is as it was
-none_more : (acts history : List Action) → length (history ++ acts) ≤ length history → history ++ acts ≡ history
+pub none_more : (acts history : List Action) → length (history ++ acts) ≤ length history → history ++ acts ≡ history
 none_more [] history le = append-nil history
 none_more (a ∷ acts) history le = absurd (let long : length (history ++ a ∷ acts) ≡ length history + suc (length acts) = length-append history (a ∷ acts) in omega arith)
 
 -- where nothing is logged over a run, nothing is by its first event
-first_quiet : {S : Type 0} (g : Ghosts S) (start : Entry → Bool) (told : List Answer) (event : Event) (events : List Event) (answer : Answer) (answers : List Answer) (first last : Snapshot S)
+pub first_quiet : {S : Type 0} (g : Ghosts S) (start : Entry → Bool) (told : List Answer) (event : Event) (events : List Event) (answer : Answer) (answers : List Answer) (first last : Snapshot S)
     → (run : IsRun g start told (event ∷ events) (answer ∷ answers) first last) → last.history ≡ first.history → run.1.0.history ≡ first.history
 first_quiet g start told event events answer answers first last run same =
     let grown = run.1.1.also.grows in
@@ -92,6 +92,25 @@ due_runs : (st : State) (slot : Option Op) (steps : ℕ) → IsDueIn st slot ste
 due_runs st None steps due = absurd due
 due_runs st (Some op) steps due = (op, refl)
 
+-- a step of another session isn't one of this
+pub none_gone : (session of : ℕ) (answer : Answer) → of ≢ session → goes_on session (MovesCall of Steps) answer ≡ 0
+none_gone session of Begun apart = refl
+none_gone session of Going apart = by (of == session) refl
+  where
+    by : (b : Bool) → of == session ≡ b → goes_on session (MovesCall of Steps) Going ≡ 0
+    by true is = absurd (apart (eqb-true of session is))
+    by false is = rw is refl
+none_gone session of (Added action unfinished) apart = refl
+none_gone session of (Ready count) apart = refl
+none_gone session of Done apart = refl
+none_gone session of (Finished stats) apart = refl
+none_gone session of (Gave entry) apart = refl
+none_gone session of Ended apart = refl
+none_gone session of (Forced count) apart = refl
+none_gone session of (Flushed block) apart = refl
+none_gone session of (Checkpointed count) apart = refl
+none_gone session of (Refused fault) apart = refl
+
 -- one event leaves a call due that has no answer yet
 module _ {S : Type 0} (g : Ghosts S) (start : Entry → Bool) (session : ℕ) (old new : Snapshot S) (quiet : new.history ≡ old.history) (steps : ℕ) (due : IsDueIn (g.state old.store) (slot_of old.slots session) (suc steps)) where
   abbrev Due : ℕ → Type 0
@@ -104,24 +123,6 @@ module _ {S : Type 0} (g : Ghosts S) (start : Entry → Bool) (session : ℕ) (o
   -- an event of no session, or of another one
   elsewhere : (kind : Kind) (answer : Answer) → EventDoes g start kind answer old new → (of : ℕ) → IsOfSession of kind → session ≢ of → IsDueIn (g.state new.store) (slot_of new.slots session) (suc steps)
   elsewhere kind answer does of is apart = does.also.quiet.due quiet of session is apart (suc steps) due
-
-  none_gone : (of : ℕ) (answer : Answer) → of ≢ session → goes_on session (MovesCall of Steps) answer ≡ 0
-  none_gone of Begun apart = refl
-  none_gone of Going apart = by (of == session) refl
-    where
-      by : (b : Bool) → of == session ≡ b → goes_on session (MovesCall of Steps) Going ≡ 0
-      by true is = absurd (apart (eqb-true of session is))
-      by false is = rw is refl
-  none_gone of (Added action unfinished) apart = refl
-  none_gone of (Ready count) apart = refl
-  none_gone of Done apart = refl
-  none_gone of (Finished stats) apart = refl
-  none_gone of (Gave entry) apart = refl
-  none_gone of Ended apart = refl
-  none_gone of (Forced count) apart = refl
-  none_gone of (Flushed block) apart = refl
-  none_gone of (Checkpointed count) apart = refl
-  none_gone of (Refused fault) apart = refl
 
   -- its own step, which goes on or is blocked
   went_on : (n : ℕ) → 0 < n → IsDueIn (g.state new.store) (slot_of new.slots session) n → (left : ℕ) × (1 + suc left ≡ suc n) × IsDueIn (g.state new.store) (slot_of new.slots session) (suc left)
@@ -157,7 +158,7 @@ module _ {S : Type 0} (g : Ghosts S) (start : Entry → Bool) (session : ℕ) (o
     | inl e ↦ (
         let followed = subst (λ (s : ℕ). StepIsFollowed old.sets (g.state old.store) (g.state new.store) (slot_of old.slots s) (slot_of new.slots s) answer) e does.also.followed in
         own_step of answer e (followed.due steps due) (waits e))
-    | inr n ↦ (steps, (let none : goes_on session (MovesCall of Steps) answer ≡ 0 = none_gone of answer n in omega arith), elsewhere (MovesCall of Steps) answer does of refl (λ e. n (sym e)))
+    | inr n ↦ (steps, (let none : goes_on session (MovesCall of Steps) answer ≡ 0 = none_gone session of answer n in omega arith), elsewhere (MovesCall of Steps) answer does of refl (λ e. n (sym e)))
   ]
 
 -- ... and so do all events of a run

@@ -1,5 +1,6 @@
--- What holds over whole runs: lows that don't rise, calls that come to their answers in time, and splits that are finished.
-use Rattle.std.specs.Prelude.{◌≡◌, ◌≢◌, ℕ, suc, ◌+◌, ◌==◌, if◌then◌else◌, Bool, false, Option, Some, List, [], ◌∷◌, ◌++◌}
+-- What holds over whole runs: lows that don't rise, calls that come to their answers in time, splits that are finished, and steps that
+-- are spent.
+use Rattle.std.specs.Prelude.{◌≡◌, ◌≢◌, ℕ, suc, ◌+◌, ◌≤◌, ◌==◌, if◌then◌else◌, Bool, true, false, Option, Some, List, [], ◌∷◌, ◌++◌}
 use Rattle.index_model.specs.declared.bound.Bound.{Bound}
 use Rattle.index_model.specs.declared.entry.Entry.{Entry}
 use Rattle.index_model.specs.declared.fault.Fault.TheVariants.{Blocked}
@@ -10,7 +11,7 @@ use Rattle.tree_acts.specs.Lows.{HasLow, HasLowUpTo}
 use Rattle.descent.specs.Ways.{root_level, NoneIsFlagged}
 use Rattle.session_calls.specs.Due.{IsDueIn, IsServable, steps_for}
 use Rattle.session_calls.specs.Ops.{ends_call}
-use Rattle.session_calls.specs.Sessions.{OnlyOwnAreFlagged}
+use Rattle.session_calls.specs.Sessions.{OnlyOwnAreFlagged, work_in}
 use Rattle.session_calls.specs.Slots.{slot_of}
 use Rattle.session_calls.specs.declared.answer.Answer.{Answer}
 use Rattle.session_calls.specs.declared.answer.Answer.TheVariants.{Begun, Going, Added, Refused}
@@ -19,7 +20,7 @@ use Rattle.schedule.specs.Events.{IsOf}
 use Rattle.schedule.specs.Stands.{BeforeEach}
 use Rattle.schedule.specs.TheoremKinds.{Steps, Takes, GivesUp, Kind, BeginsCall, MovesCall, KeepsStore, kind_of}
 use Rattle.schedule.specs.TheoremMoments.{Snapshot}
-use Rattle.schedule.specs.TheoremRuns.{IsRun}
+use Rattle.schedule.specs.TheoremRuns.{Fits, IsRun}
 use Rattle.schedule.specs.declared.event.Event.{Event}
 
 -- the page of the block isn't deleted at this moment
@@ -116,3 +117,22 @@ SplitsAreFinished {S} g =
     (start : Entry → Bool) (told : List Answer) (events : List Event) (answers : List Answer) (first last : Snapshot S) (run : IsRun g start told events answers first last) (session : ℕ)
     → OthersLogNothing g start session told events answers first last run → AllLeaveNoneUnfinished session events answers
     → OnlyOwnAreFlagged (g.state first.store) (slot_of first.slots session) → OnlyOwnAreFlagged (g.state last.store) (slot_of last.slots session)
+
+-- no call begins in the session by this event
+abbrev pub BeginsNone : ℕ → Kind → Answer → Type 0
+BeginsNone session (BeginsCall of request) answer = of ≡ session → answer ≢ Begun
+BeginsNone session (MovesCall of move) answer = Unit {0}
+BeginsNone session (KeepsStore upkeep) answer = Unit {0}
+
+-- ... nor by any of these
+abbrev pub NoneBegins : ℕ → List Event → List Answer → Type 0
+NoneBegins session (event ∷ events) (answer ∷ answers) = BeginsNone session (kind_of event) answer × NoneBegins session events answers
+NoneBegins session events answers = Unit {0}
+
+-- Over a run in which no action is logged, over a device that keeps its model, each step of the session's call that goes on is one of
+-- those that were left to do for it: fewer than 2^42 at each moment (`work_is_bounded`).
+abbrev pub WorkIsSpent : {S : Type 0} → Ghosts S → Type 0
+WorkIsSpent {S} g =
+    (start : Entry → Bool) (told : List Answer) (events : List Event) (answers : List Answer) (first last : Snapshot S) → Fits g start first → IsRun g start told events answers first last
+    → (session : ℕ) → (g.backing last.store).honest ≡ true → last.history ≡ first.history → NoneBegins session events answers
+    → steps_gone session events answers + work_in (g.state last.store) (slot_of last.slots session) ≤ work_in (g.state first.store) (slot_of first.slots session)

@@ -2,7 +2,7 @@
 
 ghost use Rattle.schedule.specs.Bounds.{WorkIsBounded};
 ghost use Rattle.schedule.specs.CallLists.{OneCallRuns, RefusedCallsFit};
-ghost use Rattle.schedule.specs.Spans.{LowsStay, CallsComeInTime, SplitsAreFinished};
+ghost use Rattle.schedule.specs.Spans.{LowsStay, CallsComeInTime, SplitsAreFinished, WorkIsSpent};
 ghost use Rattle.schedule.specs.Stands.{ScansStandOnLeaves, BulkDeletesWait, BegunBulkDeletesWait};
 
 use page_action::PageStore;
@@ -50,4 +50,10 @@ pub fn calls_come_in_time<S: PageStore>()
 /// session's event appends an action, unless a fault ends it or stands in its answer, or it is given up.
 pub fn splits_are_finished<S: PageStore>()
     ensures { SplitsAreFinished S.PageStore }
+{}
+
+/// Does nothing: its clause says that over a run in which no action is logged a session's call makes no more steps than were
+/// left to do for it.
+pub fn work_is_spent<S: PageStore>()
+    ensures { WorkIsSpent S.PageStore }
 {}
