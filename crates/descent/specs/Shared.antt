@@ -156,7 +156,7 @@ where_working st old new session images frames takes splits = record nothing_wro
   is_held_by_another = λ b. is_held_by_another st.table session b Shared
       || is_held_by_another st.table session b Exclusive;
   no_block_is_free = takes && is_out_of_blocks st;
-  log_is_full = nat_le old.promised images;
+  log_is_full = nat_lt 0 images && nat_le old.promised images;
   frames_are_pinned = nat_lt st.frames (frames + count_apart (pinned_blocks st.table));
   root_is_at_31 = splits && nat_le 31 (root_level st.pages);
 }

@@ -42,7 +42,7 @@ pub finishing_cause : (st : State) (old new : Backing) (op : InsertOp) (splits :
     → HasCause (where_finishing st old new splits.session splits.at) fault → HasCause (where_inserting st old new op.session op.entry op.at) fault
 finishing_cause st old new op splits fault at_is session h =
     subst (λ (a : InsertAt). HasCause (where_inserting st old new op.session op.entry a) fault) (sym at_is)
-    (as_inserting st old new op.session op.entry (Finishing splits) (images_of splits.at) (frames_of splits.at) (takes_block_of splits.at) (splits_root_of splits.at) fault refl
+    (as_inserting st old new op.session op.entry (Finishing splits) (images_of st splits.at) (frames_of st splits.at) (takes_block_of st splits.at) (splits_root_of splits.at) fault refl
     (subst (λ (s : ℕ). HasCause (where_finishing st old new s splits.at) fault) session h))
 
 -- ... and, but for a page that is blocked, once the entry is logged

@@ -95,7 +95,7 @@ images_at st Start = 0
 images_at st (At way) = 0
 images_at st (Holds block) =
     if is_full_page st.limits.items (slice_get st.pages block) then 3 else 1
-images_at st (Finishing op) = images_of op.at
+images_at st (Finishing op) = images_of st op.at
 
 -- ... and how many frames it needs, beside that of the leaf that it has pinned
 abbrev pub frames_at : State → InsertAt → ℕ
@@ -103,14 +103,14 @@ frames_at st Start = 1
 frames_at st (At way) = 1
 frames_at st (Holds block) =
     if is_full_page st.limits.items (slice_get st.pages block) then 2 else 0
-frames_at st (Finishing op) = frames_of op.at
+frames_at st (Finishing op) = frames_of st op.at
 
--- ... whether it may take a block: to split a full leaf, or to finish a split
+-- ... whether it may take a block: to split a full leaf, or what the finishing of a split takes
 abbrev pub takes_block_at : State → InsertAt → Bool
 takes_block_at st Start = false
 takes_block_at st (At way) = false
 takes_block_at st (Holds block) = is_full_page st.limits.items (slice_get st.pages block)
-takes_block_at st (Finishing op) = takes_block_of op.at
+takes_block_at st (Finishing op) = takes_block_of st op.at
 
 -- ... and whether it may split the root: only to finish a split
 abbrev pub splits_root_at : InsertAt → Bool

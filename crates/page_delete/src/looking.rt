@@ -38,7 +38,7 @@ pub fn glance<S: PageStore>(store: &mut S, session: Session, block: u32) -> Resu
     ensures cause { (S.backing store.new).honest ≡ true
         → HasRoom (S.state store.old).table session → block < length (S.state store.old).pages
         → IfErr result (HasCause (where_working (S.state store.old) (S.backing store.old)
-        (S.backing store.new) session 3 3 false false)) }
+        (S.backing store.new) session 2 2 false false)) }
 {
     match look(store, session, block) {
         Ok(()) => {}

@@ -81,6 +81,7 @@ impl FinishOp {
         requires right { page.right ≡ Some new }
         requires place { IsLinkPlace parent page.block self.old.target.separator at }
         requires full { 4 ≤ length (links_of parent.items) }
+        requires no_room { (S.state store.old).limits.items ≤ length (links_of parent.items) }
         requires some { 0 < length (S.state store.old).pages }
         ensures all { FinishActs S.PageStore self.old self.new store.old store.new result }
         ensures faults { IfErr result (HasCause where_splitting_any) }
@@ -106,6 +107,7 @@ impl FinishOp {
         requires right { page.right ≡ Some new }
         requires place { IsLinkPlace parent page.block self.old.target.separator at }
         requires full { 4 ≤ length (links_of parent.items) }
+        requires no_room { (S.state store.old).limits.items ≤ length (links_of parent.items) }
         requires some { 0 < length (S.state store.old).pages }
         requires beside { RightIsStored (S.state store.old) self.old.session parent.right right }
         requires beside_found { (S.backing store.old).honest ≡ true

@@ -26,8 +26,8 @@ returns-in-Err-clause-all g c =
     let later : IsLater (g.S.PageStore.backing c.args.store.now) (g.S.PageStore.backing c.act_on.new.store) =
     g.met.S.PageStore.laws.follows_later _ _ (c.act_on.ensures.steps _ (g.met.S.PageStore.laws.follows_same _)) in
     act_refused g.S.PageStore op c.args.store.now c.act_on.new.store c.in-Err.fault c.grown-pages.result 3 c.act_on.ensures.steps c.in-Err.ensures.refused
-    (let k : length c.grown-pages.result ≡ 3 = ap length c.grown-pages.ensures.pages_are in omega arith)
-    (ap images_of c.requires.meets.at) (ap frames_of c.requires.meets.at)
+    (let k : length c.grown-pages.result ≡ 3 = ap length c.grown-pages.ensures.pages_are in omega arith) (let k : length c.grown-pages.result ≡ 3 = ap length c.grown-pages.ensures.pages_are in omega arith)
+    (λ honest. (ap (images_of st) c.requires.meets.at, ap (frames_of st) c.requires.meets.at))
     (λ honest order fits. c.in-Err.ensures.cause (may_grow_all st op (g.S.PageStore.backing c.args.store.now).honest c.args.meta c.args.page c.args.new c.args.fresh c.grown-pages.result order fits (later.honest honest)
     c.requires.meets.read_meta c.requires.meets.read c.requires.meets.ready c.requires.right c.requires.fresh c.requires.block c.requires.free
     (g.met.S.PageStore.laws.few c.args.store.now)

@@ -1,4 +1,4 @@
-use Rattle.std.proofs.Common.{Option, Some, Ok, subst}
+use Rattle.std.proofs.Common.{Option, Ok, subst}
 use Rattle.split_finish.specs.Turns.{TurnedOrReady}
 use Rattle.split_finish.specs.declared.finish.FinishStep.{FinishStep}
 use Rattle.split_finish.proofs.Stepping.{turns_behind}

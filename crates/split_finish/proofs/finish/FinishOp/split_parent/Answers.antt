@@ -1,8 +1,10 @@
-use Rattle.std.proofs.Common.{arith, true, false, sym, subst}
+use Rattle.std.proofs.Common.{false, sym, subst}
 use Rattle.index_model.specs.Faults.{HasCause}
 use Rattle.page_action.specs.States.{State, IsLater}
-use Rattle.split_finish.specs.Finishes.{where_finishing}
+use Rattle.split_finish.specs.Finishes.{images_of, frames_of, takes_block_of, where_finishing}
 use Rattle.split_finish.specs.declared.finish.FinishAt.{FinishAt}
+use Rattle.split_finish.specs.declared.finish.FinishAt.TheVariants.{Link}
+use Rattle.split_finish.proofs.Needs.{link_some}
 use Rattle.split_finish.proofs.Parting.{beside_parent}
 use Rattle.split_finish.proofs.Standing.{has_room}
 use Rattle.split_finish.proofs.Stepping.{acts_not, behind_more, still_meets}
@@ -36,4 +38,4 @@ returns-in-Err-clause-all g c =
     (λ honest order fits.
     let beside = beside_parent st op.session (g.S.PageStore.backing c.args.store.now).honest op c.requires.meets.way c.args.page c.args.parent order fits c.requires.meets.at (later.honest honest) c.requires.meets.read c.requires.meets.read_parent c.requires.meets.ready in
     subst (λ (a : FinishAt). HasCause (where_finishing st (g.S.PageStore.backing c.args.store.now) (g.S.PageStore.backing c.read_right.new.store) op.session a) c.in-Err.fault) (sym c.requires.meets.at)
-    (c.in-Err.ensures.cause honest (has_room st op fits) beside.mendable 4 4 true false (omega arith)))
+    (c.in-Err.ensures.cause honest (has_room st op fits) beside.mendable (images_of st (Link c.requires.meets.way)) (frames_of st (Link c.requires.meets.way)) (takes_block_of st (Link c.requires.meets.way)) false (link_some st c.requires.meets.way)))
