@@ -56,6 +56,7 @@ IsNarrower at wide = (fault : Fault) → HasCause at fault → HasCause wide fau
 
 narrower_once : (at wide : Circumstances) → IsNarrower at wide → IsNarrower (once_added at) (once_added wide)
 narrower_once at wide more Exists h = h
+narrower_once at wide more (Blocked block) h = h
 narrower_once at wide more fault h = more fault h
 
 pub cause_wider : (at wide : Circumstances) → IsNarrower at wide → (answer : Answer) → IsCaused at answer → IsCaused wide answer

@@ -45,9 +45,9 @@ module _ (g : Over) (c : After-act_on g) (honest : (g.S.PageStore.backing c.args
   dying : AreDying c.args.leaf c.args.parent c.mark_half_dead.new.page c.hand_on_link.new.page c.args.at
   dying = record { leaf_is = c.mark_half_dead.ensures.only; handed = c.hand_on_link.ensures.handed; parent_is = c.hand_on_link.ensures.node; block_is = c.hand_on_link.ensures.block }
 
-pub returns-in-Ok : goal.returns-in-Ok
-returns-in-Ok g c =
-    let at = (goal.at.returns-in-Ok g c).After-act_on in
+pub returns-in-Ok-clause-all : goal.returns-in-Ok-clause-all
+returns-in-Ok-clause-all g c =
+    let at = (goal.at.returns-in-Ok-clause-all g c).After-act_on in
     let old = g.S.PageStore.state c.args.store.now in
     let leaf_used : c.mark_half_dead.new.page.block < length old.pages = subst (λ (p : Page). p.block < length old.pages) (sym c.mark_half_dead.ensures.only) c.requires.leaf.used in
     let parent_used : c.hand_on_link.new.page.block < length old.pages = subst (λ (b : ℕ). b < length old.pages) (sym c.hand_on_link.ensures.block) c.requires.parent.used in
@@ -68,9 +68,9 @@ returns-in-Ok g c =
     (dies old c.args.session c.args.leaf c.args.parent c.mark_half_dead.new.page c.hand_on_link.new.page c.args.right c.args.at order (candidate g at honest) (c.requires.right honest) (taken g at honest)
     c.requires.place (dying g at honest) (may g at honest)))
 
-pub returns-in-Err : goal.returns-in-Err
-returns-in-Err g c =
-    let at = (goal.at.returns-in-Err g c).After-act_on in
+pub returns-in-Err-clause-all : goal.returns-in-Err-clause-all
+returns-in-Err-clause-all g c =
+    let at = (goal.at.returns-in-Err-clause-all g c).After-act_on in
     let old = g.S.PageStore.state c.args.store.now in
     tried_refused g.S.PageStore c.args.session (AreInUse c.args.leaf.block c.args.parent.block) (LeafDies c.args.leaf.block) (IsSpared c.args.session c.args.leaf.block c.args.parent.block) c.args.store.now c.act_on.new.store c.in-Err.fault
     c.act_on.ensures.steps c.in-Err.ensures.refused

@@ -31,9 +31,9 @@ was_honest g c h =
     let later : IsLater (g.S.PageStore.backing c.args.store.now) (g.S.PageStore.backing c.act_between.new.store) = g.met.S.PageStore.laws.follows_later _ _ (c.act_between.ensures.steps _ (g.met.S.PageStore.laws.follows_same _)) in
     later.honest h
 
-pub returns-in-Ok : goal.returns-in-Ok
-returns-in-Ok g c =
-    let at = (goal.at.returns-in-Ok g c).After-act_between in
+pub returns-in-Ok-clause-all : goal.returns-in-Ok-clause-all
+returns-in-Ok-clause-all g c =
+    let at = (goal.at.returns-in-Ok-clause-all g c).After-act_between in
     let old = g.S.PageStore.state c.args.store.now in
     tried_acted g.S.PageStore c.args.session (IsInUse c.args.page.block) (PageGoes c.args.page.block) (IsNotDead c.args.page.block) c.args.store.now c.act_between.new.store
     (unlinked c.args.left c.args.page c.args.right c.begun-number.result) c.act_between.ensures.steps c.in-Ok.ensures.done
@@ -51,9 +51,9 @@ returns-in-Ok g c =
     (does_unlink old c.args.session c.args.page c.args.right order (page_taken g at honest) c.requires.dead c.requires.right_is (right_taken g at honest) below c.args.left (left_taken g at honest)
     (subst (λ (n : ℕ). AreActable old.limits (length old.pages) (unlinked c.args.left c.args.page c.args.right n)) c.begun-number.ensures c.in-Ok.ensures.may)))
 
-pub returns-in-Err : goal.returns-in-Err
-returns-in-Err g c =
-    let at = (goal.at.returns-in-Err g c).After-act_between in
+pub returns-in-Err-clause-all : goal.returns-in-Err-clause-all
+returns-in-Err-clause-all g c =
+    let at = (goal.at.returns-in-Err-clause-all g c).After-act_between in
     let old = g.S.PageStore.state c.args.store.now in
     tried_refused g.S.PageStore c.args.session (IsInUse c.args.page.block) (PageGoes c.args.page.block) (IsNotDead c.args.page.block) c.args.store.now c.act_between.new.store c.in-Err.fault
     c.act_between.ensures.steps c.in-Err.ensures.refused

@@ -7,8 +7,8 @@ use Rattle.page_delete.proofs.Siblings.{trail_in_use}
 use Rattle.page_delete.proofs.Stepping.{descends, refuses, working_cause, has_room}
 use Rattle.page_delete.proofs.steps.CleanupOp.read_page.Goals as goal
 
-pub returns-in-Err : goal.returns-in-Err
-returns-in-Err g c =
+pub returns-in-Err-clause-all : goal.returns-in-Err-clause-all
+returns-in-Err-clause-all g c =
     let old = g.S.PageStore.state c.args.store.now in
     refuses g.S.PageStore c.args.self.now c.args.store.now c.look.new.store c.in-Err.fault c.look.ensures.steps c.look.ensures.state (λ h. absurd (clash (sym c.requires.alive ∙ h)))
     (λ honest order fits.
@@ -19,8 +19,8 @@ returns-in-Err g c =
     clash : false ≡ true → ⊥
     clash e = cc
 
-pub returns : goal.returns
-returns g c =
+pub returns-clause-all : goal.returns-clause-all
+returns-clause-all g c =
     let old = g.S.PageStore.state c.args.store.now in
     let most : c.limits-most.result.pages ≡ old.limits.pages = ap (λ (l : Limits). l.pages) c.limits-most.ensures.value ∙ ap (λ (s : State). s.limits.pages) c.look.ensures.state in
     descends g.S.PageStore c.args.self.now c.turn_from_page.new.self c.args.high c.args.way c.args.store.now c.look.new.store c.lead-onward.result c.turn_from_page.result c.requires.at c.requires.alive

@@ -15,16 +15,16 @@ was_honest g c h =
     let later : IsLater (g.S.PageStore.backing c.args.store.now) (g.S.PageStore.backing c.look_to_change.new.store) = g.met.S.PageStore.laws.follows_later _ _ (c.look_to_change.ensures.steps _ (g.met.S.PageStore.laws.follows_same _)) in
     later.honest h
 
-pub returns-in-Err : goal.returns-in-Err
-returns-in-Err g c =
+pub returns-in-Err-clause-all : goal.returns-in-Err-clause-all
+returns-in-Err-clause-all g c =
     let before = c.args.self.now in
     tried_refused g.S.PageStore before.session (IsInUse before.cursor) (PageGoes before.cursor) (IsNotDead before.cursor) c.args.store.now c.look_to_change.new.store c.in-Err.fault
     c.look_to_change.ensures.steps c.look_to_change.ensures.state (λ h order room there. c.in-Err.ensures.cause h room there 3 3 false false (omega arith))
 
-pub returns-in-Some : goal.returns-in-Some
-returns-in-Some g c =
+pub returns-in-Some-clause-all : goal.returns-in-Some-clause-all
+returns-in-Some-clause-all g c =
     let before = c.args.self.now in
     let block_is : c.in-Ok.page.block ≡ before.cursor = c.in-Ok.ensures.stored.block_is in
     tried_later g.S.PageStore before.session (IsInUse before.cursor) (PageGoes before.cursor) (IsNotDead before.cursor) c.args.store.now c.look_to_change.new.store c.unlink_dead.new.store c.unlink_dead.result
-    (reads g (goal.at.returns-in-Some g c).After-look_to_change c.in-Ok.ensures.alive c.look_to_change.ensures.room.promised)
-    (subst (λ (b : ℕ). IsTried g.S.PageStore before.session (IsInUse b) (PageGoes b) (IsNotDead b) c.look_to_change.new.store c.unlink_dead.new.store c.unlink_dead.result) block_is c.unlink_dead.ensures)
+    (reads g (goal.at.returns-in-Some-clause-all g c).After-look_to_change c.in-Ok.ensures.alive c.look_to_change.ensures.room.promised)
+    (subst (λ (b : ℕ). IsTried g.S.PageStore before.session (IsInUse b) (PageGoes b) (IsNotDead b) c.look_to_change.new.store c.unlink_dead.new.store c.unlink_dead.result) block_is c.unlink_dead.ensures.all)

@@ -5,8 +5,8 @@ use Rattle.split_finish.proofs.Doing.{acts_done, act_refused, popped_session}
 use Rattle.split_finish.proofs.Linking.{links, may_link_all}
 use Rattle.split_finish.proofs.finish.FinishOp.add.Goals as goal
 
-pub returns-in-Ok : goal.returns-in-Ok
-returns-in-Ok g c =
+pub returns-in-Ok-clause-all : goal.returns-in-Ok-clause-all
+returns-in-Ok-clause-all g c =
     let op = c.args.self.now in
     let st : State = g.S.PageStore.state c.args.store.now in
     let later : IsLater (g.S.PageStore.backing c.args.store.now) (g.S.PageStore.backing c.act_on.new.store) =
@@ -17,8 +17,8 @@ returns-in-Ok g c =
     c.requires.meets.at c.requires.meets.read c.requires.meets.read_parent c.requires.meets.ready c.requires.right (g.met.S.PageStore.laws.few c.args.store.now) c.requires.room c.linked-pages.ensures
     (g.S.PageStore.backing c.args.store.now) (g.S.PageStore.backing c.act_on.new.store) c.pop.new.self c.pop.result c.pop.ensures)
 
-pub returns-in-Err : goal.returns-in-Err
-returns-in-Err g c =
+pub returns-in-Err-clause-all : goal.returns-in-Err-clause-all
+returns-in-Err-clause-all g c =
     let op = c.args.self.now in
     let st : State = g.S.PageStore.state c.args.store.now in
     let later : IsLater (g.S.PageStore.backing c.args.store.now) (g.S.PageStore.backing c.act_on.new.store) =

@@ -8,8 +8,8 @@ use Rattle.split_finish.proofs.Standing.{place_inside, has_room}
 use Rattle.split_finish.proofs.Stepping.{refuses, behind}
 use Rattle.split_finish.proofs.finish.FinishOp.link.Goals as goal
 
-pub returns-in-Ok : goal.returns-in-Ok
-returns-in-Ok g c =
+pub returns-in-Ok-clause-all : goal.returns-in-Ok-clause-all
+returns-in-Ok-clause-all g c =
     let later : IsLater (g.S.PageStore.backing c.args.store.now) (g.S.PageStore.backing c.look_at_both.new.store) =
     g.met.S.PageStore.laws.follows_later _ _ (c.look_at_both.ensures.steps _ (g.met.S.PageStore.laws.follows_same _)) in
     behind g.S.PageStore c.args.self.now c.link_to.new.self c.args.store.now c.look_at_both.new.store c.link_to.new.store c.link_to.result
@@ -21,10 +21,10 @@ returns-in-Ok g c =
       promised = c.look_at_both.ensures.room.promised;
     })
     (λ h. (let k = sym c.in-Ok.is ∙ c.look_at_both.ensures.stopped h in cc))
-    c.link_to.ensures
+    c.link_to.ensures.all
 
-pub returns-in-Err : goal.returns-in-Err
-returns-in-Err g c =
+pub returns-in-Err-clause-all : goal.returns-in-Err-clause-all
+returns-in-Err-clause-all g c =
     let op = c.args.self.now in
     let st = g.S.PageStore.state c.args.store.now in
     refuses g.S.PageStore op c.args.store.now c.look_at_both.new.store c.in-Err.fault c.look_at_both.ensures.steps c.look_at_both.ensures.state

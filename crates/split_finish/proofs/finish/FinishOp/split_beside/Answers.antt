@@ -19,8 +19,8 @@ use Rattle.split_finish.proofs.Standing.{has_room}
 use Rattle.split_finish.proofs.Stepping.{acts_not}
 use Rattle.split_finish.proofs.finish.FinishOp.split_beside.Goals as goal
 
-pub returns-in-Err : goal.returns-in-Err
-returns-in-Err g c =
+pub returns-in-Err-clause-all : goal.returns-in-Err-clause-all
+returns-in-Err-clause-all g c =
     let op = c.args.self.now in
     let st : State = g.S.PageStore.state c.args.store.now in
     acts_not g.S.PageStore op c.args.store.now c.take_block.new.store c.in-Err.fault c.take_block.ensures.steps c.take_block.ensures.state
@@ -31,8 +31,8 @@ returns-in-Err g c =
 pub split_links-half-requires-clause-block : goal.split_links-half-requires-clause-block
 split_links-half-requires-clause-block g c = c.in-Ok.ensures.block c.requires.some
 
-pub returns-in-Ok-act_on_halves : goal.returns-in-Ok-act_on_halves
-returns-in-Ok-act_on_halves g c =
+pub returns-in-Ok-act_on_halves-clause-all : goal.returns-in-Ok-act_on_halves-clause-all
+returns-in-Ok-act_on_halves-clause-all g c =
     let op = c.args.self.now in
     let st : State = g.S.PageStore.state c.args.store.now in
     let left : Page = c.split_links-half.new.page in
@@ -61,8 +61,8 @@ returns-in-Ok-act_on_halves g c =
     (c.in-Ok-act_on_halves.ensures.done ∙ ap (after_act (halves_and left half c.args.right clear)) same)
     refl c.in-Some.ensures.target.0 c.in-Some.ensures.target.1 c.in-Some.ensures.target.2
 
-pub returns-in-Err-act_on_halves : goal.returns-in-Err-act_on_halves
-returns-in-Err-act_on_halves g c =
+pub returns-in-Err-act_on_halves-clause-all : goal.returns-in-Err-act_on_halves-clause-all
+returns-in-Err-act_on_halves-clause-all g c =
     let op = c.args.self.now in
     let st : State = g.S.PageStore.state c.args.store.now in
     let left : Page = c.split_links-half.new.page in

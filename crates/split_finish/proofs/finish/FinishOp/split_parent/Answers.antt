@@ -14,8 +14,8 @@ split_beside-requires-clause-meets g c =
     still_meets (g.S.PageStore.state c.args.store.now) (g.S.PageStore.state c.read_right.new.store) (g.S.PageStore.backing c.args.store.now) (g.S.PageStore.backing c.read_right.new.store)
     c.args.self.now c.args.page c.args.parent c.read_right.ensures.state later.honest c.requires.meets
 
-pub returns-in-Ok : goal.returns-in-Ok
-returns-in-Ok g c =
+pub returns-in-Ok-clause-all : goal.returns-in-Ok-clause-all
+returns-in-Ok-clause-all g c =
     let later : IsLater (g.S.PageStore.backing c.args.store.now) (g.S.PageStore.backing c.read_right.new.store) = g.met.S.PageStore.laws.follows_later _ _ (c.read_right.ensures.steps _ (g.met.S.PageStore.laws.follows_same _)) in
     behind_more g.S.PageStore c.args.self.now c.split_beside.new.self c.args.store.now c.read_right.new.store c.split_beside.new.store c.split_beside.result
     (record {
@@ -25,10 +25,10 @@ returns-in-Ok g c =
       alive = c.in-Ok.ensures.alive;
       promised = c.read_right.ensures.room.promised;
     })
-    c.split_beside.ensures
+    c.split_beside.ensures.all
 
-pub returns-in-Err : goal.returns-in-Err
-returns-in-Err g c =
+pub returns-in-Err-clause-all : goal.returns-in-Err-clause-all
+returns-in-Err-clause-all g c =
     let op = c.args.self.now in
     let st : State = g.S.PageStore.state c.args.store.now in
     let later : IsLater (g.S.PageStore.backing c.args.store.now) (g.S.PageStore.backing c.read_right.new.store) = g.met.S.PageStore.laws.follows_later _ _ (c.read_right.ensures.steps _ (g.met.S.PageStore.laws.follows_same _)) in
