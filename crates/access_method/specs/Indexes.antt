@@ -58,8 +58,8 @@ IndexGoes g session Tells came old new = CallGoes g session Tells came (slots_wi
 abbrev pub IndexInserts : {S : Type 0} → Ghosts S → ℕ → Entry → Result Inserted Fault → Index S → Index S → Type 0
 IndexInserts g session entry result old new = InsertGoes g session entry result (slots_within old) (slots_within new)
 
--- whatever the pages are, the call is made of events of this session and of checkpoints, one before a step exactly where the log has room for
--- fewer than five images; what it came to, it came to by their answers
+-- whatever the pages are, the call is made of events of this session and of checkpoints: a checkpoint only where the log has room for fewer
+-- than five images, a step only where it has room for five, or its whole room; what it came to, it came to by their answers
 abbrev pub IndexMakes : {S : Type 0} → Ghosts S → ℕ → (List Answer → Type 0) → Index S → Index S → Type 0
 IndexMakes g session Came old new = IsMadeOf g session 5 Came (slots_within old) (slots_within new)
 
