@@ -100,16 +100,18 @@ impl<S: PageStore> Index<S> {
     ghost use Rattle.index_model.specs.Faults.{HasCause};
     ghost use Rattle.page_action.specs.Causes.{where_forced};
     ghost use Rattle.page_action.specs.States.{Continues};
+    ghost use Rattle.session_calls.specs.Ops.{op_before};
     ghost use Rattle.session_calls.specs.declared.answer.Answer.TheVariants.{Begun};
     ghost use Rattle.session_calls.specs.declared.request.Request.TheVariants.{Scan as ToScan, Cleanup as ToCleanup};
     ghost use Rattle.schedule.specs.TheoremKinds.{Forces, Checkpoints};
     ghost use Rattle.schedule.specs.Sessions.{op_of};
     ghost use Rattle.schedule.specs.Snapshots.{IsUnused};
+    ghost use Rattle.whole_calls.specs.Made.{IsMadeOf, ComesTo, InsertComesTo};
     ghost use Rattle.whole_calls.specs.Telling.{IsSilent, HasBegun, TellsEnd};
     ghost use Rattle.whole_calls.specs.Sweeping.{SweepTold, swept_came, LeavesOnlyNeeded};
     ghost use Rattle.whole_calls.specs.Giving.{TellsGiven, EndsUnlessGiven, give_came};
     ghost use Rattle.access_method.specs.Tokens.{seat_of};
-    ghost use Rattle.access_method.specs.Indexes.{IndexFits, IndexKeeps, IndexGoes, IndexInserts, IndexCarries, SweepRuns, KeepsTokens, IsNewToken, SeatBecomes, seat_with, RescanTold, TokenAfter, InsertsOrKeeps, IsSweptOrLess, IsCleanedUp, AnswersScan, NotOpenedFor, NotRescannedFor, cannot_begin};
+    ghost use Rattle.access_method.specs.Indexes.{IndexFits, IndexKeeps, IndexGoes, IndexInserts, IndexMakes, slots_with, IndexCarries, SweepRuns, KeepsTokens, IsNewToken, SeatBecomes, seat_with, RescanTold, TokenAfter, InsertsOrKeeps, IsSweptOrLess, IsCleanedUp, AnswersScan, NotOpenedFor, NotRescannedFor, cannot_begin};
     ghost use Rattle.access_method.specs.Counted.{kept_came};
     ghost use Rattle.access_method.specs.Refusals.{where_run, InsertHasCause, IsUnhindered, IsCalm, InsertsUnhindered, GiveHasCause, GivesUnhindered};
 
@@ -146,6 +148,8 @@ impl<S: PageStore> Index<S> {
     pub fn aminsert(&mut self, entry: Entry) -> Result<Inserted, Fault>
         ensures steps { Continues S.follows self.old.store self.new.store }
         ensures runs { IndexInserts S.PageStore 63 entry result self.old self.new }
+        // Whatever the pages are.
+        ensures made { IndexMakes S.PageStore 63 (InsertComesTo result) self.old self.new }
         ensures inserts { IndexCarries S.PageStore self.old self.new
             (λ start history calls. InsertsOrKeeps S.PageStore entry result self.old.store
             self.new.store) }
@@ -175,6 +179,9 @@ impl<S: PageStore> Index<S> {
         ensures steps { Continues S.follows self.old.store self.new.store }
         ensures sweeps { IndexCarries S.PageStore self.old self.new
             (SweepRuns S.PageStore (T.is_in dead.now) result self.old self.new) }
+        // Whatever the pages are.
+        ensures made { IsMadeOf S.PageStore 63 5 (ComesTo (swept_came result))
+            (slots_with (T.is_in dead.now) self.old) (slots_with (T.is_in dead.now) self.new) }
         ensures deletes { IndexCarries S.PageStore self.old self.new
             (λ start history calls. IsSweptOrLess S.PageStore (T.is_in dead.now) result
             self.old.store self.new.store) }
@@ -203,6 +210,8 @@ impl<S: PageStore> Index<S> {
         ensures steps { Continues S.follows self.old.store self.new.store }
         ensures runs { IndexGoes S.PageStore 63 (SweepTold 63 ToCleanup result)
             (swept_came result) self.old self.new }
+        // Whatever the pages are.
+        ensures made { IndexMakes S.PageStore 63 (ComesTo (swept_came result)) self.old self.new }
         ensures cleans { IndexCarries S.PageStore self.old self.new
             (λ start history calls. IsCleanedUp S.PageStore result self.old.store
             self.new.store) }
@@ -279,6 +288,10 @@ impl<S: PageStore> Index<S> {
             → op_of self.old.calls token.session ≢ None
             → IndexGoes S.PageStore token.session (TellsGiven token.session result)
             (give_came result) self.old self.new }
+        // Whatever the pages are: so it answers None only behind a step that answered `Done`.
+        ensures made { seat_of self.old.seats token ≡ seat_with token false
+            → op_of self.old.calls token.session ≢ None
+            → IndexMakes S.PageStore token.session (ComesTo (give_came result)) self.old self.new }
         ensures answers { IndexCarries S.PageStore self.old self.new
             (AnswersScan token.session result) }
         // It never answers `LogFull`.
@@ -361,7 +374,12 @@ impl<S: PageStore> Index<S> {
         ensures steps { Continues S.follows self.old.store self.new.store }
         ensures runs { IfOk result (λ token.
             IndexGoes S.PageStore token.session (HasBegun token.session (ToScan range)) (Some Begun) self.old self.new) }
+        // Whatever the pages are, its session runs the scan then.
+        ensures begins { IfOk result (λ token.
+            op_of self.new.calls token.session ≡ Some (op_before token.session (ToScan range))) }
         ensures tokens { IfOk result (IsNewToken self.old self.new) }
+        // Where no scan can begin it is refused with `Stopped`, whatever else is so.
+        ensures stopped { cannot_begin S.PageStore self.old ≡ true → result ≡ Err Fault.Stopped }
         ensures refused { OnErr result (self.new ≡ self.old) }
         ensures cause { IfErr result (NotOpenedFor S.PageStore self.old) }
     {
@@ -389,7 +407,15 @@ impl<S: PageStore> Index<S> {
         ensures runs { OnOk result
             (IndexGoes S.PageStore token.session (RescanTold token.session range)
             (Some Begun) self.old self.new) }
+        // Whatever the pages are, its session runs the scan then.
+        ensures begins { OnOk result (op_of self.new.calls token.session
+            ≡ Some (op_before token.session (ToScan range))) }
         ensures tokens { OnOk result (SeatBecomes token (seat_with token false) self.old self.new) }
+        ensures closed { seat_of self.old.seats token ≡ None
+            → (result ≡ Err Fault.NoSession) × (self.new ≡ self.old) }
+        // An open token for which no scan can begin is refused with `Stopped`, whatever else is so.
+        ensures stopped { seat_of self.old.seats token ≢ None
+            → cannot_begin S.PageStore self.old ≡ true → result ≡ Err Fault.Stopped }
         ensures refused { OnErr result (self.new ≡ self.old) }
         ensures cause { IfErr result (NotRescannedFor S.PageStore self.old token) }
     {

@@ -1,5 +1,5 @@
 -- Steps of a scan that are refused, and where a page leads one that isn't.
-use Rattle.std.proofs.Common.{◌≡◌, ℕ, ◌≤◌, Bool, true, false, Option, Some, Err, length, slice_get, refl, sym, ap, subst, arith}
+use Rattle.std.proofs.Common.{◌≡◌, ℕ, ◌≤◌, Bool, true, false, Option, Some, Err, [], length, slice_get, refl, sym, ap, subst, arith}
 use Rattle.index_model.specs.Faults.{HasCause}
 use Rattle.index_model.specs.declared.fault.Fault.{Fault}
 use Rattle.index_model.specs.declared.fault.Fault.TheVariants.{Stopped}
@@ -14,16 +14,16 @@ use Rattle.descent.specs.Shared.{IsInOrder}
 use Rattle.descent.specs.declared.way.Way.{Way}
 use Rattle.descent.specs.declared.way.Onward.{Onward}
 use Rattle.descent.proofs.Acting.{one_nothing}
-use Rattle.scan.specs.Scans.{ScanStands, ScanFits, ScanSteps, where_scanning}
+use Rattle.scan.specs.Scans.{waiting, ScanStands, ScanFits, ScanSteps, where_scanning}
 use Rattle.scan.specs.declared.steps.ScanAt.TheVariants.{At}
 use Rattle.scan.specs.declared.steps.ScanOp.{ScanOp}
 
 -- a step that is refused before anything is changed
-pub refuses : {S : Type 0} (g : Ghosts S) (op : ScanOp) (old new : S) (fault : Fault) → Continues g.follows old new → g.state new ≡ g.state old
+pub refuses : {S : Type 0} (g : Ghosts S) (op : ScanOp) (old new : S) (fault : Fault) → Continues g.follows old new → g.state new ≡ g.state old → waiting op ≡ []
     → ((g.backing old).stopped ≡ true → fault ≡ Stopped)
     → ((g.backing new).honest ≡ true → IsInOrder (g.state old) → ScanFits (g.state old) op → HasCause (where_scanning (g.state old) (g.backing old) (g.backing new) op.session) fault)
     → ScanSteps g op op old new (Err fault)
-refuses g op old new fault steps same stops cause = record {
+refuses g op old new fault steps same none stops cause = record {
   steps = steps;
   session = refl;
   range = refl;
@@ -32,6 +32,7 @@ refuses g op old new fault steps same stops cause = record {
   refused = record { state = same; op = refl };
   stopped = λ h. ap Err (stops h);
   ready = tt;
+  waits = λ alive some. absurd (some none);
   less = λ honest. tt;
   no_more = λ honest. omega arith;
   stepped = cause;

@@ -1,5 +1,5 @@
 -- What a scan knows between its steps, and what a step of it does.
-use Rattle.std.specs.Prelude.{◌≡◌, ◌⊎◌, ℕ, suc, ◌+◌, ◌<◌, ◌≤◌, if◌then◌else◌, nat_lt, true, false, Option, Some, None, Result, Ok, Err, OnErr, List, [], ◌∷◌, length, slice_get}
+use Rattle.std.specs.Prelude.{◌≡◌, ◌≢◌, ◌⊎◌, ℕ, suc, ◌+◌, ◌<◌, ◌≤◌, if◌then◌else◌, nat_lt, true, false, Option, Some, None, Result, Ok, Err, OnErr, List, [], ◌∷◌, length, slice_get}
 use Rattle.std.specs.Ordering.{is_lt}
 use Rattle.index_model.specs.Faults.{Circumstances, HasCause}
 use Rattle.index_model.specs.Order.{bound_cmp, is_among, is_past, AscendsPast}
@@ -15,9 +15,10 @@ use Rattle.page_action.specs.Causes.{nothing_wrong, has_failed, pinned_blocks, c
 use Rattle.page_action.specs.Contents.{entry_on_live_leaf}
 use Rattle.page_action.specs.States.{State, Backing, Continues, with_table}
 use Rattle.page_action.specs.declared.page_store.PageStore.{Ghosts}
+use Rattle.page_codec.specs.Edits.{entries_of}
 use Rattle.page_codec.specs.declared.page.Page.{Page}
 use Rattle.tree_shape.specs.Walks.{frontier_aim}
-use Rattle.tree_acts.specs.Leaves.{WasLeaf}
+use Rattle.tree_acts.specs.Leaves.{IsLeafAt, WasLeaf}
 use Rattle.tree_acts.specs.Ways.{AreWhole}
 use Rattle.descent.specs.Onward.{IsOnWay}
 use Rattle.descent.specs.Shared.{IsInOrder, Does, IsOneStep}
@@ -169,7 +170,7 @@ pub record IsMoving (old new : State) (before after : ScanOp) : Type 0 where
   pub way : Way
   pub op : after ≡ gone_to before way
 
--- the leaf behind the frontier is read: the scan stands on it
+-- the leaf behind the frontier is read: the scan stands on it, and what is ready is of its entries
 pub record IsReading (old new : State) (before after : ScanOp) (count : ℕ) : Type 0 where
   pub does : Does before.session None old new
   pub fits : ScanFits new after
@@ -177,6 +178,10 @@ pub record IsReading (old new : State) (before after : ScanOp) (count : ℕ) : T
   pub way : Way
   pub from : before.at ≡ At way
   pub leaf : after.leaf ≡ Some way.block
+  pub page : Page
+  pub live : IsLeafAt old.pages way.block page
+  pub of_leaf : (e : Entry) → is_among (waiting after) e ≡ true
+      → is_among (entries_of page.items) e ≡ true
   pub read : LeafIsRead old before after
   pub count_is : count ≡ length (waiting after)
 
@@ -209,6 +214,13 @@ pub record ScanStays (old new : State) (before after : ScanOp) : Type 0 where
   pub state : new ≡ old
   pub op : after ≡ before
 
+-- a step while entries are ready tells how many, and changes nothing
+pub record ScanWaits (old new : State) (before after : ScanOp) (result : Result ScanStep Fault)
+    : Type 0 where
+  pub told : result ≡ Ok (Ready (length (waiting before)))
+  pub state : new ≡ old
+  pub op : after ≡ before
+
 -- as many entries are ready as are told
 abbrev pub ReadyIsCounted : ScanOp → Result ScanStep Fault → Type 0
 ReadyIsCounted after (Ok Going) = Unit {0}
@@ -217,8 +229,8 @@ ReadyIsCounted after (Ok Done) = Unit {0}
 ReadyIsCounted after (Err fault) = Unit {0}
 
 -- A step of a scan. On any pages: nothing but latches and pins is changed, a refused one changes
--- nothing, a stopped log refuses it, and as many entries are ready as it says; over a device that
--- keeps its model, one that reads a page leaves less to do. On pages in order: what it does, and why
+-- nothing, a stopped log refuses it, as many entries are ready as it says, and while there are any
+-- it changes nothing; over a device that keeps its model, one that reads a page leaves less to do. On pages in order: what it does, and why
 -- it is refused; where no page is flagged, it goes straight down.
 pub record ScanSteps {S : Type 0} (g : Ghosts S) (before after : ScanOp) (old new : S)
     (result : Result ScanStep Fault) : Type 0 where
@@ -230,6 +242,8 @@ pub record ScanSteps {S : Type 0} (g : Ghosts S) (before after : ScanOp) (old ne
   pub refused : OnErr result (ScanStays (g.state old) (g.state new) before after)
   pub stopped : (g.backing old).stopped ≡ true → result ≡ Err Stopped
   pub ready : ReadyIsCounted after result
+  pub waits : (g.backing old).stopped ≡ false → waiting before ≢ []
+      → ScanWaits (g.state old) (g.state new) before after result
   pub less : (g.backing new).honest ≡ true → ScanLeavesLess (g.state old) before after result
   pub no_more : (g.backing new).honest ≡ true
       → scan_left (g.state old).limits.pages (g.state old).pages after

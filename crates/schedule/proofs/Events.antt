@@ -199,6 +199,7 @@ module _ {S : Type 0} (g : Ghosts S) (start : Entry → Bool) (old : Snapshot S)
     due = λ left due. absurd due;
     no_more = λ acts. omega arith;
     flagged = λ only. subst (λ (st : State). OnlyOwnAreFlagged st None) (sym same) only;
+    stands = tt;
     waits = tt;
     entries = tt;
     spares = tt;

@@ -11,15 +11,15 @@ use Rattle.page_action.specs.Causes.{nothing_wrong, where_forced}
 use Rattle.page_action.specs.States.{State}
 use Rattle.page_action.specs.declared.page_store.PageStore.{Ghosts}
 use Rattle.session_calls.specs.Due.{IsDueIn, HasSteps}
-use Rattle.session_calls.specs.Following.{StepAlways, IsFitted, StepFollows}
+use Rattle.session_calls.specs.Following.{StepTells, StepAlways, IsFitted, StepFollows}
 use Rattle.session_calls.specs.TheoremCalls.{DeadSets}
 use Rattle.session_calls.specs.Ops.{op_before, asks_vacuum, asks_sweep, is_sweep, session_of, asked_of, where_slot_stepped, where_asked_next, where_requesting, where_beginning, RunsOn, AnswersStopped}
-use Rattle.session_calls.specs.Sessions.{Matches, IsIdle, SlotFits, SessionGoes, SessionBegins, IsBegun, BeginsBy, after_call, let_go, is_busy, slot_add, LeavesLess, GivesLess, AnswersStep, AnswersNext, AnswersEnd, RefusalChangesNothing, OnlyWritersAct}
+use Rattle.session_calls.specs.Sessions.{Matches, IsIdle, SlotFits, SessionGoes, SessionBegins, IsBegun, BeginsBy, after_call, let_go, is_busy, slot_add, LeavesLess, GivesLess, AnswersStep, AnswersNext, AnswersEnd, RefusalChangesNothing, RunsUntilLast, leaf_of, OnlyWritersAct}
 use Rattle.session_calls.specs.declared.answer.Answer.{Answer}
 use Rattle.session_calls.specs.declared.answer.Answer.TheVariants.{Begun, Going, Added, Ready, Done, Finished, Gave, Ended, Forced, Flushed, Checkpointed, Refused}
 use Rattle.session_calls.specs.declared.op.Op.{Op}
 use Rattle.session_calls.specs.declared.request.Request.{Request}
-use Rattle.session_calls.proofs.RunningOn.{runs_over}
+use Rattle.session_calls.proofs.RunningOn.{runs_over, ends_with_last}
 use Rattle.schedule.specs.TheoremMoments.{snapshot_of}
 use Rattle.schedule.specs.TheoremRuns.{Fits}
 use Rattle.session_calls.specs.Slots.{slot_of, one_vacuums, is_of_sets, session_to_begin}
@@ -90,11 +90,14 @@ module _ {S : Type 0} (g : Ghosts S) (laws : Laws g) (old new : S) (follows_stor
       followed : (g.backing new).honest ≡ true → IsFitted (g.state old) sets before → CallIsFollowed (MovesCall session Steps) sets answer (g.state old) (g.state new) before slot
       followed honest fitted =
           let told = follows honest in
-          record { due = told.due fitted; no_more = made.no_more honest; flagged = told.flagged fitted; waits = told.waits; entries = told.entries; spares = told.spares }
+          record { due = told.due fitted; no_more = made.no_more honest; flagged = told.flagged fitted; stands = told.stands fitted; waits = told.waits; entries = told.entries; spares = told.spares }
 
       always : EventAlways g (MovesCall session Steps) answer (here_with old slots sets) (here_with new (slice_set slots session slot) sets)
       always = record {
         answers = at_slots slots session before slot (λ x y. AnswersStep x y answer) found_at made.kind;
+        until_last = at_slots slots session before slot (λ x y. RunsUntilLast x y answer) found_at made.until_last;
+        stands = tt;
+        tells = at_slots slots session before slot (λ x y. StepTells (g.backing old).stopped (g.state old) (g.state new) x y answer) found_at made.tells;
         refused = at_slots slots session before slot (λ x y. RefusalChangesNothing (g.state old) (g.state new) x y answer) found_at made.refused;
         stopped = λ h. subst (λ (x : Option Op). AnswersStopped (slot_add x) answer) (sym slot_was) (made.stopped h);
         less = λ honest. at_slots slots session before slot (λ x y. LeavesLess (g.state old) (g.state new) x y answer) found_at (made.less honest);
@@ -126,6 +129,9 @@ module _ {S : Type 0} (g : Ghosts S) (laws : Laws g) (old new : S) (follows_stor
       always : EventAlways g (MovesCall session GivesUp) answer (here_with old slots sets) (here_with new (slice_set slots session slot) sets)
       always = record {
         answers = at_slots slots session before slot (λ x y. AnswersEnd x answer) found_at kind;
+        until_last = at_slots slots session before slot (λ x y. RunsUntilLast x y answer) found_at (ends_with_last before slot answer over ended);
+        stands = tt;
+        tells = tt;
         refused = λ fault h. absurd (let a : answer ≡ Ended = ended in cc);
         stopped = tt;
         less = tt;
@@ -157,11 +163,11 @@ module _ {S : Type 0} (g : Ghosts S) (laws : Laws g) (store : S) (slots : List (
   refused_same (Checkpointed n) h fault e = absurd cc
   refused_same (Refused f) h fault e = h.0
 
-  pub next_makes : AnswersNext before answer → GivesLess before slot answer → RunsOn before slot
+  pub next_makes : AnswersNext before answer → GivesLess before slot answer → RunsOn before slot → RunsUntilLast before slot answer
       → ((st : State) (start : Entry → Bool) (history : List Action) (number : ℕ) (call : Call) → SlotFits st sets start history number call before → SessionGoes (where_asked_next call.ask) st st sets start history number call slot answer)
       → ((st : State) (steps : ℕ) → IsDueIn st before steps → IsDueIn st slot steps)
-      → Makes g (MovesCall session Takes) answer (here_with store slots sets) (here_with store (slice_set slots session slot) sets)
-  next_makes kind less runs_on goes due = record {
+      → leaf_of slot ≡ leaf_of before → Makes g (MovesCall session Takes) answer (here_with store slots sets) (here_with store (slice_set slots session slot) sets)
+  next_makes kind less runs_on until_last goes due stands = record {
     sessions = length_set slots session slot;
     always = always;
     does = λ honest start history calls fits.
@@ -175,6 +181,9 @@ module _ {S : Type 0} (g : Ghosts S) (laws : Laws g) (store : S) (slots : List (
       always : EventAlways g (MovesCall session Takes) answer (here_with store slots sets) (here_with store (slice_set slots session slot) sets)
       always = record {
         answers = at_slots slots session before slot (λ x y. AnswersNext x answer) found_at kind;
+        until_last = at_slots slots session before slot (λ x y. RunsUntilLast x y answer) found_at until_last;
+        stands = at_slots slots session before slot (λ x y. leaf_of y ≡ leaf_of x) found_at stands;
+        tells = tt;
         refused = λ fault h. record {
           state_is = refl;
           slots_is = ap (λ (x : Option Op). slice_set slots session x) (refused_same answer less fault h) ∙ set_same slots session before found_at;
@@ -220,6 +229,9 @@ module _ {S : Type 0} (g : Ghosts S) (laws : Laws g) (old new : S) (follows : g.
       always : EventAlways g (KeepsStore upkeep) answer (here_with old slots sets) (here_with new slots sets)
       always = record {
         answers = told_so upkeep count answer told;
+        until_last = tt;
+        stands = tt;
+        tells = tt;
         refused = λ fault h. absurd (not_refused upkeep count answer fault told h);
         stopped = λ h. absurd (alive h);
         less = tt;
@@ -247,6 +259,9 @@ module _ {S : Type 0} (g : Ghosts S) (laws : Laws g) (old new : S) (follows : g.
       always : EventAlways g (KeepsStore upkeep) (Refused fault) (here_with old slots sets) (here_with new slots sets)
       always = record {
         answers = refused_so upkeep fault;
+        until_last = tt;
+        stands = tt;
+        tells = tt;
         refused = λ f h. record { state_is = same; slots_is = refl };
         stopped = λ h. ap Refused (stopped h);
         less = tt;
@@ -273,6 +288,9 @@ flush_makes g laws old new follows slots sets same block first alive = record {
     always : EventAlways g (KeepsStore Flushes) (Flushed block) (here_with old slots sets) (here_with new slots sets)
     always = record {
       answers = tt;
+      until_last = tt;
+      stands = tt;
+      tells = tt;
       refused = λ fault h. absurd cc;
       stopped = λ h. absurd (alive h);
       less = tt;
@@ -319,6 +337,9 @@ module _ {S : Type 0} (g : Ghosts S) (laws : Laws g) (old new : S) (follows : g.
   always_of : (a : Answer) → BeginsBy (g.state old) (g.backing old) (g.state new) session request excluded before slot a → EventAlways g (BeginsCall session request) a (here_with old slots sets) (here_with new (slice_set slots session slot) sets)
   always_of Begun h = record {
     answers = tt;
+    until_last = tt;
+    stands = tt;
+    tells = tt;
     refused = λ fault e. absurd cc;
     stopped = λ is. absurd (true_false (sym is ∙ alive));
     less = tt;
@@ -334,6 +355,9 @@ module _ {S : Type 0} (g : Ghosts S) (laws : Laws g) (old new : S) (follows : g.
   }
   always_of (Refused fault) h = record {
     answers = tt;
+    until_last = tt;
+    stands = tt;
+    tells = tt;
     refused = λ f e. record { state_is = h.state; slots_is = ap (λ (x : Option Op). slice_set slots session x) (h.slot_is ∙ before_is) ∙ set_same slots session None free };
     stopped = λ is. absurd (true_false (sym is ∙ alive));
     less = tt;
@@ -420,6 +444,9 @@ not_found_makes g laws store slots sets session request fault none = record {
     always : EventAlways g (BeginsCall session request) (Refused fault) (here_with store slots sets) (here_with store slots sets)
     always = record {
       answers = tt;
+      until_last = tt;
+      stands = tt;
+      tells = tt;
       refused = λ f h. record { state_is = refl; slots_is = refl };
       stopped = not_found_first (g.backing store).stopped (is_of_sets sets request) (slice_get slots session) session fault none;
       less = tt;

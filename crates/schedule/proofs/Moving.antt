@@ -99,4 +99,4 @@ next_event g laws store calls then_calls sets session answer idle changes = by (
         let r = changes is in
         let op = op_at (slice_get calls.slots.items session) r.before is r.found in
         subst (λ (l : List (Option Op)). Makes g (MovesCall session Takes) answer (here_with store calls.slots.items sets) (here_with store l sets)) (sym r.is)
-        (next_makes g laws store calls.slots.items sets session r.before r.after op.0 answer op.1 r.found r.how.kind r.how.less r.how.runs_on (λ st. r.how.goes st sets) r.how.due)
+        (next_makes g laws store calls.slots.items sets session r.before r.after op.0 answer op.1 r.found r.how.kind r.how.less r.how.runs_on r.how.until_last (λ st. r.how.goes st sets) r.how.due r.how.stands)

@@ -15,9 +15,10 @@ use Rattle.tree_acts.specs.Leaves.{IsLeafAt, WasLeaf}
 use Rattle.tree_acts.specs.Lows.{NoLowRises}
 use Rattle.descent.specs.Shared.{OthersRely}
 use Rattle.session_calls.specs.Due.{IsDueIn, CountsDown, HasSteps}
+use Rattle.session_calls.specs.Following.{StepTells}
 use Rattle.session_calls.specs.TheoremCalls.{DeadSets, asked_by, acts_of, begun_call}
 use Rattle.session_calls.specs.Ops.{op_before, asks_vacuum, asked_of, where_stepped, where_asked_next, where_beginning, RunsOn, IsCaused, AnswersStopped}
-use Rattle.session_calls.specs.Sessions.{Told, IsAsked, MovesShape, is_busy, slot_add, LeavesLess, LeavesNoMore, GivesLess, AnswersStep, AnswersNext, AnswersEnd, RefusalChangesNothing, OnlyWritersAct, OnlyOwnAreFlagged, LeavesOwnFlagged, KeepsBeforePins, CountsEntries, SparesLeaves}
+use Rattle.session_calls.specs.Sessions.{Told, IsAsked, MovesShape, is_busy, slot_add, LeavesLess, LeavesNoMore, GivesLess, AnswersStep, AnswersNext, AnswersEnd, RefusalChangesNothing, RunsUntilLast, leaf_of, StandsByAnswer, OnlyWritersAct, OnlyOwnAreFlagged, LeavesOwnFlagged, KeepsBeforePins, CountsEntries, SparesLeaves}
 use Rattle.session_calls.specs.declared.answer.Answer.{Answer}
 use Rattle.session_calls.specs.declared.answer.Answer.TheVariants.{Begun, Forced, Flushed, Checkpointed, Refused}
 use Rattle.session_calls.specs.declared.op.Op.{Op}
@@ -177,6 +178,16 @@ AnswersEvent (BeginsCall session request) answer old new = AnswersBeginning answ
 AnswersEvent (MovesCall session move) answer old new = AnswersMove move (slot_of old session) (slot_of new session) answer
 AnswersEvent (KeepsStore upkeep) answer old new = AnswersUpkeep upkeep answer
 
+-- behind a move of its call a session has one exactly if it had one, and the answer isn't the last of it
+abbrev pub MoveRunsUntilLast : Kind → Option Op → Option Op → Answer → Type 0
+MoveRunsUntilLast (MovesCall session move) before after answer = RunsUntilLast before after answer
+MoveRunsUntilLast kind before after answer = Unit {0}
+
+-- what the answer of a step says
+abbrev pub EventTells : Kind → Bool → State → State → Option Op → Option Op → Answer → Type 0
+EventTells (MovesCall session Steps) is_stopped old new before after answer = StepTells is_stopped old new before after answer
+EventTells kind is_stopped old new before after answer = Unit {0}
+
 -- where the log failed before, this is refused with Stopped, whatever else is so
 abbrev pub RefusesStopped : Bool → Answer → Type 0
 RefusesStopped is_stopped answer = is_stopped ≡ true → answer ≡ Refused Stopped
@@ -266,10 +277,21 @@ abbrev pub MoveRunsOn : Kind → Option Op → Option Op → Type 0
 MoveRunsOn (MovesCall session move) before after = RunsOn before after
 MoveRunsOn kind before after = Unit {0}
 
+-- asking for the next entry leaves a scan where it stands
+abbrev pub MoveStands : Kind → Option Op → Option Op → Type 0
+MoveStands (MovesCall session Takes) before after = leaf_of after ≡ leaf_of before
+MoveStands kind before after = Unit {0}
+
 -- what holds of an event whatever the pages are
 pub record EventAlways {S : Type 0} (g : Ghosts S) (kind : Kind) (answer : Answer) (old new : StoreAndSlots S) : Type 0 where
   -- it answers what its kind may
   pub answers : AnswersEvent kind answer old.slots new.slots
+  -- behind a move of its call its session runs one exactly if it ran one, and the answer isn't the last of it
+  pub until_last : MoveRunsUntilLast kind (slot_of old.slots (session_at kind)) (slot_of new.slots (session_at kind)) answer
+  -- asking for the next entry leaves its session's scan where it stands
+  pub stands : MoveStands kind (slot_of old.slots (session_at kind)) (slot_of new.slots (session_at kind))
+  -- what the answer of a step says
+  pub tells : EventTells kind (g.backing old.store).stopped (g.state old.store) (g.state new.store) (slot_of old.slots (session_at kind)) (slot_of new.slots (session_at kind)) answer
   -- a refusal changes nothing, but that a step ends its call unless it was refused with Blocked or NoSession
   pub refused : RefusalKeeps g kind answer old new
   -- on a log that has failed, a beginning, a step, a force, a flush and a checkpoint are refused for that before all else
@@ -305,6 +327,8 @@ pub record StepIsFollowed (sets : DeadSets) (old new : State) (before after : Op
   pub no_more : LeavesNoMore old new before after
   -- where only pages were flagged whose splits its insert is to finish, only such are; and none behind its end, unless it tells of a fault
   pub flagged : OnlyOwnAreFlagged old before → LeavesOwnFlagged new before after answer
+  -- a scan that has read a leaf stands on it, and on none where it goes on to another page
+  pub stands : StandsByAnswer new before after answer
   -- a bulk delete doesn't come past a leaf that another session has pinned, nor to its end
   pub waits : KeepsBeforePins old before after answer
   -- where nobody else acts, what a bulk delete or a cleanup has counted are the entries that it has left; at its end it tells how many

@@ -1,5 +1,5 @@
 -- Steps of operations over histories, and the events that they make.
-use Rattle.std.proofs.Common.{◌≡◌, ℕ, suc, ◌+◌, ◌<◌, Bool, true, false, if◌then◌else◌, Option, Some, None, List, [], ◌++◌, length, refl, sym, ap, subst, ◌∙◌}
+use Rattle.std.proofs.Common.{◌≡◌, ◌≢◌, ℕ, suc, ◌+◌, ◌<◌, Bool, true, false, if◌then◌else◌, Option, Some, None, List, [], ◌++◌, length, refl, sym, ap, subst, ◌∙◌}
 use Rattle.std.proofs.lemmas.List.{append-nil}
 use Rattle.index_model.specs.Actions.{Effect, Action, contents_after}
 use Rattle.index_model.specs.Calls.{Ask, AskInsert, Running, Added as EndsAdded, GivenUp, Failed, Call, InsertMayFail, Meets}
@@ -214,8 +214,8 @@ module _ {sets : DeadSets} (at : Circumstances) (old new : State) (start : Entry
   -- an insert that is over with its Add, which it may make now
   pub step_adds : (e : Entry) (action : ℕ) (unfinished : Option Fault) (effect : Option Effect) → asked_of sets before ≡ AskInsert e → Works (session_of before) (asked_of sets before) effect old new
       → IsAsked (contents_after start history) call.ask call.added effect → add_after (add_of before) (suc (length history)) effect ≡ Some action → IsFaultCaused (once_added at) unfinished
-      → OpGoes at old new sets start history number call after (Added action unfinished)
-  step_adds e action unfinished effect inserts works asked add caused =
+      → (unfinished ≢ None → effect ≡ None) → OpGoes at old new sets start history number call after (Added action unfinished)
+  step_adds e action unfinished effect inserts works asked add caused quiet =
       let more : List Action = history ++ acts_of number effect in
       let then_call : Call = noted call (length history) effect in
       let noted_is : then_call.added ≡ Some action = ap (λ (o : Option ℕ). add_after o (suc (length history)) effect) fits.runs.added ∙ add in
@@ -224,7 +224,7 @@ module _ {sets : DeadSets} (at : Circumstances) (old new : State) (start : Entry
         then_call = ended then_call (EndsAdded action unfinished) (act_count effect + length history);
         works = my_works effect works;
         asked = asked;
-        told = record { noted_is = noted_is; after_is = refl };
+        told = record { noted_is = noted_is; after_is = refl; quiet = quiet };
         caused = caused;
         meets = subst (λ (n : ℕ). Meets start more number (ended then_call (EndsAdded action unfinished) n)) (grown history number effect)
             (meets_ended_added start more number then_call (meets_noted start history number call fits.meets fits.running effect asked) fits.running e action unfinished (fits.runs.ask ∙ inserts) noted_is);

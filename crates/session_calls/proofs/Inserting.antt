@@ -1,5 +1,5 @@
 -- The steps of an insert over histories.
-use Rattle.std.proofs.Common.{◌≡◌, ℕ, suc, Bool, true, Option, Some, None, Err, List, length, refl, sym, ap, subst, ◌∙◌}
+use Rattle.std.proofs.Common.{◌≡◌, ◌≢◌, ℕ, suc, Bool, true, Option, Some, None, Err, List, length, refl, sym, ap, subst, ◌∙◌}
 use Rattle.index_model.specs.Actions.{Effect, Add, Remove, Shape, Action, contents_after}
 use Rattle.index_model.specs.Calls.{Ask, AskInsert, Call}
 use Rattle.index_model.specs.Faults.{Circumstances, HasCause}
@@ -83,11 +83,16 @@ module _ {sets : DeadSets} (old new : State) (first second : Backing) (start : E
   left_caused effect None h = tt
   left_caused effect (Some fault) h = h.1
 
+  left_quiet : (effect : Option Effect) (unfinished : Option Fault) → IsLeft old first new second before effect unfinished → unfinished ≢ None → effect ≡ None
+  left_quiet effect None h some = absurd (some refl)
+  left_quiet effect (Some fault) h some = h.0
+
   pub insert_ends : (action : ℕ) (unfinished : Option Fault) → InsertEnds old first new second before action unfinished
       → OpGoes at_op old new sets start history number call (Insert after) (Added action unfinished)
   insert_ends action unfinished step =
       step_adds at_op old new start history number call (Insert before) (Insert after) fits session (ap AskInsert entry) before.entry action unfinished step.effect refl (works_on before.session (AskInsert before.entry) step.effect old new refl step.does)
       (asked step.effect (Some action) step.does.changes step.noted) (sym (noted_is step.effect (Some action) step.noted)) (left_caused step.effect unfinished step.left)
+      (left_quiet step.effect unfinished step.left)
 
   pub insert_is_refused : (fault : Fault) → InsertStays old new before after → IsRefusedRightly before.added (Err fault)
       → HasCause (where_inserting old first second before.session before.entry before.at) fault → OpGoes at_op old new sets start history number call (Insert after) (Refused fault)

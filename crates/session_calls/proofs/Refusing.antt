@@ -1,15 +1,19 @@
 -- A step that is refused, and changes nothing.
-use Rattle.std.proofs.Common.{◌≡◌, ◌≤◌, ℕ, Bool, true, false, Option, Some, None, Result, Err, ap, arith}
+use Rattle.std.proofs.Common.{◌≡◌, ◌≢◌, ◌≤◌, ℕ, Bool, true, false, Option, Some, None, Result, Err, [], refl, ap, arith}
 use Rattle.std.specs.Prelude.{if◌then◌else◌}
+use Rattle.index_model.specs.Faults.{HasCause}
 use Rattle.index_model.specs.declared.fault.Fault.{Fault}
-use Rattle.index_model.specs.declared.fault.Fault.TheVariants.{Stopped}
+use Rattle.index_model.specs.declared.fault.Fault.TheVariants.{Stopped, NoSession}
 use Rattle.page_action.specs.States.{State, Continues}
 use Rattle.page_action.specs.declared.page_store.PageStore.{Ghosts}
-use Rattle.descent.specs.Shared.{IsOneStep}
+use Rattle.descent.specs.Shared.{IsOneStep, where_writing_any}
 use Rattle.insert_split.specs.Inserts.{AnswersStopped as InsertAnswersStopped}
+use Rattle.insert_split.specs.Turns.{IsRefusedRightly}
+use Rattle.scan.specs.Scans.{waiting, ScanWaits}
+use Rattle.scan.specs.declared.steps.ScanOp.{ScanOp}
 use Rattle.session_calls.specs.Ops.{ends_call}
-use Rattle.session_calls.specs.Ops.{OpAnswers, session_of, is_sweep, call_kind, add_of, AnswersStopped}
-use Rattle.session_calls.specs.Sessions.{OpSteps, OnlyWritersAct, work_in}
+use Rattle.session_calls.specs.Ops.{OpAnswers, session_of, is_sweep, call_kind, add_of, where_stepped_any, AnswersStopped, AnswersLogged}
+use Rattle.session_calls.specs.Sessions.{OpSteps, OnlyWritersAct, TellsStats, WaitsToGive, work_in}
 use Rattle.session_calls.specs.declared.answer.Answer.TheVariants.{Refused}
 use Rattle.session_calls.specs.declared.op.Op.{Op}
 use Rattle.session_calls.specs.declared.op.Op.TheVariants.{Insert, Scan, Bulk, Cleanup}
@@ -19,6 +23,12 @@ answers (Insert op) after fault = tt
 answers (Scan op) after fault = tt
 answers (Bulk set op) after fault = tt
 answers (Cleanup op) after fault = tt
+
+no_stats : (st : State) (op : Op) (fault : Fault) → TellsStats st (Some op) (Refused fault)
+no_stats st (Insert op) fault = tt
+no_stats st (Scan op) fault = tt
+no_stats st (Bulk set op) fault = tt
+no_stats st (Cleanup op) fault = tt
 
 no_act : (op : Op) (old new : State) → new ≡ old → OnlyWritersAct (Some op) old new
 no_act (Insert op) old new same = tt
@@ -34,8 +44,9 @@ no_more false before after old new same op = rw (same, op) (omega arith)
 -- what a refused step says, of whichever operation
 pub refused_steps : {S : Type 0} (g : Ghosts S) (before after : Op) (old new : S) (fault : Fault) → Continues g.follows old new → IsOneStep (g.state old) (g.state new)
     → g.state new ≡ g.state old → after ≡ before → ((g.backing old).stopped ≡ true → AnswersStopped (add_of before) (Refused fault))
-    → OpSteps g before after old new (Refused fault)
-refused_steps g before after old new fault steps kept same op stopped = record {
+    → WaitsToGive (g.backing old).stopped (g.state old) (g.state new) (Some before) (Some after) (Refused fault)
+    → HasCause (where_stepped_any before) fault → AnswersLogged (add_of before) (Refused fault) → OpSteps g before after old new (Refused fault)
+refused_steps g before after old new fault steps kept same op stopped waits cause logged = record {
   steps = steps;
   session = ap session_of op;
   sweep = ap is_sweep op;
@@ -43,6 +54,11 @@ refused_steps g before after old new fault steps kept same op stopped = record {
   kind = answers before after fault;
   refused = λ other is. (same, op);
   stopped = stopped;
+  unfinished = λ action other is. absurd cc;
+  faults = cause;
+  logged = logged;
+  stats = no_stats (g.state old) before fault;
+  waits = waits;
   kept = kept;
   calm = no_act before (g.state old) (g.state new) same;
   less = λ honest. tt;
@@ -55,3 +71,18 @@ told_stopped fault is = cc
 pub insert_told_stopped : (added : Option ℕ) (fault : Fault) → InsertAnswersStopped added (Err fault) → AnswersStopped added (Refused fault)
 insert_told_stopped None fault is = cc
 insert_told_stopped (Some action) fault is = absurd cc
+
+-- a step of a scan that has entries ready isn't refused, unless the log has stopped
+pub scan_told_waiting : (is_stopped : Bool) (old new : State) (before after : ScanOp) (fault : Fault)
+    → (is_stopped ≡ false → waiting before ≢ [] → ScanWaits old new before after (Err fault)) → WaitsToGive is_stopped old new (Some (Scan before)) (Some (Scan after)) (Refused fault)
+scan_told_waiting is_stopped old new before after fault waits alive some = absurd (let told = (waits alive some).told in cc)
+
+-- a step of an insert whose entry is logged is refused for a page that is blocked
+pub insert_told_logged : (added : Option ℕ) (fault : Fault) → IsRefusedRightly added (Err fault) → AnswersLogged added (Refused fault)
+insert_told_logged None fault h = tt
+insert_told_logged (Some action) fault h = h
+
+-- what refuses a step of a bulk delete, where the set that it names is there
+pub bulk_cause : (fault : Fault) → HasCause where_writing_any fault → HasCause (record where_writing_any { no_such_session = true }) fault
+bulk_cause NoSession h = refl
+bulk_cause fault h = h

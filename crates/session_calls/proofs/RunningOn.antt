@@ -1,6 +1,9 @@
 -- What a session runs on behind events of its call.
 use Rattle.std.proofs.Common.{◌≡◌, Bool, true, false, Option, Some, None, refl, ap, subst, sym, ◌∙◌}
 use Rattle.session_calls.specs.Ops.{CallKind, InsertKind, ScanKind, BulkKind, CleanupKind, call_kind, is_vacuum, RunsOn}
+use Rattle.session_calls.specs.Sessions.{RunsUntilLast}
+use Rattle.session_calls.specs.declared.answer.Answer.{Answer}
+use Rattle.session_calls.specs.declared.answer.Answer.TheVariants.{Ended}
 use Rattle.session_calls.specs.declared.op.Op.{Op}
 use Rattle.session_calls.specs.declared.op.Op.TheVariants.{Insert, Scan, Bulk, Cleanup}
 
@@ -19,6 +22,14 @@ runs_on_then (Some a) (Some b) (Some c) h k = k ∙ h
 -- a session that runs nothing runs nothing then
 pub runs_over : (before slot : Option Op) → slot ≡ None → RunsOn before slot
 runs_over before slot over = subst (λ (o : Option Op). RunsOn before o) (sym over) tt
+
+-- a call that is given up is over, and so is what is told of it
+pub ends_with_last : (before slot : Option Op) (answer : Answer) → slot ≡ None → answer ≡ Ended → RunsUntilLast before slot answer
+ends_with_last before slot answer over is = rw (over, is) (by before)
+  where
+    by : (o : Option Op) → RunsUntilLast o None Ended
+    by None = refl
+    by (Some op) = refl
 
 -- whether a kind is that of a bulk delete or of a cleanup
 abbrev kind_vacuums : CallKind → Bool

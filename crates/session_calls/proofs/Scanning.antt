@@ -16,15 +16,18 @@ use Rattle.index_model.proofs.Ascending.{is_past-falls, same_entry-is, same_entr
 use Rattle.index_model.proofs.Histories.{there_now}
 use Rattle.page_action.specs.Contents.{entry_on_live_leaf}
 use Rattle.page_action.specs.States.{State}
+use Rattle.page_codec.specs.declared.page.Page.{Page}
+use Rattle.tree_acts.specs.Leaves.{IsLeafAt}
 use Rattle.descent.specs.declared.way.Way.{Way}
 use Rattle.scan.specs.Scans.{waiting, gone_to, ScanFits, IsNext, IsBehind, LeafIsRead, IsUnderway, IsMoving, IsReading, IsWaiting, IsDone}
 use Rattle.scan.specs.declared.steps.ScanAt.{ScanAt}
 use Rattle.scan.specs.declared.steps.ScanAt.TheVariants.{Start, At, Last}
 use Rattle.scan.specs.declared.steps.ScanOp.{ScanOp}
 use Rattle.session_calls.specs.TheoremCalls.{DeadSets}
-use Rattle.session_calls.specs.Ops.{IsScanSoFar, asked_of, where_asked_next}
-use Rattle.session_calls.specs.Sessions.{Matches, OpRuns, CallFits, ended, given_one, SessionGoes, OpGoes}
-use Rattle.session_calls.specs.declared.answer.Answer.TheVariants.{Going, Ready, Done, Gave, Refused}
+use Rattle.session_calls.specs.Ops.{IsScanSoFar, asked_of, where_asked_next, is_last}
+use Rattle.session_calls.specs.Sessions.{Matches, OpRuns, CallFits, ended, given_one, SessionGoes, StandsOnLeaf, StandsByAnswer, OpGoes}
+use Rattle.session_calls.specs.declared.answer.Answer.{Answer}
+use Rattle.session_calls.specs.declared.answer.Answer.TheVariants.{Begun, Going, Added, Ready, Done, Finished, Gave, Ended, Forced, Flushed, Checkpointed, Refused}
 use Rattle.session_calls.specs.declared.op.Op.{Op}
 use Rattle.session_calls.specs.declared.op.Op.TheVariants.{Insert, Scan, Bulk, Cleanup}
 use Rattle.session_calls.proofs.Effects.{works_on, works_nothing}
@@ -293,3 +296,43 @@ pub next_refused : {sets : DeadSets} (st : State) (start : Entry → Bool) (hist
 next_refused {sets} st start history number call op none fits =
     event_of_nothing (where_asked_next call.ask) st st start history number call call op (Refused NoSession) fits.world refl (refl, refl)
     (ap (λ (a : Ask). (where_asked_next a).no_such_session) fits.runs.ask ∙ no_scan_next sets op none) fits.meets fits.running fits.runs fits.sweeps
+
+-- a scan that goes on to another page stands on no leaf,
+pub moving_stands : (old new : State) (before after : ScanOp) → IsMoving old new before after → after.leaf ≡ None
+moving_stands old new before after step = ap (λ (op : ScanOp). op.leaf) step.op
+
+-- and one that has read a leaf stands on it
+pub ready_stands : (old new : State) (before after : ScanOp) (count : ℕ) → IsWaiting old new before after count ⊎ IsReading old new before after count → waiting before ≡ []
+    → StandsOnLeaf new (Some (Scan after))
+ready_stands old new before after count (inl step) none = absurd (let many : count ≡ 0 = step.count_is ∙ ap length none in let some = step.some in omega arith)
+ready_stands old new before after count (inr step) none = record {
+  block = step.way.block;
+  page = step.page;
+  leaf = step.leaf;
+  live = subst (λ (ps : List Page). IsLeafAt ps step.way.block step.page) (sym (ap (λ (st : State). st.pages) step.does.changes)) step.live;
+  of_leaf = step.of_leaf;
+}
+
+-- a call that is over stands nowhere
+pub stands_over : (new : State) (before : Option Op) (answer : Answer) → is_last answer ≡ true → StandsByAnswer new before None answer
+stands_over new None answer last = tt
+stands_over new (Some (Insert op)) answer last = tt
+stands_over new (Some (Bulk set op)) answer last = tt
+stands_over new (Some (Cleanup op)) answer last = tt
+stands_over new (Some (Scan op)) Going last = absurd cc
+stands_over new (Some (Scan op)) (Ready count) last = absurd cc
+stands_over new (Some (Scan op)) Begun last = tt
+stands_over new (Some (Scan op)) (Added action unfinished) last = tt
+stands_over new (Some (Scan op)) Done last = tt
+stands_over new (Some (Scan op)) (Finished stats) last = tt
+stands_over new (Some (Scan op)) (Gave entry) last = tt
+stands_over new (Some (Scan op)) Ended last = tt
+stands_over new (Some (Scan op)) (Forced count) last = tt
+stands_over new (Some (Scan op)) (Flushed block) last = tt
+stands_over new (Some (Scan op)) (Checkpointed count) last = tt
+stands_over new (Some (Scan op)) (Refused fault) last = tt
+
+-- what is given leaves a scan where it stands
+pub next_stands : (before after : ScanOp) (answer : Option Entry) → IsNext before answer after → after.leaf ≡ before.leaf
+next_stands before after None next = ap (λ (op : ScanOp). op.leaf) next.1
+next_stands before after (Some e) next = ap (λ (op : ScanOp). op.leaf) next.1

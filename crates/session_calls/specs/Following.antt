@@ -7,10 +7,23 @@ use Rattle.page_action.specs.States.{State}
 use Rattle.page_action.specs.declared.page_store.PageStore.{Ghosts}
 use Rattle.session_calls.specs.TheoremCalls.{DeadSets}
 use Rattle.session_calls.specs.Due.{IsDueIn, CountsDown}
-use Rattle.session_calls.specs.Ops.{RunsOn, AnswersStopped}
-use Rattle.session_calls.specs.Sessions.{SlotFits, KeepsPages, OnlyWritersAct, OnlyOwnAreFlagged, LeavesOwnFlagged, KeepsBeforePins, CountsEntries, SparesLeaves, LeavesLess, LeavesNoMore, AnswersStep, RefusalChangesNothing, no_call, slot_add}
+use Rattle.session_calls.specs.Ops.{where_slot_stepped_any, RunsOn, IsCaused, AnswersStopped, AnswersLogged}
+use Rattle.session_calls.specs.Sessions.{SlotFits, KeepsPages, OnlyWritersAct, OnlyOwnAreFlagged, LeavesOwnFlagged, KeepsBeforePins, CountsEntries, SparesLeaves, LeavesLess, LeavesNoMore, AnswersStep, RefusalChangesNothing, RunsUntilLast, UnfinishedChangesNothing, TellsStats, WaitsToGive, StandsByAnswer, no_call, slot_add}
 use Rattle.session_calls.specs.declared.answer.Answer.{Answer}
 use Rattle.session_calls.specs.declared.op.Op.{Op}
+
+-- what the answer of a step says, whatever the pages are
+pub record StepTells (is_stopped : Bool) (old new : State) (before after : Option Op) (answer : Answer) : Type 0 where
+  -- which faults it may tell of
+  pub faults : IsCaused (where_slot_stepped_any before) answer
+  -- once the entry of an insert is logged only a page that is blocked refuses it, and it ends with the number of that action
+  pub logged : AnswersLogged (slot_add before) answer
+  -- a fault that leaves a split unfinished leaves all as it was, but that the call is over
+  pub unfinished : UnfinishedChangesNothing old new before answer
+  -- a bulk delete or a cleanup that has finished tells what it has counted, and how many pages are in use, deleted and free
+  pub stats : TellsStats old before answer
+  -- while a scan has entries ready it tells how many, and changes nothing
+  pub waits : WaitsToGive is_stopped old new before after answer
 
 -- a step, whatever the pages are
 pub record StepAlways {S : Type 0} (g : Ghosts S) (old new : S) (before after : Option Op) (answer : Answer) : Type 0 where
@@ -23,6 +36,10 @@ pub record StepAlways {S : Type 0} (g : Ghosts S) (old new : S) (before after : 
   -- it answers what its call may, and stays a call of its kind
   pub kind : AnswersStep before after answer
   pub runs_on : RunsOn before after
+  -- it goes on exactly if the answer isn't its last
+  pub until_last : RunsUntilLast before after answer
+  -- what its answer says
+  pub tells : StepTells (g.backing old).stopped (g.state old) (g.state new) before after answer
   -- it does one act at most, and only a call that writes does one
   pub kept : KeepsPages (g.state old) (g.state new)
   pub calm : OnlyWritersAct before (g.state old) (g.state new)
@@ -44,6 +61,8 @@ pub record StepFollows (sets : DeadSets) (old new : State) (before after : Optio
   pub due : IsFitted old sets before → (left : ℕ) → IsDueIn old before (suc left) → CountsDown old new before after left answer
   -- the pages that it leaves flagged: those whose splits it is to finish
   pub flagged : IsFitted old sets before → OnlyOwnAreFlagged old before → LeavesOwnFlagged new before after answer
+  -- the leaf that a scan stands on
+  pub stands : IsFitted old sets before → StandsByAnswer new before after answer
   -- the leaves that others have pinned, before which a bulk delete waits
   pub waits : KeepsBeforePins old before after answer
   -- the entries that it has counted, where nobody else acts

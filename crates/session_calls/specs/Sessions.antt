@@ -1,5 +1,5 @@
 -- One session's call over the history of all actions: what stands between its events, and what an event does.
-use Rattle.std.specs.Prelude.{◌≡◌, ◌≢◌, ◌⊎◌, ℕ, suc, ◌+◌, ◌<◌, ◌≤◌, Bool, true, false, if◌then◌else◌, Option, Some, None, List, [], ◌∷◌, ◌++◌, length, slice_get, unwrap_or}
+use Rattle.std.specs.Prelude.{◌≡◌, ◌≢◌, ◌⊎◌, ℕ, suc, ◌+◌, ◌<◌, ◌≤◌, ◌&&◌, not, Bool, true, false, if◌then◌else◌, Option, Some, None, List, [], ◌∷◌, ◌++◌, length, slice_get, unwrap_or}
 use Rattle.index_model.specs.Actions.{Effect, Add, Remove, Shape, Action, contents_after}
 use Rattle.index_model.specs.Calls.{Ask, AskInsert, AskScan, AskBulkDelete, AskCleanup, Ending, Running, Added as EndsAdded, Finished as EndsFinished, Vacuumed, GivenUp, Failed, Call, Meets}
 use Rattle.index_model.specs.Faults.{Circumstances, HasCause}
@@ -11,6 +11,7 @@ use Rattle.latch_table.specs.Holdings.{has_pin, holding_of, nothing_held}
 use Rattle.page_action.specs.Contents.{entry_on_live_leaf}
 use Rattle.page_action.specs.States.{State, Backing, Continues, after_begin, after_end, after_start_cycle, after_stop_cycle}
 use Rattle.page_action.specs.declared.page_store.PageStore.{Ghosts}
+use Rattle.page_codec.specs.Edits.{entries_of}
 use Rattle.page_codec.specs.declared.page.Page.{Page}
 use Rattle.split_finish.specs.Targets.{OnlyTargetsAreFlagged}
 use Rattle.tree_acts.specs.Deletions.{StartsAreBelow}
@@ -18,12 +19,14 @@ use Rattle.descent.specs.Steps.{IsApt, Changes}
 use Rattle.descent.specs.Shared.{IsInOrder, OthersRely, MovesFlags, DeletesLeaves, IsOneStep}
 use Rattle.page_delete.specs.Cleanups.{CleanupFits}
 use Rattle.page_delete.specs.Counts.{IsCleaned, AllIsCleaned}
+use Rattle.page_delete.specs.Ops.{cleanup_stats}
 use Rattle.page_delete.specs.Parts.{PinnedLeavesStay}
 use Rattle.page_delete.specs.Spares.{IsAlone, IsSparing, OnlyNeededStay}
-use Rattle.vacuum.specs.Counts.{IsCounted, entries_below}
+use Rattle.scan.specs.Scans.{waiting}
+use Rattle.vacuum.specs.Counts.{IsCounted, entries_below, stats_of}
 use Rattle.session_calls.specs.Ops.{set_at, ends_call}
 use Rattle.session_calls.specs.TheoremCalls.{DeadSets, asked_by, begun_call, acts_of}
-use Rattle.session_calls.specs.Ops.{op_before, session_of, asked_of, add_of, ready_of, OpFits, OpKnows, where_requesting, asks_sweep, is_sweep, IsOfSets, call_kind, IsCaused, is_last, OpAnswers, AnswersStopped, op_work, op_targets}
+use Rattle.session_calls.specs.Ops.{op_before, session_of, asked_of, add_of, ready_of, OpFits, OpKnows, where_requesting, where_stepped_any, asks_sweep, is_sweep, IsOfSets, call_kind, IsCaused, is_last, OpAnswers, AnswersStopped, AnswersLogged, op_work, op_targets}
 use Rattle.tree_acts.specs.Leaves.{LeavesStay, IsLeafAt}
 use Rattle.session_calls.specs.Sweeps.{OpSweeps, SlotSweeps}
 use Rattle.session_calls.specs.declared.answer.Answer.{Answer}
@@ -123,10 +126,11 @@ given_one call e = record call { given = call.given ++ e ∷ [] }
 abbrev pub Refuses : Fault → ℕ → Call → Call → Type 0
 Refuses fault count call after = after ≡ (if ends_call fault then ended call (Failed fault) count else call)
 
--- an insert whose Add is noted ends with it, as of now
+-- an insert whose Add is noted ends with it, as of now; where a fault left a split unfinished, no action is appended
 pub record EndsWithAdd (action : ℕ) (unfinished : Option Fault) (count : ℕ) (effect : Option Effect) (call after : Call) : Type 0 where
   pub noted_is : (noted call count effect).added ≡ Some action
   pub after_is : after ≡ ended (noted call count effect) (EndsAdded action unfinished) (act_count effect + count)
+  pub quiet : unfinished ≢ None → effect ≡ None
 
 -- no action is appended, and the call is this one then
 pub record OnlyBecomes (effect : Option Effect) (becomes after : Call) : Type 0 where
@@ -189,9 +193,24 @@ GivesLess before after (Gave (Some e)) = (most : ℕ) (pages : List Page) → wo
 GivesLess before after answer = (after ≡ before) × IsDrained before
 
 -- what is ready, where the slot runs a call
+abbrev pub slot_ready : Option Op → List Entry
+slot_ready None = []
+slot_ready (Some op) = ready_of op
+
+-- ... how many they are
 abbrev pub ready_count : Option Op → ℕ
 ready_count None = 0
 ready_count (Some op) = length (ready_of op)
+
+-- a step of a scan that has entries ready tells how many, and changes nothing
+pub record StepWaits (old new : State) (before after : Option Op) (answer : Answer) : Type 0 where
+  pub told : answer ≡ Ready (ready_count before)
+  pub state : new ≡ old
+  pub slot_is : after ≡ before
+
+-- ... unless the log has stopped
+abbrev pub WaitsToGive : Bool → State → State → Option Op → Option Op → Answer → Type 0
+WaitsToGive is_stopped old new before after answer = is_stopped ≡ false → (IsDrained before → ⊥) → StepWaits old new before after answer
 
 -- what a step may answer, by what the session runs before and after
 abbrev pub AnswersStep : Option Op → Option Op → Answer → Type 0
@@ -246,6 +265,11 @@ abbrev pub RefusalChangesNothing : State → State → Option Op → Option Op �
 RefusalChangesNothing old new (Some op) after (Refused fault) = StepIsRefused old new op after fault
 RefusalChangesNothing old new None after answer = (new ≡ old) × (after ≡ None)
 RefusalChangesNothing old new (Some op) after answer = Unit {0}
+
+-- a step that tells of a fault which leaves a split unfinished has changed nothing, but that the call is over
+abbrev pub UnfinishedChangesNothing : State → State → Option Op → Answer → Type 0
+UnfinishedChangesNothing old new (Some op) (Added action (Some fault)) = new ≡ after_call op old
+UnfinishedChangesNothing old new before answer = Unit {0}
 
 -- On any pages an event does one act at most, and with none the pages are as they were; so are limits, frames and the
 -- count of calls.
@@ -349,6 +373,28 @@ KeepsBeforePins st (Some (Bulk set op)) after answer =
     → op.cursor ≤ block → IsStillBefore block after answer
 KeepsBeforePins st before after answer = Unit {0}
 
+-- the block of the leaf that a session's scan stands on, if it runs one that stands on a leaf
+abbrev pub leaf_of : Option Op → Option ℕ
+leaf_of None = None
+leaf_of (Some (Insert op)) = None
+leaf_of (Some (Scan op)) = op.leaf
+leaf_of (Some (Bulk set op)) = None
+leaf_of (Some (Cleanup op)) = None
+
+-- it stands on a live leaf, and what it has ready is of the entries there
+pub record StandsOnLeaf (st : State) (slot : Option Op) : Type 0 where
+  pub block : ℕ
+  pub page : Page
+  pub leaf : leaf_of slot ≡ Some block
+  pub live : IsLeafAt st.pages block page
+  pub of_leaf : (e : Entry) → is_among (slot_ready slot) e ≡ true → is_among (entries_of page.items) e ≡ true
+
+-- where a step leaves a scan that had nothing ready: on the leaf that it has read, or on none where it goes on
+abbrev pub StandsByAnswer : State → Option Op → Option Op → Answer → Type 0
+StandsByAnswer new (Some (Scan op)) after Going = leaf_of after ≡ None
+StandsByAnswer new (Some (Scan op)) after (Ready count) = waiting op ≡ [] → StandsOnLeaf new after
+StandsByAnswer new before after answer = Unit {0}
+
 -- what it has counted are the entries that it has left, if it is a bulk delete that runs on; a cleanup leaves no half-dead page
 -- behind it either
 abbrev pub SlotIsCounted : DeadSets → State → Option Op → Type 0
@@ -367,6 +413,12 @@ TellsAllEntries st answer = Unit {0}
 abbrev pub TellsAllCleaned : State → Answer → Type 0
 TellsAllCleaned st (Finished stats) = AllIsCleaned st stats.num_index_tuples
 TellsAllCleaned st answer = Unit {0}
+
+-- a bulk delete or a cleanup that has finished tells what it has counted, and how many pages are in use, deleted and free
+abbrev pub TellsStats : State → Option Op → Answer → Type 0
+TellsStats st (Some (Bulk set op)) (Finished stats) = stats ≡ stats_of st op
+TellsStats st (Some (Cleanup op)) (Finished stats) = stats ≡ cleanup_stats st op
+TellsStats st before answer = Unit {0}
 
 -- where nobody else acts, what a bulk delete or a cleanup has counted are the entries that it has left; at the end all of them;
 -- and a cleanup leaves no half-dead page
@@ -401,6 +453,10 @@ SparesLeaves old new before after answer = Unit {0}
 abbrev pub is_busy : Option Op → Bool
 is_busy None = false
 is_busy (Some op) = true
+
+-- behind an event of its call a session has one exactly if it had one, and the answer isn't the last of it
+abbrev pub RunsUntilLast : Option Op → Option Op → Answer → Type 0
+RunsUntilLast before after answer = is_busy after ≡ (is_busy before && not (is_last answer))
 
 -- after a call has begun, which may be a bulk delete
 abbrev pub after_request : Bool → ℕ → State → State
@@ -443,8 +499,8 @@ abbrev pub slot_after : Answer → Op → Option Op
 slot_after answer op = if is_last answer then None else Some op
 
 -- A step of an operation, before what it holds is let go at its end. On any pages: it stays of its kind; what it may answer; it
--- does one act at most; a refusal changes nothing; a stopped log refuses it; and over a device that keeps its model, what is left
--- to do.
+-- does one act at most; a refusal changes nothing; a stopped log refuses it; what it tells of the pages; and over a device that
+-- keeps its model, what is left to do.
 pub record OpSteps {S : Type 0} (g : Ghosts S) (before after : Op) (old new : S) (answer : Answer) : Type 0 where
   pub steps : Continues g.follows old new
   pub session : session_of after ≡ session_of before
@@ -453,6 +509,11 @@ pub record OpSteps {S : Type 0} (g : Ghosts S) (before after : Op) (old new : S)
   pub kind : OpAnswers before after answer
   pub refused : (fault : Fault) → answer ≡ Refused fault → (g.state new ≡ g.state old) × (after ≡ before)
   pub stopped : (g.backing old).stopped ≡ true → AnswersStopped (add_of before) answer
+  pub unfinished : (action : ℕ) (fault : Fault) → answer ≡ Added action (Some fault) → g.state new ≡ g.state old
+  pub faults : IsCaused (where_stepped_any before) answer
+  pub logged : AnswersLogged (add_of before) answer
+  pub stats : TellsStats (g.state old) (Some before) answer
+  pub waits : WaitsToGive (g.backing old).stopped (g.state old) (g.state new) (Some before) (Some after) answer
   pub kept : IsOneStep (g.state old) (g.state new)
   pub calm : OnlyWritersAct (Some before) (g.state old) (g.state new)
   pub less : (g.backing new).honest ≡ true → LeavesLess (g.state old) (g.state new) (Some before) (Some after) answer

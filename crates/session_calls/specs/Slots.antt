@@ -12,7 +12,7 @@ use Rattle.page_action.specs.declared.page_store.PageStore.{Ghosts}
 use Rattle.session_calls.specs.Due.{IsDueIn, HasSteps}
 use Rattle.session_calls.specs.Following.{StepAlways, StepFollows}
 use Rattle.session_calls.specs.Ops.{is_vacuum, where_slot_stepped, where_asked_next, RunsOn}
-use Rattle.session_calls.specs.Sessions.{Matches, IsIdle, SlotFits, SessionGoes, SessionBegins, BeginsBy, GivesLess, AnswersNext, AnswersEnd, after_call, is_busy}
+use Rattle.session_calls.specs.Sessions.{Matches, IsIdle, SlotFits, SessionGoes, SessionBegins, BeginsBy, GivesLess, AnswersNext, AnswersEnd, RunsUntilLast, leaf_of, after_call, is_busy}
 use Rattle.session_calls.specs.TheoremCalls.{DeadSets}
 use Rattle.session_calls.specs.declared.answer.Answer.{Answer}
 use Rattle.session_calls.specs.declared.answer.Answer.TheVariants.{Begun}
@@ -84,10 +84,12 @@ pub record SlotSteps {S : Type 0} (g : Ghosts S) (sets : DeadSets) (old new : S)
 pub record SlotGives (answer : Answer) (before after : Option Op) : Type 0 where
   pub kind : AnswersNext before answer
   pub runs_on : RunsOn before after
+  pub until_last : RunsUntilLast before after answer
   pub less : GivesLess before after answer
   pub goes : (st : State) (sets : DeadSets) (start : Entry → Bool) (history : List Action) (number : ℕ) (call : Call) → SlotFits st sets start history number call before
       → SessionGoes (where_asked_next call.ask) st st sets start history number call after answer
   pub due : (st : State) (steps : ℕ) → IsDueIn st before steps → IsDueIn st after steps
+  pub stands : leaf_of after ≡ leaf_of before
 
 -- what a slot runs is given up
 pub record SlotEnds {S : Type 0} (g : Ghosts S) (old new : S) (answer : Answer) (before after : Option Op) : Type 0 where

@@ -10,7 +10,7 @@ ghost use Rattle.session_calls.specs.Due.{IsDueIn};
 ghost use Rattle.session_calls.specs.Following.{StepAlways, StepFollows};
 ghost use Rattle.session_calls.specs.TheoremCalls.{DeadSets};
 ghost use Rattle.session_calls.specs.Ops.{where_slot_stepped, where_asked_next, is_last, RunsOn};
-ghost use Rattle.session_calls.specs.Sessions.{SlotFits, SessionGoes, GivesLess, AnswersNext, AnswersEnd, no_call, after_call};
+ghost use Rattle.session_calls.specs.Sessions.{SlotFits, SessionGoes, GivesLess, AnswersNext, AnswersEnd, RunsUntilLast, leaf_of, no_call, after_call};
 ghost use Rattle.session_calls.specs.declared.op.Op.{Op};
 
 use crate::answer::Answer;
@@ -92,6 +92,7 @@ pub(crate) fn next(slot: &mut Option<Op>) -> Answer
     ensures idle { slot.old ≡ None → (slot.new ≡ None) × (result ≡ no_call false) }
     ensures kind { AnswersNext slot.old result }
     ensures runs_on { RunsOn slot.old slot.new }
+    ensures until_last { RunsUntilLast slot.old slot.new result }
     ensures less { GivesLess slot.old slot.new result }
     ensures goes { (st : State) (sets : DeadSets) (start : Entry → Bool) (history : List Action)
         (number : ℕ) (call : Call)
@@ -100,6 +101,7 @@ pub(crate) fn next(slot: &mut Option<Op>) -> Answer
         result }
     ensures due { (st : State) (steps : ℕ) → IsDueIn st slot.old steps
         → IsDueIn st slot.new steps }
+    ensures stands { leaf_of slot.new ≡ leaf_of slot.old }
 {
     match slot {
         Some(Op::Scan(op)) => Answer::Gave(op.next()),

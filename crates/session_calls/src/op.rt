@@ -30,7 +30,7 @@ pub enum Op {
 impl Op {
     ghost use Rattle.session_calls.specs.Due.{IsDueIn, CountsDown};
     ghost use Rattle.session_calls.specs.Ops.{op_before, session_of, is_vacuum, is_sweep, add_of, OpFits, where_stepped};
-    ghost use Rattle.session_calls.specs.Sessions.{CallFits, OpSteps, OpGoes, OnlyOwnAreFlagged, LeavesOwnFlagged, KeepsBeforePins, CountsEntries, SparesLeaves, slot_after};
+    ghost use Rattle.session_calls.specs.Sessions.{CallFits, OpSteps, OpGoes, OnlyOwnAreFlagged, LeavesOwnFlagged, StandsByAnswer, KeepsBeforePins, CountsEntries, SparesLeaves, slot_after};
 
     /// The call that a session asks for, before its first step.
     pub fn new(session: Session, request: Request) -> Op
@@ -97,6 +97,10 @@ impl Op {
             → StartsAreBelow (S.state store.old) → OpFits (S.state store.old) self.old
             → OnlyOwnAreFlagged (S.state store.old) (Some self.old)
             → LeavesOwnFlagged (S.state store.new) (Some self.old) (slot_after result self.new)
+            result }
+        ensures stands { (S.backing store.new).honest ≡ true → IsInOrder (S.state store.old)
+            → OpFits (S.state store.old) self.old
+            → StandsByAnswer (S.state store.new) (Some self.old) (slot_after result self.new)
             result }
         ensures pins { (S.backing store.new).honest ≡ true
             → KeepsBeforePins (S.state store.old) (Some self.old) (slot_after result self.new)

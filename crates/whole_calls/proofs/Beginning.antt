@@ -18,7 +18,7 @@ use Rattle.whole_calls.proofs.Counting.{alone_on}
 use Rattle.whole_calls.proofs.Tellings.{begins_told}
 
 -- what was answered is what the beginning came to
-begun_by : (answer : Answer) (answers : List Answer) → AnswersBeginning answer → CameBy answers (Some answer) → CameBy answers (begin_came (begun_of answer))
+pub begun_by : (answer : Answer) (answers : List Answer) → AnswersBeginning answer → CameBy answers (Some answer) → CameBy answers (begin_came (begun_of answer))
 begun_by Begun answers kind h = h
 begun_by (Refused fault) answers kind h = h
 begun_by answer answers kind h = absurd kind

@@ -7,12 +7,12 @@ use Rattle.whole_calls.proofs.Words.{Action, Call, Entry, IsLater, Continues, Gh
 use Rattle.whole_calls.specs.Going.{IsAmong, CameBy, CallRuns, CallGoes, GoesFrom}
 use Rattle.schedule.proofs.Fitting.{goes_does}
 
-among_left : (xs ys : List Answer) (answer : Answer) → IsAmong xs answer → IsAmong (xs ++ ys) answer
+pub among_left : (xs ys : List Answer) (answer : Answer) → IsAmong xs answer → IsAmong (xs ++ ys) answer
 among_left [] ys answer h = absurd h
 among_left (x ∷ xs) ys answer (inl h) = inl h
 among_left (x ∷ xs) ys answer (inr h) = inr (among_left xs ys answer h)
 
-among_right : (xs ys : List Answer) (answer : Answer) → IsAmong ys answer → IsAmong (xs ++ ys) answer
+pub among_right : (xs ys : List Answer) (answer : Answer) → IsAmong ys answer → IsAmong (xs ++ ys) answer
 among_right [] ys answer h = h
 among_right (x ∷ xs) ys answer h = inr (among_right xs ys answer h)
 

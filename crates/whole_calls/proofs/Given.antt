@@ -8,6 +8,7 @@ use Rattle.session_calls.specs.declared.op.Op.TheVariants.{Bulk as Bulks, Cleanu
 use Rattle.schedule.proofs.Lists.{get_set_same, get_set_other, get_within}
 use Rattle.whole_calls.proofs.Words.{Effect, Add, Remove, Shape, Action, AskScan, Running, Call, Circumstances, HasCause, Entry, State, Ghosts, IsCaused, OwesLess, work_in, noted, given_one, ended, Answer, Going, Ready, Done, Gave, Refused, Op, Snapshot, IsRunningCall, Fits}
 use Rattle.whole_calls.specs.Going.{CameBy}
+use Rattle.whole_calls.specs.Made.{Answered, ComesTo}
 use Rattle.whole_calls.specs.Giving.{GoesDown, AnswersSeek, given_of, give_came, Becomes, GivenTold, TellsScan, ScanStays, TellsGiven}
 use Rattle.whole_calls.specs.Telling.{IsSilent, acts_by, noted_behind, AreOwnEffects, IsOwnEffect, IsTold, StepTold, TellsStep, HasNone, TellsEnd}
 use Rattle.whole_calls.proofs.Gone.{set_same, same_ask, gone_nowhere, gone_runs, gone_then, whole_told}
@@ -25,6 +26,13 @@ give_comes (Gave (Some e)) answers kind h = h
 give_comes Done answers kind h = h
 give_comes (Refused f) answers kind h = h
 give_comes came answers kind h = absurd kind
+
+-- ... by what was answered
+pub give_answered : (came : Answer) (answers : List Answer) → AnswersSeek came → Answered came answers → ComesTo (give_came (given_of came)) answers
+give_answered (Gave (Some e)) answers kind h = h
+give_answered Done answers kind h = h
+give_answered (Refused f) answers kind h = h
+give_answered came answers kind h = absurd kind
 
 -- why it gives nothing
 pub given_caused : (at : Circumstances) (came : Answer) → AnswersSeek came → IsCaused at came → IfErr (given_of came) (HasCause at)

@@ -1,6 +1,7 @@
 pub mod Words
 pub mod Gone
 pub mod Composing
+pub mod Made
 pub mod Tellings
 pub mod Inserting
 pub mod Spending
@@ -9,6 +10,7 @@ pub mod Beginning
 pub mod Counting
 pub mod Swept
 pub mod Refusing
+pub mod Statistics
 pub mod Removing
 pub mod Filling
 pub mod Lasting

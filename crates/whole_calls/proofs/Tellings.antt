@@ -4,9 +4,13 @@ use Rattle.std.proofs.lemmas.List.{append-nil}
 use Rattle.index_model.specs.declared.fault.Fault.TheVariants.{Exists}
 use Rattle.page_action.specs.Causes.{where_forced}
 use Rattle.session_calls.specs.declared.op.Op.TheVariants.{Insert as Inserts, Scan as Scans, Bulk as Bulks, Cleanup as Cleanups}
+use Rattle.index_model.specs.Row.{Row}
+use Rattle.index_model.specs.declared.range.Range.{Range}
+use Rattle.session_calls.specs.Ops.{call_kind}
+use Rattle.session_calls.specs.declared.request.Request.TheVariants.{Insert as ToInsert, Scan as ToScan, Bulk as ToBulk, Cleanup as ToCleanup}
 use Rattle.schedule.proofs.Lists.{get_some, get_within, get_append_new, get_append_some, same_some}
-use Rattle.whole_calls.proofs.Words.{Effect, Action, contents_after, Ask, AskInsert, GivenUp, Call, Circumstances, HasCause, Entry, Fault, Backing, Ghosts, DeadSets, acts_of, asked_of, IsCaused, Told, IsAsked, ended, AnswersStep, AnswersNext, AnswersEnd, Answer, Going, Added, Ready, Done, Finished, Gave, Ended, Refused, Op, Request, Snapshot, IsRunningCall, EventDoes, Fits, slot_of, SlotRuns, SlotMatches, has_call, one_vacuums, Move, Steps, Takes, Upkeep, KeepsStore, BeginsCall, MovesCall, GivesUp, CallMoves, CallBegins, Stays, MovesOn, MayBegin, where_begun_at, AnswersMove}
-use Rattle.whole_calls.specs.Telling.{IsSilent, MayAnswer, IsOwnEffect, IsTold, StepTold, TellsStep, HasNone, HasBegun, begun_of, BeginTold, TellsEnd, with_call, first_call, NextTold}
+use Rattle.whole_calls.proofs.Words.{Effect, Action, contents_after, Ask, AskInsert, AskScan, AskBulkDelete, Entry, asked_by, op_before, set_at, RunsOn, GivenUp, Call, Circumstances, HasCause, Fault, Backing, Ghosts, DeadSets, acts_of, asked_of, IsCaused, Told, IsAsked, ended, AnswersStep, AnswersNext, AnswersEnd, Answer, Going, Added, Ready, Done, Finished, Gave, Ended, Refused, Op, Request, Snapshot, IsRunningCall, EventDoes, Fits, slot_of, SlotRuns, SlotMatches, has_call, one_vacuums, Move, Steps, Takes, Upkeep, KeepsStore, BeginsCall, MovesCall, GivesUp, CallMoves, CallBegins, Stays, MovesOn, MayBegin, where_begun_at, AnswersMove}
+use Rattle.whole_calls.specs.Telling.{IsSilent, MayAnswer, MayComeTo, IsOwnEffect, IsTold, StepTold, TellsStep, HasNone, HasBegun, begun_of, BeginTold, TellsEnd, with_call, first_call, NextTold}
 use Rattle.whole_calls.proofs.Gone.{silent_then}
 use Rattle.schedule.proofs.Fitting.{running_of}
 
@@ -66,9 +70,62 @@ pub was_told : {S : Type 0} (number : ℕ) (call : Call) (answer : Answer) (x y 
 was_told number call answer x y apart (inl t) = t
 was_told number call answer x y apart (inr h) = absurd (apart h.fault h.refused)
 
-refused_may : (ask : Ask) (fault : Fault) → MayAnswer ask (Refused fault)
+pub refused_may : (ask : Ask) (fault : Fault) → MayAnswer ask (Refused fault)
 refused_may (AskInsert e) fault = tt
 refused_may ask fault = tt
+
+-- what is asked for is asked by what it begins with
+pub asked_before : (sets : DeadSets) (session : ℕ) (request : Request) → asked_of sets (op_before session request) ≡ asked_by sets request
+asked_before sets session (ToInsert e) = refl
+asked_before sets session (ToScan range) = refl
+asked_before sets session (ToBulk set) = refl
+asked_before sets session ToCleanup = refl
+
+-- a step answers what its call may
+pub step_comes : (sets : DeadSets) (slot after : Option Op) (answer : Answer) → AnswersStep slot after answer → MayComeTo sets slot answer
+step_comes sets None after (Refused f) h = tt
+step_comes sets None after answer h = absurd h
+step_comes sets (Some op) after answer h = step_may sets op after answer h
+
+-- and may be refused
+pub refused_comes : (sets : DeadSets) (slot : Option Op) (fault : Fault) → MayComeTo sets slot (Refused fault)
+refused_comes sets None fault = tt
+refused_comes sets (Some op) fault = refused_may (asked_of sets op) fault
+
+-- what a call may answer is so by its kind
+insert_any : (e f : Entry) (answer : Answer) → MayAnswer (AskInsert e) answer → MayAnswer (AskInsert f) answer
+insert_any e f Going h = tt
+insert_any e f (Refused x) h = tt
+insert_any e f (Added a u) h = tt
+insert_any e f answer h = absurd h
+
+scan_any : (p q : Range) (answer : Answer) → MayAnswer (AskScan p) answer → MayAnswer (AskScan q) answer
+scan_any p q Going h = tt
+scan_any p q (Refused x) h = tt
+scan_any p q (Ready count) h = tt
+scan_any p q (Gave e) h = tt
+scan_any p q Done h = tt
+scan_any p q answer h = absurd h
+
+bulk_any : (p q : Row → Bool) (answer : Answer) → MayAnswer (AskBulkDelete p) answer → MayAnswer (AskBulkDelete q) answer
+bulk_any p q Going h = tt
+bulk_any p q (Refused x) h = tt
+bulk_any p q (Finished s) h = tt
+bulk_any p q answer h = absurd h
+
+kind_may : (sets : DeadSets) (first mid : Op) (answer : Answer) → call_kind mid ≡ call_kind first → MayAnswer (asked_of sets mid) answer → MayAnswer (asked_of sets first) answer
+kind_may sets (Inserts p) (Inserts q) answer same h = insert_any q.entry p.entry answer h
+kind_may sets (Scans p) (Scans q) answer same h = scan_any q.range p.range answer h
+kind_may sets (Bulks s p) (Bulks t q) answer same h = bulk_any (set_at sets t) (set_at sets s) answer h
+kind_may sets (Cleanups p) (Cleanups q) answer same h = h
+kind_may sets first mid answer same h = absurd cc
+
+-- what runs on comes to what it could come to before
+pub comes_on : (sets : DeadSets) (first mid : Option Op) (answer : Answer) → RunsOn first mid → MayComeTo sets mid answer → MayComeTo sets first answer
+comes_on sets first None (Refused f) on h = refused_comes sets first f
+comes_on sets first None answer on h = absurd h
+comes_on sets None (Some op) answer on h = absurd on
+comes_on sets (Some p) (Some q) answer on h = kind_may sets p q answer on h
 
 -- what a call came to it may answer
 pub came_may : {S : Type 0} (number : ℕ) (call : Call) (answer : Answer) (x y : Snapshot S) → StepTold number call answer x y → MayAnswer call.ask answer

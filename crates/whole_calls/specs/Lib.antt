@@ -6,3 +6,4 @@ pub mod Spending
 pub mod Inserting
 pub mod Refusing
 pub mod Stepping
+pub mod Made

@@ -8,7 +8,9 @@ use Rattle.index_model.specs.declared.entry.Entry.{Entry}
 use Rattle.index_model.specs.declared.limits.Limits.{Limits}
 use Rattle.page_action.specs.Room.{HasWholeRoom}
 use Rattle.page_action.specs.States.{Backing}
-use Rattle.session_calls.specs.TheoremCalls.{asked_by, acts_of, begun_call}
+use Rattle.session_calls.specs.Ops.{asked_of}
+use Rattle.session_calls.specs.TheoremCalls.{DeadSets, asked_by, acts_of, begun_call}
+use Rattle.session_calls.specs.declared.op.Op.{Op}
 use Rattle.session_calls.specs.Sessions.{Told, MayDo, noted, ended}
 use Rattle.session_calls.specs.declared.answer.Answer.{Answer}
 use Rattle.session_calls.specs.declared.answer.Answer.TheVariants.{Begun, Going, Added, Ready, Done, Finished, Gave, Refused}
@@ -32,6 +34,12 @@ MayAnswer (AskScan range) Done = Unit {0}
 MayAnswer (AskBulkDelete dead) (Finished stats) = Unit {0}
 MayAnswer AskCleanup (Finished stats) = Unit {0}
 MayAnswer ask answer = ⊥
+
+-- what the call may come to that a session runs, whatever the pages are; where it runs none, only a refusal
+abbrev pub MayComeTo : DeadSets → Option Op → Answer → Type 0
+MayComeTo sets None (Refused fault) = Unit {0}
+MayComeTo sets None answer = ⊥
+MayComeTo sets (Some op) answer = MayAnswer (asked_of sets op) answer
 
 -- the actions of these effects, by the call of this number
 abbrev pub acts_by : ℕ → List Effect → List Action

@@ -1,6 +1,6 @@
 //! Scans that give one entry after the other.
 
-ghost use Rattle.std.specs.Prelude.{◌≡◌, ◌≤◌, true, length, map, slice_get, Some, OnOk, OnErr, IfErr, None};
+ghost use Rattle.std.specs.Prelude.{◌≡◌, ◌≤◌, ℕ, true, length, map, slice_get, Some, OnOk, OnErr, IfErr, None};
 ghost use Rattle.index_model.specs.Faults.{HasCause};
 ghost use Rattle.page_action.specs.States.{Continues};
 ghost use Rattle.session_calls.specs.Ops.{op_before, RunsOn};
@@ -11,7 +11,8 @@ ghost use Rattle.schedule.specs.Events.{IsUnchanged, where_begun_at};
 ghost use Rattle.schedule.specs.TheoremRuns.{Carries};
 ghost use Rattle.whole_calls.specs.Telling.{BeginTold, begin_came};
 ghost use Rattle.whole_calls.specs.Giving.{GoesDown, AnswersAdvance, AnswersSeek, EndsUnlessGiven, GiveLeavesLess, TellsGiven, given_of, give_came};
-ghost use Rattle.whole_calls.specs.Going.{CallGoes};
+ghost use Rattle.whole_calls.specs.Going.{IsAmong, CallGoes};
+ghost use Rattle.whole_calls.specs.Made.{IsMadeOf, Answered, ComesTo};
 ghost use Rattle.whole_calls.specs.Refusing.{GiveIsCaused};
 ghost use Rattle.whole_calls.specs.Stepping.{ScanGoes};
 
@@ -33,6 +34,9 @@ fn advance<S: PageStore, T: DeadRows>(
     ensures others { KeepsOthers session calls.old calls.new }
     ensures goes { CallGoes S.PageStore session (ScanGoes S.PageStore session least_room result)
         (Some result) (here T.DeadRows store.old calls.old sets.now)
+        (here T.DeadRows store.new calls.new sets.now) }
+    ensures made { IsMadeOf S.PageStore session least_room (λ answers. IsAmong answers result)
+        (here T.DeadRows store.old calls.old sets.now)
         (here T.DeadRows store.new calls.new sets.now) }
     ensures less { (S.backing store.new).honest ≡ true
         → GoesDown (S.state store.old) (S.state store.new) (op_of calls.old session)
@@ -59,6 +63,9 @@ fn seek<S: PageStore, T: DeadRows>(
     ensures others { KeepsOthers session calls.old calls.new }
     ensures goes { CallGoes S.PageStore session (ScanGoes S.PageStore session least_room result)
         (Some result) (here T.DeadRows store.old calls.old sets.now)
+        (here T.DeadRows store.new calls.new sets.now) }
+    ensures made { IsMadeOf S.PageStore session least_room (Answered result)
+        (here T.DeadRows store.old calls.old sets.now)
         (here T.DeadRows store.new calls.new sets.now) }
     ensures kind { AnswersSeek result }
     ensures runs_on { RunsOn (op_of calls.old session) (op_of calls.new session) }
@@ -112,6 +119,10 @@ pub fn give<S: PageStore, T: DeadRows>(
     ensures goes { CallGoes S.PageStore session (TellsGiven session result) (give_came result)
         (here T.DeadRows store.old calls.old sets.now)
         (here T.DeadRows store.new calls.new sets.now) }
+    // Whatever the pages are: so it answers None only behind a step that answered `Done`.
+    ensures made { IsMadeOf S.PageStore session least_room (ComesTo (give_came result))
+        (here T.DeadRows store.old calls.old sets.now)
+        (here T.DeadRows store.new calls.new sets.now) }
     // With `least_room` 5 or more it never answers `LogFull`.
     ensures cause { let old = here T.DeadRows store.old calls.old sets.now in
         Carries S.PageStore old (here T.DeadRows store.new calls.new sets.now)
@@ -146,6 +157,9 @@ pub fn open<S: PageStore, T: DeadRows>(
     ensures goes { CallGoes S.PageStore session (BeginTold session (ToScan range) result)
         (begin_came result)
         (here T.DeadRows store.old calls.old sets.now)
+        (here T.DeadRows store.new calls.new sets.now) }
+    ensures made { (least_room : ℕ) → IsMadeOf S.PageStore session least_room
+        (ComesTo (begin_came result)) (here T.DeadRows store.old calls.old sets.now)
         (here T.DeadRows store.new calls.new sets.now) }
     ensures begins { OnOk result (op_of calls.new session
         ≡ Some (op_before session (ToScan range))) }

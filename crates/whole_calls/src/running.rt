@@ -6,7 +6,7 @@ ghost use Rattle.std.specs.Prelude.{◌≡◌, ◌≢◌, ◌≤◌, ℕ, true, 
 ghost use Rattle.index_model.specs.Faults.{HasCause};
 ghost use Rattle.page_action.specs.Causes.{where_forced};
 ghost use Rattle.page_action.specs.States.{Continues};
-ghost use Rattle.session_calls.specs.TheoremCalls.{DeadSets};
+ghost use Rattle.session_calls.specs.TheoremCalls.{DeadSets, asked_by};
 ghost use Rattle.session_calls.specs.Ops.{op_before, RunsOn};
 ghost use Rattle.session_calls.specs.Sessions.{AnswersStep, LeavesLess, OnlyWritersAct};
 ghost use Rattle.session_calls.specs.declared.op.Op.{Op};
@@ -16,11 +16,12 @@ ghost use Rattle.schedule.specs.Snapshots.{here_with};
 ghost use Rattle.schedule.specs.Events.{IsUnchanged, where_begun_at};
 ghost use Rattle.schedule.specs.TheoremKinds.{BeginsCall, kind_of};
 ghost use Rattle.schedule.specs.TheoremRuns.{Carries};
-ghost use Rattle.whole_calls.specs.Going.{CallGoes, GoesFrom};
+ghost use Rattle.whole_calls.specs.Going.{IsAmong, CameBy, CallGoes, GoesFrom};
 ghost use Rattle.whole_calls.specs.Inserting.{InsertGoes};
+ghost use Rattle.whole_calls.specs.Made.{IsMadeOf, Answered, ComesTo, InsertComesTo};
 ghost use Rattle.whole_calls.specs.Refusing.{InsertCallIsCaused};
 ghost use Rattle.whole_calls.specs.Stepping.{RoomTold, BeginGoes, StepGoes, FinishGoes, RunGoes};
-ghost use Rattle.whole_calls.specs.Telling.{RoomIsMade, TellsEnd, left_behind, outcome_of, begun_of, begin_came, room_came};
+ghost use Rattle.whole_calls.specs.Telling.{RoomIsMade, MayAnswer, MayComeTo, TellsEnd, left_behind, outcome_of, begun_of, begin_came, room_came};
 
 use crate::inserted::Inserted;
 use index_model::{DeadRows, Entry, Fault};
@@ -34,6 +35,10 @@ fn make_room<S: PageStore>(store: &mut S, least_room: u32) -> Result<(), Fault>
     ensures steps { Continues S.follows store.old store.new }
     ensures goes { (session : ℕ) (slots : List (Option Op)) (sets : DeadSets)
         → CallGoes S.PageStore session (RoomTold S.PageStore) (room_came result)
+        (here_with store.old slots sets) (here_with store.new slots sets) }
+    // Where the log has the room, none is made.
+    ensures made { (session : ℕ) (slots : List (Option Op)) (sets : DeadSets)
+        → IsMadeOf S.PageStore session least_room (λ answers. CameBy answers (room_came result))
         (here_with store.old slots sets) (here_with store.new slots sets) }
     ensures room { OnOk result
         (RoomIsMade least_room (S.state store.old).limits (S.backing store.new)) }
@@ -67,6 +72,9 @@ pub(crate) fn step<S: PageStore, T: DeadRows>(
     ensures goes { CallGoes S.PageStore session (StepGoes S.PageStore session least_room result)
         (Some result) (here T.DeadRows store.old calls.old sets.now)
         (here T.DeadRows store.new calls.new sets.now) }
+    ensures made { IsMadeOf S.PageStore session least_room (λ answers. IsAmong answers result)
+        (here T.DeadRows store.old calls.old sets.now)
+        (here T.DeadRows store.new calls.new sets.now) }
     ensures limits { (S.state store.new).limits ≡ (S.state store.old).limits }
     ensures calm { OnlyWritersAct (op_of calls.old session) (S.state store.old)
         (S.state store.new) }
@@ -97,7 +105,11 @@ fn finish<S: PageStore, T: DeadRows>(
     ensures goes { GoesFrom S.PageStore session (FinishGoes S.PageStore session least_room result)
         (Some result) (here T.DeadRows store.old calls.old sets.now)
         (here T.DeadRows store.new calls.new sets.now) }
+    ensures made { IsMadeOf S.PageStore session least_room (Answered result)
+        (here T.DeadRows store.old calls.old sets.now)
+        (here T.DeadRows store.new calls.new sets.now) }
     ensures over { result ≢ Answer.Going }
+    ensures kind { MayComeTo (map T.is_in sets.now) (op_of calls.old session) result }
 {
     let _limits = store.limits();
     // Over a device that breaks its model nothing else bounds the steps; over one that keeps it
@@ -150,6 +162,10 @@ pub(crate) fn begin<S: PageStore, T: DeadRows>(
         (begin_came result)
         (here T.DeadRows store.old calls.old sets.now)
         (here T.DeadRows store.new calls.new sets.now) }
+    ensures made { (least_room : ℕ) → IsMadeOf S.PageStore session least_room
+        (λ answers. CameBy answers (begin_came result))
+        (here T.DeadRows store.old calls.old sets.now)
+        (here T.DeadRows store.new calls.new sets.now) }
     ensures begins { OnOk result (op_of calls.new session ≡ Some (op_before session request)) }
     ensures refused { OnErr result (IsUnchanged S.PageStore
         (here T.DeadRows store.old calls.old sets.now)
@@ -186,9 +202,13 @@ pub(crate) fn run_call<S: PageStore, T: DeadRows>(
     ensures others { KeepsOthers session calls.old calls.new }
     ensures over { op_of calls.old session ≡ None → op_of calls.new session ≡ None }
     ensures ended { result.answer ≢ Answer.Going }
+    ensures kind { MayAnswer (asked_by (map T.is_in sets.now) request) result.answer }
     ensures goes { GoesFrom S.PageStore session
         (RunGoes S.PageStore session least_room request result.answer result.added)
         (Some result.answer) (here T.DeadRows store.old calls.old sets.now)
+        (here T.DeadRows store.new calls.new sets.now) }
+    ensures made { IsMadeOf S.PageStore session least_room (Answered result.answer)
+        (here T.DeadRows store.old calls.old sets.now)
         (here T.DeadRows store.new calls.new sets.now) }
 {
     let _limits = store.limits();
@@ -251,6 +271,9 @@ pub fn give_up<S: PageStore, T: DeadRows>(
     ensures goes { CallGoes S.PageStore session (TellsEnd session) None
         (here T.DeadRows store.old calls.old sets.now)
         (here T.DeadRows store.new calls.new sets.now) }
+    ensures made { (least_room : ℕ) → IsMadeOf S.PageStore session least_room (ComesTo None)
+        (here T.DeadRows store.old calls.old sets.now)
+        (here T.DeadRows store.new calls.new sets.now) }
 {
     let _answer = one(store, calls, sets, Event::End(session));
 }
@@ -271,6 +294,10 @@ pub fn insert<S: PageStore, T: DeadRows>(
     ensures others { KeepsOthers session calls.old calls.new }
     ensures over { op_of calls.old session ≡ None → op_of calls.new session ≡ None }
     ensures goes { InsertGoes S.PageStore session entry result
+        (here T.DeadRows store.old calls.old sets.now)
+        (here T.DeadRows store.new calls.new sets.now) }
+    // Whatever the pages are.
+    ensures made { IsMadeOf S.PageStore session least_room (InsertComesTo result)
         (here T.DeadRows store.old calls.old sets.now)
         (here T.DeadRows store.new calls.new sets.now) }
     // With `least_room` 5 or more it never answers `LogFull`.

@@ -7,10 +7,11 @@ use Rattle.session_calls.proofs.Going.{event_of_last, event_of_more, low_of}
 use Rattle.std.specs.Prelude.{if◌then◌else◌, Some, None}
 use Rattle.page_action.specs.States.{State, Backing}
 use Rattle.session_calls.specs.Due.{CountsDown}
-use Rattle.session_calls.specs.Sessions.{LeavesOwnFlagged, KeepsBeforePins, CountsEntries, SparesLeaves}
+use Rattle.session_calls.specs.Sessions.{LeavesOwnFlagged, StandsByAnswer, KeepsBeforePins, CountsEntries, SparesLeaves}
 use Rattle.session_calls.proofs.Counting.{flagged_on, counts_over}
 use Rattle.session_calls.proofs.Deleting.{tells_over, spares_over}
 use Rattle.session_calls.proofs.Effects.{go_pages}
+use Rattle.session_calls.proofs.Scanning.{stands_over}
 use Rattle.session_calls.proofs.moves.step.Goals as goal
 
 pub returns-then-is_last-clause-goes : goal.returns-then-is_last-clause-goes
@@ -51,6 +52,7 @@ returns-then-is_last-clause-follows g c honest =
       flagged = λ fitted own. flagged_on mid new (Some c.in-Some.op) None c.step-answer.result pages
           (subst (λ (b : Bool). LeavesOwnFlagged mid (Some c.in-Some.op) (if b then None else Some after) c.step-answer.result) last
           (c.step-answer.ensures.flagged model fitted.fits.world.order fitted.fits.world.starts fitted.fits.runs.fits own));
+      stands = λ fitted. stands_over new (Some c.in-Some.op) c.step-answer.result last;
       waits = subst (λ (b : Bool). KeepsBeforePins old (Some c.in-Some.op) (if b then None else Some after) c.step-answer.result) last (c.step-answer.ensures.pins model);
       entries = subst (λ (st : State). CountsEntries sets old st (Some c.in-Some.op) None c.step-answer.result) (sym c.let_go.ensures.state)
           (tells_over sets (is_sweep after) (session_of after) old mid (Some c.in-Some.op) _ c.step-answer.result (c.step-answer.ensures.entries model));
@@ -71,6 +73,8 @@ returns-else-is_last-clause-follows g c honest =
           (c.step-answer.ensures.due honest fitted.fits.world.order fitted.fits.runs.fits left due);
       flagged = λ fitted own. subst (λ (b : Bool). LeavesOwnFlagged new (Some c.in-Some.op) (if b then None else Some after) c.step-answer.result) on
           (c.step-answer.ensures.flagged honest fitted.fits.world.order fitted.fits.world.starts fitted.fits.runs.fits own);
+      stands = λ fitted. subst (λ (b : Bool). StandsByAnswer new (Some c.in-Some.op) (if b then None else Some after) c.step-answer.result) on
+          (c.step-answer.ensures.stands honest fitted.fits.world.order fitted.fits.runs.fits);
       waits = subst (λ (b : Bool). KeepsBeforePins old (Some c.in-Some.op) (if b then None else Some after) c.step-answer.result) on (c.step-answer.ensures.pins honest);
       entries = subst (λ (b : Bool). CountsEntries sets old new (Some c.in-Some.op) (if b then None else Some after) c.step-answer.result) on (c.step-answer.ensures.entries honest);
       spares = subst (λ (b : Bool). SparesLeaves old new (Some c.in-Some.op) (if b then None else Some after) c.step-answer.result) on (c.step-answer.ensures.spares honest);

@@ -1,10 +1,12 @@
-use Rattle.std.proofs.Common.{map, rules, ◌≡◌, Some, None, refl}
+use Rattle.std.proofs.Common.{map, rules, ◌≡◌, Some, None, refl, inl}
 use Rattle.schedule.specs.declared.event.Event.TheVariants.{Next}
 use Rattle.schedule.proofs.Running.{makes_runs}
-use Rattle.whole_calls.proofs.Words.{Gave, snapshot_of, here_with}
-use Rattle.whole_calls.specs.Going.{CallGoes}
+use Rattle.whole_calls.proofs.Words.{Gave, MovesCall, Takes, snapshot_of, here_with}
+use Rattle.whole_calls.specs.Going.{IsAmong, CallGoes}
+use Rattle.whole_calls.specs.Made.{IsMadeOf}
 use Rattle.whole_calls.specs.Stepping.{StepGoes, ScanGoes}
-use Rattle.whole_calls.proofs.Composing.{joined, to_second, goes_once}
+use Rattle.whole_calls.proofs.Composing.{joined, to_second, goes_once, among_right}
+use Rattle.whole_calls.proofs.Made.{made_then, made_once}
 use Rattle.whole_calls.proofs.Lasting.{scan_steps, scan_nexts, waits_behind, waits_none}
 use Rattle.whole_calls.proofs.giving.advance.Given.{Over}
 use Rattle.whole_calls.proofs.giving.advance.Goals.{After-one-answer}
@@ -47,3 +49,24 @@ returns-in-Gave-None-clause-goes g c =
     (waits_none g.S.PageStore session least c.one-answer.result (snapshot_of old h hc) (snapshot_of mid k kc) none one)
     (scan_steps g.S.PageStore session least answer (snapshot_of mid k kc) (snapshot_of new l lc) (record { steps = c.step.ensures.steps; others = c.step.ensures.others.others }) two))
     (asked g ((goal.at.returns-in-Gave-None-clause-goes g c).After-one-answer)) c.step.ensures.goes
+
+asked_made : (g : Over) (c : After-one-answer g) → IsMadeOf g.S.PageStore c.args.session c.args.least_room (λ answers. IsAmong answers c.one-answer.result)
+    (here_with c.args.store.now c.args.calls.now.slots.items (map g.T.DeadRows.is_in c.args.sets.now)) (here_with c.one-answer.new.store c.one-answer.new.calls.slots.items (map g.T.DeadRows.is_in c.args.sets.now))
+asked_made g c =
+    let sets = map g.T.DeadRows.is_in c.args.sets.now in
+    made_once g.S.PageStore c.args.session c.args.least_room (λ answers. IsAmong answers c.one-answer.result) (Next c.args.session) (MovesCall c.args.session Takes) c.one-answer.result
+    (here_with c.args.store.now c.args.calls.now.slots.items sets) (here_with c.one-answer.new.store c.one-answer.new.calls.slots.items sets) refl refl tt c.one-answer.ensures.makes (inl refl)
+
+pub returns-clause-made : goal.returns-clause-made
+returns-clause-made g c = asked_made g ((goal.at.returns-clause-made g c).After-one-answer)
+
+pub returns-2-clause-made : goal.returns-2-clause-made
+returns-2-clause-made g c = asked_made g ((goal.at.returns-2-clause-made g c).After-one-answer)
+
+pub returns-in-Gave-None-clause-made : goal.returns-in-Gave-None-clause-made
+returns-in-Gave-None-clause-made g c =
+    let answer = c.step.result in
+    let sets = map g.T.DeadRows.is_in c.args.sets.now in
+    made_then g.S.PageStore c.args.session c.args.least_room (λ answers. IsAmong answers c.one-answer.result) (λ answers. IsAmong answers answer) (λ answers. IsAmong answers answer)
+    (here_with c.args.store.now c.args.calls.now.slots.items sets) (here_with c.one-answer.new.store c.one-answer.new.calls.slots.items sets) (here_with c.step.new.store c.step.new.calls.slots.items sets)
+    (λ xs ys none so. among_right xs ys answer so) (asked_made g ((goal.at.returns-in-Gave-None-clause-made g c).After-one-answer)) c.step.ensures.made

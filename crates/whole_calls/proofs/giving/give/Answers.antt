@@ -1,9 +1,11 @@
-use Rattle.std.proofs.Common.{map, ◌≡◌, false, Ok, Err, Option, None, Some, sym, ap, ◌∙◌}
+use Rattle.std.proofs.Common.{map, ◌≡◌, ◌++◌, false, Ok, Err, Option, None, Some, sym, ap, ◌∙◌}
 use Rattle.whole_calls.proofs.Words.{Entry, snapshot_of, here_with}
 use Rattle.whole_calls.specs.Giving.{TellsGiven, given_of, give_came}
 use Rattle.whole_calls.specs.Stepping.{ScanGoes}
+use Rattle.whole_calls.specs.Made.{Answered, ComesTo}
 use Rattle.whole_calls.proofs.Composing.{goes_told}
-use Rattle.whole_calls.proofs.Given.{some_given, give_comes, given_caused}
+use Rattle.whole_calls.proofs.Made.{made_then, made_told, answered_left}
+use Rattle.whole_calls.proofs.Given.{some_given, give_comes, give_answered, given_caused}
 use Rattle.whole_calls.proofs.Lasting.{scan_caused, scan_tells, scan_ends}
 use Rattle.whole_calls.proofs.Refusing.{gone_behind}
 use Rattle.whole_calls.proofs.giving.give.Goals as goal
@@ -52,3 +54,29 @@ returns-in-Err-clause-cause g c honest start history calls fits number call rang
     let why = scan_caused g.S.PageStore session least laws came (snapshot_of old history calls) (snapshot_of (here_with c.seek-came.new.store c.seek-came.new.calls.slots.items sets) r.then_history r.then_calls) r.tells number call range is ask in
     let is_err : given_of came ≡ Err c.in-Err.fault = sym c.given.ensures ∙ c.in-Err.is in
     rw (gone_behind g.S.PageStore session least false old c.seek-came.new.store c.give_up-in-Err.new.store end.backing end.acts end.frames) (rw is_err at (given_caused _ came c.seek-came.ensures.kind why))
+
+pub returns-in-Ok-Some-clause-made : goal.returns-in-Ok-Some-clause-made
+returns-in-Ok-Some-clause-made g c =
+    let came = c.seek-came.result in
+    let sets = map g.T.DeadRows.is_in c.args.sets.now in
+    let is : given_of came ≡ Ok (Some c.in-Ok-Some.entry) = sym c.given.ensures ∙ c.in-Ok-Some.is ∙ ap (λ (o : Option Entry). Ok o) c.in-Ok-Some.field-0-is in
+    made_told g.S.PageStore c.args.session c.args.least_room (Answered came) (ComesTo (give_came (Ok (Some c.in-Ok-Some.entry)))) (here_with c.args.store.now c.args.calls.now.slots.items sets)
+    (here_with c.seek-came.new.store c.seek-came.new.calls.slots.items sets) (λ xs so. rw is at (give_answered came xs c.seek-came.ensures.kind so)) c.seek-came.ensures.made
+
+pub returns-in-Ok-None-clause-made : goal.returns-in-Ok-None-clause-made
+returns-in-Ok-None-clause-made g c =
+    let came = c.seek-came.result in
+    let sets = map g.T.DeadRows.is_in c.args.sets.now in
+    let is : given_of came ≡ Ok None = sym c.given.ensures ∙ c.in-Ok-None.is ∙ ap (λ (o : Option Entry). Ok o) c.in-Ok-None.field-0-is in
+    made_then g.S.PageStore c.args.session c.args.least_room (Answered came) (ComesTo None) (ComesTo (give_came (Ok None))) (here_with c.args.store.now c.args.calls.now.slots.items sets)
+    (here_with c.seek-came.new.store c.seek-came.new.calls.slots.items sets) (here_with c.give_up.new.store c.give_up.new.calls.slots.items sets)
+    (λ xs ys one two. rw is at (give_answered came (xs ++ ys) c.seek-came.ensures.kind (answered_left xs ys came one))) c.seek-came.ensures.made (c.give_up.ensures.made c.args.least_room)
+
+pub returns-in-Err-clause-made : goal.returns-in-Err-clause-made
+returns-in-Err-clause-made g c =
+    let came = c.seek-came.result in
+    let sets = map g.T.DeadRows.is_in c.args.sets.now in
+    let is : given_of came ≡ Err c.in-Err.fault = sym c.given.ensures ∙ c.in-Err.is in
+    made_then g.S.PageStore c.args.session c.args.least_room (Answered came) (ComesTo None) (ComesTo (give_came (Err c.in-Err.fault))) (here_with c.args.store.now c.args.calls.now.slots.items sets)
+    (here_with c.seek-came.new.store c.seek-came.new.calls.slots.items sets) (here_with c.give_up-in-Err.new.store c.give_up-in-Err.new.calls.slots.items sets)
+    (λ xs ys one two. rw is at (give_answered came (xs ++ ys) c.seek-came.ensures.kind (answered_left xs ys came one))) c.seek-came.ensures.made (c.give_up-in-Err.ensures.made c.args.least_room)

@@ -1,9 +1,12 @@
-use Rattle.std.proofs.Common.{map, ◌≤◌, arith, Some, None, refl, subst, ◌∙◌}
+use Rattle.std.proofs.Common.{map, ◌≤◌, length-append, arith, Some, None, refl, subst, inl, inr, ◌∙◌}
 use Rattle.session_calls.proofs.RunningOn.{runs_on_same, runs_on_then}
 use Rattle.schedule.proofs.Bounds.{work_bounded}
 use Rattle.whole_calls.proofs.Words.{Limits, snapshot_of, here_with, slot_of}
 use Rattle.whole_calls.specs.Stepping.{ScanWaits, ScanGoes}
-use Rattle.whole_calls.proofs.Composing.{joined, to_second, goes_nowhere}
+use Rattle.whole_calls.specs.Going.{IsAmong}
+use Rattle.whole_calls.specs.Made.{Answered}
+use Rattle.whole_calls.proofs.Composing.{joined, to_second, goes_nowhere, among_right}
+use Rattle.whole_calls.proofs.Made.{made_nowhere, made_then, made_told, among_some}
 use Rattle.whole_calls.proofs.Given.{down_after, down_on}
 use Rattle.whole_calls.proofs.Lasting.{lasts_here, waits_then, waits_behind, waits_on}
 use Rattle.whole_calls.proofs.giving.seek.Goals as goal
@@ -16,6 +19,7 @@ loop-left-init g c = record {
   runs_on = runs_on_same (slot_of c.args.calls.now.slots.items c.args.session);
   goes = goes_nowhere g.S.PageStore g.met.S.PageStore.laws c.args.session (ScanWaits g.S.PageStore c.args.session) (here_with c.args.store.now c.args.calls.now.slots.items (map g.T.DeadRows.is_in c.args.sets.now))
       (λ x. record { lasts = lasts_here g.S.PageStore c.args.session x; stays = λ number call range is ask. record { history_is = refl; calls_is = refl } });
+  made = made_nowhere g.S.PageStore c.args.session c.args.least_room _ (here_with c.args.store.now c.args.calls.now.slots.items (map g.T.DeadRows.is_in c.args.sets.now)) (omega arith);
   budget = λ honest. omega arith;
   fewer = omega arith;
 }
@@ -54,6 +58,8 @@ loop-left-preserved g c =
           c.loop-left.invariant.steps c.advance.ensures.steps (λ xs ys none so. tt)
           (λ start h hc k kc l lc fx fy fz one two. waits_then g.S.PageStore session least (snapshot_of old h hc) (snapshot_of mid k kc) (snapshot_of new l lc) one
           (waits_on g.S.PageStore session least answer (snapshot_of mid k kc) (snapshot_of new l lc) c.in-Going.is two)) c.loop-left.invariant.goes c.advance.ensures.goes;
+      made = made_then g.S.PageStore session least _ (λ answers. IsAmong answers answer) _ old mid new (λ xs ys many so. (let some = among_some ys answer so in let both = length-append xs ys in omega (arith, many, some, both)))
+          c.loop-left.invariant.made c.advance.ensures.made;
       budget = λ honest. (
           let down = down_on (g.S.PageStore.state c.loop-left.store) (g.S.PageStore.state c.advance.new.store) (slot_of c.loop-left.calls.slots.items session) (slot_of c.advance.new.calls.slots.items session) answer c.in-Going.is (c.advance.ensures.less honest) in
           let most = c.loop-left.invariant.budget (later.honest honest) in
@@ -78,3 +84,18 @@ returns-in_default-clause-less g c honest =
     let most = c.loop-left.invariant.budget (later.honest honest) in
     down_after (g.S.PageStore.state c.args.store.now) (g.S.PageStore.state c.loop-left.store) (g.S.PageStore.state c.advance.new.store) (slot_of c.args.calls.now.slots.items session) (slot_of c.loop-left.calls.slots.items session) (slot_of c.advance.new.calls.slots.items session) c.advance.result
     (omega (arith, most, fewer)) (c.advance.ensures.less honest)
+
+pub returns-in_default-clause-made : goal.returns-in_default-clause-made
+returns-in_default-clause-made g c =
+    let session = c.args.session in
+    let answer = c.advance.result in
+    let sets = map g.T.DeadRows.is_in c.args.sets.now in
+    made_then g.S.PageStore session c.args.least_room _ (λ answers. IsAmong answers answer) (Answered answer) (here_with c.args.store.now c.args.calls.now.slots.items sets) (here_with c.loop-left.store c.loop-left.calls.slots.items sets)
+    (here_with c.advance.new.store c.advance.new.calls.slots.items sets) (λ xs ys many so. inl (among_right xs ys answer so)) c.loop-left.invariant.made c.advance.ensures.made
+
+pub returns-clause-made : goal.returns-clause-made
+returns-clause-made g c =
+    let sets = map g.T.DeadRows.is_in c.args.sets.now in
+    let out = c.loop-left-test.false in
+    made_told g.S.PageStore c.args.session c.args.least_room _ _ (here_with c.args.store.now c.args.calls.now.slots.items sets) (here_with c.loop-left.store c.loop-left.calls.slots.items sets)
+    (λ xs many. inr (refl, omega (arith, many, out))) c.loop-left.invariant.made

@@ -1,9 +1,15 @@
-use Rattle.std.proofs.Common.{map, ◌≡◌, ◌≤◌, Some, None, refl, sym, subst, arith, ◌∙◌, rules}
-use Rattle.whole_calls.proofs.Words.{Limits, Answer, Going, snapshot_of, here_with}
+use Rattle.std.proofs.Common.{map, ◌≡◌, ◌≤◌, Some, None, refl, sym, subst, arith, inl, inr, ◌∙◌, rules, length-append}
+use Rattle.session_calls.proofs.RunningOn.{runs_on_same, runs_on_then}
+use Rattle.index_model.specs.declared.fault.Fault.TheVariants.{PageDamaged}
+use Rattle.whole_calls.proofs.Words.{Limits, Answer, Going, snapshot_of, here_with, slot_of}
+use Rattle.whole_calls.specs.Going.{IsAmong}
+use Rattle.whole_calls.specs.Made.{Answered}
 use Rattle.whole_calls.specs.Stepping.{StepGoes, HasGoneTo, FinishGoes}
-use Rattle.whole_calls.proofs.Composing.{joined, to_second, goes_nowhere}
+use Rattle.whole_calls.proofs.Composing.{joined, to_second, goes_nowhere, among_right}
 use Rattle.whole_calls.proofs.Gone.{far_nowhere}
 use Rattle.whole_calls.proofs.Lasting.{lasts_here, gone_on}
+use Rattle.whole_calls.proofs.Made.{made_nowhere, made_then, made_told, among_some}
+use Rattle.whole_calls.proofs.Tellings.{step_comes, comes_on, refused_comes}
 use Rattle.whole_calls.proofs.Spending.{steps_few}
 use Rattle.whole_calls.proofs.running.finish.Goals as goal
 
@@ -15,6 +21,8 @@ loop-left-init g c = record {
   limits = refl;
   goes = goes_nowhere g.S.PageStore g.met.S.PageStore.laws c.args.session (HasGoneTo g.S.PageStore c.args.session) (here_with c.args.store.now c.args.calls.now.slots.items (map g.T.DeadRows.is_in c.args.sets.now))
       (λ x. record { lasts = lasts_here g.S.PageStore c.args.session x; sets_are = refl; limits_are = refl; far = far_nowhere c.args.session x; counted = λ what so. so });
+  runs_on = runs_on_same (slot_of c.args.calls.now.slots.items c.args.session);
+  made = made_nowhere g.S.PageStore c.args.session c.args.least_room _ (here_with c.args.store.now c.args.calls.now.slots.items (map g.T.DeadRows.is_in c.args.sets.now)) (omega arith);
   budget = λ low honest start history calls fits. omega arith;
 }
 
@@ -53,6 +61,9 @@ loop-left-preserved g c =
           (λ start h hc k kc l lc fx fy fz one two. gone_on g.S.PageStore session least (snapshot_of old h hc) (snapshot_of mid k kc) (snapshot_of new l lc) one
           (record { steps = c.step.ensures.steps; others = c.step.ensures.others.others }) refl c.step.ensures.limits (subst (λ (a : Answer). StepGoes g.S.PageStore session least a (snapshot_of mid k kc) (snapshot_of new l lc)) going two))
           c.loop-left.invariant.goes c.step.ensures.goes;
+      runs_on = runs_on_then (slot_of c.args.calls.now.slots.items session) (slot_of c.loop-left.calls.slots.items session) (slot_of c.step.new.calls.slots.items session) c.loop-left.invariant.runs_on c.step.ensures.runs_on;
+      made = made_then g.S.PageStore session least _ (λ answers. IsAmong answers answer) _ old mid new (λ xs ys many so. (let some = among_some ys answer so in let both = length-append xs ys in omega (arith, many, some, both)))
+          c.loop-left.invariant.made c.step.ensures.made;
       budget = λ low honest start history calls fits. (
           let later = laws.follows_later c.loop-left.store c.step.new.store (c.step.ensures.steps _ (laws.follows_same _)) in
           let most = c.loop-left.invariant.budget low (later.honest honest) start history calls fits in
@@ -69,3 +80,28 @@ returns-clause-goes g c honest start history calls fits =
     let most = c.loop-left.invariant.budget low honest start history calls fits in
     let out = c.loop-left-test.false in
     absurd (omega (arith, few, most, out))
+
+pub returns-in_default-clause-made : goal.returns-in_default-clause-made
+returns-in_default-clause-made g c =
+    let session = c.args.session in
+    let answer = c.step.result in
+    let sets = map g.T.DeadRows.is_in c.args.sets.now in
+    made_then g.S.PageStore session c.args.least_room _ (λ answers. IsAmong answers answer) (Answered answer) (here_with c.args.store.now c.args.calls.now.slots.items sets) (here_with c.loop-left.store c.loop-left.calls.slots.items sets)
+    (here_with c.step.new.store c.step.new.calls.slots.items sets) (λ xs ys many so. inl (among_right xs ys answer so)) c.loop-left.invariant.made c.step.ensures.made
+
+pub returns-clause-made : goal.returns-clause-made
+returns-clause-made g c =
+    let sets = map g.T.DeadRows.is_in c.args.sets.now in
+    let out = c.loop-left-test.false in
+    made_told g.S.PageStore c.args.session c.args.least_room _ _ (here_with c.args.store.now c.args.calls.now.slots.items sets) (here_with c.loop-left.store c.loop-left.calls.slots.items sets)
+    (λ xs many. inr (refl, omega (arith, many, out))) c.loop-left.invariant.made
+
+pub returns-in_default-clause-kind : goal.returns-in_default-clause-kind
+returns-in_default-clause-kind g c =
+    let session = c.args.session in
+    let sets = map g.T.DeadRows.is_in c.args.sets.now in
+    comes_on sets (slot_of c.args.calls.now.slots.items session) (slot_of c.loop-left.calls.slots.items session) c.step.result c.loop-left.invariant.runs_on
+    (step_comes sets (slot_of c.loop-left.calls.slots.items session) (slot_of c.step.new.calls.slots.items session) c.step.result c.step.ensures.kind)
+
+pub returns-clause-kind : goal.returns-clause-kind
+returns-clause-kind g c = refused_comes (map g.T.DeadRows.is_in c.args.sets.now) (slot_of c.args.calls.now.slots.items c.args.session) (PageDamaged 0)

@@ -1,11 +1,12 @@
-use Rattle.std.proofs.Common.{ℕ, Option, Some, None, List, refl, subst}
+use Rattle.std.proofs.Common.{ℕ, Option, Some, None, List, refl, subst, arith, inl}
 use Rattle.schedule.specs.declared.event.Event.TheVariants.{Checkpoint}
 use Rattle.schedule.proofs.Running.{makes_runs}
-use Rattle.whole_calls.proofs.Words.{DeadSets, Op, Answer, Refused, Checkpoints, snapshot_of, here_with}
+use Rattle.whole_calls.proofs.Words.{DeadSets, Op, Answer, Refused, Checkpoints, KeepsStore, snapshot_of, here_with}
 use Rattle.whole_calls.specs.Going.{CameBy, CallGoes}
 use Rattle.whole_calls.specs.Stepping.{RoomTold}
 use Rattle.whole_calls.proofs.Composing.{goes_nowhere, goes_once, goes_told}
 use Rattle.whole_calls.proofs.Tellings.{keeps_silent}
+use Rattle.whole_calls.proofs.Made.{made_nowhere, made_once}
 use Rattle.whole_calls.proofs.running.make_room.Given.{Over}
 use Rattle.whole_calls.proofs.running.make_room.Goals.{After-checkpoint}
 use Rattle.whole_calls.proofs.running.make_room.Goals as goal
@@ -41,3 +42,21 @@ returns-in_default-clause-goes g c session slots sets =
     goes_told g.S.PageStore session (λ s. RoomTold g.S.PageStore) (λ s. RoomTold g.S.PageStore) (Some c.checkpoint.result) None
     (here_with c.args.store.now slots sets) (here_with c.checkpoint.new.store slots sets)
     (λ start h hc k kc answers fits came told. (tt, told)) (kept g ((goal.at.returns-in_default-clause-goes g c).After-checkpoint) session slots sets)
+
+pub returns-then-room-least_room-clause-made : goal.returns-then-room-least_room-clause-made
+returns-then-room-least_room-clause-made g c session slots sets =
+    made_nowhere g.S.PageStore session c.args.least_room (λ answers. CameBy answers None) (here_with c.args.store.now slots sets) tt
+
+pub returns-in-Refused-clause-made : goal.returns-in-Refused-clause-made
+returns-in-Refused-clause-made g c session slots sets =
+    let less = c.if-room-least_room.false in
+    let room = c.room.ensures in
+    made_once g.S.PageStore session c.args.least_room (λ answers. CameBy answers (Some (Refused c.in-Refused.fault))) Checkpoint (KeepsStore Checkpoints) c.checkpoint.result
+    (here_with c.args.store.now slots sets) (here_with c.checkpoint.new.store slots sets) refl tt (omega (arith, less, room)) (c.checkpoint.ensures.makes slots sets) (inl c.in-Refused.is)
+
+pub returns-in_default-clause-made : goal.returns-in_default-clause-made
+returns-in_default-clause-made g c session slots sets =
+    let less = c.if-room-least_room.false in
+    let room = c.room.ensures in
+    made_once g.S.PageStore session c.args.least_room (λ answers. CameBy answers None) Checkpoint (KeepsStore Checkpoints) c.checkpoint.result
+    (here_with c.args.store.now slots sets) (here_with c.checkpoint.new.store slots sets) refl tt (omega (arith, less, room)) (c.checkpoint.ensures.makes slots sets) tt

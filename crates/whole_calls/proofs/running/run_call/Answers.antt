@@ -1,10 +1,14 @@
-use Rattle.std.proofs.Common.{map, Some, None, Ok, Err, refl, sym, subst, inl, inr, ◌∙◌}
+use Rattle.std.proofs.Common.{map, Option, Some, None, Ok, Err, refl, sym, subst, inl, inr, ◌∙◌}
 use Rattle.index_model.specs.Limits.{AreLimits}
-use Rattle.whole_calls.proofs.Words.{Limits, Begun, Refused, snapshot_of, here_with}
+use Rattle.whole_calls.proofs.Words.{Limits, Ask, asked_by, Op, Begun, Refused, snapshot_of, here_with}
+use Rattle.whole_calls.specs.Going.{CameBy}
+use Rattle.whole_calls.specs.Made.{Answered, ComesTo}
 use Rattle.whole_calls.specs.Stepping.{BeginGoes, FinishGoes, RunGoes}
-use Rattle.whole_calls.specs.Telling.{TellsEnd}
+use Rattle.whole_calls.specs.Telling.{MayAnswer, MayComeTo, TellsEnd, begin_came}
 use Rattle.whole_calls.proofs.Composing.{joined, to_first, to_second, goes_told}
 use Rattle.whole_calls.proofs.Whole.{RunsOut, has_run}
+use Rattle.whole_calls.proofs.Made.{made_then, made_told, answered_left, answered_right}
+use Rattle.whole_calls.proofs.Tellings.{asked_before, refused_may}
 use Rattle.whole_calls.proofs.running.run_call.Goals as goal
 
 pub returns-clause-goes : goal.returns-clause-goes
@@ -49,3 +53,31 @@ returns-in-Err-clause-goes g c =
     goes_told g.S.PageStore session (λ s. BeginGoes g.S.PageStore session request (Err fault)) (RunGoes g.S.PageStore session c.args.least_room request (Refused fault) None) (Some (Refused fault)) (Some (Refused fault)) old new
     (λ start h hc k kc answers fits came begun. (came, inl (record { fault = fault; refused = refl; none = refl; told = begun.told; cause = c.in-Err.ensures.cause })))
     (rw c.in-Err.is at c.begin.ensures.goes)
+
+pub returns-clause-made : goal.returns-clause-made
+returns-clause-made g c =
+    let session = c.args.session in
+    let least = c.args.least_room in
+    let answer = c.finish-answer.result in
+    let sets = map g.T.DeadRows.is_in c.args.sets.now in
+    let old = here_with c.args.store.now c.args.calls.now.slots.items sets in
+    let begun = here_with c.begin.new.store c.begin.new.calls.slots.items sets in
+    let here = here_with c.finish-answer.new.store c.finish-answer.new.calls.slots.items sets in
+    let there = here_with c.give_up.new.store c.give_up.new.calls.slots.items sets in
+    made_then g.S.PageStore session least (λ answers. CameBy answers (begin_came c.begin.result)) (Answered answer) (Answered answer) old begun there (λ xs ys one two. answered_right xs ys answer two) (c.begin.ensures.made least)
+    (made_then g.S.PageStore session least (Answered answer) (ComesTo None) (Answered answer) begun here there (λ xs ys one two. answered_left xs ys answer one) c.finish-answer.ensures.made (c.give_up.ensures.made least))
+
+pub returns-in-Err-clause-made : goal.returns-in-Err-clause-made
+returns-in-Err-clause-made g c =
+    let sets = map g.T.DeadRows.is_in c.args.sets.now in
+    made_told g.S.PageStore c.args.session c.args.least_room (λ answers. CameBy answers (Some (Refused c.in-Err.fault))) (Answered (Refused c.in-Err.fault)) (here_with c.args.store.now c.args.calls.now.slots.items sets)
+    (here_with c.begin.new.store c.begin.new.calls.slots.items sets) (λ xs came. inl came) (rw c.in-Err.is at (c.begin.ensures.made c.args.least_room))
+
+pub returns-clause-kind : goal.returns-clause-kind
+returns-clause-kind g c =
+    let sets = map g.T.DeadRows.is_in c.args.sets.now in
+    let answer = c.finish-answer.result in
+    subst (λ (a : Ask). MayAnswer a answer) (asked_before sets c.args.session c.args.request) (subst (λ (o : Option Op). MayComeTo sets o answer) c.in-Ok.ensures.begins c.finish-answer.ensures.kind)
+
+pub returns-in-Err-clause-kind : goal.returns-in-Err-clause-kind
+returns-in-Err-clause-kind g c = refused_may (asked_by (map g.T.DeadRows.is_in c.args.sets.now) c.args.request) c.in-Err.fault

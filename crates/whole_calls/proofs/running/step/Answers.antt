@@ -1,11 +1,13 @@
-use Rattle.std.proofs.Common.{map, Some, refl}
+use Rattle.std.proofs.Common.{map, Some, refl, sym, subst, inl}
 use Rattle.schedule.specs.declared.event.Event.TheVariants.{Step}
 use Rattle.schedule.proofs.Running.{makes_runs}
-use Rattle.whole_calls.proofs.Words.{snapshot_of, here_with, Refused}
+use Rattle.whole_calls.proofs.Words.{State, MovesCall, Steps, snapshot_of, here_with, Refused}
 use Rattle.whole_calls.specs.Stepping.{RoomTold, StepGoes}
-use Rattle.whole_calls.specs.Telling.{room_came}
-use Rattle.whole_calls.proofs.Composing.{joined, to_second, goes_once, goes_told}
+use Rattle.whole_calls.specs.Going.{IsAmong, CameBy}
+use Rattle.whole_calls.specs.Telling.{room_came, RoomIsMade}
+use Rattle.whole_calls.proofs.Composing.{joined, to_second, goes_once, goes_told, among_right}
 use Rattle.whole_calls.proofs.Lasting.{step_goes, room_then, held_goes}
+use Rattle.whole_calls.proofs.Made.{made_then, made_once}
 use Rattle.whole_calls.proofs.running.step.Goals as goal
 
 pub returns-in-Ok-clause-goes : goal.returns-in-Ok-clause-goes
@@ -38,3 +40,20 @@ returns-in-Err-clause-goes g c =
     goes_told g.S.PageStore session (λ s. RoomTold g.S.PageStore) (λ s. StepGoes g.S.PageStore session least (Refused fault)) (room_came c.make_room.result) (Some (Refused fault)) old here
     (λ start h hc k kc answers fits came room. (rw c.in-Err.is at came, held_goes g.S.PageStore session least fault (snapshot_of old h hc) (snapshot_of here k kc) room c.in-Err.ensures.cause))
     (c.make_room.ensures.goes session c.args.calls.now.slots.items sets)
+
+pub returns-in-Ok-clause-made : goal.returns-in-Ok-clause-made
+returns-in-Ok-clause-made g c =
+    let session = c.args.session in
+    let least = c.args.least_room in
+    let answer = c.one.result in
+    let sets = map g.T.DeadRows.is_in c.args.sets.now in
+    let old = here_with c.args.store.now c.args.calls.now.slots.items sets in
+    let here = here_with c.make_room.new.store c.args.calls.now.slots.items sets in
+    let there = here_with c.one.new.store c.one.new.calls.slots.items sets in
+    made_then g.S.PageStore session least (λ answers. CameBy answers (room_came c.make_room.result)) (λ answers. IsAmong answers answer) (λ answers. IsAmong answers answer) old here there (λ xs ys none so. among_right xs ys answer so)
+    (c.make_room.ensures.made session c.args.calls.now.slots.items sets)
+    (made_once g.S.PageStore session least (λ answers. IsAmong answers answer) (Step session) (MovesCall session Steps) answer here there refl refl
+    (subst (λ (st : State). RoomIsMade least st.limits (g.S.PageStore.backing c.make_room.new.store)) (sym c.make_room.ensures.state) c.in-Ok.ensures.room) c.one.ensures.makes (inl refl))
+
+pub returns-in-Err-clause-made : goal.returns-in-Err-clause-made
+returns-in-Err-clause-made g c = rw c.in-Err.is at (c.make_room.ensures.made c.args.session c.args.calls.now.slots.items (map g.T.DeadRows.is_in c.args.sets.now))

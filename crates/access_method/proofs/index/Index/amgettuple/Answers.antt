@@ -13,6 +13,9 @@ use Rattle.access_method.proofs.index.Index.amgettuple.Goals as goal
 pub returns-in_default-clause-runs : goal.returns-in_default-clause-runs
 returns-in_default-clause-runs g c is_open = absurd (c.in_default.not-Some (record { number = c.args.token.number; is_refused = false }) (c.find.ensures.value ∙ is_open))
 
+pub returns-in_default-clause-made : goal.returns-in_default-clause-made
+returns-in_default-clause-made g c is_open = absurd (c.in_default.not-Some (record { number = c.args.token.number; is_refused = false }) (c.find.ensures.value ∙ is_open))
+
 pub returns-in_default-clause-cause : goal.returns-in_default-clause-cause
 returns-in_default-clause-cause g c is_open = absurd (c.in_default.not-Some (record { number = c.args.token.number; is_refused = false }) (c.find.ensures.value ∙ is_open))
 
@@ -31,6 +34,9 @@ returns-in_default-clause-tokens g c is_open = absurd (c.in_default.not-Some (re
 -- a fault was answered
 pub returns-then-seat-clause-runs : goal.returns-then-seat-clause-runs
 returns-then-seat-clause-runs g c is_open = absurd (not_refused c.find.result c.in-Some.seat c.args.token.number c.in-Some.is c.if-seat.true (c.find.ensures.value ∙ is_open))
+
+pub returns-then-seat-clause-made : goal.returns-then-seat-clause-made
+returns-then-seat-clause-made g c is_open = absurd (not_refused c.find.result c.in-Some.seat c.args.token.number c.in-Some.is c.if-seat.true (c.find.ensures.value ∙ is_open))
 
 pub returns-then-seat-clause-cause : goal.returns-then-seat-clause-cause
 returns-then-seat-clause-cause g c is_open = absurd (not_refused c.find.result c.in-Some.seat c.args.token.number c.in-Some.is c.if-seat.true (c.find.ensures.value ∙ is_open))

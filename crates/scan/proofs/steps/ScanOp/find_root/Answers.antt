@@ -5,7 +5,7 @@ use Rattle.tree_shape.specs.Walks.{frontier_aim}
 use Rattle.descent.specs.Onward.{IsOnWay, way_from}
 use Rattle.descent.specs.declared.way.Way.{Way}
 use Rattle.scan.specs.declared.steps.ScanAt.{ScanAt}
-use Rattle.scan.specs.Scans.{without_leaf, ScanFits, IsUnderway}
+use Rattle.scan.specs.Scans.{without_leaf, ScanFits, ScanWaits, IsUnderway}
 use Rattle.scan.specs.Straight.{straight_steps, CountsDown}
 use Rattle.scan.specs.Work.{scan_left}
 use Rattle.scan.specs.declared.steps.ScanStep.TheVariants.{Going}
@@ -39,6 +39,7 @@ returns-clause-all g c =
       refused = tt;
       stopped = search rules;
       ready = tt;
+      waits = λ alive some. absurd {A = ScanWaits old new before after (Ok Going)} (some c.requires.none);
       less = λ honest. less;
       no_more = λ honest. omega arith;
       stepped = λ honest order fits.

@@ -1,7 +1,8 @@
 use Rattle.std.proofs.Common.{rules, ◌≡◌, suc, Ok, ℕ, ◌<◌, ◌≤◌, false, true, Some, List, length, slice_get, inr, refl, sym, ap, subst, ◌∙◌, arith}
 use Rattle.std.specs.Prelude.{IfErr}
+use Rattle.std.proofs.lemmas.Bool.{and_parts}
 use Rattle.index_model.specs.Faults.{HasCause}
-use Rattle.index_model.specs.Order.{IsAscending}
+use Rattle.index_model.specs.Order.{is_among, IsAscending}
 use Rattle.index_model.specs.declared.entry.Entry.{Entry}
 use Rattle.index_model.specs.declared.limits.Limits.{Limits}
 use Rattle.latch_table.specs.Holdings.{pinned}
@@ -11,17 +12,17 @@ use Rattle.page_action.specs.States.{State, IsLater, with_table}
 use Rattle.page_action.specs.Stored.{IsStored}
 use Rattle.tree_shape.specs.Leaf.{IsCopiedFrom}
 use Rattle.tree_shape.specs.Walks.{frontier_aim}
-use Rattle.tree_acts.specs.Leaves.{WasLeaf}
+use Rattle.tree_acts.specs.Leaves.{IsLeafAt}
 use Rattle.tree_acts.specs.Trees.{HasPlace, HasCover}
 use Rattle.descent.proofs.Looking.{if_err}
 use Rattle.descent.specs.Onward.{IsOnWay, LeadsOnward, LeadsStraight, LeavesLess, IsShorter, IsArrived}
 use Rattle.descent.specs.declared.way.Way.{Way}
 use Rattle.descent.specs.declared.way.Onward.TheVariants.{Going, Here}
 use Rattle.scan.specs.declared.steps.ScanAt.{ScanAt}
-use Rattle.scan.specs.Scans.{behind, without_leaf, where_scanning, ScanStands, ScanFits, IsUnderway, LeafIsRead}
+use Rattle.scan.specs.Scans.{waiting, behind, without_leaf, where_scanning, ScanStands, ScanFits, ScanWaits, IsUnderway, LeafIsRead}
 use Rattle.scan.specs.Straight.{straight_steps, IsStraight, CountsDown}
 use Rattle.scan.specs.Work.{scan_left}
-use Rattle.scan.specs.declared.steps.ScanStep.TheVariants.{Going as Goes}
+use Rattle.scan.specs.declared.steps.ScanStep.TheVariants.{Going as Goes, Ready}
 use Rattle.scan.specs.declared.steps.ScanOp.{ScanOp}
 use Rattle.scan.proofs.Arriving.{leaf_has_entries, other_items, live_leaf, scan_has_room}
 use Rattle.scan.proofs.Causes.{scanning_cause}
@@ -52,6 +53,7 @@ returns-in_err-look-clause-all g c = record {
   refused = search rules;
   stopped = search rules;
   ready = search rules;
+  waits = λ alive some. absurd (some c.requires.none);
   less = search rules;
   no_more = search rules;
   stepped = λ honest order fits.
@@ -73,7 +75,7 @@ returns-in_default-clause-all g c =
     let before : ScanOp = c.args.self.now in
     let way : Way = c.args.way in
     let page : Page = c.view-page.result.now in
-    refuses g.S.PageStore before c.args.store.now c.look.new.store _ c.look.ensures.steps c.look.ensures.state
+    refuses g.S.PageStore before c.args.store.now c.look.new.store _ c.look.ensures.steps c.look.ensures.state c.requires.none
     (λ h. (let k = sym c.in_ok-look.was ∙ c.look.ensures.stopped h in cc))
     (λ honest order fits.
     let found = found_there g (goal.at.returns-in_default-clause-all g c).After-view-page honest in
@@ -88,7 +90,7 @@ returns-in_default-clause-all g c =
 pub returns-in-None-clause-all : goal.returns-in-None-clause-all
 returns-in-None-clause-all g c =
     let old : State = g.S.PageStore.state c.args.store.now in
-    refuses g.S.PageStore c.args.self.now c.args.store.now c.look.new.store _ c.look.ensures.steps c.look.ensures.state
+    refuses g.S.PageStore c.args.self.now c.args.store.now c.look.new.store _ c.look.ensures.steps c.look.ensures.state c.requires.none
     (λ h. (let k = sym c.in_ok-look.was ∙ c.look.ensures.stopped h in cc))
     (λ honest order fits.
     absurd (subst (LeadsOnward old fits.start (frontier_aim c.args.self.now.frontier) false 0 c.args.way) c.in-None.is
@@ -120,6 +122,7 @@ returns-in-Some-Going-clause-all g c =
       refused = tt;
       stopped = search rules;
       ready = tt;
+      waits = λ alive some. absurd {A = ScanWaits old new before after (Ok Goes)} (some c.requires.none);
       less = λ honest. less;
       no_more = λ honest. omega arith;
       stepped = λ honest order fits.
@@ -176,6 +179,7 @@ returns-in-Entries-clause-all g c =
       refused = tt;
       stopped = search rules;
       ready = c.ready.ensures;
+      waits = λ alive some. absurd {A = ScanWaits old new before after (Ok (Ready c.ready.result))} (some c.requires.none);
       less = λ honest none. less honest;
       no_more = λ honest. (let l = less honest in omega arith);
       stepped = λ honest order fits.
@@ -191,7 +195,7 @@ returns-in-Entries-clause-all g c =
           let cover : HasCover old 0 (frontier_aim before.frontier) page.block = subst (HasCover old 0 (frontier_aim before.frontier)) (sym block_is) here.1 in
           let has = leaf_has_entries old (frontier_aim before.frontier) page order.tree there admitted cover in
           let live = live_leaf page has arrived.alive admitted in
-          let here_now : WasLeaf old.pages way.block = record { page = page; was = record { found = found; alive = arrived.alive; leaf = has } } in
+          let at : IsLeafAt old.pages way.block page = record { found = found; alive = arrived.alive; leaf = has } in
           let place : HasPlace old fits.start 0 (frontier_aim before.frontier) false page.block =
           subst (λ (b : ℕ). HasPlace old fits.start 0 (frontier_aim before.frontier) false b) (sym block_is)
           (subst (λ (k : ℕ). HasPlace old fits.start k (frontier_aim before.frontier) false way.block) here.0 on_way.place) in
@@ -201,11 +205,14 @@ returns-in-Entries-clause-all g c =
           subst (λ (xs : List Entry). IsCopiedFrom xs before.frontier before.range.below es) entries copied_by in
           inr (record {
             does = reading_does old new before way.block order fits is;
-            fits = subst (ScanFits new) (sym op_is) (reading_fits old new before way.block order fits is page es there place here_now many);
+            fits = subst (ScanFits new) (sym op_is) (reading_fits old new before way.block order fits is page es there place (record { page = page; was = at }) many);
             none = c.requires.none;
             way = way;
             from = c.requires.at;
             leaf = ap (λ (op : ScanOp). op.leaf) op_is;
+            page = page;
+            live = at;
+            of_leaf = λ e ready. (and_parts _ _ (sym (copied.each e) ∙ subst (λ (op : ScanOp). is_among (waiting op) e ≡ true) op_is ready)).0;
             read = subst (LeafIsRead old before) (sym op_is)
                 (reads_leaf old before (Some way.block) way page es order.tree c.requires.at fits.started there cover live copied);
             count_is = c.ready.ensures;
