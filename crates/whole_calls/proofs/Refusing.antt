@@ -12,7 +12,7 @@ use Rattle.page_action.specs.Contents.{entry_on_live_leaf}
 use Rattle.page_action.specs.Causes.{nothing_wrong, where_forced, has_failed, is_at_end, pinned_blocks, count_apart}
 use Rattle.descent.specs.Shared.{is_out_of_blocks, any_is_reusable}
 use Rattle.descent.specs.Ways.{root_level}
-use Rattle.split_finish.specs.Finishes.{images_of, frames_of}
+use Rattle.split_finish.specs.Finishes.{frames_of}
 use Rattle.split_finish.specs.declared.finish.FinishAt.{FinishAt}
 use Rattle.split_finish.specs.declared.finish.FinishAt.TheVariants.{Start as FinishStart}
 use Rattle.insert_split.specs.Inserts.{InsertFits, InsertStands, leaf_held, is_full_page, images_at, frames_at, takes_block_at, splits_root_at, where_inserting}
@@ -24,12 +24,14 @@ use Rattle.scan.specs.declared.steps.ScanOp.{ScanOp}
 use Rattle.vacuum.specs.BulkDeletes.{BulkDeleteFits, where_deleting, is_counted_out}
 use Rattle.vacuum.specs.declared.steps.BulkDeleteOp.{BulkDeleteOp}
 use Rattle.page_delete.specs.Cleanups.{CleanupFits, where_cleaning}
+use Rattle.page_delete.specs.Needs.{count_written, frames_for}
 use Rattle.page_delete.specs.Ops.{is_counted_out as is_cleanup_full}
 use Rattle.page_delete.specs.declared.steps.CleanupOp.{CleanupOp}
 use Rattle.session_calls.specs.declared.op.Op.TheVariants.{Insert, Scan, Bulk, Cleanup}
 use Rattle.whole_calls.proofs.Words.{Effect, Ask, AskInsert, AskScan, AskBulkDelete, AskCleanup, Call, Circumstances, HasCause, Entry, Fault, Limits, State, Backing, IsLater, Ghosts, Page, DeadSets, acts_of, OpFits, IsCaused, once_added, where_stepped, asked_of, session_of, Told, is_busy, AnswersNext, Answer, Added, Gave, Refused, Op, Request, StoreAndSlots, Snapshot, IsRunningCall, EventDoes, Fits, here_at, slot_of, one_vacuums, MovesCall, Steps, CallMoves, MovesOn, where_moving, where_begun_at, is_of_sets, OthersStay}
 use Rattle.whole_calls.specs.Refusing.{others_run, another_runs, is_full_vacuum, where_gone, where_inserted, is_used_up, is_tall, where_asked, where_called}
 use Rattle.whole_calls.proofs.Tellings.{runs_in_slot, runs_has_call, one_runs, true_false}
+use Rattle.schedule.proofs.Causes.{insert_images_few, frames_few, written_few, frames_for_few}
 use Rattle.schedule.proofs.Fitting.{beyond_of, running_of}
 
 pub or_left : (a b : Bool) → a ≡ true → (a || b) ≡ true
@@ -173,25 +175,11 @@ pins_own (holding ∷ table) (suc session) none =
 
 -- the room for an act
 
-few_of : (at : FinishAt) → images_of at ≤ 4
-few_of FinishStart = omega arith
-few_of at = omega arith
-
-few_at : (st : State) (at : InsertAt) → images_at st at ≤ 4
-few_at st Start = omega arith
-few_at st (At way) = omega arith
-few_at st (Holds block) = of (is_full_page st.limits.items (slice_get st.pages block))
-  where
-    of : (b : Bool) → (if b then 3 else 1) ≤ 4
-    of true = omega arith
-    of false = omega arith
-few_at st (Finishing op) = few_of op.at
-
 -- where that room was made, an act is no cause
-enough : (least_room promised images : ℕ) → (5 ≤ least_room → 5 ≤ promised) → images ≤ 4 → nat_le promised images ≡ true → nat_lt least_room 5 ≡ true
+enough : (least_room promised images : ℕ) → (5 ≤ least_room → 5 ≤ promised) → images ≤ 4 → (nat_lt 0 images && nat_le promised images) ≡ true → nat_lt least_room 5 ≡ true
 enough least_room promised images room few full = by_bool (nat_lt least_room 5) (λ no_less. absurd (
     let k : 5 ≤ promised = room (at_least least_room no_less) in
-    let m : promised ≤ images = leb-true promised images full in
+    let m : promised ≤ images = leb-true promised images (and_parts (nat_lt 0 images) (nat_le promised images) full).1 in
     omega (arith, k, m, few)))
   where
     at_least : (n : ℕ) → nat_lt n 5 ≡ false → 5 ≤ n
@@ -260,11 +248,10 @@ module _ {S : Type 0} (g : Ghosts S) (start : Entry → Bool) (session least_roo
       few true = omega arith
       few false = omega arith
   insert_frames of n e (Finishing op) is stands h =
-      pins_cause (frames_of op.at) 4 nothing_held (subst (λ (s : ℕ). holding_of st.table s ≡ nothing_held) (stands.0 ∙ is) stands.1.free) (few op.at) (omega arith) h
+      pins_cause (frames_of st op.at) 4 nothing_held (subst (λ (s : ℕ). holding_of st.table s ≡ nothing_held) (stands.0 ∙ is) stands.1.free) few (omega arith) h
     where
-      few : (a : FinishAt) → frames_of a + 0 ≤ 4
-      few FinishStart = omega arith
-      few a = omega arith
+      few : frames_of st op.at + 0 ≤ 4
+      few = (let k = frames_few st op.at in omega (arith, k))
 
   inserting : (was_there used_up tall : Bool) (op : InsertOp) → op.session ≡ session → InsertFits st op → ((takes_block_at st op.at && is_out_of_blocks st) ≡ true → used_up ≡ true) → ((splits_root_at op.at && nat_le 31 (root_level st.pages)) ≡ true → tall ≡ true)
       → (fault : Fault) → HasCause (record (where_inserting st (g.backing x.store) (g.backing y.store) op.session op.entry op.at) { entry_was_there = was_there }) fault
@@ -275,7 +262,7 @@ module _ {S : Type 0} (g : Ghosts S) (start : Entry → Bool) (session least_roo
     | inr alone ↦ held_cause b Exclusive (subst (λ (s : ℕ). is_held_by_another st.table s b Exclusive ≡ true) is alone)
   ]
   inserting was_there used_up tall op is f blocks root IndexFull h = blocks h
-  inserting was_there used_up tall op is f blocks root LogFull h = enough least_room (g.backing x.store).promised (images_at st op.at) room (few_at st op.at) h
+  inserting was_there used_up tall op is f blocks root LogFull h = enough least_room (g.backing x.store).promised (images_at st op.at) room (insert_images_few st op.at) h
   inserting was_there used_up tall op is f blocks root NoFrame h = insert_frames op.session f.start op.entry op.at is f.stands h
   inserting was_there used_up tall op is f blocks root TooTall h = root h
   inserting was_there used_up tall op is f blocks root fault h = h
@@ -314,8 +301,11 @@ module _ {S : Type 0} (g : Ghosts S) (start : Entry → Bool) (session least_roo
     | inl shared ↦ held_cause b Shared (subst (λ (s : ℕ). is_held_by_another st.table s b Shared ≡ true) is shared)
     | inr alone ↦ held_cause b Exclusive (subst (λ (s : ℕ). is_held_by_another st.table s b Exclusive ≡ true) is alone)
   ]
-  cleaning op is f LogFull h = enough least_room (g.backing x.store).promised 3 room (omega arith) h
-  cleaning op is f NoFrame h = pins_cause 3 3 nothing_held (subst (λ (s : ℕ). holding_of st.table s ≡ nothing_held) is f.held) (omega arith) (omega arith) h
+  cleaning op is f LogFull h = (let few = written_few op.at op.cursor st in enough least_room (g.backing x.store).promised (count_written op.at op.cursor st) room (omega (arith, few)) h)
+  cleaning op is f NoFrame h = pins_cause (frames_for (count_written op.at op.cursor st)) 3 nothing_held (subst (λ (s : ℕ). holding_of st.table s ≡ nothing_held) is f.held) few (omega arith) h
+    where
+      few : frames_for (count_written op.at op.cursor st) + 0 ≤ 3
+      few = (let k = frames_for_few (count_written op.at op.cursor st) (written_few op.at op.cursor st) in omega (arith, k))
   cleaning op is f fault h = h
 
   -- a refused step leaves the pages as they were
