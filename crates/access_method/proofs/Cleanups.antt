@@ -1,5 +1,5 @@
 -- What a cleanup of an index does, read off the run.
-use Rattle.std.proofs.Common.{◌≡◌, ℕ, suc, Bool, Option, None, unwrap_or, Result, Ok, Err, List, [], ◌∷◌, ◌++◌, length, refl, sym, ap, ◌∙◌}
+use Rattle.std.proofs.Common.{◌≡◌, ℕ, suc, Bool, Option, None, unwrap_or, Result, Ok, Err, List, [], ◌∷◌, ◌++◌, length, refl, sym, ap, ◌∙◌, IfOk}
 use Rattle.index_model.specs.Actions.{Effect, Add, Remove, Shape, Action, later_or, last_said, contents_after}
 use Rattle.index_model.specs.Calls.{AskCleanup, Call}
 use Rattle.index_model.specs.declared.entry.Entry.{Entry}
@@ -11,7 +11,7 @@ use Rattle.session_calls.specs.declared.request.Request.TheVariants.{Cleanup as 
 use Rattle.schedule.specs.TheoremMoments.{StoreAndSlots, snapshot_of}
 use Rattle.schedule.specs.TheoremRuns.{Fits}
 use Rattle.whole_calls.specs.Going.{CallRuns}
-use Rattle.whole_calls.specs.Sweeping.{SweepTold, swept_came, TellsCleaned}
+use Rattle.whole_calls.specs.Sweeping.{SweepTold, swept_came, TellsCleaned, TellsPages}
 use Rattle.whole_calls.specs.Telling.{acts_by, AreOwnEffects, first_call}
 use Rattle.access_method.specs.Indexes.{IsCleanedUp}
 
@@ -35,10 +35,11 @@ module _ {S : Type 0} (g : Ghosts S) (old new : StoreAndSlots S) (start : Entry 
 
   pub cleaned_up : (result : Result VacuumStats Fault)
       → (r : CallRuns g 63 (SweepTold 63 ToCleanup result) (swept_came result) old new start history calls) → TellsCleaned (g.state new.store) result
+      → IfOk result (λ stats. TellsPages (g.state new.store) stats × (stats.tuples_removed ≡ 0))
       → IsCleanedUp g result old.store new.store
-  cleaned_up (Ok stats) r told =
+  cleaned_up (Ok stats) r told pages =
       let t = r.tells in
-      record { contents = λ e. r.ran.fits.explains.contents e ∙ stays r.then_history t.effects t.own t.history_is e ∙ sym (fits.explains.contents e); told = told }
-  cleaned_up (Err fault) r told =
+      record { contents = λ e. r.ran.fits.explains.contents e ∙ stays r.then_history t.effects t.own t.history_is e ∙ sym (fits.explains.contents e); told = told; stats = pages }
+  cleaned_up (Err fault) r told pages =
       let t = r.tells in
-      record { contents = λ e. r.ran.fits.explains.contents e ∙ stays r.then_history t.effects t.own t.history_is e ∙ sym (fits.explains.contents e); told = told }
+      record { contents = λ e. r.ran.fits.explains.contents e ∙ stays r.then_history t.effects t.own t.history_is e ∙ sym (fits.explains.contents e); told = told; stats = pages }

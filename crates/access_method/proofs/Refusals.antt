@@ -96,15 +96,15 @@ module _ {S : Type 0} (g : Ghosts S) (old : Index S) (new : S) where
     refused_cause was_there used_up tall SessionBusy was h = absurd (true_false (sym h ∙ free))
     refused_cause was_there used_up tall fault was h = h
 
-    left_cause : (unfinished : Option Fault) → IsFaultCaused (where_inserted g 63 5 false true true (slots_within old) new) unfinished
-        → IsFaultCaused (where_inserting g false true true old new) unfinished
-    left_cause None h = tt
-    left_cause (Some Stopped) h = stopped_run h
-    left_cause (Some fault) h = h
+    left_cause : (used_up tall : Bool) (unfinished : Option Fault) → IsFaultCaused (where_inserted g 63 5 false used_up tall (slots_within old) new) unfinished
+        → IsFaultCaused (where_inserting g false used_up tall old new) unfinished
+    left_cause used_up tall None h = tt
+    left_cause used_up tall (Some Stopped) h = stopped_run h
+    left_cause used_up tall (Some fault) h = h
 
     pub insert_cause : (result : Result Inserted Fault) → InsertsOrKeeps g entry result old.store new
         → InsertCallIsCaused g 63 5 entry (slots_within old) new result → InsertHasCause g entry result old new
-    insert_cause (Ok inserted) told h = left_cause inserted.unfinished h
+    insert_cause (Ok inserted) told h = left_cause (is_used_up (g.state new)) (is_tall (g.state new)) inserted.unfinished h
     insert_cause (Err fault) told h = refused_cause (has_entry g old.store entry) (is_used_up (g.state new)) (is_tall (g.state new)) fault told.was_there h
 
 -- a run leaves the number of frames as it was
@@ -182,10 +182,10 @@ module _ {S : Type 0} (g : Ghosts S) (entry : Entry) (old : Index S) (new : S) (
   refused_unhindered TooTall h = h
   refused_unhindered fault h = absurd (run_unhindered g 63 old new un same_frames fault h)
 
-  left_unhindered : (unfinished : Option Fault) → IsFaultCaused (where_inserting g false true true old new) unfinished → IsOfSpace unfinished
+  left_unhindered : (unfinished : Option Fault) → IsFaultCaused (where_inserting g false (is_used_up (g.state new)) (is_tall (g.state new)) old new) unfinished → IsOfSpace (g.state new) unfinished
   left_unhindered None h = tt
-  left_unhindered (Some IndexFull) h = tt
-  left_unhindered (Some TooTall) h = tt
+  left_unhindered (Some IndexFull) h = h
+  left_unhindered (Some TooTall) h = h
   left_unhindered (Some fault) h = absurd (run_unhindered g 63 old new un same_frames fault h)
 
   pub insert_unhindered : (result : Result Inserted Fault) → InsertHasCause g entry result old new → InsertsUnhindered g entry result old.store new

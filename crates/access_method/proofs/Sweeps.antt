@@ -1,7 +1,7 @@
 -- What a bulk delete of an index does, read off the run.
 use Rattle.whole_calls.proofs.Removing.{remove_there, all_once, all_were, all_counted, left_by_all}
 use Rattle.std.proofs.Common.{◌≡◌, ℕ, suc, Bool, true, false, Option, Some, None, unwrap_or, Result, Ok, Err, List, [], ◌∷◌, ◌++◌, length, drop, slice_get, refl, sym, ap, subst, arith, inl, inr, ◌∙◌}
-use Rattle.std.specs.Prelude.{◌&&◌, not, if◌then◌else◌}
+use Rattle.std.specs.Prelude.{◌&&◌, not, if◌then◌else◌, IfOk}
 use Rattle.std.proofs.lemmas.Bool.{cases_eq}
 use Rattle.std.proofs.lemmas.List.{take_all}
 use Rattle.index_model.specs.Actions.{Effect, Add, Remove, Shape, Action, said_of, later_or, last_said, contents_after, is_there_after}
@@ -25,7 +25,7 @@ use Rattle.schedule.specs.TheoremRuns.{Fits}
 use Rattle.session_calls.specs.Slots.{slot_of}
 use Rattle.schedule.proofs.Lists.{get_append_new}
 use Rattle.whole_calls.specs.Going.{CallRuns}
-use Rattle.whole_calls.specs.Sweeping.{SweepTold, swept_came, TellsEntries, removed_of}
+use Rattle.whole_calls.specs.Sweeping.{SweepTold, swept_came, TellsEntries, TellsPages, removed_of}
 use Rattle.whole_calls.specs.Telling.{acts_by, AreOwnEffects, first_call}
 use Rattle.access_method.specs.Indexes.{IsSweptOrLess}
 
@@ -127,8 +127,9 @@ module _ {S : Type 0} (g : Ghosts S) (dead : Row → Bool) (old new : StoreAndSl
 
   pub swept_or_less : (result : Result VacuumStats Fault)
       → (r : CallRuns g 63 (SweepTold 63 (ToBulk 0) result) (swept_came result) old new start history calls) → TellsEntries (g.state new.store) result
+      → IfOk result (λ stats. TellsPages (g.state new.store) stats × (stats.pages_newly_deleted ≡ 0))
       → IsSweptOrLess g dead result old.store new.store
-  swept_or_less (Ok stats) r left =
+  swept_or_less (Ok stats) r left pages =
       let t = r.tells in
       let call : Call = ended sweep_call (Vacuumed stats) (length r.then_history) in
       let found : slice_get r.then_calls (length calls) ≡ Some call = ap (λ (l : List Call). slice_get l (length calls)) t.calls_is ∙ get_append_new calls call in
@@ -148,6 +149,8 @@ module _ {S : Type 0} (g : Ghosts S) (dead : Row → Bool) (old new : StoreAndSl
           many = right.removed ∙ ap (λ (l : List Action). removed_by (length calls) l) (between r.then_history t.effects t.own t.history_is) ∙ all_counted start (length calls) t.effects;
         };
         left = left;
+        pages = pages.0;
+        newly_deleted = pages.1;
       }
     where
       and_true : (b : Bool) → b ≡ (b && true)
@@ -163,7 +166,7 @@ module _ {S : Type 0} (g : Ghosts S) (dead : Row → Bool) (old new : StoreAndSl
           → IsBulkDeleteAnswer start r.then_history (length calls) (length history) (length r.then_history) dead stats → contents_after start r.then_history e ≡ (contents_after start history e && not (dead e.row))
       of e false alive effects own is right = alive_stays r.then_history effects own is e alive ∙ and_true (contents_after start history e) ∙ ap (λ (d : Bool). contents_after start history e && not d) (sym alive)
       of e true gone effects own is right = dead_is_gone r.then_history effects own is stats right e gone ∙ and_false (contents_after start history e) ∙ ap (λ (d : Bool). contents_after start history e && not d) (sym gone)
-  swept_or_less (Err fault) r left =
+  swept_or_less (Err fault) r left pages =
       let t = r.tells in
       record {
         others = λ e alive. r.ran.fits.explains.contents e ∙ alive_stays r.then_history t.effects t.own t.history_is e alive ∙ sym (fits.explains.contents e);

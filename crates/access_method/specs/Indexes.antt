@@ -1,6 +1,6 @@
 -- What is promised of an index.
 use Rattle.std.specs.List.{IsDistinct}
-use Rattle.std.specs.Prelude.{◌||◌, ◌&&◌, not, ◌≡◌, ◌≢◌, ◌<◌, ◌≤◌, ℕ, suc, Bool, true, false, Option, Some, None, Result, Ok, Err, List, ◌∷◌, [], ◌++◌, length, slice_get, slice_set}
+use Rattle.std.specs.Prelude.{◌||◌, ◌&&◌, not, ◌≡◌, ◌≢◌, ◌<◌, ◌≤◌, ℕ, suc, Bool, true, false, Option, Some, None, Result, Ok, Err, List, ◌∷◌, [], ◌++◌, length, slice_get, slice_set, IfOk}
 use Rattle.device.specs.declared.device.Device.{Ghosts as DeviceGhosts}
 use Rattle.index_model.specs.Actions.{Action}
 use Rattle.index_model.specs.Calls.{AskScan, Call, IsScanAnswer, IsScanAnswerSoFar}
@@ -29,7 +29,7 @@ use Rattle.vacuum.specs.Counts.{entries_below}
 use Rattle.whole_calls.specs.Going.{CallRuns, CallGoes}
 use Rattle.whole_calls.specs.Inserting.{InsertGoes}
 use Rattle.whole_calls.specs.Made.{IsMadeOf}
-use Rattle.whole_calls.specs.Sweeping.{SweepTold, swept_came, TellsCleaned}
+use Rattle.whole_calls.specs.Sweeping.{SweepTold, swept_came, TellsCleaned, TellsPages}
 use Rattle.whole_calls.specs.Telling.{HasNone}
 use Rattle.whole_calls.specs.declared.inserted.Inserted.{Inserted}
 use Rattle.access_method.specs.Tokens.{seat_of, AreTaken}
@@ -58,8 +58,8 @@ IndexGoes g session Tells came old new = CallGoes g session Tells came (slots_wi
 abbrev pub IndexInserts : {S : Type 0} → Ghosts S → ℕ → Entry → Result Inserted Fault → Index S → Index S → Type 0
 IndexInserts g session entry result old new = InsertGoes g session entry result (slots_within old) (slots_within new)
 
--- whatever the pages are, the call is made of events of this session and of checkpoints, one before a step exactly where the log has room for
--- fewer than five images; what it came to, it came to by their answers
+-- whatever the pages are, the call is made of events of this session and of checkpoints: a checkpoint only where the log has room for fewer
+-- than five images, a step only where it has room for five, or its whole room; what it came to, it came to by their answers
 abbrev pub IndexMakes : {S : Type 0} → Ghosts S → ℕ → (List Answer → Type 0) → Index S → Index S → Type 0
 IndexMakes g session Came old new = IsMadeOf g session 5 Came (slots_within old) (slots_within new)
 
@@ -156,11 +156,14 @@ pub record AreSoMany (is_such : Entry → Bool) (count : ℕ) : Type 0 where
   pub such : (e : Entry) → is_among listed e ≡ is_such e
   pub many : count ≡ length listed
 
--- the entries of dead rows are gone, and no others; and it is told how many they were, and how many entries are left
+-- the entries of dead rows are gone, and no others; and it is told how many they were, how many entries are left, how many pages are in use,
+-- and how many of them are deleted, of which it has deleted none
 pub record IsSwept {S : Type 0} (g : Ghosts S) (dead : Row → Bool) (stats : VacuumStats) (old new : S) : Type 0 where
   pub contents : (e : Entry) → has_entry g new e ≡ (has_entry g old e && not (dead e.row))
   pub removed : AreSoMany (λ e. has_entry g old e && dead e.row) stats.tuples_removed
   pub left : stats.num_index_tuples ≡ entries_below (g.state new).pages (length (g.state new).pages)
+  pub pages : TellsPages (g.state new) stats
+  pub newly_deleted : stats.pages_newly_deleted ≡ 0
 
 -- no entry has come, and none is gone but of a dead row
 pub record LosesDeadRows {S : Type 0} (g : Ghosts S) (dead : Row → Bool) (old new : S) : Type 0 where
@@ -172,10 +175,12 @@ abbrev pub IsSweptOrLess : {S : Type 0} → Ghosts S → (Row → Bool) → Resu
 IsSweptOrLess g dead (Ok stats) old new = IsSwept g dead stats old new
 IsSweptOrLess g dead (Err fault) old new = LosesDeadRows g dead old new
 
--- the contents are those before a cleanup; where it answers, it tells how many entries there are, and no half-dead page is left
+-- the contents are those before a cleanup; where it answers, it tells how many entries there are, and no half-dead page is left; and how many
+-- pages are in use, how many of them are deleted, and that it has removed no entry
 pub record IsCleanedUp {S : Type 0} (g : Ghosts S) (result : Result VacuumStats Fault) (old new : S) : Type 0 where
   pub contents : (e : Entry) → has_entry g new e ≡ has_entry g old e
   pub told : TellsCleaned (g.state new) result
+  pub stats : IfOk result (λ stats. TellsPages (g.state new) stats × (stats.tuples_removed ≡ 0))
 
 -- what a scan has given with this entry is right so far; or all that it gave is the right answer since it was begun
 abbrev pub GivesRight : (Entry → Bool) → List Action → Range → Call → Result (Option Entry) Fault → Type 0

@@ -11,6 +11,7 @@ use Rattle.index_model.specs.declared.entry.Entry.{Entry}
 use Rattle.index_model.specs.declared.fault.Fault.{Fault}
 use Rattle.index_model.specs.declared.fault.Fault.TheVariants.{Exists, IndexFull, TooTall}
 use Rattle.page_action.specs.Causes.{nothing_wrong, has_failed, is_at_end}
+use Rattle.page_action.specs.States.{State}
 use Rattle.page_action.specs.declared.page_store.PageStore.{Ghosts}
 use Rattle.session_calls.specs.Ops.{IsFaultCaused}
 use Rattle.whole_calls.specs.Refusing.{another_runs, is_used_up, is_tall}
@@ -38,9 +39,9 @@ where_inserting g was_there used_up tall old new = record (where_run g 63 old ne
   root_is_at_31 = tall;
 }
 
--- a refused insert had its cause; and so had what an insert leaves unfinished, when it came to it: never that its entry was there
+-- a refused insert had its cause; and so had what an insert leaves unfinished: never that its entry was there
 abbrev pub InsertHasCause : {S : Type 0} → Ghosts S → Entry → Result Inserted Fault → Index S → S → Type 0
-InsertHasCause g entry (Ok inserted) old new = IsFaultCaused (where_inserting g false true true old new) inserted.unfinished
+InsertHasCause g entry (Ok inserted) old new = IsFaultCaused (where_inserting g false (is_used_up (g.state new)) (is_tall (g.state new)) old new) inserted.unfinished
 InsertHasCause g entry (Err fault) old new = HasCause (where_inserting g (has_entry g old.store entry) (is_used_up (g.state new)) (is_tall (g.state new)) old new) fault
 
 -- Nothing hinders a call of this session between these moments: no other open scan's call runs, the log hasn't failed before and no
@@ -65,16 +66,16 @@ IsForWantOfSpace g entry old new IndexFull = is_used_up (g.state new) ≡ true
 IsForWantOfSpace g entry old new TooTall = is_tall (g.state new) ≡ true
 IsForWantOfSpace g entry old new fault = ⊥
 
--- that no block was free, or the root on level 31
-abbrev pub IsOfSpace : Option Fault → Type 0
-IsOfSpace None = Unit {0}
-IsOfSpace (Some IndexFull) = Unit {0}
-IsOfSpace (Some TooTall) = Unit {0}
-IsOfSpace (Some fault) = ⊥
+-- what it leaves unfinished is so because each block is in use, or the root is on level 31
+abbrev pub IsOfSpace : State → Option Fault → Type 0
+IsOfSpace st None = Unit {0}
+IsOfSpace st (Some IndexFull) = is_used_up st ≡ true
+IsOfSpace st (Some TooTall) = is_tall st ≡ true
+IsOfSpace st (Some fault) = ⊥
 
 -- what an insert answers that nothing hinders
 abbrev pub InsertsUnhindered : {S : Type 0} → Ghosts S → Entry → Result Inserted Fault → S → S → Type 0
-InsertsUnhindered g entry (Ok inserted) old new = IsOfSpace inserted.unfinished
+InsertsUnhindered g entry (Ok inserted) old new = IsOfSpace (g.state new) inserted.unfinished
 InsertsUnhindered g entry (Err fault) old new = IsForWantOfSpace g entry old new fault
 
 -- the running scan of the session gives no entry that is asked for one: that has its cause

@@ -1,5 +1,5 @@
 -- Why steps are refused, by the calls that they make.
-use Rattle.std.proofs.Common.{◌≡◌, ◌⊎◌, ℕ, zero, suc, ◌+◌, ◌<◌, ◌≤◌, Bool, true, false, not, ◌||◌, ◌==◌, nat_lt, nat_le, if◌then◌else◌, List, [], ◌∷◌, ◌++◌, length, map, refl, sym, ap, subst, inl, inr, ◌∙◌, arith}
+use Rattle.std.proofs.Common.{◌≡◌, ◌⊎◌, ℕ, zero, suc, ◌+◌, ◌<◌, ◌≤◌, Bool, true, false, not, ◌||◌, ◌&&◌, ◌==◌, nat_lt, nat_le, if◌then◌else◌, List, [], ◌∷◌, ◌++◌, length, map, refl, sym, ap, subst, inl, inr, ◌∙◌, arith}
 use Rattle.std.proofs.lemmas.Bool.{ltb-true, lt-ltb, leb-true, le-leb, and_parts}
 use Rattle.index_model.specs.Faults.{HasCause}
 use Rattle.index_model.specs.declared.fault.Fault.{Fault}
@@ -26,6 +26,10 @@ or_here false b h = absurd cc
 or_there : (a b : Bool) → b ≡ true → (a || b) ≡ true
 or_there true b h = refl
 or_there false b h = h
+
+and_both : (a b : Bool) → a ≡ true → b ≡ true → (a && b) ≡ true
+and_both true b p q = q
+and_both false b p q = absurd cc
 
 counted_one : (c : Bool) (n m k : ℕ) → n ≤ m + k → (if c then n else suc n) ≤ suc m + k
 counted_one true n m k le = omega (arith, le)
@@ -72,24 +76,24 @@ read_cause st first second third session images frames takes splits block fault 
 
 -- why an act of these pages isn't done
 pub act_cause : (st : State) (first second third : Backing) (session images frames : ℕ) (takes splits : Bool) (changed : List Page) (fault : Fault)
-    → first.failures ≤ second.failures → (second.stopped ≡ true → first.stopped ≡ true) → second.promised ≡ first.promised → length changed ≤ images
+    → first.failures ≤ second.failures → (second.stopped ≡ true → first.stopped ≡ true) → second.promised ≡ first.promised → 1 ≤ length changed → length changed ≤ images
     → count_apart (map (λ (page : Page). page.block) changed ++ pinned_blocks st.table) ≤ frames + count_apart (pinned_blocks st.table)
     → HasCause (where_acted st second third changed) fault → HasCause (where_working st first third session images frames takes splits) fault
-act_cause st first second third session images frames takes splits changed Io le alive promised few short h = later_failed first second third le h
-act_cause st first second third session images frames takes splits changed Stopped le alive promised few short h = or_left second.stopped (is_at_end st.acts) first.stopped alive h
-act_cause st first second third session images frames takes splits changed LogFull le alive promised few short h =
+act_cause st first second third session images frames takes splits changed Io le alive promised some few short h = later_failed first second third le h
+act_cause st first second third session images frames takes splits changed Stopped le alive promised some few short h = or_left second.stopped (is_at_end st.acts) first.stopped alive h
+act_cause st first second third session images frames takes splits changed LogFull le alive promised some few short h =
     let k : second.promised ≤ length changed = leb-true second.promised (length changed) h in
-    le-leb first.promised images (omega arith)
-act_cause st first second third session images frames takes splits changed NoFrame le alive promised few short h =
+    and_both (nat_lt 0 images) (nat_le first.promised images) (lt-ltb 0 images (omega arith)) (le-leb first.promised images (omega arith))
+act_cause st first second third session images frames takes splits changed NoFrame le alive promised some few short h =
     let k : st.frames < count_apart (map (λ (page : Page). page.block) changed ++ pinned_blocks st.table) = ltb-true st.frames _ h in
     lt-ltb st.frames (frames + count_apart (pinned_blocks st.table)) (omega arith)
-act_cause st first second third session images frames takes splits changed (PageDamaged b) le alive promised few short h = h
-act_cause st first second third session images frames takes splits changed (Blocked b) le alive promised few short h = absurd cc
-act_cause st first second third session images frames takes splits changed NoMemory le alive promised few short h = h
-act_cause st first second third session images frames takes splits changed Exists le alive promised few short h = h
-act_cause st first second third session images frames takes splits changed IndexFull le alive promised few short h = absurd cc
-act_cause st first second third session images frames takes splits changed TooTall le alive promised few short h = absurd cc
-act_cause st first second third session images frames takes splits changed fault le alive promised few short h = h
+act_cause st first second third session images frames takes splits changed (PageDamaged b) le alive promised some few short h = h
+act_cause st first second third session images frames takes splits changed (Blocked b) le alive promised some few short h = absurd cc
+act_cause st first second third session images frames takes splits changed NoMemory le alive promised some few short h = h
+act_cause st first second third session images frames takes splits changed Exists le alive promised some few short h = h
+act_cause st first second third session images frames takes splits changed IndexFull le alive promised some few short h = absurd cc
+act_cause st first second third session images frames takes splits changed TooTall le alive promised some few short h = absurd cc
+act_cause st first second third session images frames takes splits changed fault le alive promised some few short h = h
 
 length_map : {A B : Type 0} (f : A → B) (xs : List A) → length (map f xs) ≡ length xs
 length_map f [] = refl
@@ -97,10 +101,10 @@ length_map f (x ∷ xs) = ap suc (length_map f xs)
 
 -- ... where each of them may need a frame
 pub act_cause_of : (st : State) (first second third : Backing) (session most : ℕ) (takes splits : Bool) (changed : List Page) (fault : Fault)
-    → first.failures ≤ second.failures → (second.stopped ≡ true → first.stopped ≡ true) → second.promised ≡ first.promised → length changed ≤ most
+    → first.failures ≤ second.failures → (second.stopped ≡ true → first.stopped ≡ true) → second.promised ≡ first.promised → 1 ≤ length changed → length changed ≤ most
     → HasCause (where_acted st second third changed) fault → HasCause (where_working st first third session most most takes splits) fault
-act_cause_of st first second third session most takes splits changed fault le alive promised few h =
-    act_cause st first second third session most most takes splits changed fault le alive promised few
+act_cause_of st first second third session most takes splits changed fault le alive promised some few h =
+    act_cause st first second third session most most takes splits changed fault le alive promised some few
     (let a = apart_few (map (λ (page : Page). page.block) changed) (pinned_blocks st.table) in
     let l = length_map (λ (page : Page). page.block) changed in omega arith) h
 
@@ -137,7 +141,7 @@ pub working_later : (st : State) (first second third : Backing) (session images 
     → HasCause (where_working st second third session images frames takes splits) fault → HasCause (where_working st first third session images frames takes splits) fault
 working_later st first second third session images frames takes splits Io le alive promised h = later_failed first second third le h
 working_later st first second third session images frames takes splits Stopped le alive promised h = or_left second.stopped (is_at_end st.acts) first.stopped alive h
-working_later st first second third session images frames takes splits LogFull le alive promised h = subst (λ (n : ℕ). nat_le n images ≡ true) promised h
+working_later st first second third session images frames takes splits LogFull le alive promised h = subst (λ (n : ℕ). (nat_lt 0 images && nat_le n images) ≡ true) promised h
 working_later st first second third session images frames takes splits (Blocked b) le alive promised h = h
 working_later st first second third session images frames takes splits (PageDamaged b) le alive promised h = h
 working_later st first second third session images frames takes splits fault le alive promised h = h

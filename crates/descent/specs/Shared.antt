@@ -156,7 +156,25 @@ where_working st old new session images frames takes splits = record nothing_wro
   is_held_by_another = λ b. is_held_by_another st.table session b Shared
       || is_held_by_another st.table session b Exclusive;
   no_block_is_free = takes && is_out_of_blocks st;
-  log_is_full = nat_le old.promised images;
+  log_is_full = nat_lt 0 images && nat_le old.promised images;
   frames_are_pinned = nat_lt st.frames (frames + count_apart (pinned_blocks st.table));
   root_is_at_31 = splits && nat_le 31 (root_level st.pages);
 }
+
+-- what may be so where a step is refused that only reads, whatever the pages are
+abbrev pub where_reading_any : Circumstances
+where_reading_any = record nothing_wrong {
+  device_failed = true;
+  is_stopped = true;
+  is_held_by_another = λ b. true;
+  frames_are_pinned = true;
+  page_is_damaged = λ b. true;
+}
+
+-- ... that may write pages too
+abbrev pub where_writing_any : Circumstances
+where_writing_any = record where_reading_any { log_is_full = true }
+
+-- ... and may split them
+abbrev pub where_splitting_any : Circumstances
+where_splitting_any = record where_writing_any { no_block_is_free = true; root_is_at_31 = true }

@@ -1,13 +1,8 @@
 -- Ways from the root to a leaf: how long they are, and what must hold of the pages that one leads on at once.
-use Rattle.std.specs.Prelude.{◌≡◌, ℕ, ◌<◌, false, Option, Some, None, List, length, slice_get}
-use Rattle.index_model.specs.Order.{IsUpTo, IsRise}
-use Rattle.index_model.specs.declared.bound.Bound.{Bound}
-use Rattle.index_model.specs.declared.entry.Entry.{Entry}
-use Rattle.page_codec.specs.Edits.{entries_of, HasEntries}
+use Rattle.std.specs.Prelude.{◌≡◌, ℕ, false, Option, Some, None, List, slice_get}
 use Rattle.page_codec.specs.declared.page.Items.{Items}
 use Rattle.page_codec.specs.declared.page.Items.TheVariants.{Meta, Entries, Downlinks}
 use Rattle.page_codec.specs.declared.page.Page.{Page}
-use Rattle.page_codec.specs.declared.page.PageState.TheVariants.{Live}
 
 -- the level that a page with these items says: a leaf's is 0, and the metapage has the root's
 abbrev pub level_with : Items → ℕ → ℕ

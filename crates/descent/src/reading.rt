@@ -7,7 +7,7 @@ ghost use Rattle.page_action.specs.States.{State, Continues};
 ghost use Rattle.page_action.specs.Room.{KeepsRoom};
 ghost use Rattle.page_action.specs.Stored.{IsStored};
 ghost use Rattle.descent.specs.Causes.{where_looked};
-ghost use Rattle.descent.specs.Shared.{where_working};
+ghost use Rattle.descent.specs.Shared.{where_working, where_reading_any};
 
 use index_model::{Fault, Session};
 use latch_table::Mode;
@@ -31,6 +31,7 @@ pub fn look<S: PageStore>(store: &mut S, session: Session, block: u32) -> Result
         → IfErr result
         (HasCause (where_looked (S.state store.old) (S.backing store.old)
         (S.backing store.new) session block)) }
+    ensures faults { IfErr result (HasCause where_reading_any) }
     ensures works { (S.backing store.new).honest ≡ true
         → HasRoom (S.state store.old).table session → block < length (S.state store.old).pages
         → (images frames : ℕ) (takes splits : Bool) → 1 ≤ frames
@@ -87,6 +88,7 @@ pub fn look_to_change<S: PageStore>(
         ((S.backing store.new).stopped ≡ true → (S.backing store.old).stopped ≡ true) }
     ensures room { KeepsRoom (S.state store.old) (S.backing store.old) (S.backing store.new) }
     ensures stopped { (S.backing store.old).stopped ≡ true → result ≡ Err Fault.Stopped }
+    ensures faults { IfErr result (HasCause where_reading_any) }
     ensures cause { (S.backing store.new).honest ≡ true
         → HasRoom (S.state store.old).table session → block < length (S.state store.old).pages
         → (images frames : ℕ) (takes splits : Bool) → 1 ≤ frames
@@ -126,6 +128,7 @@ pub fn look_at_both<S: PageStore>(
         ((S.backing store.new).stopped ≡ true → (S.backing store.old).stopped ≡ true) }
     ensures room { KeepsRoom (S.state store.old) (S.backing store.old) (S.backing store.new) }
     ensures stopped { (S.backing store.old).stopped ≡ true → result ≡ Err Fault.Stopped }
+    ensures faults { IfErr result (HasCause where_reading_any) }
     ensures cause { (S.backing store.new).honest ≡ true
         → HasRoom (S.state store.old).table session → first < length (S.state store.old).pages
         → second < length (S.state store.old).pages

@@ -9,7 +9,7 @@ ghost use Rattle.page_action.specs.Reuse.{IsFresh};
 ghost use Rattle.page_action.specs.Room.{KeepsRoom};
 ghost use Rattle.page_action.specs.States.{Continues, after_act};
 ghost use Rattle.page_action.specs.Stored.{AreActable};
-ghost use Rattle.descent.specs.Shared.{where_working};
+ghost use Rattle.descent.specs.Shared.{where_working, where_reading_any, where_writing_any, where_splitting_any};
 ghost use Rattle.descent.specs.Splitting.{RightIsMendable, RightIsStored, RightIsFound};
 
 use crate::reading::{ask_for, look_to_change};
@@ -34,6 +34,7 @@ pub fn read_right<S: PageStore>(
     ensures alive { OnOk result
         ((S.backing store.new).stopped ≡ true → (S.backing store.old).stopped ≡ true) }
     ensures room { KeepsRoom (S.state store.old) (S.backing store.old) (S.backing store.new) }
+    ensures faults { IfErr result (HasCause where_reading_any) }
     ensures cause { (S.backing store.new).honest ≡ true
         → HasRoom (S.state store.old).table session → RightIsMendable (S.state store.old) right
         → (images frames : ℕ) (takes splits : Bool) → 1 ≤ frames
@@ -59,6 +60,7 @@ pub fn take_block<S: PageStore>(store: &mut S, session: Session) -> Result<u32, 
     ensures free { IfOk result (λ block.
         is_held_by_another (S.state store.old).table session block Mode.Exclusive ≡ false) }
     ensures block { 0 < length (S.state store.old).pages → IfOk result IsBlock }
+    ensures faults { IfErr result (HasCause where_splitting_any) }
     ensures cause { HasRoom (S.state store.old).table session
         → (images frames : ℕ) (splits : Bool)
         → IfErr result (HasCause (where_working (S.state store.old) (S.backing store.old)
@@ -85,6 +87,7 @@ pub fn act_on<S: PageStore>(store: &mut S, pages: &[Page]) -> Result<u64, Fault>
     ensures done { OnOk result (S.state store.new ≡ after_act pages.now (S.state store.old)) }
     ensures number { IfOk result (λ n. n ≡ suc (S.state store.old).acts) }
     ensures refused { OnErr result (S.state store.new ≡ S.state store.old) }
+    ensures faults { IfErr result (HasCause where_writing_any) }
     ensures cause { AreActable (S.state store.old).limits
         (length (S.state store.old).pages) pages.now
         → IfErr result (HasCause (where_acted (S.state store.old) (S.backing store.old)

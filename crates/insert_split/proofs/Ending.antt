@@ -4,7 +4,7 @@ use Rattle.index_model.specs.Actions.{Effect}
 use Rattle.index_model.specs.Faults.{HasCause}
 use Rattle.index_model.specs.declared.entry.Entry.{Entry}
 use Rattle.index_model.specs.declared.fault.Fault.{Fault}
-use Rattle.index_model.specs.declared.fault.Fault.TheVariants.{Stopped}
+use Rattle.index_model.specs.declared.fault.Fault.TheVariants.{Stopped, Blocked}
 use Rattle.latch_table.specs.Holdings.{Table, holding_of, nothing_held}
 use Rattle.index_model.specs.declared.limits.Limits.{Limits}
 use Rattle.page_action.specs.Causes.{is_at_end}
@@ -42,15 +42,19 @@ pub finishing_cause : (st : State) (old new : Backing) (op : InsertOp) (splits :
     → HasCause (where_finishing st old new splits.session splits.at) fault → HasCause (where_inserting st old new op.session op.entry op.at) fault
 finishing_cause st old new op splits fault at_is session h =
     subst (λ (a : InsertAt). HasCause (where_inserting st old new op.session op.entry a) fault) (sym at_is)
-    (as_inserting st old new op.session op.entry (Finishing splits) (images_of splits.at) (frames_of splits.at) (takes_block_of splits.at) (splits_root_of splits.at) fault refl
+    (as_inserting st old new op.session op.entry (Finishing splits) (images_of st splits.at) (frames_of st splits.at) (takes_block_of st splits.at) (splits_root_of splits.at) fault refl
     (subst (λ (s : ℕ). HasCause (where_finishing st old new s splits.at) fault) session h))
 
--- ... and once the entry is logged
-finishing_left : (st : State) (old new : Backing) (op : InsertOp) (splits : FinishOp) (fault : Fault) → op.at ≡ Finishing splits → splits.session ≡ op.session
+-- ... and, but for a page that is blocked, once the entry is logged
+finishing_left : (st : State) (old new : Backing) (op : InsertOp) (splits : FinishOp) (fault : Fault) → op.at ≡ Finishing splits → splits.session ≡ op.session → is_blocked fault ≡ false
     → HasCause (where_finishing st old new splits.session splits.at) fault → HasCause (where_left st old new op.session op.entry op.at) fault
-finishing_left st old new op splits fault at_is session h =
+finishing_left st old new op splits fault at_is session free h =
     subst (λ (a : InsertAt). HasCause (where_left st old new op.session op.entry a) fault) (sym at_is)
-    (subst (λ (s : ℕ). HasCause (where_finishing st old new s splits.at) fault) session h)
+    (by fault free (subst (λ (s : ℕ). HasCause (where_finishing st old new s splits.at) fault) session h))
+  where
+    by : (f : Fault) → is_blocked f ≡ false → HasCause (where_finishing st old new op.session splits.at) f → HasCause (where_left st old new op.session op.entry (Finishing splits)) f
+    by (Blocked b) free h = absurd cc
+    by f free h = h
 
 -- ... that goes on
 pub finish_goes : {S : Type 0} (g : Ghosts S) (before : InsertOp) (splits then_splits : FinishOp) (old new : S) → before.at ≡ Finishing splits → (g.backing old).stopped ≡ false
@@ -148,7 +152,7 @@ finish_done g before after splits then_splits step old new at_is alive h on = by
 pub finish_refused : {S : Type 0} (g : Ghosts S) (before : InsertOp) (splits then_splits : FinishOp) (fault : Fault) (result : Result InsertStep Fault) (old new : S) → before.at ≡ Finishing splits
     → (g.backing old).stopped ≡ false → FinishSteps g splits then_splits old new (Err fault) → Leaves before.added fault result
     → InsertSteps g before (record before { at = Finishing then_splits }) old new result
-finish_refused g before splits then_splits fault result old new at_is alive h leaves = by (is_blocked fault) before.added refl leaves
+finish_refused g before splits then_splits fault result old new at_is alive h leaves = by (is_blocked fault) refl before.added refl leaves
   where
     same : (let o : InsertOp = record before { at = Finishing then_splits } in o) ≡ before
     same = ap (λ (a : InsertAt). let o : InsertOp = record before { at = a } in o) (ap Finishing h.refused.op ∙ sym at_is)
@@ -159,17 +163,17 @@ finish_refused g before splits then_splits fault result old new at_is alive h le
         let there = finishing_there (g.state old) before splits at_is fits in
         finishing_cause (g.state old) (g.backing old) (g.backing new) before splits fault at_is there.0 (h.stepped honest order there.1)
 
-    left_cause : (g.backing new).honest ≡ true → IsInOrder (g.state old) → InsertFits (g.state old) before
+    left_cause : is_blocked fault ≡ false → (g.backing new).honest ≡ true → IsInOrder (g.state old) → InsertFits (g.state old) before
         → HasCause (where_left (g.state old) (g.backing old) (g.backing new) before.session before.entry before.at) fault
-    left_cause honest order fits =
+    left_cause free honest order fits =
         let there = finishing_there (g.state old) before splits at_is fits in
-        finishing_left (g.state old) (g.backing old) (g.backing new) before splits fault at_is there.0 (h.stepped honest order there.1)
+        finishing_left (g.state old) (g.backing old) (g.backing new) before splits fault at_is there.0 free (h.stepped honest order there.1)
 
     refusal : InsertSteps g before (record before { at = Finishing then_splits }) old new (Err fault)
     refusal = subst (λ (o : InsertOp). InsertSteps g before o old new (Err fault)) (sym same) (refuses g before old new fault h.steps h.refused.state alive cause)
 
-    over : (action : ℕ) → before.added ≡ Some action → InsertSteps g before (record before { at = Finishing then_splits }) old new (Ok (Added action (Some fault)))
-    over action is = subst (λ (o : InsertOp). InsertSteps g before o old new (Ok (Added action (Some fault)))) (sym same) (record {
+    over : is_blocked fault ≡ false → (action : ℕ) → before.added ≡ Some action → InsertSteps g before (record before { at = Finishing then_splits }) old new (Ok (Added action (Some fault)))
+    over free action is = subst (λ (o : InsertOp). InsertSteps g before o old new (Ok (Added action (Some fault)))) (sym same) (record {
       steps = h.steps;
       session = refl;
       entry = refl;
@@ -181,15 +185,15 @@ finish_refused g before splits then_splits fault result old new at_is alive h le
         effect = None;
         does = nothing_else before.session (g.state old) (g.state new) h.refused.state order;
         noted = sym is;
-        left = (refl, left_cause honest order fits);
+        left = (refl, left_cause free honest order fits);
       };
       straight = λ honest order fits whole on room. absurd (subst (IsStraight (g.state old) before.entry) at_is on);
     })
 
-    by : (blocked : Bool) (added : Option ℕ) → before.added ≡ added → LeavesBy blocked added fault result → InsertSteps g before (record before { at = Finishing then_splits }) old new result
-    by blocked None is leaves = subst (λ (r : Result InsertStep Fault). InsertSteps g before (record before { at = Finishing then_splits }) old new r) (sym leaves) refusal
-    by true (Some action) is leaves = subst (λ (r : Result InsertStep Fault). InsertSteps g before (record before { at = Finishing then_splits }) old new r) (sym leaves) refusal
-    by false (Some action) is leaves = subst (λ (r : Result InsertStep Fault). InsertSteps g before (record before { at = Finishing then_splits }) old new r) (sym leaves) (over action is)
+    by : (blocked : Bool) → is_blocked fault ≡ blocked → (added : Option ℕ) → before.added ≡ added → LeavesBy blocked added fault result → InsertSteps g before (record before { at = Finishing then_splits }) old new result
+    by blocked held None is leaves = subst (λ (r : Result InsertStep Fault). InsertSteps g before (record before { at = Finishing then_splits }) old new r) (sym leaves) refusal
+    by true held (Some action) is leaves = subst (λ (r : Result InsertStep Fault). InsertSteps g before (record before { at = Finishing then_splits }) old new r) (sym leaves) refusal
+    by false held (Some action) is leaves = subst (λ (r : Result InsertStep Fault). InsertSteps g before (record before { at = Finishing then_splits }) old new r) (sym leaves) (over held action is)
 
 -- an insert whose entry is logged is refused for a blocked page alone
 pub refused_rightly : (added : Option ℕ) (fault : Fault) (result : Result InsertStep Fault) → Leaves added fault result → IsRefusedRightly added result
@@ -198,7 +202,7 @@ refused_rightly (Some action) fault result leaves = by (is_blocked fault) refl l
   where
     by : (blocked : Bool) → is_blocked fault ≡ blocked → LeavesBy blocked (Some action) fault result → IsRefusedRightly (Some action) result
     by true is h = subst (λ (r : Result InsertStep Fault). IsRefusedRightly (Some action) r) (sym h) is
-    by false is h = subst (λ (r : Result InsertStep Fault). IsRefusedRightly (Some action) r) (sym h) tt
+    by false is h = subst (λ (r : Result InsertStep Fault). IsRefusedRightly (Some action) r) (sym h) refl
 
 -- an insert whose entry is logged isn't on its straight way any more
 past_adding : (st : State) (e : Entry) (at : InsertAt) (action : ℕ) → IsToCome at (Some action) → IsStraight st e at → ⊥
@@ -242,11 +246,6 @@ stops g op store result halted told = by op.added refl told
       };
       straight = λ honest order fits whole on room. absurd (past_adding (g.state store) op.entry op.at action (subst (λ (a : Option ℕ). IsToCome op.at a) is fits.to_come) on);
     })
-
--- what isn't refused
-pub answered_rightly : (added : Option ℕ) (step : InsertStep) → IsRefusedRightly added (Ok step)
-answered_rightly None step = tt
-answered_rightly (Some action) step = tt
 
 -- an insert that finishes has something to finish
 pub has_splits : (at : InsertAt) → IsFinishing at → ((splits : FinishOp) → at ≡ Finishing splits → ⊥) → ⊥

@@ -17,7 +17,7 @@ use Rattle.tree_shape.specs.Walks.{entry_aim, is_within}
 use Rattle.tree_acts.specs.Trees.{HasPlace}
 use Rattle.tree_acts.specs.Ways.{AreWhole}
 use Rattle.descent.specs.Onward.{IsOnWay}
-use Rattle.descent.specs.Shared.{IsInOrder, Does, IsOneStep, is_flagged, where_working}
+use Rattle.descent.specs.Shared.{IsInOrder, Does, IsOneStep, is_flagged, where_working, where_splitting_any}
 use Rattle.split_finish.specs.Finishes.{images_of, frames_of, takes_block_of}
 use Rattle.split_finish.specs.Targets.{targets_of, OnlyTargetsAreFlagged, FinishFits, finish_left, walk_length, way_left}
 use Rattle.split_finish.specs.Turns.{splits_root_of}
@@ -95,7 +95,7 @@ images_at st Start = 0
 images_at st (At way) = 0
 images_at st (Holds block) =
     if is_full_page st.limits.items (slice_get st.pages block) then 3 else 1
-images_at st (Finishing op) = images_of op.at
+images_at st (Finishing op) = images_of st op.at
 
 -- ... and how many frames it needs, beside that of the leaf that it has pinned
 abbrev pub frames_at : State → InsertAt → ℕ
@@ -103,14 +103,14 @@ frames_at st Start = 1
 frames_at st (At way) = 1
 frames_at st (Holds block) =
     if is_full_page st.limits.items (slice_get st.pages block) then 2 else 0
-frames_at st (Finishing op) = frames_of op.at
+frames_at st (Finishing op) = frames_of st op.at
 
--- ... whether it may take a block: to split a full leaf, or to finish a split
+-- ... whether it may take a block: to split a full leaf, or what the finishing of a split takes
 abbrev pub takes_block_at : State → InsertAt → Bool
 takes_block_at st Start = false
 takes_block_at st (At way) = false
 takes_block_at st (Holds block) = is_full_page st.limits.items (slice_get st.pages block)
-takes_block_at st (Finishing op) = takes_block_of op.at
+takes_block_at st (Finishing op) = takes_block_of st op.at
 
 -- ... and whether it may split the root: only to finish a split
 abbrev pub splits_root_at : InsertAt → Bool
@@ -127,10 +127,28 @@ where_inserting st old new session e at =
       entry_was_there = entry_on_live_leaf st.pages e;
     }
 
--- ... and why it leaves splits unfinished, once its entry is logged: never that its entry was there
+-- ... and why it leaves splits unfinished, once its entry is logged: never that its entry was there, nor that another session
+-- holds a page
 abbrev pub where_left : State → Backing → Backing → ℕ → Entry → InsertAt → Circumstances
-where_left st old new session e at =
-    record (where_inserting st old new session e at) { entry_was_there = false }
+where_left st old new session e at = record (where_inserting st old new session e at) {
+  is_held_by_another = λ b. false;
+  entry_was_there = false;
+}
+
+-- what may be so where a step of an insert is refused, whatever the pages are
+abbrev pub where_inserting_any : Circumstances
+where_inserting_any = record where_splitting_any { entry_was_there = true }
+
+-- ... and where it leaves splits unfinished
+abbrev pub where_left_any : Circumstances
+where_left_any = record where_splitting_any { is_held_by_another = λ b. false }
+
+-- this holds of the fault that an insert ends with, if it ends with one
+abbrev pub IfUnfinished : Result InsertStep Fault → (Fault → Type 0) → Type 0
+IfUnfinished (Ok Going) P = Unit {0}
+IfUnfinished (Ok (Added action None)) P = Unit {0}
+IfUnfinished (Ok (Added action (Some fault))) P = P fault
+IfUnfinished (Err fault) P = Unit {0}
 
 -- what the insert notes of a step: the number of the action that adds its entry
 abbrev pub IsNoted : Option Effect → ℕ → Entry → Option ℕ → Option ℕ → Type 0

@@ -157,8 +157,9 @@ LeavesBy false (Some action) fault result = result ≡ Ok (Added action (Some fa
 abbrev pub Leaves : Option ℕ → Fault → Result InsertStep Fault → Type 0
 Leaves added fault result = LeavesBy (is_blocked fault) added fault result
 
--- once the entry is logged, only a page that is blocked refuses a step
+-- once the entry is logged, only a page that is blocked refuses a step, and the insert ends with the number of that action
 abbrev pub IsRefusedRightly : Option ℕ → Result InsertStep Fault → Type 0
 IsRefusedRightly None result = Unit {0}
-IsRefusedRightly (Some action) (Ok step) = Unit {0}
+IsRefusedRightly (Some action) (Ok Going) = Unit {0}
+IsRefusedRightly (Some action) (Ok (Added number unfinished)) = number ≡ action
 IsRefusedRightly (Some action) (Err fault) = is_blocked fault ≡ true

@@ -1,9 +1,10 @@
 //! An insert, and which step it makes next.
 
-ghost use Rattle.std.specs.Prelude.{◌≡◌, Err, Ok, Some, None, IfSome, IfNone, IfOk, OnOk, OnErr, true, false};
+ghost use Rattle.std.specs.Prelude.{◌≡◌, Err, Ok, Some, None, IfSome, IfNone, IfOk, IfErr, OnOk, OnErr, true, false};
+ghost use Rattle.index_model.specs.Faults.{HasCause};
 ghost use Rattle.latch_table.specs.Holdings.{HasRoom, latched, pinned};
 ghost use Rattle.page_action.specs.States.{Continues, with_table};
-ghost use Rattle.insert_split.specs.Inserts.{IsToCome, InsertSteps, AnswersStopped};
+ghost use Rattle.insert_split.specs.Inserts.{InsertSteps, IfUnfinished, AnswersStopped, where_inserting_any, where_left_any};
 ghost use Rattle.insert_split.specs.Turns.{Meets, Takes, IsFinishing, GoesOn, Leaves, IsRefusedRightly};
 
 use crate::room::place_in;
@@ -77,17 +78,20 @@ impl InsertOp {
     /// stands in `unfinished` of `Added`.
     pub fn step<S: PageStore>(&mut self, store: &mut S) -> Result<InsertStep, Fault>
         ensures all { InsertSteps S.PageStore self.old self.new store.old store.new result }
-        ensures logged { IsToCome self.old.at self.old.added
-            → IsRefusedRightly self.old.added result }
+        ensures faults { IfErr result (HasCause where_inserting_any) }
+        ensures quiet { IfUnfinished result (λ fault. S.state store.new ≡ S.state store.old) }
+        ensures left { IfUnfinished result (HasCause where_left_any) }
+        ensures logged { IsRefusedRightly self.old.added result }
     {
         if store.is_stopped() {
             return self.stop();
         }
         match self.at {
+            InsertAt::Finishing(_) => self.finish(store),
+            _ if self.added.is_some() => Ok(self.go_on()),
             InsertAt::Start => self.find_root(store),
             InsertAt::At(way) => self.walk(store, way),
             InsertAt::Holding(block) => self.add(store, block),
-            InsertAt::Finishing(_) => self.finish(store),
         }
     }
 
@@ -108,7 +112,10 @@ impl InsertOp {
     fn find_root<S: PageStore>(&mut self, store: &mut S) -> Result<InsertStep, Fault>
         requires at { self.old.at ≡ InsertAt.Start }
         requires alive { (S.backing store.old).stopped ≡ false }
-        ensures { InsertSteps S.PageStore self.old self.new store.old store.new result }
+        ensures all { InsertSteps S.PageStore self.old self.new store.old store.new result }
+        ensures faults { IfErr result (HasCause where_inserting_any) }
+        ensures quiet { IfUnfinished result (λ fault. S.state store.new ≡ S.state store.old) }
+        ensures left { IfUnfinished result (HasCause where_left_any) }
     {
         match look(store, self.session, 0) {
             Ok(()) => {}
@@ -125,7 +132,10 @@ impl InsertOp {
     fn walk<S: PageStore>(&mut self, store: &mut S, way: Way) -> Result<InsertStep, Fault>
         requires at { self.old.at ≡ InsertAt.At way }
         requires alive { (S.backing store.old).stopped ≡ false }
-        ensures { InsertSteps S.PageStore self.old self.new store.old store.new result }
+        ensures all { InsertSteps S.PageStore self.old self.new store.old store.new result }
+        ensures faults { IfErr result (HasCause where_inserting_any) }
+        ensures quiet { IfUnfinished result (λ fault. S.state store.new ≡ S.state store.old) }
+        ensures left { IfUnfinished result (HasCause where_left_any) }
     {
         match look(store, self.session, way.block) {
             Ok(()) => {}
@@ -153,7 +163,8 @@ impl InsertOp {
 
     // Finishes the split of a page that it met on its way.
     fn meet(&mut self, page: &Page, way: Way) -> Result<InsertStep, Fault>
-        ensures { Meets page.now way self.old self.new result }
+        ensures meets { Meets page.now way self.old self.new result }
+        ensures faults { IfErr result (HasCause where_inserting_any) }
     {
         match target_of(page, way) {
             Some(target) => {
@@ -171,6 +182,7 @@ impl InsertOp {
         ensures takes { HasRoom (S.state store.old).table self.old.session
             → Takes block self.old self.new (S.state store.old) (S.state store.new) result }
         ensures going { IfOk result (λ step. step ≡ InsertStep.Going) }
+        ensures faults { IfErr result (HasCause where_inserting_any) }
         ensures taken { OnOk result ((S.state store.new ≡ with_table (S.state store.old)
             (pinned (latched (S.state store.old).table self.old.session block Mode.Exclusive)
             self.old.session block))
@@ -192,7 +204,10 @@ impl InsertOp {
     fn add<S: PageStore>(&mut self, store: &mut S, block: u32) -> Result<InsertStep, Fault>
         requires at { self.old.at ≡ InsertAt.Holding block }
         requires alive { (S.backing store.old).stopped ≡ false }
-        ensures { InsertSteps S.PageStore self.old self.new store.old store.new result }
+        ensures all { InsertSteps S.PageStore self.old self.new store.old store.new result }
+        ensures faults { IfErr result (HasCause where_inserting_any) }
+        ensures quiet { IfUnfinished result (λ fault. S.state store.new ≡ S.state store.old) }
+        ensures left { IfUnfinished result (HasCause where_left_any) }
     {
         match store.fetch(block) {
             Ok(()) => {}
@@ -217,6 +232,9 @@ impl InsertOp {
         requires at { IsFinishing self.old.at }
         requires alive { (S.backing store.old).stopped ≡ false }
         ensures all { InsertSteps S.PageStore self.old self.new store.old store.new result }
+        ensures faults { IfErr result (HasCause where_inserting_any) }
+        ensures quiet { IfUnfinished result (λ fault. S.state store.new ≡ S.state store.old) }
+        ensures left { IfUnfinished result (HasCause where_left_any) }
         ensures logged { IsRefusedRightly self.old.added result }
     {
         let InsertAt::Finishing(op) = &mut self.at else {

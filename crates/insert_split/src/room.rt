@@ -13,6 +13,7 @@ ghost use Rattle.page_action.specs.Stored.{AreActable, IsStored};
 ghost use Rattle.tree_shape.specs.Leaf.{IsPlaceOf, MayHold};
 ghost use Rattle.descent.specs.Shared.{where_working};
 ghost use Rattle.descent.specs.Splitting.{mended_to};
+ghost use Rattle.insert_split.specs.Inserts.{where_inserting_any};
 ghost use Rattle.insert_split.specs.Turns.{PlaceRefused, PutsEntry, SplitsLeaf, IsSplittable};
 
 use crate::insert::{InsertAt, InsertOp, InsertStep};
@@ -32,6 +33,7 @@ pub fn place_in(page: &Page, entry: &Entry) -> Result<usize, Fault>
     ensures place { IsPage page.now → IfOk result
         (IsPlaceOf entry.now (entries_of page.now.items)) }
     ensures within { IfOk result (λ at. at ≤ length (entries_of page.now.items)) }
+    ensures faults { IfErr result (HasCause where_inserting_any) }
     ensures cause { IfErr result (PlaceRefused page.now entry.now) }
 {
     if !may_hold(page, entry) {
@@ -58,6 +60,7 @@ fn act_on_halves<S: PageStore>(
         ≡ after_act (left ∷ half ∷ mended_to half.block right) (S.state store.old)) }
     ensures number { IfOk result (λ n. n ≡ suc (S.state store.old).acts) }
     ensures refused { OnErr result (S.state store.new ≡ S.state store.old) }
+    ensures faults { IfErr result (HasCause where_inserting_any) }
     ensures cause { AreActable (S.state store.old).limits (length (S.state store.old).pages)
         (left ∷ half ∷ mended_to half.block right)
         → IfErr result (HasCause (where_acted (S.state store.old) (S.backing store.old)
@@ -92,6 +95,7 @@ impl InsertOp {
         ensures puts { IfOk result (PutsEntry page.old self.now.entry
             (S.state store.old) (S.state store.new)) }
         ensures refused { OnErr result (S.state store.new ≡ S.state store.old) }
+        ensures faults { IfErr result (HasCause where_inserting_any) }
         ensures cause { has_pin (pinned_blocks (S.state store.old).table) page.old.block ≡ true
             → IfErr result (HasCause (where_working (S.state store.old) (S.backing store.old)
             (S.backing store.new) self.now.session 1 0 false false)) }
@@ -126,6 +130,7 @@ impl InsertOp {
             self.old self.new (S.state store.old) (S.state store.new)) }
         ensures state { OnErr result (S.state store.new ≡ S.state store.old) }
         ensures op { OnErr result (self.new ≡ self.old) }
+        ensures faults { IfErr result (HasCause where_inserting_any) }
         ensures cause { (S.backing store.new).honest ≡ true
             → HasRoom (S.state store.old).table self.old.session
             → IsSplittable (S.state store.old) page

@@ -227,10 +227,6 @@ used_unlinking st session honest page right number left in_page in_right taken =
         two (with_page st.pages (record l { right = Some right.block })) (as_deleted page number) (record right { left = page.left }) (omega (arith, one, u, in_page)) (omega (arith, one, u, in_right))
         ∙ (omega (arith, one, u))
 
-pub few_unlinked : (left : Option Page) (page right : Page) (number : ℕ) → length (unlinked left page right number) ≤ 3
-few_unlinked None page right number = omega arith
-few_unlinked (Some l) page right number = omega arith
-
 -- the siblings of a half-dead page link to it
 pub dead_links : (st : State) (session : ℕ) (page : Page) → IsInOrder st → IsTaken st true session page.block page → page.state ≡ HalfDead → SiblingsLink st.pages page
 dead_links st session page order taken dead =

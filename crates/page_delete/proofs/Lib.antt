@@ -1,5 +1,6 @@
 pub mod Siblings
 pub mod Measuring
+pub mod Needs
 pub mod Trying
 pub mod Dying
 pub mod Deleting

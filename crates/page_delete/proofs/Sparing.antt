@@ -1,11 +1,11 @@
 -- Which empty leaves a cleanup leaves in the tree, behind each step.
-use Rattle.std.proofs.Common.{◌≡◌, ◌≢◌, ◌⊎◌, ℕ, zero, suc, ◌+◌, take, All, ◌<◌, ◌≤◌, inl, inr, Bool, true, false, not, ◌&&◌, ◌||◌, ◌==◌, eqb, eq-eqb, List, [], ◌∷◌, ◌++◌, length, slice_get, Option, Some, None, IsSome, IsNone, refl, sym, ap, subst, ◌∙◌, arith}
+use Rattle.std.proofs.Common.{◌≡◌, ◌≢◌, ◌⊎◌, ℕ, suc, ◌+◌, take, All, ◌<◌, ◌≤◌, inl, inr, Bool, true, false, not, ◌&&◌, ◌||◌, ◌==◌, eq-eqb, List, [], ◌∷◌, ◌++◌, length, slice_get, Option, Some, None, IsSome, IsNone, refl, sym, ap, subst, ◌∙◌, arith}
 use Rattle.std.proofs.lemmas.Bool.{cases_eq}
 use Rattle.std.specs.Prelude.{slice_index_or}
 use Rattle.index_model.specs.declared.bound.Bound.{Bound}
 use Rattle.latch_table.specs.Holdings.{Holding, Table, holding_of, nothing_held, holding_excludes, others_exclude, is_held_by_another}
 use Rattle.latch_table.specs.declared.mode.Mode.TheVariants.{Cleanup}
-use Rattle.page_codec.specs.Edits.{HasEntries, entries_of}
+use Rattle.page_codec.specs.Edits.{HasEntries}
 use Rattle.page_codec.specs.Grammar.{IsPage, IsOfKind, IsLeafIn}
 use Rattle.page_codec.specs.declared.page.Downlink.{Downlink}
 use Rattle.page_codec.specs.declared.page.Items.{Items}
@@ -18,7 +18,7 @@ use Rattle.page_action.proofs.StoredPages.{stored_page}
 use Rattle.tree_shape.specs.Chains.{IsIn, IsTreeOf, first_spot}
 use Rattle.tree_shape.specs.Deletion.{MayDie}
 use Rattle.tree_shape.specs.Edits.{IsHalfDeath, IsUnlink}
-use Rattle.tree_shape.specs.LinkPlaces.{HasLinks, child_at}
+use Rattle.tree_shape.specs.LinkPlaces.{HasLinks}
 use Rattle.tree_shape.specs.Nodes.{Node, node_of, nodes_of, links_of}
 use Rattle.tree_shape.specs.Staying.{MustStay, rightmost, flagged, behind, IsWholeLeaf, HasBothLinks}
 use Rattle.tree_shape.proofs.Links.{link_cases}
@@ -38,7 +38,7 @@ use Rattle.page_delete.specs.Parts.{LeafDies, PageGoes, LinksLeft}
 use Rattle.page_delete.specs.Spares.{IsAlone, IsEmptyLeaf, HasToStay, MayGo, MayGoFrom, IsSought, IsSparing, OnlyNeededStay, EditsALeaf, dies, goes}
 use Rattle.page_delete.proofs.Siblings.{some_at, siblings}
 use Rattle.page_delete.specs.declared.steps.CleanupAt.{CleanupAt}
-use Rattle.page_delete.specs.declared.steps.CleanupAt.TheVariants.{Look, Start, Down, Judge, Unlink}
+use Rattle.page_delete.specs.declared.steps.CleanupAt.TheVariants.{Look, Start, Judge, Unlink}
 use Rattle.page_delete.specs.declared.steps.CleanupOp.{CleanupOp}
 
 some_is : (a b : ℕ) → Some a ≡ Some b → a ≡ b

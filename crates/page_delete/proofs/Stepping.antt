@@ -24,7 +24,7 @@ use Rattle.tree_acts.specs.Trees.{HasTrail}
 use Rattle.tree_acts.specs.Ways.{RootIsThere}
 use Rattle.tree_acts.proofs.Removing.{leaf_begins_trail}
 use Rattle.tree_acts.proofs.Telling.{metapage_tells, trail_begins_here}
-use Rattle.descent.specs.Shared.{IsInOrder, where_working}
+use Rattle.descent.specs.Shared.{IsInOrder}
 use Rattle.descent.specs.Onward.{IsOnWay, LeadsOnward, LeavesLess, way_from}
 use Rattle.descent.specs.declared.way.Onward.{Onward}
 use Rattle.descent.specs.declared.way.Onward.TheVariants.{Going as LeadsOn, Here}
@@ -33,6 +33,7 @@ use Rattle.descent.proofs.Acting.{one_nothing, cleans_nothing}
 use Rattle.page_delete.specs.Cleanups.{IsUnderway, CleanupFits, CleanupSteps, where_cleaning}
 use Rattle.page_delete.specs.Counts.{IsEmptyAt, IsFoundEmpty, come_to, IsCleaned, AllIsCleaned}
 use Rattle.page_delete.specs.Ops.{is_counted_out, cleanup_stats, turned_to, gone_past, gone_past_deleted, TurnsAt, unlinks, tries, passes}
+use Rattle.page_delete.specs.Needs.{count_judged, count_unlinked_at, count_written, where_trying}
 use Rattle.page_delete.specs.Parts.{IsTried, DeletesOn, AreInUse, LeafDies, IsSpared, IsInUse, PageGoes, IsNotDead, left_to, left_root, left_page, left_answer}
 use Rattle.page_delete.specs.Spares.{IsAlone, IsSought, IsSparing, EditsALeaf}
 use Rattle.page_delete.specs.Turns.{TurnsFrom}
@@ -63,7 +64,7 @@ or_there false true c h = refl
 or_there false false c h = h
 
 -- what keeps an act from being done keeps the cleanup from its step
-pub working_cause : (st : State) (old new : Backing) (op : CleanupOp) (fault : Fault) → HasCause (where_working st old new op.session 3 3 false false) fault → HasCause (where_cleaning st old new op) fault
+pub working_cause : (st : State) (old new : Backing) (op : CleanupOp) (fault : Fault) → HasCause (where_trying st old new op.session (count_written op.at op.cursor st)) fault → HasCause (where_cleaning st old new op) fault
 working_cause st old new op Stopped h = or_more old.stopped (is_at_end st.acts) (is_counted_out op) h
 working_cause st old new op fault h = h
 
@@ -158,14 +159,14 @@ moves g before after old new steps same session alive less stepped cleans spares
 }
 
 -- ... or with one
-pub acts : {S : Type 0} (g : Ghosts S) (sure : State → Type 0) (change : State → State → Type 0) (reason : State → Type 0) (before after : CleanupOp) (old new : S) → IsTried g before.session sure change reason old new (Ok true) → after.session ≡ before.session → (g.backing old).stopped ≡ false
+pub acts : {S : Type 0} (g : Ghosts S) (written : State → ℕ) (sure : State → Type 0) (change : State → State → Type 0) (reason : State → Type 0) (before after : CleanupOp) (old new : S) → IsTried g before.session written sure change reason old new (Ok true) → after.session ≡ before.session → (g.backing old).stopped ≡ false
     → cleanup_left (g.state old).limits.pages (length (g.state old).pages) after.cursor after.at < cleanup_left (g.state old).limits.pages (length (g.state old).pages) before.cursor before.at
     → TurnsFrom before.at (g.state old) before (Some Shape) after
     → (IsInOrder (g.state old) → (fits : CleanupFits (g.state old) before) → DeletesOn before.session (g.state old) (g.state new) → IsUnderway (g.state new) fits.start after.cursor after.at)
     → (IsCleaned (g.state old) before → change (g.state old) (g.state new) → IsCleaned (g.state new) after)
     → (IsInOrder (g.state old) → IsSparing (g.state old) before → change (g.state old) (g.state new) → EditsALeaf (g.state old) (g.state new) → IsSparing (g.state new) after)
     → CleanupSteps g before after old new (Ok Going)
-acts g sure change reason before after old new tried session alive less turns under cleans spares = record {
+acts g written sure change reason before after old new tried session alive less turns under cleans spares = record {
   steps = tried.steps;
   session = session;
   kept = tried.kept;
@@ -198,11 +199,13 @@ acts g sure change reason before after old new tried session alive less turns un
 }
 
 -- a part that may do one act is refused
-pub try_refused : {S : Type 0} (g : Ghosts S) (sure : State → Type 0) (change : State → State → Type 0) (reason : State → Type 0) (op : CleanupOp) (old new : S) (fault : Fault) → IsTried g op.session sure change reason old new (Err fault) → (g.backing old).stopped ≡ false
+pub try_refused : {S : Type 0} (g : Ghosts S) (written : State → ℕ) (sure : State → Type 0) (change : State → State → Type 0) (reason : State → Type 0) (op : CleanupOp) (old new : S) (fault : Fault) → IsTried g op.session written sure change reason old new (Err fault) → (g.backing old).stopped ≡ false
+    → written (g.state old) ≡ count_written op.at op.cursor (g.state old)
     → (IsInOrder (g.state old) → CleanupFits (g.state old) op → sure (g.state old)) → CleanupSteps g op op old new (Err fault)
-try_refused g sure change reason op old new fault tried alive there =
+try_refused g written sure change reason op old new fault tried alive same there =
     refuses g op old new fault tried.steps tried.refused (λ h. runs_no_more (g.backing old).stopped alive h)
-    (λ honest order fits. working_cause (g.state old) (g.backing old) (g.backing new) op fault (tried.cause honest order (has_room (g.state old) op fits) (there order fits)))
+    (λ honest order fits. working_cause (g.state old) (g.backing old) (g.backing new) op fault
+    (subst (λ (n : ℕ). HasCause (where_trying (g.state old) (g.backing old) (g.backing new) op.session n) fault) same (tried.cause honest order (has_room (g.state old) op fits) (there order fits))))
 
 -- the leaf is judged
 module _ {S : Type 0} (g : Ghosts S) (before : CleanupOp) (parent : ℕ) (old new : S) (at : before.at ≡ Judge parent) (alive : (g.backing old).stopped ≡ false) where
@@ -223,16 +226,16 @@ module _ {S : Type 0} (g : Ghosts S) (before : CleanupOp) (parent : ℕ) (old ne
   found_empty : IsCleaned (g.state old) before → IsEmptyAt (g.state old) before.cursor × (state_in (g.state old) before.cursor ≢ HalfDead)
   found_empty h = subst (IsFoundEmpty (g.state old) before.cursor) at h.empty
 
-  pub leaf_dies : IsTried g before.session (AreInUse before.cursor parent) (LeafDies before.cursor) (IsSpared before.session before.cursor parent) old new (Ok true) → CleanupSteps g before (turned_to before Unlink) old new (Ok Going)
+  pub leaf_dies : IsTried g before.session count_judged (AreInUse before.cursor parent) (LeafDies before.cursor) (IsSpared before.session before.cursor parent) old new (Ok true) → CleanupSteps g before (turned_to before Unlink) old new (Ok Going)
   leaf_dies tried =
-      acts g (AreInUse before.cursor parent) (LeafDies before.cursor) (IsSpared before.session before.cursor parent) before (turned_to before Unlink) old new tried refl alive
+      acts g count_judged (AreInUse before.cursor parent) (LeafDies before.cursor) (IsSpared before.session before.cursor parent) before (turned_to before Unlink) old new tried refl alive
       (subst (λ (a : CleanupAt). cleanup_left most used before.cursor Unlink < cleanup_left most used before.cursor a) (sym at) (judge_unlinks most used before.cursor parent))
       (subst (λ (a : CleanupAt). TurnsFrom a (g.state old) before (Some Shape) (turned_to before Unlink)) (sym at) (inl (refl, refl)))
       (λ order fits d. (d.own fits.start fits.running).trails 0 before.cursor 0 (under fits).0)
       (λ h moved. cleaned_dying (g.state old) (g.state new) before h (come_within (g.state old) before (Judge parent) at h) tried.used moved (found_empty h).0)
       (λ order h moved edit. spared_dying (g.state old) (g.state new) before parent at tried.used h moved edit)
 
-  pub leaf_spared : IsTried g before.session (AreInUse before.cursor parent) (LeafDies before.cursor) (IsSpared before.session before.cursor parent) old new (Ok false) → CleanupSteps g before (gone_past before 0) old new (Ok Going)
+  pub leaf_spared : IsTried g before.session count_judged (AreInUse before.cursor parent) (LeafDies before.cursor) (IsSpared before.session before.cursor parent) old new (Ok false) → CleanupSteps g before (gone_past before 0) old new (Ok Going)
   leaf_spared tried =
       moves g before (gone_past before 0) old new tried.steps (tried.stays refl) refl alive
       (subst (λ (a : CleanupAt). cleanup_left most used (suc before.cursor) Look < cleanup_left most used before.cursor a) (sym at) (judge_passes most used before.cursor parent))
@@ -259,16 +262,16 @@ module _ {S : Type 0} (g : Ghosts S) (before : CleanupOp) (old new : S) (at : be
   not_dead : IsNotDead before.cursor (g.state old) → state_in (g.state old) before.cursor ≢ HalfDead
   not_dead none = never_dead (g.state old).pages before.cursor none
 
-  pub page_goes : IsTried g before.session (IsInUse before.cursor) (PageGoes before.cursor) (IsNotDead before.cursor) old new (Ok true) → CleanupSteps g before (gone_past_deleted before) old new (Ok Going)
+  pub page_goes : IsTried g before.session (count_unlinked_at before.cursor) (IsInUse before.cursor) (PageGoes before.cursor) (IsNotDead before.cursor) old new (Ok true) → CleanupSteps g before (gone_past_deleted before) old new (Ok Going)
   page_goes tried =
-      acts g (IsInUse before.cursor) (PageGoes before.cursor) (IsNotDead before.cursor) before (gone_past_deleted before) old new tried refl alive
+      acts g (count_unlinked_at before.cursor) (IsInUse before.cursor) (PageGoes before.cursor) (IsNotDead before.cursor) before (gone_past_deleted before) old new tried refl alive
       (subst (λ (a : CleanupAt). cleanup_left (g.state old).limits.pages (length (g.state old).pages) (suc before.cursor) Look < cleanup_left (g.state old).limits.pages (length (g.state old).pages) before.cursor a) (sym at) (unlink_passes (g.state old).limits.pages (length (g.state old).pages) before.cursor))
       (subst (λ (a : CleanupAt). TurnsFrom a (g.state old) before (Some Shape) (gone_past_deleted before)) (sym at) (inl (refl, refl)))
       (λ order fits d. tt)
       (λ h moved. cleaned_deleted (g.state old) (g.state new) before h (come_within (g.state old) before Unlink at h) tried.used moved (subst (IsFoundEmpty (g.state old) before.cursor) at h.empty))
       (λ order h moved edit. spared_deleted (g.state old) (g.state new) before order.tree at tried.used h moved edit)
 
-  pub page_stays : IsTried g before.session (IsInUse before.cursor) (PageGoes before.cursor) (IsNotDead before.cursor) old new (Ok false) → CleanupSteps g before (gone_past before 0) old new (Ok Going)
+  pub page_stays : IsTried g before.session (count_unlinked_at before.cursor) (IsInUse before.cursor) (PageGoes before.cursor) (IsNotDead before.cursor) old new (Ok false) → CleanupSteps g before (gone_past before 0) old new (Ok Going)
   page_stays tried =
       moves g before (gone_past before 0) old new tried.steps (tried.stays refl) refl alive
       (subst (λ (a : CleanupAt). cleanup_left (g.state old).limits.pages (length (g.state old).pages) (suc before.cursor) Look < cleanup_left (g.state old).limits.pages (length (g.state old).pages) before.cursor a) (sym at) (unlink_passes (g.state old).limits.pages (length (g.state old).pages) before.cursor))

@@ -9,9 +9,10 @@ use Rattle.page_action.specs.States.{State, Continues, IsLater, after_act}
 use Rattle.page_action.specs.declared.page_store.PageStore.{Ghosts}
 use Rattle.tree_acts.specs.Deletions.{StartsAreBelow}
 use Rattle.tree_acts.specs.Leaves.{WasLeaf}
-use Rattle.descent.specs.Shared.{IsInOrder, IsOneStep, where_working}
+use Rattle.descent.specs.Shared.{IsInOrder, IsOneStep}
 use Rattle.descent.proofs.Acting.{one_act, one_nothing}
 use Rattle.descent.proofs.Working.{working_later}
+use Rattle.page_delete.specs.Needs.{frames_for, where_trying}
 use Rattle.page_delete.specs.Parts.{IsCandidate, IsTaken, IsTakenLeft, DeletesOn, PinnedLeavesStay, IsTried}
 
 -- two answers are the same
@@ -45,15 +46,15 @@ read_on g old mid steps same alive promised later = record { steps = steps; stat
 
 module _ {S : Type 0} (g : Ghosts S) (session : ℕ) where
   -- why a later part is refused, from before the reading
-  pub cause_later : (old mid new : S) (fault : Fault) → HasRead g old mid → HasCause (where_working (g.state mid) (g.backing mid) (g.backing new) session 3 3 false false) fault
-      → HasCause (where_working (g.state old) (g.backing old) (g.backing new) session 3 3 false false) fault
-  cause_later old mid new fault r h =
-      working_later (g.state old) (g.backing old) (g.backing mid) (g.backing new) session 3 3 false false fault r.failures r.alive r.promised
-      (subst (λ (st : State). HasCause (where_working st (g.backing mid) (g.backing new) session 3 3 false false) fault) r.state h)
+  pub cause_later : (old mid new : S) (written : ℕ) (fault : Fault) → HasRead g old mid → HasCause (where_trying (g.state mid) (g.backing mid) (g.backing new) session written) fault
+      → HasCause (where_trying (g.state old) (g.backing old) (g.backing new) session written) fault
+  cause_later old mid new written fault r h =
+      working_later (g.state old) (g.backing old) (g.backing mid) (g.backing new) session written (frames_for written) false false fault r.failures r.alive r.promised
+      (subst (λ (st : State). HasCause (where_trying st (g.backing mid) (g.backing new) session written) fault) r.state h)
 
-  module _ (sure : State → Type 0) (change : State → State → Type 0) (reason : State → Type 0) where
+  module _ (written : State → ℕ) (sure : State → Type 0) (change : State → State → Type 0) (reason : State → Type 0) where
     -- ... behind a reading
-    pub tried_later : (old mid new : S) (result : Result Bool Fault) → HasRead g old mid → IsTried g session sure change reason mid new result → IsTried g session sure change reason old new result
+    pub tried_later : (old mid new : S) (result : Result Bool Fault) → HasRead g old mid → IsTried g session written sure change reason mid new result → IsTried g session written sure change reason old new result
     tried_later old mid new result r t = record {
       steps = λ first h. t.steps first (r.steps first h);
       kept = subst (λ (st : State). IsOneStep st (g.state new)) r.state t.kept;
@@ -67,13 +68,14 @@ module _ {S : Type 0} (g : Ghosts S) (session : ℕ) where
       pins = λ honest. subst (λ (st : State). PinnedLeavesStay session st (g.state new)) r.state (t.pins honest);
       does = λ honest order below is. subst (λ (st : State). DeletesOn session st (g.state new)) r.state
           (t.does honest (subst IsInOrder (sym r.state) order) (subst StartsAreBelow (sym r.state) below) is);
-      cause = λ honest order room there. if_err_map result _ _ (λ fault h. cause_later old mid new fault r h)
+      cause = λ honest order room there. if_err_map result _ _ (λ fault h.
+          subst (λ (st : State). HasCause (where_trying (g.state old) (g.backing old) (g.backing new) session (written st)) fault) r.state (cause_later old mid new (written (g.state mid)) fault r h))
           (t.cause honest (subst IsInOrder (sym r.state) order) (subst (λ (st : State). HasRoom st.table session) (sym r.state) room) (subst sure (sym r.state) there));
     }
 
     -- nothing was done
     pub tried_nothing : (old new : S) → Continues g.follows old new → g.state new ≡ g.state old
-        → ((g.backing new).honest ≡ true → HasRoom (g.state old).table session → reason (g.state old)) → IsTried g session sure change reason old new (Ok false)
+        → ((g.backing new).honest ≡ true → HasRoom (g.state old).table session → reason (g.state old)) → IsTried g session written sure change reason old new (Ok false)
     tried_nothing old new steps same passes = record {
       steps = steps;
       kept = one_nothing (g.state old) (g.state new) same;
@@ -95,7 +97,7 @@ module _ {S : Type 0} (g : Ghosts S) (session : ℕ) where
     -- ... or it was refused
     pub tried_refused : (old new : S) (fault : Fault) → Continues g.follows old new → g.state new ≡ g.state old
         → ((g.backing new).honest ≡ true → IsInOrder (g.state old) → HasRoom (g.state old).table session → sure (g.state old)
-        → HasCause (where_working (g.state old) (g.backing old) (g.backing new) session 3 3 false false) fault) → IsTried g session sure change reason old new (Err fault)
+        → HasCause (where_trying (g.state old) (g.backing old) (g.backing new) session (written (g.state old))) fault) → IsTried g session written sure change reason old new (Err fault)
     tried_refused old new fault steps same cause = record {
       steps = steps;
       kept = one_nothing (g.state old) (g.state new) same;
@@ -118,7 +120,7 @@ module _ {S : Type 0} (g : Ghosts S) (session : ℕ) where
     pub tried_acted : (old new : S) (changed : List Page) → Continues g.follows old new → g.state new ≡ after_act changed (g.state old) → length (g.state new).pages ≡ length (g.state old).pages
         → ((g.backing new).honest ≡ true → change (g.state old) (g.state new)) → ((g.backing new).honest ≡ true → PinnedLeavesStay session (g.state old) (g.state new))
         → ((g.backing new).honest ≡ true → IsInOrder (g.state old) → StartsAreBelow (g.state old) → DeletesOn session (g.state old) (g.state new))
-        → IsTried g session sure change reason old new (Ok true)
+        → IsTried g session written sure change reason old new (Ok true)
     tried_acted old new changed steps done used changes pins does = record {
       steps = steps;
       kept = one_act (g.state old) (g.state new) changed done;

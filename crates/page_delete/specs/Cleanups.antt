@@ -12,8 +12,9 @@ use Rattle.tree_shape.specs.Walks.{bound_aim}
 use Rattle.tree_acts.specs.Deletions.{StartsAreBelow}
 use Rattle.tree_acts.specs.Trees.{HasTrail}
 use Rattle.descent.specs.Onward.{IsOnWay}
-use Rattle.descent.specs.Shared.{IsInOrder, CleansUp, IsOneStep, where_working}
+use Rattle.descent.specs.Shared.{IsInOrder, CleansUp, IsOneStep}
 use Rattle.page_delete.specs.Counts.{IsCleaned, CleansOn}
+use Rattle.page_delete.specs.Needs.{count_written, where_trying}
 use Rattle.page_delete.specs.Ops.{is_counted_out, cleanup_stats}
 use Rattle.page_delete.specs.Parts.{PinnedLeavesStay}
 use Rattle.page_delete.specs.Spares.{IsAlone, IsSparing, SparesOn}
@@ -47,9 +48,10 @@ pub record CleanupFits (st : State) (op : CleanupOp) : Type 0 where
 
 -- why a step of a cleanup is refused, on pages that are a tree and a device that keeps its model
 abbrev pub where_cleaning : State → Backing → Backing → CleanupOp → Circumstances
-where_cleaning st old new op = record (where_working st old new op.session 3 3 false false) {
-  is_stopped = old.stopped || (is_at_end st.acts || is_counted_out op);
-}
+where_cleaning st old new op = record (where_trying st old new op.session
+    (count_written op.at op.cursor st)) {
+      is_stopped = old.stopped || (is_at_end st.acts || is_counted_out op);
+    }
 
 -- a step is made, with one act at most, which is of one leaf on its way out of the tree
 pub record CleanupGoesOn (old new : State) (before after : CleanupOp) : Type 0 where

@@ -2,6 +2,7 @@ pub mod Ops
 pub mod Judging
 pub mod Turns
 pub mod Spares
+pub mod Needs
 pub mod Parts
 pub mod Work
 pub mod Counts

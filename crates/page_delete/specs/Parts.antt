@@ -16,12 +16,13 @@ use Rattle.page_action.specs.declared.page_store.PageStore.{Ghosts}
 use Rattle.tree_shape.specs.Deletion.{MayDie, as_deleted}
 use Rattle.tree_acts.specs.Deletions.{IsWholeAt, StartsAreBelow, state_in}
 use Rattle.tree_acts.specs.Leaves.{IsLeafAt, WasLeaf}
-use Rattle.descent.specs.Shared.{IsInOrder, CleansUp, IsOneStep, NumbersStay, where_working}
+use Rattle.descent.specs.Shared.{IsInOrder, CleansUp, IsOneStep, NumbersStay}
 use Rattle.descent.specs.declared.way.Onward.{Onward}
 use Rattle.descent.specs.declared.way.Onward.TheVariants.{Going as LeadsOn, Here}
 use Rattle.descent.specs.declared.way.Way.{Way}
 use Rattle.vacuum.specs.Counts.{entry_count}
 use Rattle.page_delete.specs.Judging.{IsToDie}
+use Rattle.page_delete.specs.Needs.{where_trying}
 use Rattle.page_delete.specs.Ops.{turned_to, gone_past}
 use Rattle.page_delete.specs.Spares.{EditsALeaf}
 use Rattle.page_delete.specs.declared.looking.Seen.{Seen}
@@ -127,11 +128,11 @@ PinnedLeavesStay session old new =
     → has_pin (holding_of old.table other).pins block ≡ true → WasLeaf new.pages block
 
 -- A part of a step that may do one act, by which a leaf goes on its way out of the tree: it answers whether it did. Where it
--- did not, nothing is changed, and there is a reason; nor where it is refused, and on pages in order there is a cause. Leaves
--- that others have pinned stay.
-pub record IsTried {S : Type 0} (g : Ghosts S) (session : ℕ) (sure : State → Type 0)
-    (change : State → State → Type 0) (reason : State → Type 0) (old new : S)
-    (result : Result Bool Fault) : Type 0 where
+-- did not, nothing is changed, and there is a reason; nor where it is refused, and on pages in order there is a cause, by how
+-- many pages it writes. Leaves that others have pinned stay.
+pub record IsTried {S : Type 0} (g : Ghosts S) (session : ℕ) (written : State → ℕ)
+    (sure : State → Type 0) (change : State → State → Type 0) (reason : State → Type 0)
+    (old new : S) (result : Result Bool Fault) : Type 0 where
   pub steps : Continues g.follows old new
   pub kept : IsOneStep (g.state old) (g.state new)
   pub table : (g.state new).table ≡ (g.state old).table
@@ -149,8 +150,8 @@ pub record IsTried {S : Type 0} (g : Ghosts S) (session : ℕ) (sure : State →
       → DeletesOn session (g.state old) (g.state new)
   pub cause : (g.backing new).honest ≡ true → IsInOrder (g.state old)
       → HasRoom (g.state old).table session → sure (g.state old)
-      → IfErr result (HasCause (where_working (g.state old) (g.backing old) (g.backing new) session
-      3 3 false false))
+      → IfErr result (HasCause (where_trying (g.state old) (g.backing old) (g.backing new) session
+      (written (g.state old))))
 
 -- these blocks are in use
 abbrev pub AreInUse : ℕ → ℕ → State → Type 0

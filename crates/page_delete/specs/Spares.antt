@@ -1,5 +1,5 @@
 -- Which empty leaves a cleanup leaves in the tree, where nobody else acts.
-use Rattle.std.specs.Prelude.{◌≡◌, ◌≢◌, ℕ, ◌<◌, Some, Result, Ok, Err, List, [], length, slice_get}
+use Rattle.std.specs.Prelude.{◌≡◌, ◌≢◌, ℕ, ◌<◌, Some, Result, Ok, Err, [], length, slice_get}
 use Rattle.index_model.specs.declared.bound.Bound.{Bound}
 use Rattle.index_model.specs.declared.fault.Fault.{Fault}
 use Rattle.latch_table.specs.Holdings.{holding_of, nothing_held}

@@ -6,8 +6,9 @@ ghost use Rattle.latch_table.specs.Holdings.{HasRoom};
 ghost use Rattle.page_action.specs.States.{Continues};
 ghost use Rattle.tree_shape.specs.LinkPlaces.{child_at};
 ghost use Rattle.tree_acts.specs.Deletions.{IsWholeAt};
-ghost use Rattle.descent.specs.Shared.{where_working};
+ghost use Rattle.descent.specs.Shared.{where_working, where_writing_any};
 ghost use Rattle.page_delete.specs.Judging.{IsHandingOn};
+ghost use Rattle.page_delete.specs.Needs.{count_judged};
 ghost use Rattle.page_delete.specs.Parts.{SiblingsLink, SiblingsAllow, SiblingsAnswer, CandidateAnswers, IsCandidate, IsTaken, IsTried, AreInUse, LeafDies, IsSpared, LinksRight, LinksLeft, IsLiveAt};
 
 use crate::looking::glance;
@@ -32,10 +33,11 @@ fn candidate<S: PageStore>(
     ensures alive { OnOk result
         ((S.backing store.new).stopped ≡ true → (S.backing store.old).stopped ≡ true) }
     ensures promised { (S.backing store.new).promised ≡ (S.backing store.old).promised }
+    ensures faults { IfErr result (HasCause where_writing_any) }
     ensures cause { (S.backing store.new).honest ≡ true
         → block < length (S.state store.old).pages
         → IfErr result (HasCause (where_working (S.state store.old) (S.backing store.old)
-        (S.backing store.new) session 3 3 false false)) }
+        (S.backing store.new) session 2 2 false false)) }
 {
     match ask_for(store, session, block, Mode::Cleanup) {
         Ok(()) => {}
@@ -58,12 +60,13 @@ fn left_is_whole<S: PageStore>(store: &mut S, session: Session, leaf: &Page) -> 
     ensures alive { OnOk result
         ((S.backing store.new).stopped ≡ true → (S.backing store.old).stopped ≡ true) }
     ensures promised { (S.backing store.new).promised ≡ (S.backing store.old).promised }
+    ensures faults { IfErr result (HasCause where_writing_any) }
     ensures cause { (S.backing store.new).honest ≡ true
         → HasRoom (S.state store.old).table session
         → ((l : ℕ) → leaf.now.left ≡ Some l
         → LinksRight (S.state store.old).pages l leaf.now.block)
         → IfErr result (HasCause (where_working (S.state store.old) (S.backing store.old)
-        (S.backing store.new) session 3 3 false false)) }
+        (S.backing store.new) session 2 2 false false)) }
 {
     let Some(left) = leaf.left else {
         return Ok(true);
@@ -95,11 +98,12 @@ fn right_is_live<S: PageStore>(
     ensures alive { OnOk result
         ((S.backing store.new).stopped ≡ true → (S.backing store.old).stopped ≡ true) }
     ensures promised { (S.backing store.new).promised ≡ (S.backing store.old).promised }
+    ensures faults { IfErr result (HasCause where_writing_any) }
     ensures cause { (S.backing store.new).honest ≡ true
         → HasRoom (S.state store.old).table session
         → LinksLeft (S.state store.old).pages right leaf.now.block
         → IfErr result (HasCause (where_working (S.state store.old) (S.backing store.old)
-        (S.backing store.new) session 3 3 false false)) }
+        (S.backing store.new) session 2 2 false false)) }
 {
     match glance(store, session, right) {
         Ok(seen) if seen.left == Some(leaf.block) => Ok(is_live(seen.state)),
@@ -122,11 +126,12 @@ fn siblings_allow<S: PageStore>(
     ensures alive { OnOk result
         ((S.backing store.new).stopped ≡ true → (S.backing store.old).stopped ≡ true) }
     ensures promised { (S.backing store.new).promised ≡ (S.backing store.old).promised }
+    ensures faults { IfErr result (HasCause where_writing_any) }
     ensures cause { (S.backing store.new).honest ≡ true
         → HasRoom (S.state store.old).table session
         → SiblingsLink (S.state store.old).pages leaf.now
         → IfErr result (HasCause (where_working (S.state store.old) (S.backing store.old)
-        (S.backing store.new) session 3 3 false false)) }
+        (S.backing store.new) session 2 2 false false)) }
 {
     let Some(right) = leaf.right else {
         return Ok(None);
@@ -186,8 +191,10 @@ fn put_to_death<S: PageStore>(
         parent.block parent }
     requires place { IsHandingOn parent leaf.block right at }
     requires inside { length (S.state store.old).pages ≤ (S.state store.old).limits.pages }
-    ensures { IsTried S.PageStore session (AreInUse leaf.block parent.block) (LeafDies leaf.block)
-        (IsSpared session leaf.block parent.block) store.old store.new result }
+    ensures all { IsTried S.PageStore session count_judged (AreInUse leaf.block parent.block)
+        (LeafDies leaf.block) (IsSpared session leaf.block parent.block)
+        store.old store.new result }
+    ensures faults { IfErr result (HasCause where_writing_any) }
 {
     let mut leaf = leaf;
     let mut parent = parent;
@@ -211,8 +218,9 @@ fn try_parent<S: PageStore>(
         leaf.block leaf }
     requires right { (S.backing store.old).honest ≡ true
         → SiblingsAllow (S.state store.old).pages leaf right }
-    ensures { IsTried S.PageStore session (AreInUse leaf.block parent) (LeafDies leaf.block)
-        (IsSpared session leaf.block parent) store.old store.new result }
+    ensures all { IsTried S.PageStore session count_judged (AreInUse leaf.block parent)
+        (LeafDies leaf.block) (IsSpared session leaf.block parent) store.old store.new result }
+    ensures faults { IfErr result (HasCause where_writing_any) }
 {
     let page = match look_to_change(store, session, parent) {
         Ok(page) => page,
@@ -233,8 +241,9 @@ fn try_beside<S: PageStore>(
 ) -> Result<bool, Fault>
     requires leaf { IsCandidate (S.state store.old) (S.backing store.old).honest session
         leaf.block leaf }
-    ensures { IsTried S.PageStore session (AreInUse leaf.block parent) (LeafDies leaf.block)
-        (IsSpared session leaf.block parent) store.old store.new result }
+    ensures all { IsTried S.PageStore session count_judged (AreInUse leaf.block parent)
+        (LeafDies leaf.block) (IsSpared session leaf.block parent) store.old store.new result }
+    ensures faults { IfErr result (HasCause where_writing_any) }
 {
     match siblings_allow(store, session, &leaf) {
         Ok(Some(right)) => try_parent(store, session, leaf, right, parent),
@@ -246,8 +255,10 @@ fn try_beside<S: PageStore>(
 impl CleanupOp {
     // Makes the leaf at the cursor half-dead, if it is to be: whether it did.
     pub fn try_leaf<S: PageStore>(&self, store: &mut S, parent: u32) -> Result<bool, Fault>
-        ensures { IsTried S.PageStore self.now.session (AreInUse self.now.cursor parent) (LeafDies self.now.cursor)
+        ensures all { IsTried S.PageStore self.now.session count_judged
+            (AreInUse self.now.cursor parent) (LeafDies self.now.cursor)
             (IsSpared self.now.session self.now.cursor parent) store.old store.new result }
+        ensures faults { IfErr result (HasCause where_writing_any) }
     {
         match candidate(store, self.session, self.cursor) {
             Ok(Some(leaf)) => try_beside(store, self.session, leaf, parent),

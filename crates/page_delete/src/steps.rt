@@ -1,6 +1,8 @@
 //! The steps of a cleanup.
 
-ghost use Rattle.std.specs.Prelude.{◌≡◌, ◌<◌, ◌||◌, false, length};
+ghost use Rattle.std.specs.Prelude.{◌≡◌, ◌<◌, ◌||◌, false, IfErr, length};
+ghost use Rattle.index_model.specs.Faults.{HasCause};
+ghost use Rattle.descent.specs.Shared.{where_writing_any};
 
 use crate::turns::stats;
 use descent::{Way, lead, look, way_down};
@@ -72,7 +74,8 @@ impl CleanupOp {
     /// again; with `Io` (2), `Stopped` (3), `LogFull` (9), `NoFrame` (10); with `PageDamaged` (17) on pages that are no tree:
     /// for a sibling that does not link back, among others. A refused step changes nothing.
     pub fn step<S: PageStore>(&mut self, store: &mut S) -> Result<CleanupStep, Fault>
-        ensures { CleanupSteps S.PageStore self.old self.new store.old store.new result }
+        ensures all { CleanupSteps S.PageStore self.old self.new store.old store.new result }
+        ensures faults { IfErr result (HasCause where_writing_any) }
     {
         if store.is_stopped() || self.is_counted_out() {
             return Err(Fault::Stopped);
@@ -100,7 +103,8 @@ impl CleanupOp {
         requires alive { (S.backing store.old).stopped ≡ false }
         requires room { is_counted_out self.old ≡ false }
         requires inside { self.old.cursor < length (S.state store.old).pages }
-        ensures { CleanupSteps S.PageStore self.old self.new store.old store.new result }
+        ensures all { CleanupSteps S.PageStore self.old self.new store.old store.new result }
+        ensures faults { IfErr result (HasCause where_writing_any) }
     {
         match look(store, self.session, self.cursor) {
             Ok(()) => {}
@@ -119,7 +123,8 @@ impl CleanupOp {
         requires at { self.old.at ≡ CleanupAt.Start high }
         requires alive { (S.backing store.old).stopped ≡ false }
         requires room { is_counted_out self.old ≡ false }
-        ensures { CleanupSteps S.PageStore self.old self.new store.old store.new result }
+        ensures all { CleanupSteps S.PageStore self.old self.new store.old store.new result }
+        ensures faults { IfErr result (HasCause where_writing_any) }
     {
         match look(store, self.session, 0) {
             Ok(()) => {}
@@ -142,7 +147,8 @@ impl CleanupOp {
         requires at { self.old.at ≡ CleanupAt.Down high way }
         requires alive { (S.backing store.old).stopped ≡ false }
         requires room { is_counted_out self.old ≡ false }
-        ensures { CleanupSteps S.PageStore self.old self.new store.old store.new result }
+        ensures all { CleanupSteps S.PageStore self.old self.new store.old store.new result }
+        ensures faults { IfErr result (HasCause where_writing_any) }
     {
         if way.level == 0 {
             return Err(Fault::PageDamaged(way.block));
@@ -162,7 +168,8 @@ impl CleanupOp {
         requires at { self.old.at ≡ CleanupAt.Judge parent }
         requires alive { (S.backing store.old).stopped ≡ false }
         requires room { is_counted_out self.old ≡ false }
-        ensures { CleanupSteps S.PageStore self.old self.new store.old store.new result }
+        ensures all { CleanupSteps S.PageStore self.old self.new store.old store.new result }
+        ensures faults { IfErr result (HasCause where_writing_any) }
     {
         match self.try_leaf(store, parent) {
             Ok(true) => {
@@ -182,7 +189,8 @@ impl CleanupOp {
         requires at { self.old.at ≡ CleanupAt.Unlink }
         requires alive { (S.backing store.old).stopped ≡ false }
         requires room { is_counted_out self.old ≡ false }
-        ensures { CleanupSteps S.PageStore self.old self.new store.old store.new result }
+        ensures all { CleanupSteps S.PageStore self.old self.new store.old store.new result }
+        ensures faults { IfErr result (HasCause where_writing_any) }
     {
         match self.try_unlink(store) {
             Ok(true) => {

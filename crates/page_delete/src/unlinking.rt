@@ -8,7 +8,8 @@ ghost use Rattle.page_action.specs.States.{Continues, after_act};
 ghost use Rattle.page_action.specs.Stored.{AreActable};
 ghost use Rattle.page_codec.specs.declared.page.PageState.TheVariants.{HalfDead};
 ghost use Rattle.tree_shape.specs.Deletion.{as_deleted};
-ghost use Rattle.descent.specs.Shared.{where_working};
+ghost use Rattle.descent.specs.Shared.{where_writing_any};
+ghost use Rattle.page_delete.specs.Needs.{where_trying, count_unlinked_at};
 ghost use Rattle.page_delete.specs.Parts.{HalfDeadAnswers, IsTaken, IsTakenLeft, IsTakenRight, IsTried, IsInUse, PageGoes, IsNotDead, LinksRight, LinksLeft, unlinked};
 
 use crate::steps::CleanupOp;
@@ -40,12 +41,13 @@ fn take_left<S: PageStore>(
     ensures alive { OnOk result
         ((S.backing store.new).stopped ≡ true → (S.backing store.old).stopped ≡ true) }
     ensures promised { (S.backing store.new).promised ≡ (S.backing store.old).promised }
+    ensures faults { IfErr result (HasCause where_writing_any) }
     ensures cause { (S.backing store.new).honest ≡ true
         → HasRoom (S.state store.old).table session
         → ((l : ℕ) → page.now.left ≡ Some l
         → LinksRight (S.state store.old).pages l page.now.block)
-        → IfErr result (HasCause (where_working (S.state store.old) (S.backing store.old)
-        (S.backing store.new) session 3 3 false false)) }
+        → (written : ℕ) → IfErr result (HasCause (where_trying (S.state store.old)
+        (S.backing store.old) (S.backing store.new) session written)) }
 {
     let Some(block) = page.left else {
         return Ok(None);
@@ -73,11 +75,12 @@ fn take_right<S: PageStore>(
     ensures alive { OnOk result
         ((S.backing store.new).stopped ≡ true → (S.backing store.old).stopped ≡ true) }
     ensures promised { (S.backing store.new).promised ≡ (S.backing store.old).promised }
+    ensures faults { IfErr result (HasCause where_writing_any) }
     ensures cause { (S.backing store.new).honest ≡ true
         → HasRoom (S.state store.old).table session
         → LinksLeft (S.state store.old).pages block page.now.block
-        → IfErr result (HasCause (where_working (S.state store.old) (S.backing store.old)
-        (S.backing store.new) session 3 3 false false)) }
+        → (written : ℕ) → IfErr result (HasCause (where_trying (S.state store.old)
+        (S.backing store.old) (S.backing store.new) session written)) }
 {
     match look_to_change(store, session, block) {
         Ok(right) if right.left == Some(page.block) => Ok(right),
@@ -101,6 +104,7 @@ fn act_between<S: PageStore>(
     ensures done { OnOk result (S.state store.new
         ≡ after_act (unlinked left page.now right number) (S.state store.old)) }
     ensures refused { OnErr result (S.state store.new ≡ S.state store.old) }
+    ensures faults { IfErr result (HasCause where_writing_any) }
     ensures cause { AreActable (S.state store.old).limits (length (S.state store.old).pages)
         (unlinked left page.now right number)
         → IfErr result (HasCause (where_acted (S.state store.old) (S.backing store.old)
@@ -136,8 +140,9 @@ fn unlink_between<S: PageStore>(
     requires right { IsTakenRight (S.state store.old) (S.backing store.old).honest session page
         right.block right }
     requires inside { length (S.state store.old).pages ≤ (S.state store.old).limits.pages }
-    ensures { IsTried S.PageStore session (IsInUse page.block) (PageGoes page.block) (IsNotDead page.block)
-        store.old store.new result }
+    ensures all { IsTried S.PageStore session (count_unlinked_at page.block) (IsInUse page.block)
+        (PageGoes page.block) (IsNotDead page.block) store.old store.new result }
+    ensures faults { IfErr result (HasCause where_writing_any) }
 {
     let number = store.begun();
     match act_between(store, left, &page, right, number) {
@@ -160,8 +165,9 @@ fn unlink_right<S: PageStore>(
     requires right_is { page.right ≡ Some right }
     requires left { IsTakenLeft (S.state store.old) (S.backing store.old).honest session page
         page.left left }
-    ensures { IsTried S.PageStore session (IsInUse page.block) (PageGoes page.block) (IsNotDead page.block)
-        store.old store.new result }
+    ensures all { IsTried S.PageStore session (count_unlinked_at page.block) (IsInUse page.block)
+        (PageGoes page.block) (IsNotDead page.block) store.old store.new result }
+    ensures faults { IfErr result (HasCause where_writing_any) }
 {
     match take_right(store, session, &page, right) {
         Ok(right) => unlink_between(store, session, left, page, right),
@@ -180,8 +186,9 @@ fn unlink_dead<S: PageStore>(
         page.block page }
     requires dead { page.state ≡ HalfDead }
     requires right_is { page.right ≡ Some right }
-    ensures { IsTried S.PageStore session (IsInUse page.block) (PageGoes page.block) (IsNotDead page.block)
-        store.old store.new result }
+    ensures all { IsTried S.PageStore session (count_unlinked_at page.block) (IsInUse page.block)
+        (PageGoes page.block) (IsNotDead page.block) store.old store.new result }
+    ensures faults { IfErr result (HasCause where_writing_any) }
 {
     match take_left(store, session, &page) {
         Ok(left) => unlink_right(store, session, left, page, right),
@@ -192,8 +199,10 @@ fn unlink_dead<S: PageStore>(
 impl CleanupOp {
     // Unlinks the page at the cursor, if it is half-dead: whether it did.
     pub fn try_unlink<S: PageStore>(&self, store: &mut S) -> Result<bool, Fault>
-        ensures { IsTried S.PageStore self.now.session (IsInUse self.now.cursor) (PageGoes self.now.cursor)
-            (IsNotDead self.now.cursor) store.old store.new result }
+        ensures all { IsTried S.PageStore self.now.session (count_unlinked_at self.now.cursor)
+            (IsInUse self.now.cursor) (PageGoes self.now.cursor) (IsNotDead self.now.cursor)
+            store.old store.new result }
+        ensures faults { IfErr result (HasCause where_writing_any) }
     {
         let page = match look_to_change(store, self.session, self.cursor) {
             Ok(page) => page,

@@ -1,10 +1,12 @@
 //! The steps of a scan.
 
-ghost use Rattle.std.specs.Prelude.{◌≡◌, ◌≤◌, [], Some, None, length};
+ghost use Rattle.std.specs.Prelude.{◌≡◌, ◌≤◌, [], Some, None, IfErr, length};
+ghost use Rattle.index_model.specs.Faults.{HasCause};
 ghost use Rattle.index_model.specs.Order.{IsAscending};
 ghost use Rattle.latch_table.specs.Holdings.{pinned};
 ghost use Rattle.page_action.specs.States.{Continues, with_table};
 ghost use Rattle.tree_shape.specs.Leaf.{IsCopiedFrom};
+ghost use Rattle.descent.specs.Shared.{where_reading_any};
 ghost use Rattle.scan.specs.Scans.{without_leaf};
 
 use crate::onward::{behind_leaf, frontier_past};
@@ -96,7 +98,8 @@ impl ScanOp {
     /// Refused with `Blocked`, and the same step may be made again; with `Io`, `Stopped`, `NoFrame`; with `PageDamaged`
     /// on pages that are no tree. A refused step changes nothing.
     pub fn step<S: PageStore>(&mut self, store: &mut S) -> Result<ScanStep, Fault>
-        ensures { ScanSteps S.PageStore self.old self.new store.old store.new result }
+        ensures all { ScanSteps S.PageStore self.old self.new store.old store.new result }
+        ensures faults { IfErr result (HasCause where_reading_any) }
     {
         if store.is_stopped() {
             return Err(Fault::Stopped);
@@ -116,7 +119,8 @@ impl ScanOp {
     fn find_root<S: PageStore>(&mut self, store: &mut S) -> Result<ScanStep, Fault>
         requires at { self.old.at ≡ ScanAt.Start }
         requires none { waiting self.old ≡ [] }
-        ensures { ScanSteps S.PageStore self.old self.new store.old store.new result }
+        ensures all { ScanSteps S.PageStore self.old self.new store.old store.new result }
+        ensures faults { IfErr result (HasCause where_reading_any) }
     {
         look(store, self.session, 0)?;
         let Some(way) = way_down(store.view(0)) else {
@@ -130,7 +134,8 @@ impl ScanOp {
     fn read<S: PageStore>(&mut self, store: &mut S, way: Way) -> Result<ScanStep, Fault>
         requires at { self.old.at ≡ ScanAt.At way }
         requires none { waiting self.old ≡ [] }
-        ensures { ScanSteps S.PageStore self.old self.new store.old store.new result }
+        ensures all { ScanSteps S.PageStore self.old self.new store.old store.new result }
+        ensures faults { IfErr result (HasCause where_reading_any) }
     {
         look(store, self.session, way.block)?;
         let page = store.view(way.block);

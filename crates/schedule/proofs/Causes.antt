@@ -1,6 +1,6 @@
 -- Why an event is refused, in the theorem's words: each cause that an operation tells is one of these.
 use Rattle.std.proofs.Common.{◌≡◌, ◌≢◌, ℕ, zero, suc, ◌+◌, ◌<◌, ◌≤◌, ◌&&◌, ◌||◌, ◌==◌, not, Bool, true, false, Option, Some, None, List, [], ◌∷◌, length, slice_get, slice_index, refl, sym, ap, subst, arith, inl, inr, ◌∙◌}
-use Rattle.std.specs.Prelude.{nat_lt, nat_le, map}
+use Rattle.std.specs.Prelude.{nat_lt, nat_le, map, if◌then◌else◌}
 use Rattle.std.proofs.lemmas.Bool.{true≢false, false≢true, and_parts, or_cases, or_parts, eqb-true, eq-eqb, ltb-true, leb-true, leb-false, cases_eq}
 use Rattle.index_model.specs.Calls.{Ask, AskInsert, AskScan, AskBulkDelete, AskCleanup}
 use Rattle.index_model.specs.Faults.{Circumstances, HasCause}
@@ -17,18 +17,22 @@ use Rattle.page_action.specs.declared.page_store.PageStore.{Ghosts}
 use Rattle.page_codec.specs.declared.page.Items.{Items}
 use Rattle.page_codec.specs.declared.page.Items.TheVariants.{Meta, Entries, Downlinks}
 use Rattle.page_codec.specs.declared.page.Page.{Page}
-use Rattle.page_codec.specs.declared.page.PageState.TheVariants.{Live, Deleted}
+use Rattle.page_codec.specs.declared.page.PageState.{PageState}
+use Rattle.page_codec.specs.declared.page.PageState.TheVariants.{Live, HalfDead, Deleted}
 use Rattle.tree_shape.specs.Chains.{IsIn}
-use Rattle.tree_shape.specs.Nodes.{node_from, nodes_of}
+use Rattle.tree_shape.specs.Nodes.{node_from, nodes_of, links_of}
 use Rattle.descent.specs.Shared.{any_is_reusable, is_out_of_blocks}
 use Rattle.descent.specs.Ways.{level_with, level_of, root_level}
-use Rattle.split_finish.specs.Finishes.{images_of, frames_of}
+use Rattle.split_finish.specs.Finishes.{count_linked, count_parted, images_of, frames_of}
 use Rattle.split_finish.specs.declared.finish.FinishAt.{FinishAt}
 use Rattle.split_finish.specs.declared.finish.FinishAt.TheVariants.{Start as FinishStart, Down, Link, Root}
 use Rattle.insert_split.specs.Inserts.{is_full_page, images_at, frames_at, takes_block_at, splits_root_at}
 use Rattle.insert_split.specs.declared.insert.InsertAt.{InsertAt}
 use Rattle.insert_split.specs.declared.insert.InsertAt.TheVariants.{Start, At, Holding as Holds, Finishing}
 use Rattle.vacuum.specs.BulkDeletes.{is_full_count, is_counted_out}
+use Rattle.page_delete.specs.Needs.{count_between, count_unlinked, count_unlinked_of, count_written, frames_for}
+use Rattle.page_delete.specs.declared.steps.CleanupAt.{CleanupAt}
+use Rattle.page_delete.specs.declared.steps.CleanupAt.TheVariants.{Look, Start as CleanupStart, Down as CleanupDown, Judge, Unlink}
 use Rattle.page_delete.specs.Ops.{is_last_number, is_counted_out as is_cleanup_full}
 use Rattle.session_calls.specs.TheoremCalls.{DeadSets}
 use Rattle.session_calls.specs.Ops.{asked_of, session_of, where_stepped}
@@ -196,19 +200,56 @@ tall pages h = of (slice_get pages 0) h
         by (Entries v) k = absurd (omega arith)
         by (Downlinks v) k = k
 
-images_few : (at : FinishAt) → images_of at ≤ 4
-images_few FinishStart = omega arith
-images_few (Down way) = omega arith
-images_few (Link way) = omega arith
-images_few Root = omega arith
+-- what a step writes and needs is no more than this
+parted_few : (right : Option ℕ) → count_parted right ≤ 4
+parted_few None = omega arith
+parted_few (Some right) = omega arith
 
-frames_few : (at : FinishAt) → frames_of at ≤ 4
-frames_few FinishStart = omega arith
-frames_few (Down way) = omega arith
-frames_few (Link way) = omega arith
-frames_few Root = omega arith
+linked_few : (items : ℕ) (parent : Option Page) → count_linked items parent ≤ 4
+linked_few items None = omega arith
+linked_few items (Some page) = by (nat_le items (length (links_of page.items)))
+  where
+    by : (b : Bool) → (if b then count_parted page.right else 2) ≤ 4
+    by true = parted_few page.right
+    by false = omega arith
 
-insert_images_few : (st : State) (at : InsertAt) → images_at st at ≤ 4
+images_few : (st : State) (at : FinishAt) → images_of st at ≤ 4
+images_few st FinishStart = omega arith
+images_few st (Down way) = omega arith
+images_few st (Link way) = linked_few st.limits.items (slice_get st.pages way.block)
+images_few st Root = omega arith
+
+pub frames_few : (st : State) (at : FinishAt) → frames_of st at ≤ 4
+frames_few st FinishStart = omega arith
+frames_few st (Down way) = omega arith
+frames_few st (Link way) = linked_few st.limits.items (slice_get st.pages way.block)
+frames_few st Root = omega arith
+
+between_few : (left : Option ℕ) → count_between left ≤ 3
+between_few None = omega arith
+between_few (Some left) = omega arith
+
+unlinked_few : (state : PageState) (left : Option ℕ) → count_unlinked state left ≤ 3
+unlinked_few Live left = omega arith
+unlinked_few HalfDead left = between_few left
+unlinked_few Deleted left = omega arith
+
+unlinked_of_few : (page : Option Page) → count_unlinked_of page ≤ 3
+unlinked_of_few None = omega arith
+unlinked_of_few (Some page) = unlinked_few page.state page.left
+
+pub written_few : (at : CleanupAt) (cursor : ℕ) (st : State) → count_written at cursor st ≤ 3
+written_few Look cursor st = omega arith
+written_few (CleanupStart high) cursor st = omega arith
+written_few (CleanupDown high way) cursor st = omega arith
+written_few (Judge parent) cursor st = omega arith
+written_few Unlink cursor st = unlinked_of_few (slice_get st.pages cursor)
+
+pub frames_for_few : (written : ℕ) → written ≤ 3 → frames_for written ≤ 3
+frames_for_few zero few = omega arith
+frames_for_few (suc written) few = few
+
+pub insert_images_few : (st : State) (at : InsertAt) → images_at st at ≤ 4
 insert_images_few st Start = omega arith
 insert_images_few st (At way) = omega arith
 insert_images_few st (Holds block) = by (is_full_page st.limits.items (slice_get st.pages block)) refl
@@ -216,7 +257,7 @@ insert_images_few st (Holds block) = by (is_full_page st.limits.items (slice_get
     by : (b : Bool) → is_full_page st.limits.items (slice_get st.pages block) ≡ b → images_at st (Holds block) ≤ 4
     by true is = rw is (omega arith)
     by false is = rw is (omega arith)
-insert_images_few st (Finishing op) = images_few op.at
+insert_images_few st (Finishing op) = images_few st op.at
 
 insert_frames_few : (st : State) (at : InsertAt) → frames_at st at ≤ 4
 insert_frames_few st Start = omega arith
@@ -226,7 +267,7 @@ insert_frames_few st (Holds block) = by (is_full_page st.limits.items (slice_get
     by : (b : Bool) → is_full_page st.limits.items (slice_get st.pages block) ≡ b → frames_at st (Holds block) ≤ 4
     by true is = rw is (omega arith)
     by false is = rw is (omega arith)
-insert_frames_few st (Finishing op) = frames_few op.at
+insert_frames_few st (Finishing op) = frames_few st op.at
 
 module _ {S : Type 0} (g : Ghosts S) (old : Snapshot S) (new : S) where
   -- these circumstances, where each is so, are a reason for a step of a call that was asked this
@@ -284,8 +325,8 @@ module _ {S : Type 0} (g : Ghosts S) (old : Snapshot S) (new : S) where
       let few : count_apart (pinned_blocks (g.state old.store).table) ≤ length (pinned_blocks (g.state old.store).table) = apart_few (pinned_blocks (g.state old.store).table) in
       omega arith
 
-  few_images : (images : ℕ) → images ≤ 4 → nat_le (g.backing old.store).promised images ≡ true → (g.backing old.store).promised ≤ 4
-  few_images images le h = let few : (g.backing old.store).promised ≤ images = leb-true (g.backing old.store).promised images h in omega arith
+  few_images : (images : ℕ) → images ≤ 4 → (nat_lt 0 images && nat_le (g.backing old.store).promised images) ≡ true → (g.backing old.store).promised ≤ 4
+  few_images images le h = let few : (g.backing old.store).promised ≤ images = leb-true (g.backing old.store).promised images (and_parts (nat_lt 0 images) (nat_le (g.backing old.store).promised images) h).1 in omega arith
 
   pub step_fails : (sets : DeadSets) (op : Op) (fault : Fault) → HasCause (where_stepped op (g.state old.store) (g.backing old.store) (g.backing new)) fault
       → MoveFails g Steps (session_of op) (asked_of sets op) op old new fault
@@ -362,8 +403,8 @@ module _ {S : Type 0} (g : Ghosts S) (old : Snapshot S) (new : S) where
     ];
     entry = λ k. absurd (false≢true k);
     block = λ k. absurd (false≢true k);
-    log = λ k. few_images 3 (omega arith) k;
-    frames = λ k. few_frames 3 (omega arith) k;
+    log = λ k. (let few = written_few op.at op.cursor (g.state old.store) in few_images (count_written op.at op.cursor (g.state old.store)) (omega (arith, few)) k);
+    frames = λ k. (let frames = frames_for_few (count_written op.at op.cursor (g.state old.store)) (written_few op.at op.cursor (g.state old.store)) in few_frames (frames_for (count_written op.at op.cursor (g.state old.store))) (omega (arith, frames)) k);
     vacuum = false≢true;
     session_is = false≢true;
     busy = false≢true;

@@ -8,7 +8,7 @@ use Rattle.page_action.specs.States.{State}
 use Rattle.page_action.specs.declared.page_store.PageStore.{Ghosts}
 use Rattle.session_calls.specs.Following.{StepTells}
 use Rattle.session_calls.specs.TheoremCalls.{DeadSets}
-use Rattle.session_calls.specs.Ops.{RunsOn, AnswersStopped}
+use Rattle.session_calls.specs.Ops.{where_slot_stepped_any, RunsOn, AnswersStopped}
 use Rattle.session_calls.specs.Sessions.{no_call, slot_add, GivesLess, AnswersStep, AnswersNext, AnswersEnd, RefusalChangesNothing, RunsUntilLast, OnlyWritersAct}
 use Rattle.session_calls.specs.declared.answer.Answer.{Answer}
 use Rattle.session_calls.specs.declared.answer.Answer.TheVariants.{Refused}
@@ -72,13 +72,13 @@ module _ {S : Type 0} (g : Ghosts S) (laws : Laws g) (store : S) (slots : List (
   no_end (Some None) h = refl
   no_end (Some (Some op)) h = absurd cc
 
-  step_always : (fault : Fault) → ((g.backing store).stopped ≡ true → Refused fault ≡ Refused Stopped)
+  step_always : (fault : Fault) → ((g.backing store).stopped ≡ true → Refused fault ≡ Refused Stopped) → HasCause (where_slot_stepped_any None) fault
       → EventAlways g (MovesCall session Steps) (Refused fault) (here_with store slots sets) (here_with store slots sets)
-  step_always fault stopped = record {
+  step_always fault stopped cause = record {
     answers = subst (λ (x : Option Op). AnswersStep x x (Refused fault)) (sym none) tt;
     until_last = subst (λ (x : Option Op). RunsUntilLast x x (Refused fault)) (sym none) refl;
     stands = tt;
-    tells = subst (λ (x : Option Op). StepTells (g.backing store).stopped (g.state store) (g.state store) x x (Refused fault)) (sym none) (record { stats = tt; waits = λ alive some. absurd (some tt) });
+    tells = subst (λ (x : Option Op). StepTells (g.backing store).stopped (g.state store) (g.state store) x x (Refused fault)) (sym none) (record { faults = cause; logged = tt; unfinished = tt; stats = tt; waits = λ alive some. absurd (some tt) });
     refused = subst (λ (x : Option Op). RefusalChangesNothing (g.state store) (g.state store) x x (Refused fault)) (sym none) (refl, refl);
     stopped = λ h. subst (λ (x : Option Op). AnswersStopped (slot_add x) (Refused fault)) (sym none) (stopped h);
     less = λ honest. tt;
@@ -98,10 +98,10 @@ module _ {S : Type 0} (g : Ghosts S) (laws : Laws g) (store : S) (slots : List (
       → Makes g (MovesCall session Steps) answer (here_with store slots sets) (here_with store slots sets)
   idle_steps true answer is same =
       subst (λ (a : Answer). Makes g (MovesCall session Steps) a (here_with store slots sets) (here_with store slots sets)) (sym is)
-      (stays Steps Stopped (step_always Stopped (λ h. refl)) (stopped_step (slice_get slots session) idle (sym same)))
+      (stays Steps Stopped (step_always Stopped (λ h. refl) refl) (stopped_step (slice_get slots session) idle (sym same)))
   idle_steps false answer is same =
       subst (λ (a : Answer). Makes g (MovesCall session Steps) a (here_with store slots sets) (here_with store slots sets)) (sym is)
-      (stays Steps NoSession (step_always NoSession (λ h. absurd (let both : false ≡ true = same ∙ h in cc))) (no_step (slice_get slots session) idle (sym same)))
+      (stays Steps NoSession (step_always NoSession (λ h. absurd (let both : false ≡ true = same ∙ h in cc)) refl) (no_step (slice_get slots session) idle (sym same)))
 
   -- nothing is given
   idle_takes : (answer : Answer) → answer ≡ Refused NoSession → Makes g (MovesCall session Takes) answer (here_with store slots sets) (here_with store slots sets)

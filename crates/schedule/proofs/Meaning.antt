@@ -100,14 +100,15 @@ goes_with : (effect : Option Effect) → MayComeWith Going effect
 goes_with None = tt
 goes_with (Some effect) = tt
 
-added_with : (action : ℕ) (unfinished : Option Fault) (effect : Option Effect) → MayComeWith (Added action unfinished) effect
-added_with action unfinished None = tt
-added_with action unfinished (Some effect) = tt
+added_with : (action : ℕ) (unfinished : Option Fault) (effect : Option Effect) → (unfinished ≢ None → effect ≡ None) → MayComeWith (Added action unfinished) effect
+added_with action None None quiet = tt
+added_with action None (Some effect) quiet = tt
+added_with action (Some fault) effect quiet = comes_alone (Added action (Some fault)) effect (quiet (λ e. cc))
 
 told_comes : (answer : Answer) (count : ℕ) (effect : Option Effect) (call after : Call) → Told answer count effect call after → MayComeWith answer effect
 told_comes Begun count effect call after h = absurd h
 told_comes Going count effect call after h = goes_with effect
-told_comes (Added action unfinished) count effect call after h = added_with action unfinished effect
+told_comes (Added action unfinished) count effect call after h = added_with action unfinished effect h.quiet
 told_comes (Ready ready) count effect call after h = comes_alone (Ready ready) effect h.none
 told_comes Done count effect call after h = comes_alone Done effect h.none
 told_comes (Finished stats) count effect call after h = comes_alone (Finished stats) effect h.none
@@ -178,34 +179,34 @@ no_session : (s : Bool) (Fails : Fault → Type 0) → (s ≡ true → Fails Sto
 no_session s Fails stopped session fault h =
     one_of_few false s false true false Fails (record { device = λ k. absurd (false≢true k); stopped = stopped; vacuum = λ k. absurd (false≢true k); session = λ k. session; busy = λ k. absurd (false≢true k) }) fault h
 
--- an insert whose entry is logged is never refused because it was there
-not_there : (at : Circumstances) (fault : Fault) → HasCause (once_added at) fault → HasCause at fault × (fault ≢ Exists)
-not_there at NoMemory h = (h, λ e. cc)
-not_there at Io h = (h, λ e. cc)
-not_there at Stopped h = (h, λ e. cc)
-not_there at (Blocked b) h = (h, λ e. cc)
+-- what an insert leaves unfinished is never because its entry was there, nor because another session stands in the way
+not_there : (at : Circumstances) (fault : Fault) → HasCause (once_added at) fault → HasCause at fault × (fault ≢ Exists) × ((block : ℕ) → fault ≢ Blocked block)
+not_there at NoMemory h = (h, (λ e. cc), λ b e. cc)
+not_there at Io h = (h, (λ e. cc), λ b e. cc)
+not_there at Stopped h = (h, (λ e. cc), λ b e. cc)
+not_there at (Blocked b) h = absurd (false≢true h)
 not_there at Exists h = absurd (false≢true h)
 not_there at KeyTooLong h = absurd h
 not_there at BadRow h = absurd h
-not_there at IndexFull h = (h, λ e. cc)
-not_there at LogFull h = (h, λ e. cc)
-not_there at NoFrame h = (h, λ e. cc)
-not_there at VacuumRunning h = (h, λ e. cc)
-not_there at NoSession h = (h, λ e. cc)
-not_there at SessionBusy h = (h, λ e. cc)
+not_there at IndexFull h = (h, (λ e. cc), λ b e. cc)
+not_there at LogFull h = (h, (λ e. cc), λ b e. cc)
+not_there at NoFrame h = (h, (λ e. cc), λ b e. cc)
+not_there at VacuumRunning h = (h, (λ e. cc), λ b e. cc)
+not_there at NoSession h = (h, (λ e. cc), λ b e. cc)
+not_there at SessionBusy h = (h, (λ e. cc), λ b e. cc)
 not_there at BadSuper h = absurd h
 not_there at BadVersion h = absurd h
 not_there at LogDamaged h = absurd h
-not_there at (PageDamaged b) h = (h, λ e. cc)
+not_there at (PageDamaged b) h = (h, (λ e. cc), λ b e. cc)
 not_there at BadLimits h = absurd h
-not_there at TooTall h = (h, λ e. cc)
+not_there at TooTall h = (h, (λ e. cc), λ b e. cc)
 not_there at DeviceTooSmall h = absurd h
 
 refused_for : (at : Circumstances) (Fails : Fault → Type 0) → ((fault : Fault) → HasCause at fault → Fails fault) → (answer : Answer) → IsCaused at answer → IsRefusedFor Fails answer
 refused_for at Fails fails Begun h = tt
 refused_for at Fails fails Going h = tt
 refused_for at Fails fails (Added action None) h = tt
-refused_for at Fails fails (Added action (Some fault)) h = let why = not_there at fault h in (fails fault why.0, why.1)
+refused_for at Fails fails (Added action (Some fault)) h = let why = not_there at fault h in (fails fault why.0, why.1, why.2)
 refused_for at Fails fails (Ready ready) h = tt
 refused_for at Fails fails Done h = tt
 refused_for at Fails fails (Finished stats) h = tt

@@ -1,16 +1,18 @@
 -- A step that is refused, and changes nothing.
-use Rattle.std.proofs.Common.{◌≡◌, ◌≢◌, ◌≤◌, ℕ, Bool, true, false, Option, Some, None, Result, Err, [], ap, arith}
+use Rattle.std.proofs.Common.{◌≡◌, ◌≢◌, ◌≤◌, ℕ, Bool, true, false, Option, Some, None, Result, Err, [], refl, ap, arith}
 use Rattle.std.specs.Prelude.{if◌then◌else◌}
+use Rattle.index_model.specs.Faults.{HasCause}
 use Rattle.index_model.specs.declared.fault.Fault.{Fault}
-use Rattle.index_model.specs.declared.fault.Fault.TheVariants.{Stopped}
+use Rattle.index_model.specs.declared.fault.Fault.TheVariants.{Stopped, NoSession}
 use Rattle.page_action.specs.States.{State, Continues}
 use Rattle.page_action.specs.declared.page_store.PageStore.{Ghosts}
-use Rattle.descent.specs.Shared.{IsOneStep}
+use Rattle.descent.specs.Shared.{IsOneStep, where_writing_any}
 use Rattle.insert_split.specs.Inserts.{AnswersStopped as InsertAnswersStopped}
+use Rattle.insert_split.specs.Turns.{IsRefusedRightly}
 use Rattle.scan.specs.Scans.{waiting, ScanWaits}
 use Rattle.scan.specs.declared.steps.ScanOp.{ScanOp}
 use Rattle.session_calls.specs.Ops.{ends_call}
-use Rattle.session_calls.specs.Ops.{OpAnswers, session_of, is_sweep, call_kind, add_of, AnswersStopped}
+use Rattle.session_calls.specs.Ops.{OpAnswers, session_of, is_sweep, call_kind, add_of, where_stepped_any, AnswersStopped, AnswersLogged}
 use Rattle.session_calls.specs.Sessions.{OpSteps, OnlyWritersAct, TellsStats, WaitsToGive, work_in}
 use Rattle.session_calls.specs.declared.answer.Answer.TheVariants.{Refused}
 use Rattle.session_calls.specs.declared.op.Op.{Op}
@@ -42,8 +44,9 @@ no_more false before after old new same op = rw (same, op) (omega arith)
 -- what a refused step says, of whichever operation
 pub refused_steps : {S : Type 0} (g : Ghosts S) (before after : Op) (old new : S) (fault : Fault) → Continues g.follows old new → IsOneStep (g.state old) (g.state new)
     → g.state new ≡ g.state old → after ≡ before → ((g.backing old).stopped ≡ true → AnswersStopped (add_of before) (Refused fault))
-    → WaitsToGive (g.backing old).stopped (g.state old) (g.state new) (Some before) (Some after) (Refused fault) → OpSteps g before after old new (Refused fault)
-refused_steps g before after old new fault steps kept same op stopped waits = record {
+    → WaitsToGive (g.backing old).stopped (g.state old) (g.state new) (Some before) (Some after) (Refused fault)
+    → HasCause (where_stepped_any before) fault → AnswersLogged (add_of before) (Refused fault) → OpSteps g before after old new (Refused fault)
+refused_steps g before after old new fault steps kept same op stopped waits cause logged = record {
   steps = steps;
   session = ap session_of op;
   sweep = ap is_sweep op;
@@ -51,6 +54,9 @@ refused_steps g before after old new fault steps kept same op stopped waits = re
   kind = answers before after fault;
   refused = λ other is. (same, op);
   stopped = stopped;
+  unfinished = λ action other is. absurd cc;
+  faults = cause;
+  logged = logged;
   stats = no_stats (g.state old) before fault;
   waits = waits;
   kept = kept;
@@ -70,3 +76,13 @@ insert_told_stopped (Some action) fault is = absurd cc
 pub scan_told_waiting : (is_stopped : Bool) (old new : State) (before after : ScanOp) (fault : Fault)
     → (is_stopped ≡ false → waiting before ≢ [] → ScanWaits old new before after (Err fault)) → WaitsToGive is_stopped old new (Some (Scan before)) (Some (Scan after)) (Refused fault)
 scan_told_waiting is_stopped old new before after fault waits alive some = absurd (let told = (waits alive some).told in cc)
+
+-- a step of an insert whose entry is logged is refused for a page that is blocked
+pub insert_told_logged : (added : Option ℕ) (fault : Fault) → IsRefusedRightly added (Err fault) → AnswersLogged added (Refused fault)
+insert_told_logged None fault h = tt
+insert_told_logged (Some action) fault h = h
+
+-- what refuses a step of a bulk delete, where the set that it names is there
+pub bulk_cause : (fault : Fault) → HasCause where_writing_any fault → HasCause (record where_writing_any { no_such_session = true }) fault
+bulk_cause NoSession h = refl
+bulk_cause fault h = h

@@ -7,13 +7,19 @@ use Rattle.page_action.specs.States.{State}
 use Rattle.page_action.specs.declared.page_store.PageStore.{Ghosts}
 use Rattle.session_calls.specs.TheoremCalls.{DeadSets}
 use Rattle.session_calls.specs.Due.{IsDueIn, CountsDown}
-use Rattle.session_calls.specs.Ops.{RunsOn, AnswersStopped}
-use Rattle.session_calls.specs.Sessions.{SlotFits, KeepsPages, OnlyWritersAct, OnlyOwnAreFlagged, LeavesOwnFlagged, KeepsBeforePins, CountsEntries, SparesLeaves, LeavesLess, LeavesNoMore, AnswersStep, RefusalChangesNothing, RunsUntilLast, TellsStats, WaitsToGive, StandsByAnswer, no_call, slot_add}
+use Rattle.session_calls.specs.Ops.{where_slot_stepped_any, RunsOn, IsCaused, AnswersStopped, AnswersLogged}
+use Rattle.session_calls.specs.Sessions.{SlotFits, KeepsPages, OnlyWritersAct, OnlyOwnAreFlagged, LeavesOwnFlagged, KeepsBeforePins, CountsEntries, SparesLeaves, LeavesLess, LeavesNoMore, AnswersStep, RefusalChangesNothing, RunsUntilLast, UnfinishedChangesNothing, TellsStats, WaitsToGive, StandsByAnswer, no_call, slot_add}
 use Rattle.session_calls.specs.declared.answer.Answer.{Answer}
 use Rattle.session_calls.specs.declared.op.Op.{Op}
 
 -- what the answer of a step says, whatever the pages are
 pub record StepTells (is_stopped : Bool) (old new : State) (before after : Option Op) (answer : Answer) : Type 0 where
+  -- which faults it may tell of
+  pub faults : IsCaused (where_slot_stepped_any before) answer
+  -- once the entry of an insert is logged only a page that is blocked refuses it, and it ends with the number of that action
+  pub logged : AnswersLogged (slot_add before) answer
+  -- a fault that leaves a split unfinished leaves all as it was, but that the call is over
+  pub unfinished : UnfinishedChangesNothing old new before answer
   -- a bulk delete or a cleanup that has finished tells what it has counted, and how many pages are in use, deleted and free
   pub stats : TellsStats old before answer
   -- while a scan has entries ready it tells how many, and changes nothing

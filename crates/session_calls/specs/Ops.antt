@@ -13,8 +13,10 @@ use Rattle.index_model.specs.declared.fault.Fault.TheVariants.{Stopped, Blocked,
 use Rattle.page_action.specs.Causes.{nothing_wrong, is_at_end}
 use Rattle.page_action.specs.States.{State, Backing}
 use Rattle.page_codec.specs.declared.page.Page.{Page}
+use Rattle.descent.specs.Shared.{where_reading_any, where_writing_any}
 use Rattle.split_finish.specs.declared.finish.Target.{Target}
-use Rattle.insert_split.specs.Inserts.{InsertFits, targets_at, insert_left, where_inserting}
+use Rattle.insert_split.specs.Inserts.{InsertFits, targets_at, insert_left, where_inserting, where_inserting_any}
+use Rattle.insert_split.specs.Turns.{is_blocked}
 use Rattle.insert_split.specs.declared.insert.InsertAt.TheVariants.{Start}
 use Rattle.scan.specs.Scans.{ScanFits, IsBehind, waiting, fresh_scan, where_scanning}
 use Rattle.scan.specs.Work.{scan_left}
@@ -185,15 +187,28 @@ abbrev pub IsFaultCaused : Circumstances → Option Fault → Type 0
 IsFaultCaused at None = Unit {0}
 IsFaultCaused at (Some fault) = HasCause at fault
 
--- the circumstances of an insert whose entry is logged: none of them is that the entry was there
+-- the circumstances of an insert whose entry is logged: none of them is that the entry was there, or that another session
+-- holds a page
 abbrev pub once_added : Circumstances → Circumstances
-once_added at = record at { entry_was_there = false }
+once_added at = record at { is_held_by_another = λ b. false; entry_was_there = false }
 
 -- a refusal has its cause, and so has the fault of a split that an insert leaves unfinished
 abbrev pub IsCaused : Circumstances → Answer → Type 0
 IsCaused at (Refused fault) = HasCause at fault
 IsCaused at (Added action unfinished) = IsFaultCaused (once_added at) unfinished
 IsCaused at answer = Unit {0}
+
+-- what may be so where a step of this call is refused, whatever the pages are; the set that a bulk delete names may not be there
+abbrev pub where_stepped_any : Op → Circumstances
+where_stepped_any (Insert op) = where_inserting_any
+where_stepped_any (Scan op) = where_reading_any
+where_stepped_any (Bulk set op) = record where_writing_any { no_such_session = true }
+where_stepped_any (Cleanup op) = where_writing_any
+
+-- ... of what a session runs, if anything
+abbrev pub where_slot_stepped_any : Option Op → Circumstances
+where_slot_stepped_any None = record nothing_wrong { is_stopped = true; no_such_session = true }
+where_slot_stepped_any (Some op) = where_stepped_any op
 
 -- whether a fault ends the call: one that is blocked goes on, and so does one that the event doesn't fit
 abbrev pub ends_call : Fault → Bool
@@ -235,6 +250,13 @@ OpAnswers before after answer = ⊥
 abbrev pub AnswersStopped : Option ℕ → Answer → Type 0
 AnswersStopped None answer = answer ≡ Refused Stopped
 AnswersStopped (Some action) answer = answer ≡ Added action (Some Stopped)
+
+-- once the entry of an insert is logged only a page that is blocked refuses a step, and it ends with the number of that action
+abbrev pub AnswersLogged : Option ℕ → Answer → Type 0
+AnswersLogged None answer = Unit {0}
+AnswersLogged (Some action) (Added number unfinished) = number ≡ action
+AnswersLogged (Some action) (Refused fault) = is_blocked fault ≡ true
+AnswersLogged (Some action) answer = Unit {0}
 
 -- what is left to do for a call on these pages, of which there are at most so many: steps, and entries to give
 abbrev pub op_work : ℕ → List Page → Op → ℕ

@@ -26,7 +26,7 @@ use Rattle.scan.specs.Scans.{waiting}
 use Rattle.vacuum.specs.Counts.{IsCounted, entries_below, stats_of}
 use Rattle.session_calls.specs.Ops.{set_at, ends_call}
 use Rattle.session_calls.specs.TheoremCalls.{DeadSets, asked_by, begun_call, acts_of}
-use Rattle.session_calls.specs.Ops.{op_before, session_of, asked_of, add_of, ready_of, OpFits, OpKnows, where_requesting, asks_sweep, is_sweep, IsOfSets, call_kind, IsCaused, is_last, OpAnswers, AnswersStopped, op_work, op_targets}
+use Rattle.session_calls.specs.Ops.{op_before, session_of, asked_of, add_of, ready_of, OpFits, OpKnows, where_requesting, where_stepped_any, asks_sweep, is_sweep, IsOfSets, call_kind, IsCaused, is_last, OpAnswers, AnswersStopped, AnswersLogged, op_work, op_targets}
 use Rattle.tree_acts.specs.Leaves.{LeavesStay, IsLeafAt}
 use Rattle.session_calls.specs.Sweeps.{OpSweeps, SlotSweeps}
 use Rattle.session_calls.specs.declared.answer.Answer.{Answer}
@@ -266,6 +266,11 @@ RefusalChangesNothing old new (Some op) after (Refused fault) = StepIsRefused ol
 RefusalChangesNothing old new None after answer = (new ≡ old) × (after ≡ None)
 RefusalChangesNothing old new (Some op) after answer = Unit {0}
 
+-- a step that tells of a fault which leaves a split unfinished has changed nothing, but that the call is over
+abbrev pub UnfinishedChangesNothing : State → State → Option Op → Answer → Type 0
+UnfinishedChangesNothing old new (Some op) (Added action (Some fault)) = new ≡ after_call op old
+UnfinishedChangesNothing old new before answer = Unit {0}
+
 -- On any pages an event does one act at most, and with none the pages are as they were; so are limits, frames and the
 -- count of calls.
 pub record KeepsPages (old new : State) : Type 0 where
@@ -504,6 +509,9 @@ pub record OpSteps {S : Type 0} (g : Ghosts S) (before after : Op) (old new : S)
   pub kind : OpAnswers before after answer
   pub refused : (fault : Fault) → answer ≡ Refused fault → (g.state new ≡ g.state old) × (after ≡ before)
   pub stopped : (g.backing old).stopped ≡ true → AnswersStopped (add_of before) answer
+  pub unfinished : (action : ℕ) (fault : Fault) → answer ≡ Added action (Some fault) → g.state new ≡ g.state old
+  pub faults : IsCaused (where_stepped_any before) answer
+  pub logged : AnswersLogged (add_of before) answer
   pub stats : TellsStats (g.state old) (Some before) answer
   pub waits : WaitsToGive (g.backing old).stopped (g.state old) (g.state new) (Some before) (Some after) answer
   pub kept : IsOneStep (g.state old) (g.state new)

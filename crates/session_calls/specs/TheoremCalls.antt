@@ -42,9 +42,9 @@ becomes (Refused NoSession) count call = call
 becomes (Refused fault) count call = record call { ending = Failed fault; until = count }
 becomes answer count call = call
 
--- only a step that goes on, or that ends an insert, appends an action
+-- only a step that goes on, or that ends an insert and leaves nothing unfinished, appends an action
 abbrev pub MayComeWith : Answer → Option Effect → Type 0
 MayComeWith answer None = Unit {0}
 MayComeWith Going (Some effect) = Unit {0}
-MayComeWith (Added action unfinished) (Some effect) = Unit {0}
+MayComeWith (Added action None) (Some effect) = Unit {0}
 MayComeWith answer (Some effect) = ⊥

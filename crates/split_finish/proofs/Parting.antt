@@ -370,10 +370,6 @@ beside_parent st session honest op way page parent order fits at_is kept_model r
         some_same : (a b : ℕ) → Some a ≡ Some b → a ≡ b
         some_same a b k = cc
 
-pub few_parts : (left half clear : Page) (right : Option Page) → length (halves_and left half right clear) ≤ 4
-few_parts left half clear None = omega arith
-few_parts left half clear (Some page) = omega arith
-
 -- the split as it is made: of the parent that has a downlink to the page
 pub split_as_read : (parent : Page) (fresh child page new : ℕ) (separator : Bound) (left half : Page) → child ≡ page → half.block ≡ fresh
     → LinkSplit (node_of parent) parent.block fresh child new separator (node_of left) (node_of half)

@@ -1,5 +1,5 @@
 -- Steps that read and change nothing but the call, and those that act behind their readings.
-use Rattle.std.proofs.Common.{◌≡◌, ℕ, suc, ◌*◌, ◌<◌, ◌≤◌, ◌||◌, nat_le, Bool, true, false, None, Result, Ok, Err, refl, sym, ap, subst, inl, ◌∙◌, arith}
+use Rattle.std.proofs.Common.{◌≡◌, ℕ, suc, ◌*◌, ◌<◌, ◌≤◌, ◌||◌, ◌&&◌, nat_le, nat_lt, Bool, true, false, None, Result, Ok, Err, refl, sym, ap, subst, inl, ◌∙◌, arith}
 use Rattle.std.proofs.lemmas.Bool.{ltb-true, lt-ltb}
 use Rattle.std.specs.Prelude.{OnErr}
 use Rattle.index_model.specs.Faults.{HasCause}
@@ -128,7 +128,7 @@ pub earlier_cause : (st : State) (first second third : Backing) (session : ℕ) 
 earlier_cause st first second third session at Io le alive promised h =
     (let k : second.failures < third.failures = ltb-true second.failures third.failures h in lt-ltb first.failures third.failures (omega arith))
 earlier_cause st first second third session at Stopped le alive promised h = or_first second.stopped (is_at_end st.acts) first.stopped alive h
-earlier_cause st first second third session at LogFull le alive promised h = subst (λ (n : ℕ). nat_le n (images_of at) ≡ true) promised h
+earlier_cause st first second third session at LogFull le alive promised h = subst (λ (n : ℕ). (nat_lt 0 (images_of st at) && nat_le n (images_of st at)) ≡ true) promised h
 earlier_cause st first second third session at NoFrame le alive promised h = h
 earlier_cause st first second third session at TooTall le alive promised h = h
 earlier_cause st first second third session at IndexFull le alive promised h = h

@@ -1,11 +1,13 @@
 -- What a step does by which splits are finished.
-use Rattle.std.specs.Prelude.{◌≡◌, ◌⊎◌, ℕ, suc, ◌*◌, ◌<◌, ◌≤◌, Bool, true, false, Option, Some, None, Result, Ok, Err, OnErr}
+use Rattle.std.specs.Prelude.{◌≡◌, ◌⊎◌, ℕ, suc, ◌*◌, ◌<◌, ◌≤◌, nat_le, if◌then◌else◌, Bool, true, false, Option, Some, None, Result, Ok, Err, OnErr, length, slice_get}
 use Rattle.index_model.specs.Actions.{Effect, Shape}
 use Rattle.index_model.specs.Faults.{Circumstances, HasCause}
 use Rattle.index_model.specs.declared.fault.Fault.{Fault}
 use Rattle.index_model.specs.declared.fault.Fault.TheVariants.{Stopped}
+use Rattle.page_codec.specs.declared.page.Page.{Page}
 use Rattle.page_action.specs.States.{State, Backing, Continues}
 use Rattle.page_action.specs.declared.page_store.PageStore.{Ghosts}
+use Rattle.tree_shape.specs.Nodes.{links_of}
 use Rattle.descent.specs.Shared.{IsInOrder, Does, IsOneStep, is_flagged, where_working}
 use Rattle.split_finish.specs.Targets.{targets_of, OnlyTargetsAreFlagged, FinishFits, finish_left, walk_length}
 use Rattle.split_finish.specs.Turns.{splits_root_of}
@@ -38,31 +40,48 @@ pub record FinishIsDone (old new : State) (before : FinishOp) : Type 0 where
   pub flags : OnlyTargetsAreFlagged old (targets_of before)
       → (block : ℕ) → is_flagged new block ≡ false
 
+-- the page has no room for one more downlink
+abbrev pub is_full_parent : ℕ → Option Page → Bool
+is_full_parent items None = false
+is_full_parent items (Some page) = nat_le items (length (links_of page.items))
+
+-- how many pages are written where a page with this right sibling is split for a downlink: its halves, the sibling, and the
+-- page whose split is finished
+abbrev pub count_parted : Option ℕ → ℕ
+count_parted None = 3
+count_parted (Some right) = 4
+
+-- how many pages are written where a downlink is put on the page: the page, and the one whose split is finished
+abbrev pub count_linked : ℕ → Option Page → ℕ
+count_linked items None = 2
+count_linked items (Some page) =
+    if nat_le items (length (links_of page.items)) then count_parted page.right else 2
+
 -- how many images the act of a step has, at most
-abbrev pub images_of : FinishAt → ℕ
-images_of Start = 0
-images_of (Down way) = 0
-images_of (Link way) = 4
-images_of Root = 3
+abbrev pub images_of : State → FinishAt → ℕ
+images_of st Start = 0
+images_of st (Down way) = 0
+images_of st (Link way) = count_linked st.limits.items (slice_get st.pages way.block)
+images_of st Root = 3
 
 -- ... and how many frames it needs
-abbrev pub frames_of : FinishAt → ℕ
-frames_of Start = 1
-frames_of (Down way) = 1
-frames_of (Link way) = 4
-frames_of Root = 3
+abbrev pub frames_of : State → FinishAt → ℕ
+frames_of st Start = 1
+frames_of st (Down way) = 1
+frames_of st (Link way) = count_linked st.limits.items (slice_get st.pages way.block)
+frames_of st Root = 3
 
--- ... and whether it may take a block
-abbrev pub takes_block_of : FinishAt → Bool
-takes_block_of Start = false
-takes_block_of (Down way) = false
-takes_block_of (Link way) = true
-takes_block_of Root = true
+-- ... and whether it may take a block: to split a full parent, or the root
+abbrev pub takes_block_of : State → FinishAt → Bool
+takes_block_of st Start = false
+takes_block_of st (Down way) = false
+takes_block_of st (Link way) = is_full_parent st.limits.items (slice_get st.pages way.block)
+takes_block_of st Root = true
 
 -- why a step of a call that stands there is refused, on pages that are a tree and a device that keeps its model
 abbrev pub where_finishing : State → Backing → Backing → ℕ → FinishAt → Circumstances
 where_finishing st old new session at =
-    where_working st old new session (images_of at) (frames_of at) (takes_block_of at)
+    where_working st old new session (images_of st at) (frames_of st at) (takes_block_of st at)
     (splits_root_of at)
 
 -- what a step does, by what it answers

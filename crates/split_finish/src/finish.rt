@@ -1,6 +1,8 @@
 //! The call, and which step it makes next.
 
-ghost use Rattle.std.specs.Prelude.{◌≡◌, []};
+ghost use Rattle.std.specs.Prelude.{◌≡◌, [], IfErr};
+ghost use Rattle.index_model.specs.Faults.{HasCause};
+ghost use Rattle.descent.specs.Shared.{where_splitting_any};
 ghost use Rattle.split_finish.specs.Finishes.{FinishSteps};
 
 use arrayvec::ArrayVec;
@@ -87,7 +89,8 @@ impl FinishOp {
     /// `Stopped` (3), `LogFull` (9), `NoFrame` (10); with `TooTall` (19) where the root is split on level 31; with
     /// `PageDamaged` (17) on pages that are no tree. A refused step changes nothing.
     pub fn step<S: PageStore>(&mut self, store: &mut S) -> Result<FinishStep, Fault>
-        ensures { FinishSteps S.PageStore self.old self.new store.old store.new result }
+        ensures all { FinishSteps S.PageStore self.old self.new store.old store.new result }
+        ensures faults { IfErr result (HasCause where_splitting_any) }
     {
         match self.at {
             FinishAt::Start => self.read_metapage(store),
@@ -99,7 +102,8 @@ impl FinishOp {
 
     fn read_metapage<S: PageStore>(&mut self, store: &mut S) -> Result<FinishStep, Fault>
         requires { self.old.at ≡ FinishAt.Start }
-        ensures { FinishSteps S.PageStore self.old self.new store.old store.new result }
+        ensures all { FinishSteps S.PageStore self.old self.new store.old store.new result }
+        ensures faults { IfErr result (HasCause where_splitting_any) }
     {
         look(store, self.session, 0)?;
         self.leave_metapage(store.view(0))
@@ -107,7 +111,8 @@ impl FinishOp {
 
     fn read_page<S: PageStore>(&mut self, store: &mut S, way: Way) -> Result<FinishStep, Fault>
         requires { self.old.at ≡ FinishAt.Down way }
-        ensures { FinishSteps S.PageStore self.old self.new store.old store.new result }
+        ensures all { FinishSteps S.PageStore self.old self.new store.old store.new result }
+        ensures faults { IfErr result (HasCause where_splitting_any) }
     {
         match look(store, self.session, way.block) {
             Ok(()) => {

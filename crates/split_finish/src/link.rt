@@ -1,9 +1,11 @@
 //! The downlink of a right half is put on the parent.
 
-ghost use Rattle.std.specs.Prelude.{◌≡◌, ◌≤◌, ◌<◌, ◌+◌, Some, IfSome, IfNone, length};
+ghost use Rattle.std.specs.Prelude.{◌≡◌, ◌≤◌, ◌<◌, ◌+◌, Some, IfSome, IfNone, IfErr, length};
+ghost use Rattle.index_model.specs.Faults.{HasCause};
 ghost use Rattle.page_codec.specs.Grammar.{IsBlock, IsPage, IsWhole};
 ghost use Rattle.tree_shape.specs.LinkPlaces.{HasLinks, FitsBehind, child_at};
 ghost use Rattle.tree_shape.specs.Nodes.{links_of};
+ghost use Rattle.descent.specs.Shared.{where_splitting_any};
 ghost use Rattle.split_finish.specs.Finishes.{FinishSteps};
 ghost use Rattle.split_finish.specs.Acting.{IsLinkPlace, NoLinkPlace, AreLinked, IsRead, MeetsParent, FinishActs};
 
@@ -45,7 +47,8 @@ impl FinishOp {
     // Puts the downlink of the right half on the parent, this page, if it is one still.
     pub fn link<S: PageStore>(&mut self, store: &mut S, way: Way) -> Result<FinishStep, Fault>
         requires { self.old.at ≡ FinishAt.Link way }
-        ensures { FinishSteps S.PageStore self.old self.new store.old store.new result }
+        ensures all { FinishSteps S.PageStore self.old self.new store.old store.new result }
+        ensures faults { IfErr result (HasCause where_splitting_any) }
     {
         match look_at_both(store, self.session, self.target.block, way.block) {
             Ok((page, parent)) => self.link_to(store, way, page, parent),
@@ -67,7 +70,8 @@ impl FinishOp {
         requires read_parent { IsRead (S.state store.old) (S.backing store.old).honest
             self.old.session way.block parent }
         requires some { 0 < length (S.state store.old).pages }
-        ensures { FinishActs S.PageStore self.old self.new store.old store.new result }
+        ensures all { FinishActs S.PageStore self.old self.new store.old store.new result }
+        ensures faults { IfErr result (HasCause where_splitting_any) }
     {
         match self.turn_at_parent(&page, &parent, way) {
             Ok(Some(step)) => Ok(step),
@@ -86,7 +90,8 @@ impl FinishOp {
         requires meets { MeetsParent (S.state store.old) (S.backing store.old).honest self.old
             page parent }
         requires some { 0 < length (S.state store.old).pages }
-        ensures { FinishActs S.PageStore self.old self.new store.old store.new result }
+        ensures all { FinishActs S.PageStore self.old self.new store.old store.new result }
+        ensures faults { IfErr result (HasCause where_splitting_any) }
     {
         let Some(new) = page.right else {
             return Err(Fault::PageDamaged(page.block));
@@ -116,7 +121,8 @@ impl FinishOp {
         requires place { IsLinkPlace parent page.block self.old.target.separator at }
         requires room { length (links_of parent.items) < (S.state store.old).limits.items }
         requires few { (S.state store.old).limits.items ≤ 50 }
-        ensures { FinishActs S.PageStore self.old self.new store.old store.new result }
+        ensures all { FinishActs S.PageStore self.old self.new store.old store.new result }
+        ensures faults { IfErr result (HasCause where_splitting_any) }
     {
         let separator = self.target.separator;
         let pages = linked(parent, page, at, separator, new);

@@ -6,6 +6,7 @@ ghost use Rattle.page_action.specs.Causes.{where_acted};
 ghost use Rattle.page_action.specs.States.{Continues, after_act};
 ghost use Rattle.page_action.specs.Stored.{AreActable};
 ghost use Rattle.tree_shape.specs.Nodes.{links_of};
+ghost use Rattle.descent.specs.Shared.{where_splitting_any};
 ghost use Rattle.descent.specs.Splitting.{RightIsStored, RightIsFound};
 ghost use Rattle.split_finish.specs.Acting.{IsLinkPlace, MeetsParent, FinishActs};
 ghost use Rattle.split_finish.specs.Parting.{halves_and};
@@ -49,6 +50,7 @@ fn act_on_halves<S: PageStore>(
     ensures done { OnOk result (S.state store.new
         ≡ after_act (halves_and left half right page) (S.state store.old)) }
     ensures refused { OnErr result (S.state store.new ≡ S.state store.old) }
+    ensures faults { IfErr result (HasCause where_splitting_any) }
     ensures cause { AreActable (S.state store.old).limits (length (S.state store.old).pages)
         (halves_and left half right page)
         → IfErr result (HasCause (where_acted (S.state store.old) (S.backing store.old)
@@ -79,8 +81,10 @@ impl FinishOp {
         requires right { page.right ≡ Some new }
         requires place { IsLinkPlace parent page.block self.old.target.separator at }
         requires full { 4 ≤ length (links_of parent.items) }
+        requires no_room { (S.state store.old).limits.items ≤ length (links_of parent.items) }
         requires some { 0 < length (S.state store.old).pages }
-        ensures { FinishActs S.PageStore self.old self.new store.old store.new result }
+        ensures all { FinishActs S.PageStore self.old self.new store.old store.new result }
+        ensures faults { IfErr result (HasCause where_splitting_any) }
     {
         match read_right(store, self.session, parent.right) {
             Ok(right) => self.split_beside(store, page, parent, right, at, new),
@@ -103,11 +107,13 @@ impl FinishOp {
         requires right { page.right ≡ Some new }
         requires place { IsLinkPlace parent page.block self.old.target.separator at }
         requires full { 4 ≤ length (links_of parent.items) }
+        requires no_room { (S.state store.old).limits.items ≤ length (links_of parent.items) }
         requires some { 0 < length (S.state store.old).pages }
         requires beside { RightIsStored (S.state store.old) self.old.session parent.right right }
         requires beside_found { (S.backing store.old).honest ≡ true
             → RightIsFound (S.state store.old) parent.right right }
-        ensures { FinishActs S.PageStore self.old self.new store.old store.new result }
+        ensures all { FinishActs S.PageStore self.old self.new store.old store.new result }
+        ensures faults { IfErr result (HasCause where_splitting_any) }
     {
         let fresh = match take_block(store, self.session) {
             Ok(fresh) => fresh,

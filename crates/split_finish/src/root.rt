@@ -1,9 +1,11 @@
 //! A root over the halves of the one before it.
 
-ghost use Rattle.std.specs.Prelude.{◌≡◌, ◌<◌, false, Some, length};
+ghost use Rattle.std.specs.Prelude.{◌≡◌, ◌<◌, false, Some, IfErr, length};
+ghost use Rattle.index_model.specs.Faults.{HasCause};
 ghost use Rattle.page_codec.specs.Grammar.{IsBlock};
 ghost use Rattle.latch_table.specs.Holdings.{is_held_by_another};
 ghost use Rattle.page_action.specs.Reuse.{IsFresh};
+ghost use Rattle.descent.specs.Shared.{where_splitting_any};
 ghost use Rattle.split_finish.specs.Acting.{IsRead, MeetsRoot, FinishActs, AreGrown};
 ghost use Rattle.split_finish.specs.Finishes.{FinishSteps};
 
@@ -33,7 +35,8 @@ impl FinishOp {
     // Makes a new root over the newest target, if that is the root still.
     pub fn grow<S: PageStore>(&mut self, store: &mut S) -> Result<FinishStep, Fault>
         requires { self.old.at ≡ FinishAt.Root }
-        ensures { FinishSteps S.PageStore self.old self.new store.old store.new result }
+        ensures all { FinishSteps S.PageStore self.old self.new store.old store.new result }
+        ensures faults { IfErr result (HasCause where_splitting_any) }
     {
         match look_at_both(store, self.session, 0, self.target.block) {
             Ok((meta, page)) => self.grow_over(store, meta, page),
@@ -54,7 +57,8 @@ impl FinishOp {
         requires read { IsRead (S.state store.old) (S.backing store.old).honest self.old.session
             self.old.target.block page }
         requires some { 0 < length (S.state store.old).pages }
-        ensures { FinishActs S.PageStore self.old self.new store.old store.new result }
+        ensures all { FinishActs S.PageStore self.old self.new store.old store.new result }
+        ensures faults { IfErr result (HasCause where_splitting_any) }
     {
         match self.turn_at_root(&meta, &page) {
             Ok(Some(step)) => Ok(step),
@@ -73,7 +77,8 @@ impl FinishOp {
         requires meets { MeetsRoot (S.state store.old) (S.backing store.old).honest self.old
             meta page }
         requires some { 0 < length (S.state store.old).pages }
-        ensures { FinishActs S.PageStore self.old self.new store.old store.new result }
+        ensures all { FinishActs S.PageStore self.old self.new store.old store.new result }
+        ensures faults { IfErr result (HasCause where_splitting_any) }
     {
         let Some(new) = page.right else {
             return Err(Fault::PageDamaged(page.block));
@@ -100,7 +105,8 @@ impl FinishOp {
         requires block { IsBlock fresh }
         requires free { is_held_by_another (S.state store.old).table self.old.session fresh
             Mode.Exclusive ≡ false }
-        ensures { FinishActs S.PageStore self.old self.new store.old store.new result }
+        ensures all { FinishActs S.PageStore self.old self.new store.old store.new result }
+        ensures faults { IfErr result (HasCause where_splitting_any) }
     {
         let least = store.limits().items;
         prove!(2 <= least);

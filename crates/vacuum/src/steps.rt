@@ -6,6 +6,7 @@ ghost use Rattle.latch_table.specs.Holdings.{HasRoom, is_held_by_another};
 ghost use Rattle.page_action.specs.Room.{KeepsRoom};
 ghost use Rattle.page_action.specs.States.{Continues};
 ghost use Rattle.page_action.specs.Stored.{AreActable};
+ghost use Rattle.descent.specs.Shared.{where_writing_any};
 
 use crate::counts::stats;
 use crate::leaf::{is_live_leaf, sweep};
@@ -80,8 +81,9 @@ impl BulkDeleteOp {
         store: &mut S,
         dead: &T,
     ) -> Result<BulkDeleteStep, Fault>
-        ensures { BulkDeleteSteps S.PageStore (T.is_in dead.now) self.old self.new
+        ensures all { BulkDeleteSteps S.PageStore (T.is_in dead.now) self.old self.new
             store.old store.new result }
+        ensures faults { IfErr result (HasCause where_writing_any) }
     {
         if store.is_stopped() || self.is_counted_out() {
             return Err(Fault::Stopped);
@@ -113,8 +115,9 @@ impl BulkDeleteOp {
         requires inside { self.old.back ≡ None
             → self.old.cursor < length (S.state store.old).pages }
         requires narrow { self.old.back ≡ None → self.old.cursor < 4294967295 }
-        ensures { BulkDeleteSteps S.PageStore (T.is_in dead.now) self.old self.new
+        ensures all { BulkDeleteSteps S.PageStore (T.is_in dead.now) self.old self.new
             store.old store.new result }
+        ensures faults { IfErr result (HasCause where_writing_any) }
     {
         match look(store, self.session, block) {
             Ok(()) => {}
@@ -176,6 +179,7 @@ impl BulkDeleteOp {
         ensures done { OnOk result (S.state store.new
             ≡ written changed page.now (S.state store.old)) }
         ensures refused { OnErr result (S.state store.new ≡ S.state store.old) }
+        ensures faults { IfErr result (HasCause where_writing_any) }
         ensures cause { HasRoom (S.state store.old).table self.now.session
             → IfErr result (HasCause (where_deleting (S.state store.old) (S.backing store.old)
             (S.backing store.new) self.now)) }

@@ -1,11 +1,12 @@
 -- What an insert tells that is run to its end.
 use Rattle.std.proofs.Common.{◌≡◌, ◌≢◌, ℕ, suc, ◌+◌, ◌⊎◌, Bool, true, false, if◌then◌else◌, Option, Some, None, List, [], ◌∷◌, ◌++◌, length, slice_get, slice_set, refl, sym, ap, subst, arith, inl, inr, ◌∙◌, length-append, append_assoc, unwrap_or}
+use Rattle.std.proofs.lemmas.Bool.{false≢true}
 use Rattle.std.proofs.lemmas.List.{append-nil}
 use Rattle.index_model.specs.Calls.{Added as EndsAdded}
-use Rattle.index_model.specs.declared.fault.Fault.TheVariants.{Exists, IndexFull, TooTall}
+use Rattle.index_model.specs.declared.fault.Fault.TheVariants.{Blocked, Exists}
 use Rattle.session_calls.specs.declared.request.Request.TheVariants.{Insert as ToInsert}
 use Rattle.schedule.proofs.Lists.{get_append_new, get_append_cases}
-use Rattle.whole_calls.proofs.Words.{Effect, Add, Remove, Shape, Action, Ask, AskInsert, Ending, Running, GivenUp, Failed, AnswersRight, end_of, Meets, Call, HasCause, Entry, Fault, Ghosts, ends_call, IsCaused, acts_of, act_count, noted, ended, slot_add, Answer, Going, Added, Refused, Op, StoreAndSlots, Snapshot, snapshot_of, IsRunningCall, Fits, here_at, slot_of}
+use Rattle.whole_calls.proofs.Words.{Effect, Add, Remove, Shape, Action, Ask, AskInsert, Ending, Running, GivenUp, Failed, AnswersRight, end_of, Meets, Call, HasCause, Entry, Fault, Ghosts, ends_call, IsCaused, acts_of, act_count, noted, ended, slot_add, once_added, Answer, Going, Added, Refused, Op, StoreAndSlots, Snapshot, snapshot_of, IsRunningCall, Fits, here_at, slot_of}
 use Rattle.whole_calls.specs.Made.{Answered, InsertComesTo}
 use Rattle.whole_calls.specs.Going.{CallGoes, GoesFrom}
 use Rattle.whole_calls.specs.Inserting.{InsertGoes}
@@ -293,11 +294,15 @@ not_begun session entry fault x y t = record {
 
 -- why it leaves a fault behind, or is refused
 left_cause : {S : Type 0} (g : Ghosts S) (session least_room : ℕ) (old : StoreAndSlots S) (new : S) (used_up tall : Bool) (fault : Fault) → fault ≢ Exists → HasCause (where_inserted g session least_room true used_up tall old new) fault
-    → HasCause (where_inserted g session least_room false true true old new) fault
+    → HasCause (where_inserted g session least_room false used_up tall old new) fault
 left_cause g session least_room old new used_up tall Exists apart h = absurd (apart refl)
-left_cause g session least_room old new used_up tall IndexFull apart h = refl
-left_cause g session least_room old new used_up tall TooTall apart h = refl
 left_cause g session least_room old new used_up tall fault apart h = h
+
+-- what it leaves unfinished has its cause
+added_cause : {S : Type 0} (g : Ghosts S) (session least_room : ℕ) (old : StoreAndSlots S) (new : S) (used_up tall : Bool) (fault : Fault) → HasCause (once_added (where_inserted g session least_room true used_up tall old new)) fault
+    → HasCause (where_inserted g session least_room false used_up tall old new) fault
+added_cause g session least_room old new used_up tall (Blocked block) h = absurd (false≢true h)
+added_cause g session least_room old new used_up tall fault h = h
 
 -- an insert that is run to its end
 module _ {S : Type 0} (g : Ghosts S) (session least_room : ℕ) (entry : Entry) where
@@ -306,9 +311,9 @@ module _ {S : Type 0} (g : Ghosts S) (session least_room : ℕ) (entry : Entry) 
   run_told start x z answer added over (inr r) = insert_told g start session entry x r.here z r.free r.fits r.end answer added r.add_is over r.told
 
   caused : (old : StoreAndSlots S) (new : S) (answer : Answer) (added : Option ℕ) → IsInsertAnswer answer → ((action : ℕ) → added ≡ Some action → answer ≢ Refused Exists)
-      → IsCaused (where_asked g session least_room false (AskInsert entry) answer old new) answer → InsertCallIsCaused g session least_room entry old new (outcome_of answer added)
+      → IsCaused (where_asked g session least_room false (AskInsert entry) old new) answer → InsertCallIsCaused g session least_room entry old new (outcome_of answer added)
   caused old new (Added action None) added may apart c = tt
-  caused old new (Added action (Some fault)) added may apart c = c
+  caused old new (Added action (Some fault)) added may apart c = added_cause g session least_room old new (is_used_up (g.state new)) (is_tall (g.state new)) fault c
   caused old new (Refused fault) None may apart c = called_wider g session (ToInsert entry) old (where_inserted g session least_room true (is_used_up (g.state new)) (is_tall (g.state new)) old new) refl refl refl fault c
   caused old new (Refused fault) (Some action) may apart c =
       left_cause g session least_room old new (is_used_up (g.state new)) (is_tall (g.state new)) fault (λ e. apart action refl (ap (λ (f : Fault). Refused f) e)) c

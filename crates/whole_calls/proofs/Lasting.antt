@@ -14,6 +14,7 @@ use Rattle.whole_calls.proofs.Given.{give_comes, end_given, scan_told, scan_then
 use Rattle.whole_calls.proofs.Gone.{far_then, gone_nowhere, silent_then}
 use Rattle.whole_calls.proofs.Refusing.{AsksToCount, cause_wider, gone_wider, asked_wider, forced_cause, next_caused, step_caused, others_before}
 use Rattle.whole_calls.proofs.Spending.{takes_fewer}
+use Rattle.whole_calls.proofs.Statistics.{finish_tells}
 use Rattle.whole_calls.proofs.Tellings.{runs_in_slot, one_runs, moves_tells, kept_not_exists}
 
 module _ {S : Type 0} (g : Ghosts S) (session : ℕ) where
@@ -52,6 +53,7 @@ step_goes g start session least_room answer x y honest fits room does = record {
   caused = step_caused g start session least_room answer x y fits room does;
   counts = λ what. step_counts g start session x y fits what answer does;
   fewer = takes_fewer g start session answer x y honest fits does;
+  stats = finish_tells g start session answer x y fits does;
 }
 
 -- behind the making of room
@@ -63,9 +65,10 @@ room_then g session least_room answer x y z first later room step = record {
       let runs = subst (λ (cs : List Call). IsRunningCall cs session number call) (sym room.silent.calls_is) is in
       let busy = λ (h : another_runs y.slots session ≡ true). subst (λ (l : List (Option Op)). another_runs l session ≡ true) room.slots_are h in
       let full = λ (counts : AsksToCount call.ask) (h : is_full_vacuum (slot_of y.slots session) ≡ true). subst (λ (l : List (Option Op)). is_full_vacuum (slot_of l session) ≡ true) room.slots_are h in
-      cause_wider _ _ (asked_wider g session least_room (here_at x) (here_at y) z.store first later.failures busy (is_full_vacuum (slot_of y.slots session)) (is_full_vacuum (slot_of x.slots session)) call.ask answer full) answer (step.caused number call runs));
+      cause_wider _ _ (asked_wider g session least_room (here_at x) (here_at y) z.store first later.failures busy (is_full_vacuum (slot_of y.slots session)) (is_full_vacuum (slot_of x.slots session)) call.ask full) answer (step.caused number call runs));
   counts = λ what. rw (room.sets_are, room.state_is, room.slots_are) at (step.counts what);
   fewer = rw (room.state_is, room.slots_are) at step.fewer;
+  stats = λ number call is. step.stats number call (subst (λ (cs : List Call). IsRunningCall cs session number call) (sym room.silent.calls_is) is);
 }
 
 -- the room can't be made
@@ -78,9 +81,10 @@ held_goes g session least_room fault x y room cause = record {
     gone = gone_nowhere session number call x y is room.silent;
     not_exists = kept_not_exists (g.backing x.store) (g.backing y.store) fault cause;
   });
-  caused = λ number call is. forced_cause g session least_room (is_full_vacuum (slot_of x.slots session)) call.ask (Refused fault) (here_at x) y.store fault cause;
+  caused = λ number call is. forced_cause g session least_room (is_full_vacuum (slot_of x.slots session)) call.ask (here_at x) y.store fault cause;
   counts = λ what. tt;
   fewer = λ low going. absurd cc;
+  stats = λ number call is stats finished. absurd cc;
 }
 
 -- a scan of which nothing is told goes on, or has its step
@@ -134,7 +138,7 @@ module _ {S : Type 0} (g : Ghosts S) (session least_room : ℕ) where
     told = scan_told session answer x y step.told;
     caused = λ number call range is ask. (
         let full = is_full_vacuum (slot_of x.slots session) in
-        subst (λ (a : Ask). IsCaused (where_asked g session least_room full a answer (here_at x) y.store) answer) ask (step.caused number call is));
+        subst (λ (a : Ask). IsCaused (where_asked g session least_room full a (here_at x) y.store) answer) ask (step.caused number call is));
   }
 
   -- asking it for its next entry

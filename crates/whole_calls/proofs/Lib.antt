@@ -10,6 +10,7 @@ pub mod Beginning
 pub mod Counting
 pub mod Swept
 pub mod Refusing
+pub mod Statistics
 pub mod Removing
 pub mod Filling
 pub mod Lasting

@@ -12,7 +12,7 @@ use Rattle.page_action.specs.Contents.{entry_on_live_leaf}
 use Rattle.page_action.specs.Causes.{nothing_wrong, where_forced, has_failed, is_at_end, pinned_blocks, count_apart}
 use Rattle.descent.specs.Shared.{is_out_of_blocks, any_is_reusable}
 use Rattle.descent.specs.Ways.{root_level}
-use Rattle.split_finish.specs.Finishes.{images_of, frames_of}
+use Rattle.split_finish.specs.Finishes.{frames_of}
 use Rattle.split_finish.specs.declared.finish.FinishAt.{FinishAt}
 use Rattle.split_finish.specs.declared.finish.FinishAt.TheVariants.{Start as FinishStart}
 use Rattle.insert_split.specs.Inserts.{InsertFits, InsertStands, leaf_held, is_full_page, images_at, frames_at, takes_block_at, splits_root_at, where_inserting}
@@ -24,12 +24,14 @@ use Rattle.scan.specs.declared.steps.ScanOp.{ScanOp}
 use Rattle.vacuum.specs.BulkDeletes.{BulkDeleteFits, where_deleting, is_counted_out}
 use Rattle.vacuum.specs.declared.steps.BulkDeleteOp.{BulkDeleteOp}
 use Rattle.page_delete.specs.Cleanups.{CleanupFits, where_cleaning}
+use Rattle.page_delete.specs.Needs.{count_written, frames_for}
 use Rattle.page_delete.specs.Ops.{is_counted_out as is_cleanup_full}
 use Rattle.page_delete.specs.declared.steps.CleanupOp.{CleanupOp}
 use Rattle.session_calls.specs.declared.op.Op.TheVariants.{Insert, Scan, Bulk, Cleanup}
 use Rattle.whole_calls.proofs.Words.{Effect, Ask, AskInsert, AskScan, AskBulkDelete, AskCleanup, Call, Circumstances, HasCause, Entry, Fault, Limits, State, Backing, IsLater, Ghosts, Page, DeadSets, acts_of, OpFits, IsCaused, once_added, where_stepped, asked_of, session_of, Told, is_busy, AnswersNext, Answer, Added, Gave, Refused, Op, Request, StoreAndSlots, Snapshot, IsRunningCall, EventDoes, Fits, here_at, slot_of, one_vacuums, MovesCall, Steps, CallMoves, MovesOn, where_moving, where_begun_at, is_of_sets, OthersStay}
-use Rattle.whole_calls.specs.Refusing.{others_run, another_runs, is_full_vacuum, where_gone, where_inserted, is_used_up, is_tall, is_added, where_asked, where_called}
+use Rattle.whole_calls.specs.Refusing.{others_run, another_runs, is_full_vacuum, where_gone, where_inserted, is_used_up, is_tall, where_asked, where_called}
 use Rattle.whole_calls.proofs.Tellings.{runs_in_slot, runs_has_call, one_runs, true_false}
+use Rattle.schedule.proofs.Causes.{insert_images_few, frames_few, written_few, frames_for_few}
 use Rattle.schedule.proofs.Fitting.{beyond_of, running_of}
 
 pub or_left : (a b : Bool) → a ≡ true → (a || b) ≡ true
@@ -56,6 +58,7 @@ IsNarrower at wide = (fault : Fault) → HasCause at fault → HasCause wide fau
 
 narrower_once : (at wide : Circumstances) → IsNarrower at wide → IsNarrower (once_added at) (once_added wide)
 narrower_once at wide more Exists h = h
+narrower_once at wide more (Blocked block) h = h
 narrower_once at wide more fault h = more fault h
 
 pub cause_wider : (at wide : Circumstances) → IsNarrower at wide → (answer : Answer) → IsCaused at answer → IsCaused wide answer
@@ -172,25 +175,11 @@ pins_own (holding ∷ table) (suc session) none =
 
 -- the room for an act
 
-few_of : (at : FinishAt) → images_of at ≤ 4
-few_of FinishStart = omega arith
-few_of at = omega arith
-
-few_at : (st : State) (at : InsertAt) → images_at st at ≤ 4
-few_at st Start = omega arith
-few_at st (At way) = omega arith
-few_at st (Holds block) = of (is_full_page st.limits.items (slice_get st.pages block))
-  where
-    of : (b : Bool) → (if b then 3 else 1) ≤ 4
-    of true = omega arith
-    of false = omega arith
-few_at st (Finishing op) = few_of op.at
-
 -- where that room was made, an act is no cause
-enough : (least_room promised images : ℕ) → (5 ≤ least_room → 5 ≤ promised) → images ≤ 4 → nat_le promised images ≡ true → nat_lt least_room 5 ≡ true
+enough : (least_room promised images : ℕ) → (5 ≤ least_room → 5 ≤ promised) → images ≤ 4 → (nat_lt 0 images && nat_le promised images) ≡ true → nat_lt least_room 5 ≡ true
 enough least_room promised images room few full = by_bool (nat_lt least_room 5) (λ no_less. absurd (
     let k : 5 ≤ promised = room (at_least least_room no_less) in
-    let m : promised ≤ images = leb-true promised images full in
+    let m : promised ≤ images = leb-true promised images (and_parts (nat_lt 0 images) (nat_le promised images) full).1 in
     omega (arith, k, m, few)))
   where
     at_least : (n : ℕ) → nat_lt n 5 ≡ false → 5 ≤ n
@@ -198,6 +187,19 @@ enough least_room promised images room few full = by_bool (nat_lt least_room 5) 
 
 nat_less : (a b c : ℕ) → a ≤ b → nat_lt b c ≡ true → nat_lt a c ≡ true
 nat_less a b c le h = (let k = ltb-true b c h in lt-ltb a c (omega (arith, k, le)))
+
+-- the fault that an answer tells of: that it is refused for, or that keeps an insert's split from being finished
+abbrev fault_of : Answer → Option Fault
+fault_of (Refused fault) = Some fault
+fault_of (Added action unfinished) = unfinished
+fault_of answer = None
+
+-- an event that tells of one appends no action
+fault_tells_none : (answer : Answer) (count : ℕ) (effect : Option Effect) (call after : Call) (fault : Fault) → fault_of answer ≡ Some fault → Told answer count effect call after → effect ≡ None
+fault_tells_none (Refused f) count effect call after fault is told = told.0
+fault_tells_none (Added a (Some f)) count effect call after fault is told = told.quiet (λ e. cc)
+fault_tells_none (Added a None) count effect call after fault is told = absurd cc
+fault_tells_none answer count effect call after fault is told = absurd cc
 
 -- a step of the session's running call
 module _ {S : Type 0} (g : Ghosts S) (start : Entry → Bool) (session least_room : ℕ) (x y : Snapshot S) (fits : Fits g start x) (room : 5 ≤ least_room → 5 ≤ (g.backing x.store).promised)
@@ -246,11 +248,10 @@ module _ {S : Type 0} (g : Ghosts S) (start : Entry → Bool) (session least_roo
       few true = omega arith
       few false = omega arith
   insert_frames of n e (Finishing op) is stands h =
-      pins_cause (frames_of op.at) 4 nothing_held (subst (λ (s : ℕ). holding_of st.table s ≡ nothing_held) (stands.0 ∙ is) stands.1.free) (few op.at) (omega arith) h
+      pins_cause (frames_of st op.at) 4 nothing_held (subst (λ (s : ℕ). holding_of st.table s ≡ nothing_held) (stands.0 ∙ is) stands.1.free) few (omega arith) h
     where
-      few : (a : FinishAt) → frames_of a + 0 ≤ 4
-      few FinishStart = omega arith
-      few a = omega arith
+      few : frames_of st op.at + 0 ≤ 4
+      few = (let k = frames_few st op.at in omega (arith, k))
 
   inserting : (was_there used_up tall : Bool) (op : InsertOp) → op.session ≡ session → InsertFits st op → ((takes_block_at st op.at && is_out_of_blocks st) ≡ true → used_up ≡ true) → ((splits_root_at op.at && nat_le 31 (root_level st.pages)) ≡ true → tall ≡ true)
       → (fault : Fault) → HasCause (record (where_inserting st (g.backing x.store) (g.backing y.store) op.session op.entry op.at) { entry_was_there = was_there }) fault
@@ -261,7 +262,7 @@ module _ {S : Type 0} (g : Ghosts S) (start : Entry → Bool) (session least_roo
     | inr alone ↦ held_cause b Exclusive (subst (λ (s : ℕ). is_held_by_another st.table s b Exclusive ≡ true) is alone)
   ]
   inserting was_there used_up tall op is f blocks root IndexFull h = blocks h
-  inserting was_there used_up tall op is f blocks root LogFull h = enough least_room (g.backing x.store).promised (images_at st op.at) room (few_at st op.at) h
+  inserting was_there used_up tall op is f blocks root LogFull h = enough least_room (g.backing x.store).promised (images_at st op.at) room (insert_images_few st op.at) h
   inserting was_there used_up tall op is f blocks root NoFrame h = insert_frames op.session f.start op.entry op.at is f.stands h
   inserting was_there used_up tall op is f blocks root TooTall h = root h
   inserting was_there used_up tall op is f blocks root fault h = h
@@ -300,8 +301,11 @@ module _ {S : Type 0} (g : Ghosts S) (start : Entry → Bool) (session least_roo
     | inl shared ↦ held_cause b Shared (subst (λ (s : ℕ). is_held_by_another st.table s b Shared ≡ true) is shared)
     | inr alone ↦ held_cause b Exclusive (subst (λ (s : ℕ). is_held_by_another st.table s b Exclusive ≡ true) is alone)
   ]
-  cleaning op is f LogFull h = enough least_room (g.backing x.store).promised 3 room (omega arith) h
-  cleaning op is f NoFrame h = pins_cause 3 3 nothing_held (subst (λ (s : ℕ). holding_of st.table s ≡ nothing_held) is f.held) (omega arith) (omega arith) h
+  cleaning op is f LogFull h = (let few = written_few op.at op.cursor st in enough least_room (g.backing x.store).promised (count_written op.at op.cursor st) room (omega (arith, few)) h)
+  cleaning op is f NoFrame h = pins_cause (frames_for (count_written op.at op.cursor st)) 3 nothing_held (subst (λ (s : ℕ). holding_of st.table s ≡ nothing_held) is f.held) few (omega arith) h
+    where
+      few : frames_for (count_written op.at op.cursor st) + 0 ≤ 3
+      few = (let k = frames_for_few (count_written op.at op.cursor st) (written_few op.at op.cursor st) in omega (arith, k))
   cleaning op is f fault h = h
 
   -- a refused step leaves the pages as they were
@@ -314,21 +318,30 @@ module _ {S : Type 0} (g : Ghosts S) (start : Entry → Bool) (session least_roo
     tall : (splits : Bool) → (g.state y.store).pages ≡ st.pages → (splits && nat_le 31 (root_level st.pages)) ≡ true → is_tall (g.state y.store) ≡ true
     tall splits pages h = ap (λ (ps : List Page). nat_le 31 (root_level ps)) pages ∙ (and_parts splits (nat_le 31 (root_level st.pages)) h).1
 
-    insert_came : (counts_full : Bool) (e : Entry) (op : InsertOp) → op.session ≡ session → InsertFits st op → (answer : Answer) → ((fault : Fault) → answer ≡ Refused fault → (g.state y.store).pages ≡ st.pages)
-        → IsCaused (where_inserting st (g.backing x.store) (g.backing y.store) op.session op.entry op.at) answer → IsCaused (where_asked g session least_room counts_full (AskInsert e) answer (here_at x) y.store) answer
+    insert_came : (counts_full : Bool) (e : Entry) (op : InsertOp) → op.session ≡ session → InsertFits st op → (answer : Answer) → ((fault : Fault) → fault_of answer ≡ Some fault → (g.state y.store).pages ≡ st.pages)
+        → IsCaused (where_inserting st (g.backing x.store) (g.backing y.store) op.session op.entry op.at) answer → IsCaused (where_asked g session least_room counts_full (AskInsert e) (here_at x) y.store) answer
     insert_came full e op is f (Refused fault) same c =
         any_was (entry_on_live_leaf st.pages op.entry) (is_used_up (g.state y.store)) (is_tall (g.state y.store)) fault
         (inserting (entry_on_live_leaf st.pages op.entry) (is_used_up (g.state y.store)) (is_tall (g.state y.store)) op is f (used (takes_block_at st op.at) (same fault refl)) (tall (splits_root_at op.at) (same fault refl)) fault c)
     insert_came full e op is f (Added a None) same c = tt
-    insert_came full e op is f (Added a (Some fault)) same c = inserting false true true op is f (λ h. refl) (λ h. refl) fault c
+    insert_came full e op is f (Added a (Some fault)) same c =
+        narrower_once (where_inserting st (g.backing x.store) (g.backing y.store) op.session op.entry op.at) (where_inserted g session least_room true (is_used_up (g.state y.store)) (is_tall (g.state y.store)) (here_at x) y.store)
+        (λ k h. any_was (entry_on_live_leaf st.pages op.entry) (is_used_up (g.state y.store)) (is_tall (g.state y.store)) k
+        (inserting (entry_on_live_leaf st.pages op.entry) (is_used_up (g.state y.store)) (is_tall (g.state y.store)) op is f (used (takes_block_at st op.at) (same fault refl)) (tall (splits_root_at op.at) (same fault refl)) k h)) fault c
     insert_came full e op is f answer same c = tt
 
-    op_came : (op : Op) → session_of op ≡ session → OpFits st op → (answer : Answer) → ((fault : Fault) → answer ≡ Refused fault → (g.state y.store).pages ≡ st.pages) → IsCaused (where_stepped op st (g.backing x.store) (g.backing y.store)) answer
-        → IsCaused (where_asked g session least_room (is_full_vacuum (Some op)) (asked_of x.sets op) answer (here_at x) y.store) answer
+    op_came : (op : Op) → session_of op ≡ session → OpFits st op → (answer : Answer) → ((fault : Fault) → fault_of answer ≡ Some fault → (g.state y.store).pages ≡ st.pages) → IsCaused (where_stepped op st (g.backing x.store) (g.backing y.store)) answer
+        → IsCaused (where_asked g session least_room (is_full_vacuum (Some op)) (asked_of x.sets op) (here_at x) y.store) answer
     op_came (Insert op) is f answer same c = insert_came false op.entry op is f answer same c
     op_came (Scan op) is f answer same c = cause_wider _ _ (scanning op is f) answer c
     op_came (Bulk set op) is f answer same c = cause_wider _ _ (deleting op is f) answer c
     op_came (Cleanup op) is f answer same c = cause_wider _ _ (cleaning op is f) answer c
+
+-- where it appends none, it leaves the pages as they were
+pub quiet_pages : {S : Type 0} (g : Ghosts S) (start : Entry → Bool) (session : ℕ) (answer : Answer) (x y : Snapshot S) → EventDoes g start (MovesCall session Steps) answer x y → (c : CallMoves g start session answer x y)
+    → c.effect ≡ None → (g.state y.store).pages ≡ (g.state x.store).pages
+quiet_pages g start session answer x y does c none =
+    does.also.quiet.pages (c.history_is ∙ ap (λ (o : Option Effect). x.history ++ acts_of c.number o) none ∙ append-nil x.history)
 
 -- a step of the session's call, by its event
 module _ {S : Type 0} (g : Ghosts S) (start : Entry → Bool) (session least_room : ℕ) (answer : Answer) (x y : Snapshot S) (fits : Fits g start x) (room : 5 ≤ least_room → 5 ≤ (g.backing x.store).promised)
@@ -336,10 +349,8 @@ module _ {S : Type 0} (g : Ghosts S) (start : Entry → Bool) (session least_roo
   goes_on : CallMoves g start session answer x y
   goes_on = subst (λ (b : Bool). MovesOn g start b session answer x y) (runs_has_call g start x fits session number call is) does.also.happens
 
-  pages_stay : (fault : Fault) → answer ≡ Refused fault → (g.state y.store).pages ≡ (g.state x.store).pages
-  pages_stay fault refused =
-      let none : goes_on.effect ≡ None = (subst (λ (a : Answer). Told a (length x.history) goes_on.effect goes_on.call goes_on.after) refused goes_on.told).0 in
-      does.also.quiet.pages (goes_on.history_is ∙ ap (λ (o : Option Effect). x.history ++ acts_of goes_on.number o) none ∙ append-nil x.history)
+  pages_stay : (fault : Fault) → fault_of answer ≡ Some fault → (g.state y.store).pages ≡ (g.state x.store).pages
+  pages_stay fault is = quiet_pages g start session answer x y does goes_on (fault_tells_none answer (length x.history) goes_on.effect goes_on.call goes_on.after fault is goes_on.told)
 
   acts_on : (g.state x.store).acts ≤ (g.state y.store).acts
   acts_on = elim does.also.always.kept.acts [
@@ -347,7 +358,7 @@ module _ {S : Type 0} (g : Ghosts S) (start : Entry → Bool) (session least_roo
     | inr more ↦ omega (arith, more)
   ]
 
-  pub step_caused : IsCaused (where_asked g session least_room (is_full_vacuum (slot_of x.slots session)) call.ask answer (here_at x) y.store) answer
+  pub step_caused : IsCaused (where_asked g session least_room (is_full_vacuum (slot_of x.slots session)) call.ask (here_at x) y.store) answer
   step_caused =
       let r = runs_in_slot g start x fits session number call is in
       let same : r.2.call ≡ call = (one_runs g start x fits session number r.2.number call r.2.call is r.2.is).1 in
@@ -355,8 +366,8 @@ module _ {S : Type 0} (g : Ghosts S) (start : Entry → Bool) (session least_roo
       let ask : asked_of x.sets r.0 ≡ call.ask = sym r.2.runs.ask ∙ ap (λ (c : Call). c.ask) same in
       let caused : IsCaused (where_stepped r.0 (g.state x.store) (g.backing x.store) (g.backing y.store)) answer = subst (λ (o : Option (Option Op)). IsCaused (where_moving g x.sets x.store y.store Steps o) answer) r.1 does.also.caused in
       let came = op_came g start session least_room x y fits room does.also.quiet.frames acts_on does.also.quiet.limits r.0 (r.2.runs.session ∙ r.2.is.session_is) r.2.runs.fits answer pages_stay caused in
-      subst (λ (o : Option Op). IsCaused (where_asked g session least_room (is_full_vacuum o) call.ask answer (here_at x) y.store) answer) (sym slot)
-      (subst (λ (a : Ask). IsCaused (where_asked g session least_room (is_full_vacuum (Some r.0)) a answer (here_at x) y.store) answer) ask came)
+      subst (λ (o : Option Op). IsCaused (where_asked g session least_room (is_full_vacuum o) call.ask (here_at x) y.store) answer) (sym slot)
+      (subst (λ (a : Ask). IsCaused (where_asked g session least_room (is_full_vacuum (Some r.0)) a (here_at x) y.store) answer) ask came)
 
 -- a call that was asked this counts pages or entries: a bulk delete, or a cleanup
 abbrev pub AsksToCount : Ask → Type 0
@@ -399,26 +410,26 @@ module _ {S : Type 0} (g : Ghosts S) (session least_room : ℕ) (old mid : Store
   inserted_wider was_there used_up tall TooTall h = h
   inserted_wider was_there used_up tall fault h = gone_wider false false (λ f. f) fault h
 
-  pub asked_wider : (full wide : Bool) (ask : Ask) (answer : Answer) → (AsksToCount ask → full ≡ true → wide ≡ true)
-      → IsNarrower (where_asked g session least_room full ask answer mid new) (where_asked g session least_room wide ask answer old new)
-  asked_wider full wide (AskInsert e) answer more = inserted_wider true (is_added answer || is_used_up (g.state new)) (is_added answer || is_tall (g.state new))
-  asked_wider full wide (AskScan range) answer more = gone_wider false false (λ f. f)
-  asked_wider full wide ask answer more = gone_wider full wide (more tt)
+  pub asked_wider : (full wide : Bool) (ask : Ask) → (AsksToCount ask → full ≡ true → wide ≡ true)
+      → IsNarrower (where_asked g session least_room full ask mid new) (where_asked g session least_room wide ask old new)
+  asked_wider full wide (AskInsert e) more = inserted_wider true (is_used_up (g.state new)) (is_tall (g.state new))
+  asked_wider full wide (AskScan range) more = gone_wider false false (λ f. f)
+  asked_wider full wide ask more = gone_wider full wide (more tt)
 
 -- a log that had failed before stops the call
 pub stopped_before : {S : Type 0} (g : Ghosts S) (session least_room : ℕ) (full : Bool) (old : StoreAndSlots S) (new : S) → (g.backing old.store).stopped ≡ true → (where_gone g session least_room full old new).is_stopped ≡ true
 stopped_before g session least_room full old new h = or_left (g.backing old.store).stopped (has_failed (g.backing old.store) (g.backing new) || (nat_le 18446744073709551615 (g.state new).acts || full)) h
 
 -- the room for a step wasn't made: its cause is that of the checkpoint
-pub forced_cause : {S : Type 0} (g : Ghosts S) (session least_room : ℕ) (full : Bool) (ask : Ask) (answer : Answer) (old : StoreAndSlots S) (new : S)
-    → IsNarrower (where_forced (g.backing old.store) (g.backing new)) (where_asked g session least_room full ask answer old new)
-forced_cause g session least_room full ask answer old new = of ask
+pub forced_cause : {S : Type 0} (g : Ghosts S) (session least_room : ℕ) (full : Bool) (ask : Ask) (old : StoreAndSlots S) (new : S)
+    → IsNarrower (where_forced (g.backing old.store) (g.backing new)) (where_asked g session least_room full ask old new)
+forced_cause g session least_room full ask old new = of ask
   where
-    of : (a : Ask) → IsNarrower (where_forced (g.backing old.store) (g.backing new)) (where_asked g session least_room full a answer old new)
-    of (AskInsert e) = forced_in (g.backing old.store) (g.backing new) (where_asked g session least_room full (AskInsert e) answer old new) (λ h. h) (stopped_before g session least_room false old new)
-    of (AskScan range) = forced_in (g.backing old.store) (g.backing new) (where_asked g session least_room full (AskScan range) answer old new) (λ h. h) (stopped_before g session least_room false old new)
-    of (AskBulkDelete dead) = forced_in (g.backing old.store) (g.backing new) (where_asked g session least_room full (AskBulkDelete dead) answer old new) (λ h. h) (stopped_before g session least_room full old new)
-    of AskCleanup = forced_in (g.backing old.store) (g.backing new) (where_asked g session least_room full AskCleanup answer old new) (λ h. h) (stopped_before g session least_room full old new)
+    of : (a : Ask) → IsNarrower (where_forced (g.backing old.store) (g.backing new)) (where_asked g session least_room full a old new)
+    of (AskInsert e) = forced_in (g.backing old.store) (g.backing new) (where_asked g session least_room full (AskInsert e) old new) (λ h. h) (stopped_before g session least_room false old new)
+    of (AskScan range) = forced_in (g.backing old.store) (g.backing new) (where_asked g session least_room full (AskScan range) old new) (λ h. h) (stopped_before g session least_room false old new)
+    of (AskBulkDelete dead) = forced_in (g.backing old.store) (g.backing new) (where_asked g session least_room full (AskBulkDelete dead) old new) (λ h. h) (stopped_before g session least_room full old new)
+    of AskCleanup = forced_in (g.backing old.store) (g.backing new) (where_asked g session least_room full AskCleanup old new) (λ h. h) (stopped_before g session least_room full old new)
 
 -- a call that wasn't begun
 pub begun_called : {S : Type 0} (g : Ghosts S) (session : ℕ) (request : Request) (old : StoreAndSlots S) (at : Circumstances) → ((g.backing old.store).stopped ≡ true → at.is_stopped ≡ true)
@@ -451,12 +462,12 @@ pub gone_behind : {S : Type 0} (g : Ghosts S) (session least_room : ℕ) (full :
     → where_gone g session least_room full old new ≡ where_gone g session least_room full old mid
 gone_behind g session least_room full old mid new backing acts frames = rw (backing, acts, frames) refl
 
-pub asked_behind : {S : Type 0} (g : Ghosts S) (session least_room : ℕ) (full : Bool) (ask : Ask) (answer : Answer) (old : StoreAndSlots S) (mid new : S) → g.backing new ≡ g.backing mid → (g.state new).acts ≡ (g.state mid).acts
+pub asked_behind : {S : Type 0} (g : Ghosts S) (session least_room : ℕ) (full : Bool) (ask : Ask) (old : StoreAndSlots S) (mid new : S) → g.backing new ≡ g.backing mid → (g.state new).acts ≡ (g.state mid).acts
     → (g.state new).frames ≡ (g.state mid).frames → (g.state new).limits ≡ (g.state mid).limits → (g.state new).pages ≡ (g.state mid).pages
-    → where_asked g session least_room full ask answer old new ≡ where_asked g session least_room full ask answer old mid
-asked_behind g session least_room full (AskInsert e) answer old mid new backing acts frames limits pages = rw (backing, acts, frames, limits, pages) refl
-asked_behind g session least_room full (AskScan range) answer old mid new backing acts frames limits pages = gone_behind g session least_room false old mid new backing acts frames
-asked_behind g session least_room full ask answer old mid new backing acts frames limits pages = gone_behind g session least_room full old mid new backing acts frames
+    → where_asked g session least_room full ask old new ≡ where_asked g session least_room full ask old mid
+asked_behind g session least_room full (AskInsert e) old mid new backing acts frames limits pages = rw (backing, acts, frames, limits, pages) refl
+asked_behind g session least_room full (AskScan range) old mid new backing acts frames limits pages = gone_behind g session least_room false old mid new backing acts frames
+asked_behind g session least_room full ask old mid new backing acts frames limits pages = gone_behind g session least_room full old mid new backing acts frames
 
 -- asking a scan for its next entry alone isn't refused
 pub next_caused : (at : Circumstances) (sets : DeadSets) (op : Op) (range : Range) (answer : Answer) → asked_of sets op ≡ AskScan range → AnswersNext (Some op) answer → IsCaused at answer

@@ -1,5 +1,5 @@
 -- What a bulk delete or a cleanup tells that is run to its end.
-use Rattle.std.proofs.Common.{◌≡◌, ◌≢◌, ℕ, suc, Bool, true, false, Option, Some, Ok, List, [], ◌∷◌, ◌++◌, length, refl, sym, ap, subst, inl, inr, ◌∙◌, IfErr}
+use Rattle.std.proofs.Common.{◌≡◌, ◌≢◌, ℕ, suc, Bool, true, false, Option, Some, Ok, List, [], ◌∷◌, ◌++◌, length, refl, sym, ap, subst, inl, inr, ◌∙◌, IfOk, IfErr}
 use Rattle.std.proofs.lemmas.List.{append-nil}
 use Rattle.index_model.specs.declared.stats.VacuumStats.{VacuumStats}
 use Rattle.session_calls.specs.declared.request.Request.TheVariants.{Insert as ToInsert, Scan as ToScan}
@@ -8,7 +8,7 @@ use Rattle.whole_calls.specs.Going.{CameBy, CallGoes, GoesFrom}
 use Rattle.whole_calls.specs.Made.{Answered, ComesTo}
 use Rattle.whole_calls.specs.Refusing.{where_gone, where_asked, where_called}
 use Rattle.whole_calls.specs.Stepping.{RunGoes}
-use Rattle.whole_calls.specs.Sweeping.{Followed, of_sweep, FollowsFrom, TellsAs, swept_of, swept_came, IsSweptNow, IsSweptSoFar, SweepTold}
+use Rattle.whole_calls.specs.Sweeping.{TellsFor, Followed, of_sweep, FollowsFrom, TellsAs, swept_of, swept_came, IsSweptNow, IsSweptSoFar, SweepTold}
 use Rattle.whole_calls.specs.Telling.{MayAnswer, acts_by, noted_behind, AreOwnEffects, IsTold, StepTold, HasNone, TellsEnd, with_call, first_call, NextTold, NothingTold}
 use Rattle.whole_calls.proofs.Composing.{goes_told}
 use Rattle.whole_calls.proofs.Gone.{whole_told}
@@ -50,6 +50,11 @@ sweep_comes sets request vacuums answer answers over may = of answer (vacuum_may
     of (Finished stats) may so = so
     of (Refused fault) may so = so
     of a may so = absurd may
+
+-- what it tells at its end it tells
+swept_tells : (Tells : VacuumStats → Type 0) (answer : Answer) → ((stats : VacuumStats) → answer ≡ Finished stats → Tells stats) → IfOk (swept_of answer) Tells
+swept_tells Tells (Finished stats) h = h stats refl
+swept_tells Tells answer h = tt
 
 -- ... and then an end
 module _ {S : Type 0} (session : ℕ) (request : Request) (vacuums : asks_vacuum request ≡ true) (x y z : Snapshot S) (free : HasNone session x) (end : TellsEnd session y z) where
@@ -134,6 +139,10 @@ module _ {S : Type 0} (g : Ghosts S) (session least_room : ℕ) (request : Reque
   sweep_counts what start x z follows (inl n) = swept_counts what (g.state z.store) answer (λ stats is. absurd (let e = n.refused in cc))
   sweep_counts what start x z follows (inr r) = swept_counts what (g.state z.store) answer (λ stats is. r.counts what stats follows is)
 
+  pub sweep_tells : (start : Entry → Bool) (x z : Snapshot S) → Runs start x z → IfOk (swept_of answer) (TellsFor (asked_by x.sets request) (g.state z.store))
+  sweep_tells start x z (inl n) = swept_tells (TellsFor (asked_by x.sets request) (g.state z.store)) answer (λ stats is. absurd (let e = n.refused in cc))
+  sweep_tells start x z (inr r) = swept_tells (TellsFor (asked_by x.sets request) (g.state z.store)) answer r.stats
+
   pub sweep_caused : (start : Entry → Bool) (x z : Snapshot S) → Runs start x z → IfErr (swept_of answer) (HasCause (where_called g session request (here_at x) (where_gone g session least_room false (here_at x) z.store)))
   sweep_caused start x z (inl n) =
       subst (λ (a : Answer). IfErr (swept_of a) (HasCause (where_called g session request (here_at x) (where_gone g session least_room false (here_at x) z.store)))) (sym n.refused)
@@ -142,7 +151,7 @@ module _ {S : Type 0} (g : Ghosts S) (session least_room : ℕ) (request : Reque
       swept_caused _ answer (may_run start x z (inr r))
       (cause_wider (where_gone g session least_room false (here_at x) z.store) _ (called_wider g session request (here_at x) (where_gone g session least_room false (here_at x) z.store) refl refl refl) answer (gone_of request vacuums r.caused))
     where
-      gone_of : (req : Request) → asks_vacuum req ≡ true → IsCaused (where_asked g session least_room false (asked_by x.sets req) answer (here_at x) z.store) answer → IsCaused (where_gone g session least_room false (here_at x) z.store) answer
+      gone_of : (req : Request) → asks_vacuum req ≡ true → IsCaused (where_asked g session least_room false (asked_by x.sets req) (here_at x) z.store) answer → IsCaused (where_gone g session least_room false (here_at x) z.store) answer
       gone_of (ToInsert e) vac h = absurd (true_false (sym vac))
       gone_of (ToScan range) vac h = absurd (true_false (sym vac))
       gone_of req vac h = h

@@ -1,17 +1,19 @@
 -- A call that is begun, run to its last answer and given up.
 use Rattle.std.proofs.Common.{◌≡◌, ℕ, Bool, true, false, Option, Ok, List, length, refl, sym, ap, subst}
 use Rattle.index_model.specs.Limits.{AreLimits}
+use Rattle.index_model.specs.declared.stats.VacuumStats.{VacuumStats}
 use Rattle.session_calls.specs.declared.request.Request.TheVariants.{Insert as ToInsert, Scan as ToScan, Bulk as ToBulk, Cleanup as ToCleanup}
 use Rattle.whole_calls.proofs.Words.{Action, Ask, Call, Entry, Ghosts, DeadSets, asked_by, IsCaused, set_at, slot_add, Answer, Finished, Request, Snapshot, IsRunningCall, Fits, here_at, slot_of, Laws}
 use Rattle.whole_calls.specs.Refusing.{where_asked, is_full_vacuum}
 use Rattle.whole_calls.specs.Stepping.{Lasts, FinishGoes, BeginGoes, HasRun}
-use Rattle.whole_calls.specs.Sweeping.{Followed, of_sweep, of_cleanup, FollowsFrom, IsCountedAs, CountsThrough}
+use Rattle.whole_calls.specs.Sweeping.{Followed, of_sweep, of_cleanup, FollowsFrom, IsCountedAs, CountsThrough, TellsFor}
 use Rattle.whole_calls.specs.Telling.{noted_behind, first_call, TellsEnd}
 use Rattle.whole_calls.proofs.Counting.{tells_on}
 use Rattle.whole_calls.proofs.Filling.{bulk_fills, cleanup_fills}
 use Rattle.whole_calls.proofs.Gone.{gone_runs, same_ask, far_last}
 use Rattle.whole_calls.proofs.Lasting.{lasts_then, later_of, busier_of}
 use Rattle.whole_calls.proofs.Refusing.{AsksToCount, cause_wider, asked_wider, asked_behind}
+use Rattle.whole_calls.proofs.Statistics.{tells_behind}
 use Rattle.whole_calls.proofs.Tellings.{begun_next, begun_free, begun_runs}
 
 -- the one store's pages and log are the other's
@@ -69,7 +71,7 @@ module _ {S : Type 0} (g : Ghosts S) (laws : Laws g) (start : Entry → Bool) (s
       of ToCleanup is history asks so = cleanup_fills g laws start session y fits_y are last finish.gone (so of_cleanup tt) full
 
   -- why it is refused, told from the moment before it
-  caused : AreLimits (g.state y.store).limits → IsCaused (where_asked g session least_room false (asked_by x.sets request) answer (here_at x) z.store) answer
+  caused : AreLimits (g.state y.store).limits → IsCaused (where_asked g session least_room false (asked_by x.sets request) (here_at x) z.store) answer
   caused are =
       let far = finish.gone.far number call runs in
       let then_call = noted_behind call (length y.history) far.0 in
@@ -78,8 +80,18 @@ module _ {S : Type 0} (g : Ghosts S) (laws : Laws g) (start : Entry → Bool) (s
       let behind = later_of g session laws last z finish.lasts in
       let full = is_full_vacuum (slot_of last.slots session) in
       let asked : then_call.ask ≡ call.ask = same_ask call (length y.history) far.0 in
-      let came = subst (λ (a : Ask). IsCaused (where_asked g session least_room full a answer (here_at last) z.store) answer) asked (finish.step.caused number then_call then_runs) in
-      cause_wider _ _ (asked_wider g session least_room (here_at x) (here_at last) z.store (later_of g session laws x last up_to) behind.failures (busier_of g session x last up_to) full false call.ask answer (has_room are)) answer came
+      let came = subst (λ (a : Ask). IsCaused (where_asked g session least_room full a (here_at last) z.store) answer) asked (finish.step.caused number then_call then_runs) in
+      cause_wider _ _ (asked_wider g session least_room (here_at x) (here_at last) z.store (later_of g session laws x last up_to) behind.failures (busier_of g session x last up_to) full false call.ask (has_room are)) answer came
+
+  -- what it tells at its end
+  told_stats : (stats : VacuumStats) → answer ≡ Finished stats → TellsFor (asked_by x.sets request) (g.state w.store) stats
+  told_stats stats finished =
+      let far = finish.gone.far number call runs in
+      let then_call = noted_behind call (length y.history) far.0 in
+      let then_runs = gone_runs number call far.0 y last last far.1 session runs in
+      let asked : then_call.ask ≡ call.ask = same_ask call (length y.history) far.0 in
+      tells_behind (asked_by x.sets request) (g.state z.store) (g.state w.store) stats out.leaves.pages
+      (subst (λ (a : Ask). TellsFor a (g.state z.store) stats) asked (finish.step.stats number then_call then_runs stats finished))
 
   pub has_run : AreLimits (g.state y.store).limits → HasRun g session least_room request answer added start x w
   has_run are = record {
@@ -89,7 +101,8 @@ module _ {S : Type 0} (g : Ghosts S) (laws : Laws g) (start : Entry → Bool) (s
     told = begun_next session request x y z begun.told answer (far_last session answer y last z finish.gone.far finish.step.told);
     add_is = sym out.add;
     end = out.end;
-    caused = rw (asked_behind g session least_room false (asked_by x.sets request) answer (here_at x) z.store w.store out.leaves.backing out.leaves.acts out.leaves.frames out.leaves.limits out.leaves.pages) (caused are);
+    caused = rw (asked_behind g session least_room false (asked_by x.sets request) (here_at x) z.store w.store out.leaves.backing out.leaves.acts out.leaves.frames out.leaves.limits out.leaves.pages) (caused are);
+    stats = told_stats;
     counts = λ what stats follows is. (
         let counts : CountsThrough what last.sets (g.state last.store) (g.state z.store) (slot_of last.slots session) (slot_of z.slots session) (Finished stats) =
         subst (λ (a : Answer). CountsThrough what last.sets (g.state last.store) (g.state z.store) (slot_of last.slots session) (slot_of z.slots session) a) is (finish.step.counts what) in

@@ -12,7 +12,6 @@ use Rattle.descent.specs.Ways.{root_level}
 use Rattle.session_calls.specs.Ops.{asks_vacuum, IsFaultCaused, IsCaused}
 use Rattle.session_calls.specs.Sessions.{is_busy}
 use Rattle.session_calls.specs.declared.answer.Answer.{Answer}
-use Rattle.session_calls.specs.declared.answer.Answer.TheVariants.{Added}
 use Rattle.session_calls.specs.declared.op.Op.{Op}
 use Rattle.session_calls.specs.declared.op.Op.TheVariants.{Insert, Scan, Bulk, Cleanup}
 use Rattle.session_calls.specs.declared.request.Request.{Request}
@@ -70,24 +69,19 @@ is_used_up st = nat_le st.limits.pages (length st.pages)
 abbrev pub is_tall : State → Bool
 is_tall st = nat_le 31 (root_level st.pages)
 
--- an insert has added its entry
-abbrev pub is_added : Answer → Bool
-is_added (Added action unfinished) = true
-is_added answer = false
-
--- What may be the cause where a call that was asked this answers this, as a refusal, or as the fault of a split that an insert leaves
--- unfinished: that may also be that each block was in use then, or that the root was on level 31.
-abbrev pub where_asked : {S : Type 0} → Ghosts S → ℕ → ℕ → Bool → Ask → Answer → StoreAndSlots S → S → Circumstances
-where_asked g session least_room counts_full (AskInsert e) answer old new =
-    where_inserted g session least_room true (is_added answer || is_used_up (g.state new)) (is_added answer || is_tall (g.state new)) old new
-where_asked g session least_room counts_full (AskScan range) answer old new = where_gone g session least_room false old new
-where_asked g session least_room counts_full (AskBulkDelete dead) answer old new = where_gone g session least_room counts_full old new
-where_asked g session least_room counts_full AskCleanup answer old new = where_gone g session least_room counts_full old new
+-- What may be the cause where a call is refused that was asked this, or leaves a split unfinished: of an insert that may also be that each
+-- block is in use, or that the root is on level 31.
+abbrev pub where_asked : {S : Type 0} → Ghosts S → ℕ → ℕ → Bool → Ask → StoreAndSlots S → S → Circumstances
+where_asked g session least_room counts_full (AskInsert e) old new =
+    where_inserted g session least_room true (is_used_up (g.state new)) (is_tall (g.state new)) old new
+where_asked g session least_room counts_full (AskScan range) old new = where_gone g session least_room false old new
+where_asked g session least_room counts_full (AskBulkDelete dead) old new = where_gone g session least_room counts_full old new
+where_asked g session least_room counts_full AskCleanup old new = where_gone g session least_room counts_full old new
 
 -- what the session's running call came to had its cause
 abbrev pub CallIsCaused : {S : Type 0} → Ghosts S → ℕ → ℕ → Bool → Answer → Snapshot S → Snapshot S → Type 0
 CallIsCaused g session least_room counts_full answer old new =
-    (number : ℕ) (call : Call) → IsRunningCall old.calls session number call → IsCaused (where_asked g session least_room counts_full call.ask answer (here_at old) new.store) answer
+    (number : ℕ) (call : Call) → IsRunningCall old.calls session number call → IsCaused (where_asked g session least_room counts_full call.ask (here_at old) new.store) answer
 
 -- why a call is refused that is run from its beginning on: for one of these causes, or since it wasn't begun: the log had failed or a
 -- counter was at its end; there is no such session, or no such set; the session has a call; a bulk delete or a cleanup runs
@@ -101,7 +95,8 @@ where_called g session request old at = record at {
 
 -- why an insert answers this that is run to its end in the session: for its refusal, and for what it leaves unfinished
 abbrev pub InsertCallIsCaused : {S : Type 0} → Ghosts S → ℕ → ℕ → Entry → StoreAndSlots S → S → Result Inserted Fault → Type 0
-InsertCallIsCaused g session least_room entry old new (Ok inserted) = IsFaultCaused (where_inserted g session least_room false true true old new) inserted.unfinished
+InsertCallIsCaused g session least_room entry old new (Ok inserted) =
+    IsFaultCaused (where_inserted g session least_room false (is_used_up (g.state new)) (is_tall (g.state new)) old new) inserted.unfinished
 InsertCallIsCaused g session least_room entry old new (Err fault) =
     HasCause (where_called g session (ToInsert entry) old (where_inserted g session least_room true (is_used_up (g.state new)) (is_tall (g.state new)) old new)) fault
 

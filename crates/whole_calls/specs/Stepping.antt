@@ -1,6 +1,7 @@
 -- A call that is begun, stepped and given up: what is told of it, why it is refused, and what is counted, by the moment before and the one
 -- behind.
 use Rattle.std.specs.Prelude.{◌≡◌, ◌⊎◌, ℕ, Bool, false, Option, None, Result, Ok, slice_get}
+use Rattle.index_model.specs.Calls.{Call}
 use Rattle.index_model.specs.Faults.{HasCause}
 use Rattle.index_model.specs.declared.entry.Entry.{Entry}
 use Rattle.index_model.specs.declared.fault.Fault.{Fault}
@@ -13,7 +14,7 @@ use Rattle.session_calls.specs.Sessions.{slot_add}
 use Rattle.session_calls.specs.declared.answer.Answer.{Answer}
 use Rattle.session_calls.specs.declared.answer.Answer.TheVariants.{Finished, Refused}
 use Rattle.session_calls.specs.declared.request.Request.{Request}
-use Rattle.schedule.specs.TheoremMoments.{Snapshot}
+use Rattle.schedule.specs.TheoremMoments.{Snapshot, IsRunningCall}
 use Rattle.schedule.specs.TheoremRuns.{Fits}
 use Rattle.session_calls.specs.Slots.{slot_of, one_vacuums}
 use Rattle.schedule.specs.Snapshots.{here_at}
@@ -21,7 +22,7 @@ use Rattle.schedule.specs.Events.{OthersStay, where_begun_at}
 use Rattle.whole_calls.specs.Giving.{TellsScan, ScanStays}
 use Rattle.whole_calls.specs.Refusing.{where_asked, is_full_vacuum, CallIsCaused, ScanIsCaused}
 use Rattle.whole_calls.specs.Spending.{TakesFewer}
-use Rattle.whole_calls.specs.Sweeping.{Followed, IsCountedAs, TellsAs, CountsThrough, BeginsToCount, FollowsFrom}
+use Rattle.whole_calls.specs.Sweeping.{Followed, IsCountedAs, TellsAs, TellsFor, CountsThrough, BeginsToCount, FollowsFrom}
 use Rattle.whole_calls.specs.Telling.{IsSilent, TellsStep, HasGoneFar, HasNone, BeginTold, NextTold, NothingTold, TellsEnd}
 
 -- the room for an act is made, or not: nothing is told, and neither pages nor slots are changed
@@ -36,13 +37,19 @@ pub record Lasts {S : Type 0} (g : Ghosts S) (session : ℕ) (old new : Snapshot
   pub steps : Continues g.follows old.store new.store
   pub others : OthersStay session old.slots new.slots
 
--- What a step of the session's call tells, or the refusal of the room for it; why it is refused; what is counted on; and that fewer
--- steps are left where it goes on.
+-- the session's running call that finishes tells how many pages there are
+abbrev pub FinishTells : {S : Type 0} → Ghosts S → ℕ → Answer → Snapshot S → Snapshot S → Type 0
+FinishTells g session answer old new =
+    (number : ℕ) (call : Call) → IsRunningCall old.calls session number call → (stats : VacuumStats) → answer ≡ Finished stats → TellsFor call.ask (g.state new.store) stats
+
+-- What a step of the session's call tells, or the refusal of the room for it; why it is refused; what is counted on; that fewer steps are
+-- left where it goes on; and the statistics where it finishes.
 pub record StepGoes {S : Type 0} (g : Ghosts S) (session least_room : ℕ) (answer : Answer) (old new : Snapshot S) : Type 0 where
   pub told : TellsStep session answer old new
   pub caused : CallIsCaused g session least_room (is_full_vacuum (slot_of old.slots session)) answer old new
   pub counts : (what : Followed) → CountsThrough what old.sets (g.state old.store) (g.state new.store) (slot_of old.slots session) (slot_of new.slots session) answer
   pub fewer : TakesFewer (g.state old.store) (g.state new.store) (slot_of old.slots session) (slot_of new.slots session) answer
+  pub stats : FinishTells g session answer old new
 
 -- the session's call has gone on so far, and has counted on
 pub record HasGoneTo {S : Type 0} (g : Ghosts S) (session : ℕ) (old new : Snapshot S) : Type 0 where
@@ -74,7 +81,7 @@ pub record NotRun {S : Type 0} (g : Ghosts S) (session : ℕ) (request : Request
   pub cause : HasCause (where_begun_at g old.store (one_vacuums old.slots) old.sets request (slice_get old.slots session)) fault
 
 -- the call was begun in a session with none, came to this answer, and was given up, so far as it still ran: its Add was this then; why
--- it was refused, and what is counted at its end
+-- it was refused, and what is counted, and told, at its end
 pub record HasRun {S : Type 0} (g : Ghosts S) (session least_room : ℕ) (request : Request) (answer : Answer) (added : Option ℕ) (start : Entry → Bool) (old new : Snapshot S) : Type 0 where
   pub here : Snapshot S
   pub fits : Fits g start here
@@ -82,8 +89,9 @@ pub record HasRun {S : Type 0} (g : Ghosts S) (session least_room : ℕ) (reques
   pub told : NextTold session request answer old here
   pub add_is : slot_add (slot_of here.slots session) ≡ added
   pub end : TellsEnd session here new
-  pub caused : IsCaused (where_asked g session least_room false (asked_by old.sets request) answer (here_at old) new.store) answer
+  pub caused : IsCaused (where_asked g session least_room false (asked_by old.sets request) (here_at old) new.store) answer
   pub counts : (what : Followed) (stats : VacuumStats) → FollowsFrom what request (g.state old.store) session → answer ≡ Finished stats → TellsAs what (g.state new.store) (Ok stats)
+  pub stats : (stats : VacuumStats) → answer ≡ Finished stats → TellsFor (asked_by old.sets request) (g.state new.store) stats
 
 -- the one or the other
 abbrev pub RunGoes : {S : Type 0} → Ghosts S → ℕ → ℕ → Request → Answer → Option ℕ → (Entry → Bool) → Snapshot S → Snapshot S → Type 0

@@ -1,7 +1,7 @@
 -- A bulk delete or a cleanup that is run to its end, as a run of events.
 use Rattle.std.specs.Prelude.{◌≡◌, ◌≢◌, ℕ, Option, Some, None, Result, Ok, Err, List, [], ◌∷◌, ◌++◌, length}
 use Rattle.index_model.specs.Actions.{Effect, Add, Remove, Shape}
-use Rattle.index_model.specs.Calls.{Vacuumed}
+use Rattle.index_model.specs.Calls.{Ask, AskBulkDelete, AskCleanup, Vacuumed}
 use Rattle.index_model.specs.declared.entry.Entry.{Entry}
 use Rattle.index_model.specs.declared.fault.Fault.{Fault}
 use Rattle.index_model.specs.declared.fault.Fault.TheVariants.{NoSession}
@@ -9,7 +9,7 @@ use Rattle.index_model.specs.declared.stats.VacuumStats.{VacuumStats}
 use Rattle.page_codec.specs.declared.page.PageState.TheVariants.{HalfDead}
 use Rattle.page_action.specs.States.{State}
 use Rattle.tree_acts.specs.Deletions.{state_in}
-use Rattle.vacuum.specs.Counts.{IsCounted, entries_below}
+use Rattle.vacuum.specs.Counts.{IsCounted, entries_below, deleted_count}
 use Rattle.page_delete.specs.Counts.{IsCleaned, AllIsCleaned}
 use Rattle.page_delete.specs.Spares.{IsAlone, IsSparing, OnlyNeededStay}
 use Rattle.session_calls.specs.Ops.{set_at}
@@ -60,6 +60,17 @@ pub record IsSweptSoFar {S : Type 0} (session : ℕ) (request : Request) (old ne
 abbrev pub SweepTold : {S : Type 0} → ℕ → Request → Result VacuumStats Fault → Snapshot S → Snapshot S → Type 0
 SweepTold session request (Ok stats) old new = IsSweptNow session request stats old new
 SweepTold session request (Err fault) old new = IsSweptSoFar session request old new
+
+-- the statistics tell how many pages are in use, and how many of them are deleted
+pub record TellsPages (st : State) (stats : VacuumStats) : Type 0 where
+  pub in_use : stats.num_pages ≡ length st.pages
+  pub deleted : stats.pages_deleted ≡ deleted_count st (length st.pages)
+
+-- ... and that a bulk delete has deleted no page, and a cleanup removed no entry
+abbrev pub TellsFor : Ask → State → VacuumStats → Type 0
+TellsFor (AskBulkDelete dead) st stats = TellsPages st stats × (stats.pages_newly_deleted ≡ 0)
+TellsFor AskCleanup st stats = TellsPages st stats × (stats.tuples_removed ≡ 0)
+TellsFor ask st stats = ⊥
 
 -- what is followed through the steps of a vacuum beside which nobody acts
 pub data Followed : Type 0 where

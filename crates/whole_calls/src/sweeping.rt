@@ -1,6 +1,6 @@
 //! Bulk deletes and cleanups that run to their end.
 
-ghost use Rattle.std.specs.Prelude.{◌≡◌, ◌≤◌, false, length, map, IfErr, None};
+ghost use Rattle.std.specs.Prelude.{◌≡◌, ◌≤◌, false, length, map, IfOk, IfErr, None};
 ghost use Rattle.index_model.specs.Faults.{HasCause};
 ghost use Rattle.page_action.specs.States.{Continues};
 ghost use Rattle.session_calls.specs.declared.request.Request.TheVariants.{Bulk as ToBulk, Cleanup as ToCleanup};
@@ -10,7 +10,7 @@ ghost use Rattle.schedule.specs.TheoremRuns.{Carries};
 ghost use Rattle.whole_calls.specs.Going.{CallGoes};
 ghost use Rattle.whole_calls.specs.Made.{IsMadeOf, ComesTo};
 ghost use Rattle.whole_calls.specs.Refusing.{where_called, where_gone};
-ghost use Rattle.whole_calls.specs.Sweeping.{SweepTold, swept_of, swept_came, TellsEntries, TellsCleaned, LeavesOnlyNeeded, IsUndisturbed};
+ghost use Rattle.whole_calls.specs.Sweeping.{SweepTold, swept_of, swept_came, TellsEntries, TellsCleaned, TellsPages, LeavesOnlyNeeded, IsUndisturbed};
 
 use crate::running::run_call;
 use index_model::{DeadRows, Fault, VacuumStats};
@@ -57,6 +57,10 @@ pub fn bulk_delete<S: PageStore, T: DeadRows>(
     ensures entries { Carries S.PageStore (here T.DeadRows store.old calls.old sets.now)
         (here T.DeadRows store.new calls.new sets.now) (λ start history calls.
         TellsEntries (S.state store.new) result) }
+    // It has deleted no page.
+    ensures stats { Carries S.PageStore (here T.DeadRows store.old calls.old sets.now)
+        (here T.DeadRows store.new calls.new sets.now) (λ start history calls. IfOk result
+        (λ stats. TellsPages (S.state store.new) stats × (stats.pages_newly_deleted ≡ 0))) }
     // With `least_room` 5 or more it never answers `LogFull`; and it is never refused because it
     // had no room to count.
     ensures cause { let old = here T.DeadRows store.old calls.old sets.now in
@@ -96,6 +100,10 @@ pub fn clean_up<S: PageStore, T: DeadRows>(
     ensures entries { Carries S.PageStore (here T.DeadRows store.old calls.old sets.now)
         (here T.DeadRows store.new calls.new sets.now) (λ start history calls.
         TellsCleaned (S.state store.new) result) }
+    // It has removed no entry.
+    ensures stats { Carries S.PageStore (here T.DeadRows store.old calls.old sets.now)
+        (here T.DeadRows store.new calls.new sets.now) (λ start history calls. IfOk result
+        (λ stats. TellsPages (S.state store.new) stats × (stats.tuples_removed ≡ 0))) }
     ensures spares { Carries S.PageStore (here T.DeadRows store.old calls.old sets.now)
         (here T.DeadRows store.new calls.new sets.now) (λ start history calls.
         IsUndisturbed (S.state store.old) session → LeavesOnlyNeeded (S.state store.new) result) }

@@ -6,6 +6,7 @@ use Rattle.page_codec.specs.Spelling.{count_of}
 use Rattle.page_action.specs.Stored.{AreActable}
 use Rattle.tree_shape.specs.Nodes.{links_of}
 use Rattle.descent.proofs.Working.{act_cause_of}
+use Rattle.page_delete.specs.Needs.{count_judged}
 use Rattle.page_delete.specs.Parts.{DeletesOn, IsCandidate, IsTaken, AreInUse, LeafDies, IsSpared, PinnedLeavesStay}
 use Rattle.page_delete.proofs.Moving.{dying_moves}
 use Rattle.page_delete.proofs.Pinned.{pinned_dying}
@@ -45,13 +46,13 @@ module _ (g : Over) (c : After-act_on g) (honest : (g.S.PageStore.backing c.args
   dying : AreDying c.args.leaf c.args.parent c.mark_half_dead.new.page c.hand_on_link.new.page c.args.at
   dying = record { leaf_is = c.mark_half_dead.ensures.only; handed = c.hand_on_link.ensures.handed; parent_is = c.hand_on_link.ensures.node; block_is = c.hand_on_link.ensures.block }
 
-pub returns-in-Ok : goal.returns-in-Ok
-returns-in-Ok g c =
-    let at = (goal.at.returns-in-Ok g c).After-act_on in
+pub returns-in-Ok-clause-all : goal.returns-in-Ok-clause-all
+returns-in-Ok-clause-all g c =
+    let at = (goal.at.returns-in-Ok-clause-all g c).After-act_on in
     let old = g.S.PageStore.state c.args.store.now in
     let leaf_used : c.mark_half_dead.new.page.block < length old.pages = subst (λ (p : Page). p.block < length old.pages) (sym c.mark_half_dead.ensures.only) c.requires.leaf.used in
     let parent_used : c.hand_on_link.new.page.block < length old.pages = subst (λ (b : ℕ). b < length old.pages) (sym c.hand_on_link.ensures.block) c.requires.parent.used in
-    tried_acted g.S.PageStore c.args.session (AreInUse c.args.leaf.block c.args.parent.block) (LeafDies c.args.leaf.block) (IsSpared c.args.session c.args.leaf.block c.args.parent.block) c.args.store.now c.act_on.new.store
+    tried_acted g.S.PageStore c.args.session count_judged (AreInUse c.args.leaf.block c.args.parent.block) (LeafDies c.args.leaf.block) (IsSpared c.args.session c.args.leaf.block c.args.parent.block) c.args.store.now c.act_on.new.store
     (c.mark_half_dead.new.page ∷ c.hand_on_link.new.page ∷ []) c.act_on.ensures.steps c.in-Ok.ensures.done
     (ap (λ (s : State). length s.pages) c.in-Ok.ensures.done ∙ used_dying old c.mark_half_dead.new.page c.hand_on_link.new.page leaf_used parent_used)
     (λ h. let honest = was_honest g at h in
@@ -68,12 +69,12 @@ returns-in-Ok g c =
     (dies old c.args.session c.args.leaf c.args.parent c.mark_half_dead.new.page c.hand_on_link.new.page c.args.right c.args.at order (candidate g at honest) (c.requires.right honest) (taken g at honest)
     c.requires.place (dying g at honest) (may g at honest)))
 
-pub returns-in-Err : goal.returns-in-Err
-returns-in-Err g c =
-    let at = (goal.at.returns-in-Err g c).After-act_on in
+pub returns-in-Err-clause-all : goal.returns-in-Err-clause-all
+returns-in-Err-clause-all g c =
+    let at = (goal.at.returns-in-Err-clause-all g c).After-act_on in
     let old = g.S.PageStore.state c.args.store.now in
-    tried_refused g.S.PageStore c.args.session (AreInUse c.args.leaf.block c.args.parent.block) (LeafDies c.args.leaf.block) (IsSpared c.args.session c.args.leaf.block c.args.parent.block) c.args.store.now c.act_on.new.store c.in-Err.fault
+    tried_refused g.S.PageStore c.args.session count_judged (AreInUse c.args.leaf.block c.args.parent.block) (LeafDies c.args.leaf.block) (IsSpared c.args.session c.args.leaf.block c.args.parent.block) c.args.store.now c.act_on.new.store c.in-Err.fault
     c.act_on.ensures.steps c.in-Err.ensures.refused
     (λ h order room there.
-    act_cause_of old (g.S.PageStore.backing c.args.store.now) (g.S.PageStore.backing c.args.store.now) (g.S.PageStore.backing c.act_on.new.store) c.args.session 3 false false
-    (c.mark_half_dead.new.page ∷ c.hand_on_link.new.page ∷ []) c.in-Err.fault (omega arith) (λ s. s) refl (omega arith) (c.in-Err.ensures.cause (may g at (was_honest g at h))))
+    act_cause_of old (g.S.PageStore.backing c.args.store.now) (g.S.PageStore.backing c.args.store.now) (g.S.PageStore.backing c.act_on.new.store) c.args.session 2 false false
+    (c.mark_half_dead.new.page ∷ c.hand_on_link.new.page ∷ []) c.in-Err.fault (omega arith) (λ s. s) refl (omega arith) (omega arith) (c.in-Err.ensures.cause (may g at (was_honest g at h))))

@@ -1,6 +1,8 @@
-use Rattle.std.proofs.Common.{false, arith}
+use Rattle.std.proofs.Common.{false}
 use Rattle.tree_acts.proofs.Overlays.{inside}
+use Rattle.page_delete.specs.Needs.{frames_for}
+use Rattle.page_delete.proofs.Needs.{frames_some}
 use Rattle.page_delete.proofs.unlinking.take_right.Goals as goal
 
 pub returns-in-Err-clause-cause : goal.returns-in-Err-clause-cause
-returns-in-Err-clause-cause g c honest room l = c.in-Err.ensures.cause honest room (inside _ c.args.block l.page l.found) 3 3 false false (omega arith)
+returns-in-Err-clause-cause g c honest room l written = c.in-Err.ensures.cause honest room (inside _ c.args.block l.page l.found) written (frames_for written) false false (frames_some written)

@@ -4,7 +4,7 @@ use Rattle.whole_calls.proofs.Words.{snapshot_of, here_with}
 use Rattle.whole_calls.specs.Sweeping.{of_cleanup, of_leaves}
 use Rattle.whole_calls.specs.Made.{Answered}
 use Rattle.whole_calls.proofs.Made.{made_told}
-use Rattle.whole_calls.proofs.Swept.{sweep_goes, sweep_counts, sweep_caused, sweep_comes}
+use Rattle.whole_calls.proofs.Swept.{sweep_goes, sweep_counts, sweep_caused, sweep_tells, sweep_comes}
 use Rattle.whole_calls.proofs.sweeping.clean_up.Goals as goal
 
 pub returns-clause-goes : goal.returns-clause-goes
@@ -44,3 +44,11 @@ returns-clause-made g c =
     let came = c.run_call.result in
     rw c.swept.ensures (made_told g.S.PageStore c.args.session c.args.least_room (Answered came.answer) _ (here_with c.args.store.now c.args.calls.now.slots.items sets) (here_with c.run_call.new.store c.run_call.new.calls.slots.items sets)
     (λ xs so. sweep_comes sets ToCleanup refl came.answer xs c.run_call.ensures.ended c.run_call.ensures.kind so) c.run_call.ensures.made)
+
+pub returns-clause-stats : goal.returns-clause-stats
+returns-clause-stats g c honest start history calls fits =
+    let sets = map g.T.DeadRows.is_in c.args.sets.now in
+    let came = c.run_call.result in
+    let r = c.run_call.ensures.goes honest start history calls fits in
+    rw c.swept.ensures (sweep_tells g.S.PageStore c.args.session c.args.least_room ToCleanup refl came.answer came.added c.run_call.ensures.ended start
+    (snapshot_of (here_with c.args.store.now c.args.calls.now.slots.items sets) history calls) (snapshot_of (here_with c.run_call.new.store c.run_call.new.calls.slots.items sets) r.then_history r.then_calls) r.tells)

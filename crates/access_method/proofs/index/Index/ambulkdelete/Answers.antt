@@ -3,7 +3,7 @@ use Rattle.access_method.specs.Refusals.{where_run}
 use Rattle.whole_calls.specs.Refusing.{where_called, where_gone}
 use Rattle.session_calls.specs.declared.request.Request.TheVariants.{Bulk as ToBulk}
 use Rattle.index_model.specs.Faults.{HasCause}
-use Rattle.std.specs.Prelude.{[], IfErr}
+use Rattle.std.specs.Prelude.{[], IfOk, IfErr}
 use Rattle.std.proofs.Common.{◌∷◌, Bool, List, refl, subst, ◌≡◌, false, length, rules}
 use Rattle.index_model.specs.Actions.{Action}
 use Rattle.index_model.specs.Calls.{Call}
@@ -16,7 +16,7 @@ use Rattle.schedule.specs.TheoremRuns.{Carries}
 use Rattle.schedule.proofs.Unused.{fits_with, no_set_runs}
 use Rattle.whole_calls.specs.Going.{CallGoes}
 use Rattle.whole_calls.specs.Made.{IsMadeOf, ComesTo}
-use Rattle.whole_calls.specs.Sweeping.{SweepTold, swept_came, TellsEntries}
+use Rattle.whole_calls.specs.Sweeping.{SweepTold, swept_came, TellsEntries, TellsPages}
 use Rattle.session_calls.specs.declared.request.Request.TheVariants.{Bulk as ToBulk}
 use Rattle.access_method.specs.Indexes.{slots_within, slots_with, IndexFits}
 use Rattle.access_method.proofs.Sweeps.{swept_or_less, none_sweeps, safe_within}
@@ -36,6 +36,13 @@ counted : (g : Over) (c : After-bulk_delete g)
 counted g c = subst (λ (l : List (Row → Bool)). Carries g.S.PageStore (here_with c.args.self.now.store c.args.self.now.calls.slots.items l) (here_with c.bulk_delete.new.store c.bulk_delete.new.calls.slots.items l) (λ start history calls.
     TellsEntries (g.S.PageStore.state c.bulk_delete.new.store) c.bulk_delete.result))
     refl c.bulk_delete.ensures.entries
+
+pages_told : (g : Over) (c : After-bulk_delete g)
+    → Carries g.S.PageStore (slots_with (g.T.DeadRows.is_in c.args.dead.now) c.args.self.now) (here_with c.bulk_delete.new.store c.bulk_delete.new.calls.slots.items (g.T.DeadRows.is_in c.args.dead.now ∷ [])) (λ start history calls.
+    IfOk c.bulk_delete.result (λ stats. TellsPages (g.S.PageStore.state c.bulk_delete.new.store) stats × (stats.pages_newly_deleted ≡ 0)))
+pages_told g c = subst (λ (l : List (Row → Bool)). Carries g.S.PageStore (here_with c.args.self.now.store c.args.self.now.calls.slots.items l) (here_with c.bulk_delete.new.store c.bulk_delete.new.calls.slots.items l) (λ start history calls.
+    IfOk c.bulk_delete.result (λ stats. TellsPages (g.S.PageStore.state c.bulk_delete.new.store) stats × (stats.pages_newly_deleted ≡ 0))))
+    refl c.bulk_delete.ensures.stats
 
 pub returns-clause-made : goal.returns-clause-made
 returns-clause-made g c =
@@ -70,6 +77,7 @@ returns-clause-deletes g c honest start history calls fits =
     let then_fits = fits_then g after start history calls fits in
     let r = goes g after honest start history calls then_fits in
     swept_or_less g.S.PageStore dead (slots_with dead c.args.self.now) (here_with c.bulk_delete.new.store c.bulk_delete.new.calls.slots.items (dead ∷ [])) refl start history calls then_fits c.bulk_delete.result r (counted g after honest start history calls then_fits)
+    (pages_told g after honest start history calls then_fits)
 
 -- why it is refused
 caused : (g : Over) (c : After-bulk_delete g) → length c.args.self.now.calls.slots.items ≡ 64

@@ -12,8 +12,8 @@ use Rattle.insert_split.proofs.Steps.{goes_on}
 use Rattle.insert_split.proofs.Ways.{on_way_from_root, level_low, root_covers_there}
 use Rattle.insert_split.proofs.insert.InsertOp.find_root.Goals as goal
 
-pub returns : goal.returns
-returns g c =
+pub returns-clause-all : goal.returns-clause-all
+returns-clause-all g c =
     let old : State = g.S.PageStore.state c.args.store.now in
     let meta : Page = c.view.result.now in
     let stored : IsStored old.limits 0 meta = subst (λ (st : State). IsStored st.limits 0 meta) c.look.ensures.state c.view.ensures.stored in

@@ -1,8 +1,8 @@
 use Rattle.std.proofs.Common.{refl}
 use Rattle.insert_split.proofs.insert.InsertOp.meet.Goals as goal
 
-pub returns-in-Some : goal.returns-in-Some
-returns-in-Some c = record {
+pub returns-in-Some-clause-meets : goal.returns-in-Some-clause-meets
+returns-in-Some-clause-meets c = record {
   target = c.in-Some.target;
   block_is = c.in-Some.ensures.target.0;
   level_is = c.in-Some.ensures.target.1;

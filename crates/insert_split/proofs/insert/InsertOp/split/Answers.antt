@@ -109,6 +109,6 @@ returns-in-Err-act_on_halves-clause-cause g c honest room fits pinned =
     (c.in-Err-act_on_halves.ensures.cause (subst (λ (s : State). AreActable s.limits (length s.pages) changed) (sym same) may))) in
     let later : IsLater first second = g.met.S.PageStore.laws.follows_later _ _ (c.read_right.ensures.steps _ (g.met.S.PageStore.laws.follows_same _)) in
     act_cause st first second third session 3 2 true false changed c.in-Err-act_on_halves.fault later.failures c.in-Ok.ensures.alive c.read_right.ensures.room.promised
-    (few_changed left half half.block right)
+    (omega arith) (few_changed left half half.block right)
     (frames_for st.table left half half.block right (subst (λ (b : ℕ). has_pin (pinned_blocks st.table) b ≡ true) (sym left_block) pinned))
     why

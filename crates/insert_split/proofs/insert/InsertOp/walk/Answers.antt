@@ -37,8 +37,8 @@ stored g c = subst (λ (st : State). IsStored st.limits c.args.way.block c.view-
 found : (g : Over) (c : After-view-page g) → (g.S.PageStore.backing c.look.new.store).honest ≡ true → slice_get (g.S.PageStore.state c.args.store.now).pages c.args.way.block ≡ Some c.view-page.result.now
 found g c honest = subst (λ (st : State). slice_get st.pages c.args.way.block ≡ Some c.view-page.result.now) c.look.ensures.state (c.view-page.ensures.page honest)
 
-pub returns-in-Err : goal.returns-in-Err
-returns-in-Err g c =
+pub returns-in-Err-clause-all : goal.returns-in-Err-clause-all
+returns-in-Err-clause-all g c =
     refuses g.S.PageStore c.args.self.now c.args.store.now c.look.new.store c.in-Err.fault c.look.ensures.steps c.look.ensures.state c.requires.alive
     (λ honest order fits.
     let st : State = g.S.PageStore.state c.args.store.now in
@@ -47,13 +47,13 @@ returns-in-Err g c =
     reading_cause st (g.S.PageStore.backing c.args.store.now) (g.S.PageStore.backing c.look.new.store) c.args.self.now c.args.way c.in-Err.fault c.requires.at
     (c.in-Err.ensures.works honest (room_free st c.args.self.now.session stands.0) used.1 0 1 false false (omega arith)))
 
-pub returns-then-is_unfinished : goal.returns-then-is_unfinished
-returns-then-is_unfinished g c =
+pub returns-then-is_unfinished-clause-all : goal.returns-then-is_unfinished-clause-all
+returns-then-is_unfinished-clause-all g c =
     meets g.S.PageStore c.args.self.now c.meet.new.self c.args.store.now c.look.new.store c.view-page.result.now c.args.way c.meet.result c.look.ensures.steps c.look.ensures.state c.requires.alive c.requires.at
-    c.meet.ensures (c.if-is_unfinished.ensures.live refl) (c.if-is_unfinished.ensures.flagged refl) (stored g (goal.at.returns-then-is_unfinished g c).After-view-page).storable.admitted (stored g (goal.at.returns-then-is_unfinished g c).After-view-page).block_is (found g (goal.at.returns-then-is_unfinished g c).After-view-page)
+    c.meet.ensures.meets (c.if-is_unfinished.ensures.live refl) (c.if-is_unfinished.ensures.flagged refl) (stored g (goal.at.returns-then-is_unfinished-clause-all g c).After-view-page).storable.admitted (stored g (goal.at.returns-then-is_unfinished-clause-all g c).After-view-page).block_is (found g (goal.at.returns-then-is_unfinished-clause-all g c).After-view-page)
 
-pub returns-in-Some-Going : goal.returns-in-Some-Going
-returns-in-Some-Going g c =
+pub returns-in-Some-Going-clause-all : goal.returns-in-Some-Going-clause-all
+returns-in-Some-Going-clause-all g c =
     let st : State = g.S.PageStore.state c.args.store.now in
     let on : Way = c.in-Some-Going.on in
     let result : c.lead.result ≡ Some (Going on) = c.in-Some-Going.is ∙ ap Some c.in-Some-Going.field-0-is in
@@ -65,7 +65,7 @@ returns-in-Some-Going g c =
     (goes_on g.S.PageStore op (record { session = op.session; entry = op.entry; at = At on; added = op.added }) c.args.store.now c.look.new.store c.look.ensures.steps c.look.ensures.state refl refl c.requires.alive
     (λ honest. subst (λ (a : InsertAt). insert_left st.limits.pages st.pages (At on) < insert_left st.limits.pages st.pages a) (sym c.requires.at) (omega (arith, less)))
     (λ honest order fits.
-    let led_on = led st op c.args.way c.view-page.result.now c.bound.result c.limits.result.pages c.lead.result c.requires.at order fits (found g (goal.at.returns-in-Some-Going g c).After-view-page honest) (stored g (goal.at.returns-in-Some-Going g c).After-view-page).storable.admitted
+    let led_on = led st op c.args.way c.view-page.result.now c.bound.result c.limits.result.pages c.lead.result c.requires.at order fits (found g (goal.at.returns-in-Some-Going-clause-all g c).After-view-page honest) (stored g (goal.at.returns-in-Some-Going-clause-all g c).After-view-page).storable.admitted
     (c.if-is_unfinished.ensures.whole refl) c.bound.ensures (subst (λ (n : ℕ). length st.pages ≤ n) (sym most) c.in-Ok.ensures.inside) c.lead.ensures.goes in
     let stands = on_way st op c.args.way c.requires.at fits in
     record {
@@ -83,20 +83,20 @@ returns-in-Some-Going g c =
     let covers : HasCover st c.args.way.level (bound_aim c.bound.result) c.args.way.block =
     subst (λ (b : Bound). HasCover st c.args.way.level (bound_aim b) c.args.way.block) (sym c.bound.ensures) (subst (IsStraight st op.entry) c.requires.at on_way_there) in
     let led_straight : LeadsStraight st (bound_aim c.bound.result) 0 c.args.way (Some (Going on)) =
-    subst (LeadsStraight st (bound_aim c.bound.result) 0 c.args.way) result (c.lead.ensures.straight st order.tree whole (found g (goal.at.returns-in-Some-Going g c).After-view-page honest) covers) in (
+    subst (LeadsStraight st (bound_aim c.bound.result) 0 c.args.way) result (c.lead.ensures.straight st order.tree whole (found g (goal.at.returns-in-Some-Going-clause-all g c).After-view-page honest) covers) in (
       subst (λ (b : Bound). HasCover st on.level (bound_aim b) on.block) c.bound.ensures led_straight.1,
       subst (λ (a : InsertAt). suc (on.level + 2) ≡ straight_steps st.pages a) (sym c.requires.at) (let z = led_straight.0 in omega (arith, z)),
     ))))
 
-pub returns-else-not-may_hold : goal.returns-else-not-may_hold
-returns-else-not-may_hold g c =
+pub returns-else-not-may_hold-clause-all : goal.returns-else-not-may_hold-clause-all
+returns-else-not-may_hold-clause-all g c =
     let st : State = g.S.PageStore.state c.args.store.now in
     let op : InsertOp = c.args.self.now in
     let result : c.lead.result ≡ Some Here = c.in-Some-Here.is ∙ ap Some c.in-Some-Here.field-0-is in
     let arrived = c.lead.ensures.here result in
     let most : c.limits.result.pages ≡ st.limits.pages = ap (λ (l : Limits). l.pages) (c.limits.ensures.value ∙ ap (λ (s : State). s.limits) c.look.ensures.state) in
     let later : IsLater (g.S.PageStore.backing c.look.new.store) (g.S.PageStore.backing c.take.new.store) = g.met.S.PageStore.laws.follows_later _ _ (c.take.ensures.steps _ (g.met.S.PageStore.laws.follows_same _)) in
-    let block_is : c.view-page.result.now.block ≡ c.args.way.block = (stored g (goal.at.returns-else-not-may_hold g c).After-view-page).block_is in
+    let block_is : c.view-page.result.now.block ≡ c.args.way.block = (stored g (goal.at.returns-else-not-may_hold-clause-all g c).After-view-page).block_is in
     takes g.S.PageStore op c.take.new.self c.args.store.now c.look.new.store c.take.new.store c.view-page.result.now c.args.way c.take.result
     (λ first h. c.take.ensures.steps first (c.look.ensures.steps first h)) c.look.ensures.state c.take.ensures.backing c.requires.alive c.requires.at
     (λ fits. subst (λ (b : ℕ). Takes b op c.take.new.self (g.S.PageStore.state c.look.new.store) (g.S.PageStore.state c.take.new.store) c.take.result) (sym block_is)
@@ -105,16 +105,16 @@ returns-else-not-may_hold g c =
     × (c.take.new.self ≡ record { session = op.session; entry = op.entry; at = Holds b; added = op.added })) (sym block_is) (on_ok c.take.result InsertGoing _ c.take.ensures.taken going))
     (λ fault failed. (on_err c.take.result fault _ c.take.ensures.state failed, on_err c.take.result fault _ c.take.ensures.op failed))
     (λ action unfinished added. only_going c.take.result action unfinished c.take.ensures.going added)
-    (stored g (goal.at.returns-else-not-may_hold g c).After-view-page).block_is (stored g (goal.at.returns-else-not-may_hold g c).After-view-page).storable.admitted arrived.alive (c.if-is_unfinished.ensures.whole refl arrived.alive)
+    (stored g (goal.at.returns-else-not-may_hold-clause-all g c).After-view-page).block_is (stored g (goal.at.returns-else-not-may_hold-clause-all g c).After-view-page).storable.admitted arrived.alive (c.if-is_unfinished.ensures.whole refl arrived.alive)
     (subst (λ (b : Bound). is_within (bound_aim b) c.view-page.result.now.high ≡ true) c.bound.ensures arrived.within)
-    (λ honest. found g (goal.at.returns-else-not-may_hold g c).After-view-page (later.honest honest))
+    (λ honest. found g (goal.at.returns-else-not-may_hold-clause-all g c).After-view-page (later.honest honest))
     (λ honest order fits.
-    let led_on = led st op c.args.way c.view-page.result.now c.bound.result c.limits.result.pages c.lead.result c.requires.at order fits (found g (goal.at.returns-else-not-may_hold g c).After-view-page (later.honest honest)) (stored g (goal.at.returns-else-not-may_hold g c).After-view-page).storable.admitted
+    let led_on = led st op c.args.way c.view-page.result.now c.bound.result c.limits.result.pages c.lead.result c.requires.at order fits (found g (goal.at.returns-else-not-may_hold-clause-all g c).After-view-page (later.honest honest)) (stored g (goal.at.returns-else-not-may_hold-clause-all g c).After-view-page).storable.admitted
     (c.if-is_unfinished.ensures.whole refl) c.bound.ensures (subst (λ (n : ℕ). length st.pages ≤ n) (sym most) c.in-Ok.ensures.inside) c.lead.ensures.goes in
     (subst (LeadsOnward st fits.start (entry_aim op.entry) true 0 c.args.way) result led_on).0)
 
-pub returns-then-not-may_hold : goal.returns-then-not-may_hold
-returns-then-not-may_hold g c =
+pub returns-then-not-may_hold-clause-all : goal.returns-then-not-may_hold-clause-all
+returns-then-not-may_hold-clause-all g c =
     let st : State = g.S.PageStore.state c.args.store.now in
     let op : InsertOp = c.args.self.now in
     let result : c.lead.result ≡ Some Here = c.in-Some-Here.is ∙ ap Some c.in-Some-Here.field-0-is in
@@ -122,22 +122,22 @@ returns-then-not-may_hold g c =
     let most : c.limits.result.pages ≡ st.limits.pages = ap (λ (l : Limits). l.pages) (c.limits.ensures.value ∙ ap (λ (s : State). s.limits) c.look.ensures.state) in
     refuses g.S.PageStore op c.args.store.now c.look.new.store _ c.look.ensures.steps c.look.ensures.state c.requires.alive
     (λ honest order fits.
-    let there = found g (goal.at.returns-then-not-may_hold g c).After-view-page honest in
-    let admitted = (stored g (goal.at.returns-then-not-may_hold g c).After-view-page).storable.admitted in
+    let there = found g (goal.at.returns-then-not-may_hold-clause-all g c).After-view-page honest in
+    let admitted = (stored g (goal.at.returns-then-not-may_hold-clause-all g c).After-view-page).storable.admitted in
     let led_on = led st op c.args.way c.view-page.result.now c.bound.result c.limits.result.pages c.lead.result c.requires.at order fits there admitted
     (c.if-is_unfinished.ensures.whole refl) c.bound.ensures (subst (λ (n : ℕ). length st.pages ≤ n) (sym most) c.in-Ok.ensures.inside) c.lead.ensures.goes in
-    let may : MayHold c.view-page.result.now op.entry = may_be_held st op c.view-page.result.now c.args.way c.requires.at order fits (stored g (goal.at.returns-then-not-may_hold g c).After-view-page).block_is admitted arrived.alive (c.if-is_unfinished.ensures.whole refl arrived.alive)
+    let may : MayHold c.view-page.result.now op.entry = may_be_held st op c.view-page.result.now c.args.way c.requires.at order fits (stored g (goal.at.returns-then-not-may_hold-clause-all g c).After-view-page).block_is admitted arrived.alive (c.if-is_unfinished.ensures.whole refl arrived.alive)
     (subst (λ (b : Bound). is_within (bound_aim b) c.view-page.result.now.high ≡ true) c.bound.ensures arrived.within) there
     (subst (LeadsOnward st fits.start (entry_aim op.entry) true 0 c.args.way) result led_on).0 in
     let k : false ≡ true = c.if-not-may_hold.ensures.1 may in absurd cc)
 
-pub returns-in-None : goal.returns-in-None
-returns-in-None g c =
+pub returns-in-None-clause-all : goal.returns-in-None-clause-all
+returns-in-None-clause-all g c =
     let st : State = g.S.PageStore.state c.args.store.now in
     let op : InsertOp = c.args.self.now in
     let most : c.limits.result.pages ≡ st.limits.pages = ap (λ (l : Limits). l.pages) (c.limits.ensures.value ∙ ap (λ (s : State). s.limits) c.look.ensures.state) in
     refuses g.S.PageStore op c.args.store.now c.look.new.store _ c.look.ensures.steps c.look.ensures.state c.requires.alive
     (λ honest order fits.
-    let led_on = led st op c.args.way c.view-page.result.now c.bound.result c.limits.result.pages c.lead.result c.requires.at order fits (found g (goal.at.returns-in-None g c).After-view-page honest) (stored g (goal.at.returns-in-None g c).After-view-page).storable.admitted
+    let led_on = led st op c.args.way c.view-page.result.now c.bound.result c.limits.result.pages c.lead.result c.requires.at order fits (found g (goal.at.returns-in-None-clause-all g c).After-view-page honest) (stored g (goal.at.returns-in-None-clause-all g c).After-view-page).storable.admitted
     (c.if-is_unfinished.ensures.whole refl) c.bound.ensures (subst (λ (n : ℕ). length st.pages ≤ n) (sym most) c.in-Ok.ensures.inside) c.lead.ensures.goes in
     absurd (subst (LeadsOnward st fits.start (entry_aim op.entry) true 0 c.args.way) c.in-None.is led_on))

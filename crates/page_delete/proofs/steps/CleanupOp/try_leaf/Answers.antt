@@ -1,5 +1,6 @@
 use Rattle.std.proofs.Common.{◌≡◌, ℕ, true, subst}
 use Rattle.page_action.specs.States.{IsLater}
+use Rattle.page_delete.specs.Needs.{count_judged}
 use Rattle.page_delete.specs.Parts.{CandidateAnswers, AreInUse, LeafDies, IsSpared, IsTried}
 use Rattle.page_delete.proofs.Trying.{HasRead, read_on, tried_later}
 use Rattle.page_delete.proofs.steps.CleanupOp.try_leaf.Given.{Over}
@@ -15,11 +16,11 @@ was_honest g c h =
     let later : IsLater (g.S.PageStore.backing c.args.store.now) (g.S.PageStore.backing c.candidate.new.store) = g.met.S.PageStore.laws.follows_later _ _ (c.candidate.ensures.steps _ (g.met.S.PageStore.laws.follows_same _)) in
     later.honest h
 
-pub returns-in-Ok-Some : goal.returns-in-Ok-Some
-returns-in-Ok-Some g c =
+pub returns-in-Ok-Some-clause-all : goal.returns-in-Ok-Some-clause-all
+returns-in-Ok-Some-clause-all g c =
     let before = c.args.self.now in
     let answer = subst (CandidateAnswers (g.S.PageStore.state c.args.store.now) (g.S.PageStore.backing c.candidate.new.store).honest before.session before.cursor) c.in-Ok-Some.field-0-is c.in-Ok-Some.ensures.answer in
     let block_is : c.in-Ok-Some.leaf.block ≡ before.cursor = answer.stored.block_is in
-    tried_later g.S.PageStore before.session (AreInUse before.cursor c.args.parent) (LeafDies before.cursor) (IsSpared before.session before.cursor c.args.parent) c.args.store.now c.candidate.new.store c.try_beside.new.store c.try_beside.result
-    (reads g (goal.at.returns-in-Ok-Some g c).After-candidate c.in-Ok-Some.ensures.alive c.candidate.ensures.promised)
-    (subst (λ (b : ℕ). IsTried g.S.PageStore before.session (AreInUse b c.args.parent) (LeafDies b) (IsSpared before.session b c.args.parent) c.candidate.new.store c.try_beside.new.store c.try_beside.result) block_is c.try_beside.ensures)
+    tried_later g.S.PageStore before.session count_judged (AreInUse before.cursor c.args.parent) (LeafDies before.cursor) (IsSpared before.session before.cursor c.args.parent) c.args.store.now c.candidate.new.store c.try_beside.new.store c.try_beside.result
+    (reads g (goal.at.returns-in-Ok-Some-clause-all g c).After-candidate c.in-Ok-Some.ensures.alive c.candidate.ensures.promised)
+    (subst (λ (b : ℕ). IsTried g.S.PageStore before.session count_judged (AreInUse b c.args.parent) (LeafDies b) (IsSpared before.session b c.args.parent) c.candidate.new.store c.try_beside.new.store c.try_beside.result) block_is c.try_beside.ensures.all)

@@ -1,5 +1,7 @@
-use Rattle.std.proofs.Common.{◌≡◌, ℕ, true, false, subst, arith}
+use Rattle.std.proofs.Common.{◌≡◌, ℕ, true, false, subst}
 use Rattle.page_action.specs.States.{IsLater}
+use Rattle.page_delete.specs.Needs.{count_unlinked_at, frames_for}
+use Rattle.page_delete.proofs.Needs.{frames_some}
 use Rattle.page_delete.specs.Parts.{IsInUse, PageGoes, IsNotDead, IsTried}
 use Rattle.page_delete.proofs.Trying.{HasRead, read_on, tried_later, tried_refused}
 use Rattle.page_delete.proofs.steps.CleanupOp.try_unlink.Given.{Over}
@@ -15,16 +17,17 @@ was_honest g c h =
     let later : IsLater (g.S.PageStore.backing c.args.store.now) (g.S.PageStore.backing c.look_to_change.new.store) = g.met.S.PageStore.laws.follows_later _ _ (c.look_to_change.ensures.steps _ (g.met.S.PageStore.laws.follows_same _)) in
     later.honest h
 
-pub returns-in-Err : goal.returns-in-Err
-returns-in-Err g c =
+pub returns-in-Err-clause-all : goal.returns-in-Err-clause-all
+returns-in-Err-clause-all g c =
     let before = c.args.self.now in
-    tried_refused g.S.PageStore before.session (IsInUse before.cursor) (PageGoes before.cursor) (IsNotDead before.cursor) c.args.store.now c.look_to_change.new.store c.in-Err.fault
-    c.look_to_change.ensures.steps c.look_to_change.ensures.state (λ h order room there. c.in-Err.ensures.cause h room there 3 3 false false (omega arith))
+    tried_refused g.S.PageStore before.session (count_unlinked_at before.cursor) (IsInUse before.cursor) (PageGoes before.cursor) (IsNotDead before.cursor) c.args.store.now c.look_to_change.new.store c.in-Err.fault
+    c.look_to_change.ensures.steps c.look_to_change.ensures.state (λ h order room there. c.in-Err.ensures.cause h room there (count_unlinked_at before.cursor (g.S.PageStore.state c.args.store.now)) (frames_for (count_unlinked_at before.cursor (g.S.PageStore.state c.args.store.now))) false false
+    (frames_some (count_unlinked_at before.cursor (g.S.PageStore.state c.args.store.now))))
 
-pub returns-in-Some : goal.returns-in-Some
-returns-in-Some g c =
+pub returns-in-Some-clause-all : goal.returns-in-Some-clause-all
+returns-in-Some-clause-all g c =
     let before = c.args.self.now in
     let block_is : c.in-Ok.page.block ≡ before.cursor = c.in-Ok.ensures.stored.block_is in
-    tried_later g.S.PageStore before.session (IsInUse before.cursor) (PageGoes before.cursor) (IsNotDead before.cursor) c.args.store.now c.look_to_change.new.store c.unlink_dead.new.store c.unlink_dead.result
-    (reads g (goal.at.returns-in-Some g c).After-look_to_change c.in-Ok.ensures.alive c.look_to_change.ensures.room.promised)
-    (subst (λ (b : ℕ). IsTried g.S.PageStore before.session (IsInUse b) (PageGoes b) (IsNotDead b) c.look_to_change.new.store c.unlink_dead.new.store c.unlink_dead.result) block_is c.unlink_dead.ensures)
+    tried_later g.S.PageStore before.session (count_unlinked_at before.cursor) (IsInUse before.cursor) (PageGoes before.cursor) (IsNotDead before.cursor) c.args.store.now c.look_to_change.new.store c.unlink_dead.new.store c.unlink_dead.result
+    (reads g (goal.at.returns-in-Some-clause-all g c).After-look_to_change c.in-Ok.ensures.alive c.look_to_change.ensures.room.promised)
+    (subst (λ (b : ℕ). IsTried g.S.PageStore before.session (count_unlinked_at b) (IsInUse b) (PageGoes b) (IsNotDead b) c.look_to_change.new.store c.unlink_dead.new.store c.unlink_dead.result) block_is c.unlink_dead.ensures.all)

@@ -16,8 +16,8 @@ use Rattle.scan.proofs.Resting.{quiet_by, rests}
 use Rattle.scan.proofs.Rooting.{root_way, straight_root}
 use Rattle.scan.proofs.steps.ScanOp.find_root.Goals as goal
 
-pub returns : goal.returns
-returns g c =
+pub returns-clause-all : goal.returns-clause-all
+returns-clause-all g c =
     let old : State = g.S.PageStore.state c.args.store.now in
     let new : State = g.S.PageStore.state c.go_on.new.store in
     let before : ScanOp = c.args.self.now in

@@ -43,8 +43,8 @@ stored_there g c = subst (λ (st : State). IsStored st.limits c.args.way.block c
 found_there : (g : Over) (c : After-view-page g) → (g.S.PageStore.backing c.look.new.store).honest ≡ true → slice_get (g.S.PageStore.state c.args.store.now).pages c.args.way.block ≡ Some c.view-page.result.now
 found_there g c honest = subst (λ (st : State). slice_get st.pages c.args.way.block ≡ Some c.view-page.result.now) c.look.ensures.state (c.view-page.ensures.page honest)
 
-pub returns-in_err-look : goal.returns-in_err-look
-returns-in_err-look g c = record {
+pub returns-in_err-look-clause-all : goal.returns-in_err-look-clause-all
+returns-in_err-look-clause-all g c = record {
   steps = search rules;
   session = refl;
   range = refl;
@@ -69,8 +69,8 @@ returns-in_err-look g c = record {
   straight = λ honest order whole none starts. search rules;
 }
 
-pub returns-in_default : goal.returns-in_default
-returns-in_default g c =
+pub returns-in_default-clause-all : goal.returns-in_default-clause-all
+returns-in_default-clause-all g c =
     let old : State = g.S.PageStore.state c.args.store.now in
     let before : ScanOp = c.args.self.now in
     let way : Way = c.args.way in
@@ -78,27 +78,27 @@ returns-in_default g c =
     refuses g.S.PageStore before c.args.store.now c.look.new.store _ c.look.ensures.steps c.look.ensures.state c.requires.none
     (λ h. (let k = sym c.in_ok-look.was ∙ c.look.ensures.stopped h in cc))
     (λ honest order fits.
-    let found = found_there g (goal.at.returns-in_default g c).After-view-page honest in
+    let found = found_there g (goal.at.returns-in_default-clause-all g c).After-view-page honest in
     let led = scan_led old before way page c.limits-most.result c.lead.result c.requires.at order fits found
     (c.limits-most.ensures.value ∙ ap (λ (st : State). st.limits) c.look.ensures.state) c.in_ok-look.ensures.inside c.lead.ensures.goes in
     let here = subst (LeadsOnward old fits.start (frontier_aim before.frontier) false 0 way) (c.in-Some-Here.is ∙ ap Some c.in-Some-Here.field-0-is) led in
-    let block_is : page.block ≡ way.block = (stored_there g (goal.at.returns-in_default g c).After-view-page).block_is in
+    let block_is : page.block ≡ way.block = (stored_there g (goal.at.returns-in_default-clause-all g c).After-view-page).block_is in
     absurd (other_items page.items c.in_default.not-Entries (leaf_has_entries old (frontier_aim before.frontier) page order.tree
-    (subst (λ (b : ℕ). slice_get old.pages b ≡ Some page) (sym block_is) found) (stored_there g (goal.at.returns-in_default g c).After-view-page).storable.admitted
+    (subst (λ (b : ℕ). slice_get old.pages b ≡ Some page) (sym block_is) found) (stored_there g (goal.at.returns-in_default-clause-all g c).After-view-page).storable.admitted
     (subst (HasCover old 0 (frontier_aim before.frontier)) (sym block_is) here.1))))
 
-pub returns-in-None : goal.returns-in-None
-returns-in-None g c =
+pub returns-in-None-clause-all : goal.returns-in-None-clause-all
+returns-in-None-clause-all g c =
     let old : State = g.S.PageStore.state c.args.store.now in
     refuses g.S.PageStore c.args.self.now c.args.store.now c.look.new.store _ c.look.ensures.steps c.look.ensures.state c.requires.none
     (λ h. (let k = sym c.in_ok-look.was ∙ c.look.ensures.stopped h in cc))
     (λ honest order fits.
     absurd (subst (LeadsOnward old fits.start (frontier_aim c.args.self.now.frontier) false 0 c.args.way) c.in-None.is
-    (scan_led old c.args.self.now c.args.way c.view-page.result.now c.limits-most.result c.lead.result c.requires.at order fits (found_there g (goal.at.returns-in-None g c).After-view-page honest)
+    (scan_led old c.args.self.now c.args.way c.view-page.result.now c.limits-most.result c.lead.result c.requires.at order fits (found_there g (goal.at.returns-in-None-clause-all g c).After-view-page honest)
     (c.limits-most.ensures.value ∙ ap (λ (st : State). st.limits) c.look.ensures.state) c.in_ok-look.ensures.inside c.lead.ensures.goes)))
 
-pub returns-in-Some-Going : goal.returns-in-Some-Going
-returns-in-Some-Going g c =
+pub returns-in-Some-Going-clause-all : goal.returns-in-Some-Going-clause-all
+returns-in-Some-Going-clause-all g c =
     let old : State = g.S.PageStore.state c.args.store.now in
     let new : State = g.S.PageStore.state c.go_on.new.store in
     let before : ScanOp = c.args.self.now in
@@ -128,7 +128,7 @@ returns-in-Some-Going g c =
       stepped = λ honest order fits.
           let later : IsLater (g.S.PageStore.backing c.look.new.store) (g.S.PageStore.backing c.go_on.new.store) = g.met.S.PageStore.laws.follows_later _ _ (c.go_on.ensures.steps _ (g.met.S.PageStore.laws.follows_same _)) in
           let way : Way = c.args.way in
-          let led = scan_led old before way c.view-page.result.now c.limits-most.result c.lead.result c.requires.at order fits (found_there g (goal.at.returns-in-Some-Going g c).After-view-page (later.honest honest))
+          let led = scan_led old before way c.view-page.result.now c.limits-most.result c.lead.result c.requires.at order fits (found_there g (goal.at.returns-in-Some-Going-clause-all g c).After-view-page (later.honest honest))
           (c.limits-most.ensures.value ∙ ap (λ (st : State). st.limits) c.look.ensures.state) c.in_ok-look.ensures.inside c.lead.ensures.goes in
           record {
             does = going_does old new before order fits is;
@@ -141,7 +141,7 @@ returns-in-Some-Going g c =
           };
       straight = λ honest order whole none starts.
           let later : IsLater (g.S.PageStore.backing c.look.new.store) (g.S.PageStore.backing c.go_on.new.store) = g.met.S.PageStore.laws.follows_later _ _ (c.go_on.ensures.steps _ (g.met.S.PageStore.laws.follows_same _)) in
-          let found : slice_get old.pages c.args.way.block ≡ Some c.view-page.result.now = found_there g (goal.at.returns-in-Some-Going g c).After-view-page (later.honest honest) in
+          let found : slice_get old.pages c.args.way.block ≡ Some c.view-page.result.now = found_there g (goal.at.returns-in-Some-Going-clause-all g c).After-view-page (later.honest honest) in
           let cover : HasCover old c.args.way.level (frontier_aim before.frontier) c.args.way.block = subst (IsStraight old before.frontier) c.requires.at starts in
           let led : LeadsStraight old (frontier_aim before.frontier) 0 c.args.way (Some (Going on)) =
           subst (LeadsStraight old (frontier_aim before.frontier) 0 c.args.way) answer (c.lead.ensures.straight old order.tree whole found cover) in
@@ -149,8 +149,8 @@ returns-in-Some-Going g c =
           (led.1, subst (λ (a : ScanAt). suc (suc on.level) ≡ straight_steps old.pages a) (sym c.requires.at) (ap suc led.0));
     }
 
-pub returns-in-Entries : goal.returns-in-Entries
-returns-in-Entries g c =
+pub returns-in-Entries-clause-all : goal.returns-in-Entries-clause-all
+returns-in-Entries-clause-all g c =
     let old : State = g.S.PageStore.state c.args.store.now in
     let new : State = g.S.PageStore.state c.stand_on.new.store in
     let before : ScanOp = c.args.self.now in
@@ -169,7 +169,7 @@ returns-in-Entries g c =
     let later : IsLater (g.S.PageStore.backing c.look.new.store) (g.S.PageStore.backing c.stand_on.new.store) = g.met.S.PageStore.laws.follows_later _ _ (c.stand_on.ensures.steps _ (g.met.S.PageStore.laws.follows_same _)) in
     let less : (g.S.PageStore.backing c.stand_on.new.store).honest ≡ true → scan_left old.limits.pages old.pages after < scan_left old.limits.pages old.pages before =
     λ honest. subst (λ (op : ScanOp). scan_left old.limits.pages old.pages op < scan_left old.limits.pages old.pages before) (sym op_is)
-    (reading_less old.limits.pages old.pages before (Some way.block) way way.block page es c.requires.at (found_there g (goal.at.returns-in-Entries g c).After-view-page (later.honest honest)) arrived many) in
+    (reading_less old.limits.pages old.pages before (Some way.block) way way.block page es c.requires.at (found_there g (goal.at.returns-in-Entries-clause-all g c).After-view-page (later.honest honest)) arrived many) in
     record {
       steps = search rules;
       session = ap (λ (op : ScanOp). op.session) op_is;
@@ -184,13 +184,13 @@ returns-in-Entries g c =
       no_more = λ honest. (let l = less honest in omega arith);
       stepped = λ honest order fits.
           let on_way : IsOnWay old fits.start (frontier_aim before.frontier) false 0 way = subst (ScanStands old fits.start before.leaf before.frontier) c.requires.at fits.stands in
-          let found : slice_get old.pages way.block ≡ Some page = found_there g (goal.at.returns-in-Entries g c).After-view-page (later.honest honest) in
+          let found : slice_get old.pages way.block ≡ Some page = found_there g (goal.at.returns-in-Entries-clause-all g c).After-view-page (later.honest honest) in
           let led = scan_led old before way page c.limits-most.result c.lead.result c.requires.at order fits found
           (c.limits-most.ensures.value ∙ ap (λ (st : State). st.limits) c.look.ensures.state) c.in_ok-look.ensures.inside c.lead.ensures.goes in
           let here : (way.level ≡ 0) × HasCover old 0 (frontier_aim before.frontier) way.block =
           subst (LeadsOnward old fits.start (frontier_aim before.frontier) false 0 way) (c.in-Some-Here.is ∙ ap Some c.in-Some-Here.field-0-is) led in
-          let admitted = (stored_there g (goal.at.returns-in-Entries g c).After-view-page).storable.admitted in
-          let block_is : page.block ≡ way.block = (stored_there g (goal.at.returns-in-Entries g c).After-view-page).block_is in
+          let admitted = (stored_there g (goal.at.returns-in-Entries-clause-all g c).After-view-page).storable.admitted in
+          let block_is : page.block ≡ way.block = (stored_there g (goal.at.returns-in-Entries-clause-all g c).After-view-page).block_is in
           let there : slice_get old.pages page.block ≡ Some page = subst (λ (b : ℕ). slice_get old.pages b ≡ Some page) (sym block_is) found in
           let cover : HasCover old 0 (frontier_aim before.frontier) page.block = subst (HasCover old 0 (frontier_aim before.frontier)) (sym block_is) here.1 in
           let has = leaf_has_entries old (frontier_aim before.frontier) page order.tree there admitted cover in
@@ -218,7 +218,7 @@ returns-in-Entries g c =
             count_is = c.ready.ensures;
           });
       straight = λ honest order whole none starts.
-          let found : slice_get old.pages way.block ≡ Some page = found_there g (goal.at.returns-in-Entries g c).After-view-page (later.honest honest) in
+          let found : slice_get old.pages way.block ≡ Some page = found_there g (goal.at.returns-in-Entries-clause-all g c).After-view-page (later.honest honest) in
           let cover : HasCover old way.level (frontier_aim before.frontier) way.block = subst (IsStraight old before.frontier) c.requires.at starts in
           let led : LeadsStraight old (frontier_aim before.frontier) 0 way (Some Here) =
           subst (LeadsStraight old (frontier_aim before.frontier) 0 way) (c.in-Some-Here.is ∙ ap Some c.in-Some-Here.field-0-is) (c.lead.ensures.straight old order.tree whole found cover) in

@@ -5,8 +5,8 @@ use Rattle.split_finish.proofs.Doing.{acts_done, act_refused, popped_session}
 use Rattle.split_finish.proofs.Growing.{grows, may_grow_all}
 use Rattle.split_finish.proofs.finish.FinishOp.act_on_root.Goals as goal
 
-pub returns-in-Ok : goal.returns-in-Ok
-returns-in-Ok g c =
+pub returns-in-Ok-clause-all : goal.returns-in-Ok-clause-all
+returns-in-Ok-clause-all g c =
     let op = c.args.self.now in
     let st : State = g.S.PageStore.state c.args.store.now in
     let later : IsLater (g.S.PageStore.backing c.args.store.now) (g.S.PageStore.backing c.act_on.new.store) =
@@ -19,15 +19,15 @@ returns-in-Ok g c =
     (subst (λ (l : _). 2 ≤ l.items) c.limits-least.ensures.value c.if-prove.false)
     c.grown-pages.ensures (g.S.PageStore.backing c.args.store.now) (g.S.PageStore.backing c.act_on.new.store) c.pop.new.self c.pop.result c.pop.ensures)
 
-pub returns-in-Err : goal.returns-in-Err
-returns-in-Err g c =
+pub returns-in-Err-clause-all : goal.returns-in-Err-clause-all
+returns-in-Err-clause-all g c =
     let op = c.args.self.now in
     let st : State = g.S.PageStore.state c.args.store.now in
     let later : IsLater (g.S.PageStore.backing c.args.store.now) (g.S.PageStore.backing c.act_on.new.store) =
     g.met.S.PageStore.laws.follows_later _ _ (c.act_on.ensures.steps _ (g.met.S.PageStore.laws.follows_same _)) in
     act_refused g.S.PageStore op c.args.store.now c.act_on.new.store c.in-Err.fault c.grown-pages.result 3 c.act_on.ensures.steps c.in-Err.ensures.refused
-    (let k : length c.grown-pages.result ≡ 3 = ap length c.grown-pages.ensures.pages_are in omega arith)
-    (ap images_of c.requires.meets.at) (ap frames_of c.requires.meets.at)
+    (let k : length c.grown-pages.result ≡ 3 = ap length c.grown-pages.ensures.pages_are in omega arith) (let k : length c.grown-pages.result ≡ 3 = ap length c.grown-pages.ensures.pages_are in omega arith)
+    (λ honest. (ap (images_of st) c.requires.meets.at, ap (frames_of st) c.requires.meets.at))
     (λ honest order fits. c.in-Err.ensures.cause (may_grow_all st op (g.S.PageStore.backing c.args.store.now).honest c.args.meta c.args.page c.args.new c.args.fresh c.grown-pages.result order fits (later.honest honest)
     c.requires.meets.read_meta c.requires.meets.read c.requires.meets.ready c.requires.right c.requires.fresh c.requires.block c.requires.free
     (g.met.S.PageStore.laws.few c.args.store.now)

@@ -1,12 +1,13 @@
-use Rattle.std.proofs.Common.{◌≡◌, length, ap, arith}
+use Rattle.std.proofs.Common.{◌≡◌, length, ap, ◌∙◌, arith}
 use Rattle.page_action.specs.States.{State, IsLater}
 use Rattle.split_finish.specs.Finishes.{images_of, frames_of}
 use Rattle.split_finish.proofs.Doing.{acts_done, act_refused, popped_session}
+use Rattle.split_finish.proofs.Needs.{roomy_link}
 use Rattle.split_finish.proofs.Linking.{links, may_link_all}
 use Rattle.split_finish.proofs.finish.FinishOp.add.Goals as goal
 
-pub returns-in-Ok : goal.returns-in-Ok
-returns-in-Ok g c =
+pub returns-in-Ok-clause-all : goal.returns-in-Ok-clause-all
+returns-in-Ok-clause-all g c =
     let op = c.args.self.now in
     let st : State = g.S.PageStore.state c.args.store.now in
     let later : IsLater (g.S.PageStore.backing c.args.store.now) (g.S.PageStore.backing c.act_on.new.store) =
@@ -17,14 +18,16 @@ returns-in-Ok g c =
     c.requires.meets.at c.requires.meets.read c.requires.meets.read_parent c.requires.meets.ready c.requires.right (g.met.S.PageStore.laws.few c.args.store.now) c.requires.room c.linked-pages.ensures
     (g.S.PageStore.backing c.args.store.now) (g.S.PageStore.backing c.act_on.new.store) c.pop.new.self c.pop.result c.pop.ensures)
 
-pub returns-in-Err : goal.returns-in-Err
-returns-in-Err g c =
+pub returns-in-Err-clause-all : goal.returns-in-Err-clause-all
+returns-in-Err-clause-all g c =
     let op = c.args.self.now in
     let st : State = g.S.PageStore.state c.args.store.now in
     let later : IsLater (g.S.PageStore.backing c.args.store.now) (g.S.PageStore.backing c.act_on.new.store) =
     g.met.S.PageStore.laws.follows_later _ _ (c.act_on.ensures.steps _ (g.met.S.PageStore.laws.follows_same _)) in
-    act_refused g.S.PageStore op c.args.store.now c.act_on.new.store c.in-Err.fault c.linked-pages.result 4 c.act_on.ensures.steps c.in-Err.ensures.refused
-    (let k : length c.linked-pages.result ≡ 2 = ap length c.linked-pages.ensures.pages_are in omega arith)
-    (ap images_of c.requires.meets.at) (ap frames_of c.requires.meets.at)
+    act_refused g.S.PageStore op c.args.store.now c.act_on.new.store c.in-Err.fault c.linked-pages.result 2 c.act_on.ensures.steps c.in-Err.ensures.refused
+    (let k : length c.linked-pages.result ≡ 2 = ap length c.linked-pages.ensures.pages_are in omega arith) (let k : length c.linked-pages.result ≡ 2 = ap length c.linked-pages.ensures.pages_are in omega arith)
+    (λ honest.
+    let need = roomy_link st c.requires.meets.way c.args.parent (c.requires.meets.read_parent.found (later.honest honest)) c.requires.room in
+    (ap (images_of st) c.requires.meets.at ∙ need.0, ap (frames_of st) c.requires.meets.at ∙ need.1))
     (λ honest order fits. c.in-Err.ensures.cause (may_link_all st op (g.S.PageStore.backing c.args.store.now).honest c.requires.meets.way c.args.page c.args.parent c.args.new c.linked-pages.result order fits (later.honest honest)
     c.requires.meets.at c.requires.meets.read c.requires.meets.read_parent c.requires.meets.ready c.requires.right (g.met.S.PageStore.laws.few c.args.store.now) c.requires.room c.linked-pages.ensures))

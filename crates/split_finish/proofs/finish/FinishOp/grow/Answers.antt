@@ -7,8 +7,8 @@ use Rattle.split_finish.proofs.Standing.{place_inside, meta_inside, has_room}
 use Rattle.split_finish.proofs.Stepping.{refuses, behind}
 use Rattle.split_finish.proofs.finish.FinishOp.grow.Goals as goal
 
-pub returns-in-Ok : goal.returns-in-Ok
-returns-in-Ok g c =
+pub returns-in-Ok-clause-all : goal.returns-in-Ok-clause-all
+returns-in-Ok-clause-all g c =
     let later : IsLater (g.S.PageStore.backing c.args.store.now) (g.S.PageStore.backing c.look_at_both.new.store) =
     g.met.S.PageStore.laws.follows_later _ _ (c.look_at_both.ensures.steps _ (g.met.S.PageStore.laws.follows_same _)) in
     behind g.S.PageStore c.args.self.now c.grow_over.new.self c.args.store.now c.look_at_both.new.store c.grow_over.new.store c.grow_over.result
@@ -20,10 +20,10 @@ returns-in-Ok g c =
       promised = c.look_at_both.ensures.room.promised;
     })
     (λ h. (let k = sym c.in-Ok.is ∙ c.look_at_both.ensures.stopped h in cc))
-    c.grow_over.ensures
+    c.grow_over.ensures.all
 
-pub returns-in-Err : goal.returns-in-Err
-returns-in-Err g c =
+pub returns-in-Err-clause-all : goal.returns-in-Err-clause-all
+returns-in-Err-clause-all g c =
     let op = c.args.self.now in
     let st = g.S.PageStore.state c.args.store.now in
     refuses g.S.PageStore op c.args.store.now c.look_at_both.new.store c.in-Err.fault c.look_at_both.ensures.steps c.look_at_both.ensures.state

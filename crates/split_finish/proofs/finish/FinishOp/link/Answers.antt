@@ -1,15 +1,17 @@
-use Rattle.std.proofs.Common.{true, false, sym, subst, ◌∙◌, arith}
+use Rattle.std.proofs.Common.{true, false, sym, subst, ◌∙◌}
 use Rattle.index_model.specs.Faults.{HasCause}
 use Rattle.page_action.specs.States.{IsLater}
 use Rattle.split_finish.specs.Targets.{FinishStands}
-use Rattle.split_finish.specs.Finishes.{where_finishing}
+use Rattle.split_finish.specs.Finishes.{images_of, frames_of, takes_block_of, where_finishing}
 use Rattle.split_finish.specs.declared.finish.FinishAt.{FinishAt}
+use Rattle.split_finish.specs.declared.finish.FinishAt.TheVariants.{Link}
+use Rattle.split_finish.proofs.Needs.{link_some}
 use Rattle.split_finish.proofs.Standing.{place_inside, has_room}
 use Rattle.split_finish.proofs.Stepping.{refuses, behind}
 use Rattle.split_finish.proofs.finish.FinishOp.link.Goals as goal
 
-pub returns-in-Ok : goal.returns-in-Ok
-returns-in-Ok g c =
+pub returns-in-Ok-clause-all : goal.returns-in-Ok-clause-all
+returns-in-Ok-clause-all g c =
     let later : IsLater (g.S.PageStore.backing c.args.store.now) (g.S.PageStore.backing c.look_at_both.new.store) =
     g.met.S.PageStore.laws.follows_later _ _ (c.look_at_both.ensures.steps _ (g.met.S.PageStore.laws.follows_same _)) in
     behind g.S.PageStore c.args.self.now c.link_to.new.self c.args.store.now c.look_at_both.new.store c.link_to.new.store c.link_to.result
@@ -21,10 +23,10 @@ returns-in-Ok g c =
       promised = c.look_at_both.ensures.room.promised;
     })
     (λ h. (let k = sym c.in-Ok.is ∙ c.look_at_both.ensures.stopped h in cc))
-    c.link_to.ensures
+    c.link_to.ensures.all
 
-pub returns-in-Err : goal.returns-in-Err
-returns-in-Err g c =
+pub returns-in-Err-clause-all : goal.returns-in-Err-clause-all
+returns-in-Err-clause-all g c =
     let op = c.args.self.now in
     let st = g.S.PageStore.state c.args.store.now in
     refuses g.S.PageStore op c.args.store.now c.look_at_both.new.store c.in-Err.fault c.look_at_both.ensures.steps c.look_at_both.ensures.state
@@ -33,4 +35,4 @@ returns-in-Err g c =
     let stands = subst (FinishStands st fits.start op.target) c.requires fits.stands in
     subst (λ (a : FinishAt). HasCause (where_finishing st (g.S.PageStore.backing c.args.store.now) (g.S.PageStore.backing c.look_at_both.new.store) op.session a) c.in-Err.fault) (sym c.requires)
     (c.in-Err.ensures.cause honest (has_room st op fits) (place_inside st fits.start op.target.level _ true op.target.block order.tree fits.newest.place)
-    (place_inside st fits.start c.args.way.level _ true c.args.way.block order.tree stands.1.place) 4 4 true false (omega arith)))
+    (place_inside st fits.start c.args.way.level _ true c.args.way.block order.tree stands.1.place) (images_of st (Link c.args.way)) (frames_of st (Link c.args.way)) (takes_block_of st (Link c.args.way)) false (link_some st c.args.way)))

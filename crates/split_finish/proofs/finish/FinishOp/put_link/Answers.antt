@@ -5,8 +5,8 @@ use Rattle.split_finish.proofs.Placing.{there_is_a_place}
 use Rattle.split_finish.proofs.Stepping.{acts_not}
 use Rattle.split_finish.proofs.finish.FinishOp.put_link.Goals as goal
 
-pub returns-in_default-place_behind : goal.returns-in_default-place_behind
-returns-in_default-place_behind g c =
+pub returns-in_default-place_behind-clause-all : goal.returns-in_default-place_behind-clause-all
+returns-in_default-place_behind-clause-all g c =
     let op = c.args.self.now in
     let st : State = g.S.PageStore.state c.args.store.now in
     acts_not g.S.PageStore op c.args.store.now c.args.store.now _ (λ first h. h) refl

@@ -6,8 +6,8 @@ use Rattle.split_finish.proofs.Standing.{has_room}
 use Rattle.split_finish.proofs.Stepping.{acts_not}
 use Rattle.split_finish.proofs.finish.FinishOp.put_root.Goals as goal
 
-pub returns-in-Err : goal.returns-in-Err
-returns-in-Err g c =
+pub returns-in-Err-clause-all : goal.returns-in-Err-clause-all
+returns-in-Err-clause-all g c =
     acts_not g.S.PageStore c.args.self.now c.args.store.now c.take_block.new.store c.in-Err.fault c.take_block.ensures.steps c.take_block.ensures.state
     (λ honest order fits.
     let op = c.args.self.now in

@@ -8,8 +8,8 @@ use Rattle.split_finish.proofs.Standing.{place_inside, has_room}
 use Rattle.split_finish.proofs.Stepping.{refuses, turns}
 use Rattle.split_finish.proofs.finish.FinishOp.read_page.Goals as goal
 
-pub returns-in-Ok : goal.returns-in-Ok
-returns-in-Ok g c =
+pub returns-in-Ok-clause-all : goal.returns-in-Ok-clause-all
+returns-in-Ok-clause-all g c =
     turns g.S.PageStore c.args.self.now c.leave_page.new.self c.args.store.now c.look.new.store c.leave_page.result c.look.ensures.steps c.look.ensures.state
     c.leave_page.ensures.session c.leave_page.ensures.refused (λ h. (let k = sym c.in-Ok.is ∙ c.look.ensures.stopped h in cc))
     (λ honest. c.leave_page.ensures.turn (g.S.PageStore.state c.args.store.now)
@@ -19,8 +19,8 @@ returns-in-Ok g c =
     let same = ap (λ (st : State). st.limits.pages) (sym c.look.ensures.state) ∙ sym (ap (λ (l : _). l.pages) c.limits-most.ensures.value) in
     subst (λ (n : ℕ). length (g.S.PageStore.state c.args.store.now).pages ≤ n) same most))
 
-pub returns-in-Err : goal.returns-in-Err
-returns-in-Err g c =
+pub returns-in-Err-clause-all : goal.returns-in-Err-clause-all
+returns-in-Err-clause-all g c =
     let op = c.args.self.now in
     let st = g.S.PageStore.state c.args.store.now in
     refuses g.S.PageStore op c.args.store.now c.look.new.store c.in-Err.fault c.look.ensures.steps c.look.ensures.state

@@ -11,28 +11,34 @@ use Rattle.page_action.specs.States.{State, Backing, IsLater, after_act}
 use Rattle.page_action.specs.Stored.{AreActable}
 use Rattle.tree_acts.proofs.Overlays.{inside}
 use Rattle.descent.proofs.Working.{act_cause_of}
-use Rattle.split_finish.specs.Finishes.{where_finishing}
+use Rattle.descent.specs.Shared.{where_working}
+use Rattle.split_finish.specs.Finishes.{images_of, frames_of, count_parted, where_finishing}
 use Rattle.split_finish.specs.Parting.{halves_and}
 use Rattle.split_finish.specs.declared.finish.FinishAt.{FinishAt}
-use Rattle.split_finish.proofs.Parting.{PartsParent, parts, parts_may, beside_parent, few_parts, split_as_read}
+use Rattle.split_finish.specs.declared.finish.FinishAt.TheVariants.{Link}
+use Rattle.split_finish.proofs.Needs.{full_link, parted_count}
+use Rattle.split_finish.proofs.Parting.{PartsParent, parts, parts_may, beside_parent, split_as_read}
 use Rattle.split_finish.proofs.Standing.{has_room}
 use Rattle.split_finish.proofs.Stepping.{acts_not}
 use Rattle.split_finish.proofs.finish.FinishOp.split_beside.Goals as goal
 
-pub returns-in-Err : goal.returns-in-Err
-returns-in-Err g c =
+pub returns-in-Err-clause-all : goal.returns-in-Err-clause-all
+returns-in-Err-clause-all g c =
     let op = c.args.self.now in
     let st : State = g.S.PageStore.state c.args.store.now in
+    let way = c.requires.meets.way in
     acts_not g.S.PageStore op c.args.store.now c.take_block.new.store c.in-Err.fault c.take_block.ensures.steps c.take_block.ensures.state
     (λ honest order fits.
     subst (λ (a : FinishAt). HasCause (where_finishing st (g.S.PageStore.backing c.args.store.now) (g.S.PageStore.backing c.take_block.new.store) op.session a) c.in-Err.fault) (sym c.requires.meets.at)
-    (c.in-Err.ensures.cause (has_room st op fits) 4 4 false))
+    (subst (λ (b : Bool). HasCause (where_working st (g.S.PageStore.backing c.args.store.now) (g.S.PageStore.backing c.take_block.new.store) op.session (images_of st (Link way)) (frames_of st (Link way)) b false) c.in-Err.fault)
+    (sym (full_link st way c.args.parent (c.requires.meets.read_parent.found (subst (λ (b : Backing). b.honest ≡ true) c.take_block.ensures.backing honest)) c.requires.no_room).2)
+    (c.in-Err.ensures.cause (has_room st op fits) (images_of st (Link way)) (frames_of st (Link way)) false)))
 
 pub split_links-half-requires-clause-block : goal.split_links-half-requires-clause-block
 split_links-half-requires-clause-block g c = c.in-Ok.ensures.block c.requires.some
 
-pub returns-in-Ok-act_on_halves : goal.returns-in-Ok-act_on_halves
-returns-in-Ok-act_on_halves g c =
+pub returns-in-Ok-act_on_halves-clause-all : goal.returns-in-Ok-act_on_halves-clause-all
+returns-in-Ok-act_on_halves-clause-all g c =
     let op = c.args.self.now in
     let st : State = g.S.PageStore.state c.args.store.now in
     let left : Page = c.split_links-half.new.page in
@@ -61,8 +67,8 @@ returns-in-Ok-act_on_halves g c =
     (c.in-Ok-act_on_halves.ensures.done ∙ ap (after_act (halves_and left half c.args.right clear)) same)
     refl c.in-Some.ensures.target.0 c.in-Some.ensures.target.1 c.in-Some.ensures.target.2
 
-pub returns-in-Err-act_on_halves : goal.returns-in-Err-act_on_halves
-returns-in-Err-act_on_halves g c =
+pub returns-in-Err-act_on_halves-clause-all : goal.returns-in-Err-act_on_halves-clause-all
+returns-in-Err-act_on_halves-clause-all g c =
     let op = c.args.self.now in
     let st : State = g.S.PageStore.state c.args.store.now in
     let left : Page = c.split_links-half.new.page in
@@ -103,5 +109,8 @@ returns-in-Err-act_on_halves g c =
     subst (λ (b : Backing). HasCause (where_acted st b third (halves_and left half c.args.right clear)) c.in-Err-act_on_halves.fault) c.take_block.ensures.backing
     (subst (λ (s : State). HasCause (where_acted s (g.S.PageStore.backing c.take_block.new.store) third (halves_and left half c.args.right clear)) c.in-Err-act_on_halves.fault) same
     (c.in-Err-act_on_halves.ensures.cause (subst (λ (s : State). AreActable s.limits (length s.pages) (halves_and left half c.args.right clear)) (sym same) may))) in
+    let need = full_link st c.requires.meets.way c.args.parent (c.requires.meets.read_parent.found (later.honest honest)) c.requires.no_room in
+    let count : length (halves_and left half c.args.right clear) ≡ count_parted c.args.parent.right = parted_count st op.session left half clear c.args.parent.right c.args.right c.requires.beside in
     subst (λ (a : FinishAt). HasCause (where_finishing st first third op.session a) c.in-Err-act_on_halves.fault) (sym c.requires.meets.at)
-    (act_cause_of st first first third op.session 4 true false (halves_and left half c.args.right clear) c.in-Err-act_on_halves.fault (omega arith) (λ h. h) refl (few_parts left half clear c.args.right) why))
+    (rw (need.0, need.2) (act_cause_of st first first third op.session (count_parted c.args.parent.right) true false (halves_and left half c.args.right clear) c.in-Err-act_on_halves.fault (omega arith) (λ h. h) refl
+    (omega arith) (omega (arith, count)) why)))

@@ -1,8 +1,10 @@
-use Rattle.std.proofs.Common.{arith, true, false, sym, subst}
+use Rattle.std.proofs.Common.{false, sym, subst}
 use Rattle.index_model.specs.Faults.{HasCause}
 use Rattle.page_action.specs.States.{State, IsLater}
-use Rattle.split_finish.specs.Finishes.{where_finishing}
+use Rattle.split_finish.specs.Finishes.{images_of, frames_of, takes_block_of, where_finishing}
 use Rattle.split_finish.specs.declared.finish.FinishAt.{FinishAt}
+use Rattle.split_finish.specs.declared.finish.FinishAt.TheVariants.{Link}
+use Rattle.split_finish.proofs.Needs.{link_some}
 use Rattle.split_finish.proofs.Parting.{beside_parent}
 use Rattle.split_finish.proofs.Standing.{has_room}
 use Rattle.split_finish.proofs.Stepping.{acts_not, behind_more, still_meets}
@@ -14,8 +16,8 @@ split_beside-requires-clause-meets g c =
     still_meets (g.S.PageStore.state c.args.store.now) (g.S.PageStore.state c.read_right.new.store) (g.S.PageStore.backing c.args.store.now) (g.S.PageStore.backing c.read_right.new.store)
     c.args.self.now c.args.page c.args.parent c.read_right.ensures.state later.honest c.requires.meets
 
-pub returns-in-Ok : goal.returns-in-Ok
-returns-in-Ok g c =
+pub returns-in-Ok-clause-all : goal.returns-in-Ok-clause-all
+returns-in-Ok-clause-all g c =
     let later : IsLater (g.S.PageStore.backing c.args.store.now) (g.S.PageStore.backing c.read_right.new.store) = g.met.S.PageStore.laws.follows_later _ _ (c.read_right.ensures.steps _ (g.met.S.PageStore.laws.follows_same _)) in
     behind_more g.S.PageStore c.args.self.now c.split_beside.new.self c.args.store.now c.read_right.new.store c.split_beside.new.store c.split_beside.result
     (record {
@@ -25,10 +27,10 @@ returns-in-Ok g c =
       alive = c.in-Ok.ensures.alive;
       promised = c.read_right.ensures.room.promised;
     })
-    c.split_beside.ensures
+    c.split_beside.ensures.all
 
-pub returns-in-Err : goal.returns-in-Err
-returns-in-Err g c =
+pub returns-in-Err-clause-all : goal.returns-in-Err-clause-all
+returns-in-Err-clause-all g c =
     let op = c.args.self.now in
     let st : State = g.S.PageStore.state c.args.store.now in
     let later : IsLater (g.S.PageStore.backing c.args.store.now) (g.S.PageStore.backing c.read_right.new.store) = g.met.S.PageStore.laws.follows_later _ _ (c.read_right.ensures.steps _ (g.met.S.PageStore.laws.follows_same _)) in
@@ -36,4 +38,4 @@ returns-in-Err g c =
     (λ honest order fits.
     let beside = beside_parent st op.session (g.S.PageStore.backing c.args.store.now).honest op c.requires.meets.way c.args.page c.args.parent order fits c.requires.meets.at (later.honest honest) c.requires.meets.read c.requires.meets.read_parent c.requires.meets.ready in
     subst (λ (a : FinishAt). HasCause (where_finishing st (g.S.PageStore.backing c.args.store.now) (g.S.PageStore.backing c.read_right.new.store) op.session a) c.in-Err.fault) (sym c.requires.meets.at)
-    (c.in-Err.ensures.cause honest (has_room st op fits) beside.mendable 4 4 true false (omega arith)))
+    (c.in-Err.ensures.cause honest (has_room st op fits) beside.mendable (images_of st (Link c.requires.meets.way)) (frames_of st (Link c.requires.meets.way)) (takes_block_of st (Link c.requires.meets.way)) false (link_some st c.requires.meets.way)))

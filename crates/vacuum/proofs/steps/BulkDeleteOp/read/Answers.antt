@@ -24,8 +24,8 @@ stored g c = subst (λ (st : State). IsStored st.limits c.args.block c.view-page
 found : (g : Over) (c : After-view-page g) → (g.S.PageStore.backing c.look.new.store).honest ≡ true → slice_get (g.S.PageStore.state c.args.store.now).pages c.args.block ≡ Some c.view-page.result.now
 found g c honest = subst (λ (st : State). slice_get st.pages c.args.block ≡ Some c.view-page.result.now) c.look.ensures.state (c.view-page.ensures.page honest)
 
-pub returns-in-Err : goal.returns-in-Err
-returns-in-Err g c =
+pub returns-in-Err-clause-all : goal.returns-in-Err-clause-all
+returns-in-Err-clause-all g c =
     let old = g.S.PageStore.state c.args.store.now in
     let before = c.args.self.now in
     refuses g.S.PageStore (g.T.DeadRows.is_in c.args.dead.now) before c.args.store.now c.look.new.store c.in-Err.fault c.look.ensures.steps c.look.ensures.state
@@ -34,24 +34,24 @@ returns-in-Err g c =
     reading_cause old (g.S.PageStore.backing c.args.store.now) (g.S.PageStore.backing c.look.new.store) before c.in-Err.fault
     (c.in-Err.ensures.works honest (has_room old before fits) (subst (λ (b : ℕ). b < length old.pages) c.requires.at (next_in_use old before order.tree fits c.requires.inside)) 1 1 false false (omega arith)))
 
-pub returns-then-not-is_live_leaf : goal.returns-then-not-is_live_leaf
-returns-then-not-is_live_leaf g c =
+pub returns-then-not-is_live_leaf-clause-all : goal.returns-then-not-is_live_leaf-clause-all
+returns-then-not-is_live_leaf-clause-all g c =
     passes g.S.PageStore (g.T.DeadRows.is_in c.args.dead.now) c.args.self.now c.go_on.new.self c.args.store.now c.look.new.store c.args.block c.view-page.result.now
-    c.look.ensures.steps c.look.ensures.state c.requires.alive c.requires.at c.requires.inside (found g (goal.at.returns-then-not-is_live_leaf g c).After-view-page)
+    c.look.ensures.steps c.look.ensures.state c.requires.alive c.requires.at c.requires.inside (found g (goal.at.returns-then-not-is_live_leaf-clause-all g c).After-view-page)
     (λ live leaf. let k : false ≡ true = c.if-not-is_live_leaf.ensures.1 (live, leaf) in cc) c.go_on.ensures
 
-pub returns-in-Err-turn : goal.returns-in-Err-turn
-returns-in-Err-turn g c =
+pub returns-in-Err-turn-clause-all : goal.returns-in-Err-turn-clause-all
+returns-in-Err-turn-clause-all g c =
     let old = g.S.PageStore.state c.args.store.now in
     let before = c.args.self.now in
-    let there = stored g (goal.at.returns-in-Err-turn g c).After-view-page in
+    let there = stored g (goal.at.returns-in-Err-turn-clause-all g c).After-view-page in
     let leaf = c.if-not-is_live_leaf.ensures.0 refl in
     let most : c.limits.result.pages ≡ old.limits.pages = ap (λ (l : Limits). l.pages) c.limits.ensures.value ∙ ap (λ (s : State). s.limits.pages) c.look.ensures.state in
     refuses g.S.PageStore (g.T.DeadRows.is_in c.args.dead.now) before c.args.store.now c.look.new.store c.in-Err-turn.fault c.look.ensures.steps c.look.ensures.state
     (λ h. absurd (let k : false ≡ true = sym c.requires.alive ∙ h in cc))
     (λ honest order fits.
     absurd (never_too_far old before c.view-page.result.now c.args.block c.cycle.result (last_read before.cursor before.back) order fits c.requires.at
-    (record { found = found g (goal.at.returns-in-Err-turn g c).After-view-page honest; alive = leaf.0; leaf = leaf.1 }) there.block_is c.in-Ok.ensures.inside
+    (record { found = found g (goal.at.returns-in-Err-turn-clause-all g c).After-view-page honest; alive = leaf.0; leaf = leaf.1 }) there.block_is c.in-Ok.ensures.inside
     (subst (λ (n : ℕ). TurnsNoMore c.cycle.result n (last_read before.cursor before.back) (moves_of before.back) c.view-page.result.now) most c.in-Err-turn.ensures.refused)))
 
 pub take-requires : goal.take-requires
@@ -65,8 +65,8 @@ take-requires g c =
           c.in-Ok.ensures.used c.in-Ok.ensures.inside));
     }
 
-pub returns-in-Err-take : goal.returns-in-Err-take
-returns-in-Err-take g c =
+pub returns-in-Err-take-clause-all : goal.returns-in-Err-take-clause-all
+returns-in-Err-take-clause-all g c =
     let old = g.S.PageStore.state c.args.store.now in
     let before = c.args.self.now in
     let later : IsLater (g.S.PageStore.backing c.args.store.now) (g.S.PageStore.backing c.look.new.store) = g.met.S.PageStore.laws.follows_later _ _ (c.look.ensures.steps _ (g.met.S.PageStore.laws.follows_same _)) in
@@ -79,12 +79,12 @@ returns-in-Err-take g c =
     (subst (λ (st : State). HasCause (where_deleting st (g.S.PageStore.backing c.look.new.store) (g.S.PageStore.backing c.take.new.store) before) c.in-Err-take.fault) c.look.ensures.state
     (c.in-Err-take.ensures.cause (subst (λ (st : State). HasRoom st.table before.session) (sym c.look.ensures.state) (has_room old before fits)))))
 
-pub returns : goal.returns
-returns g c =
+pub returns-clause-all : goal.returns-clause-all
+returns-clause-all g c =
     let old = g.S.PageStore.state c.args.store.now in
     let before = c.args.self.now in
     let leaf = c.if-not-is_live_leaf.ensures.0 refl in
-    let at_view = (goal.at.returns g c).After-view-page in
+    let at_view = (goal.at.returns-clause-all g c).After-view-page in
     let later : IsLater (g.S.PageStore.backing c.look.new.store) (g.S.PageStore.backing c.take.new.store) = g.met.S.PageStore.laws.follows_later _ _ (c.take.ensures.steps _ (g.met.S.PageStore.laws.follows_same _)) in
     let most : c.limits.result.pages ≡ old.limits.pages = ap (λ (l : Limits). l.pages) c.limits.ensures.value ∙ ap (λ (s : State). s.limits.pages) c.look.ensures.state in
     let cycle : c.cycle.result ≡ old.cycle = c.cycle.ensures ∙ ap (λ (s : State). s.cycle) c.look.ensures.state in
