@@ -119,7 +119,6 @@ module _ {S : Type 0} (g : Ghosts S) (start : Entry → Bool) (session : ℕ) (o
   as_before : IsDueIn (g.state new.store) (slot_of new.slots session) (suc steps) → Due 0
   as_before h = (steps, omega arith, h)
 
-
   -- an event of no session, or of another one
   elsewhere : (kind : Kind) (answer : Answer) → EventDoes g start kind answer old new → (of : ℕ) → IsOfSession of kind → session ≢ of → IsDueIn (g.state new.store) (slot_of new.slots session) (suc steps)
   elsewhere kind answer does of is apart = does.also.quiet.due quiet of session is apart (suc steps) due
