@@ -18,3 +18,4 @@ pub mod Stating
 pub mod Reading
 pub mod Keeping
 pub mod Misfits
+pub mod Evicting

@@ -1,10 +1,10 @@
 -- What is held while frames are taken for other pages, and why none is had.
-use Rattle.std.specs.Prelude.{◌≡◌, ◌⊎◌, ℕ, ◌<◌, Bool, true, false, None, IsSome, List, ◌∷◌}
+use Rattle.std.specs.Prelude.{◌≡◌, ◌⊎◌, ℕ, ◌<◌, Bool, true, false, None, IsSome, List, ◌∷◌, remove}
 use Rattle.index_model.specs.declared.fault.Fault.{Fault}
 use Rattle.index_model.specs.declared.fault.Fault.TheVariants.{Io, Stopped, NoFrame, PageDamaged}
-use Rattle.buffer_pool.specs.Choices.{count_apart}
+use Rattle.buffer_pool.specs.Choices.{IsOldest, count_apart}
 use Rattle.buffer_pool.specs.Frames.{has_block}
-use Rattle.buffer_pool.specs.Pools.{most_of, frame_of}
+use Rattle.buffer_pool.specs.Pools.{most_of, frame_of, changed_of, HasSamePages, HasSameChanges}
 use Rattle.buffer_pool.specs.declared.pool.Pool.{Pool}
 
 -- which of the pinned pages was held, is held still
@@ -12,6 +12,23 @@ pub record KeepsFrames (pinned : List ℕ) (old new : Pool) : Type 0 where
   pub most : most_of new ≡ most_of old
   pub kept : (block : ℕ) → has_block pinned block ≡ true → IsSome (frame_of old block)
       → IsSome (frame_of new block)
+
+-- No frame was free, and of the changed pages the first one was written that isn't pinned, and no other. The pool is told of as its
+-- hand stood when this was chosen.
+pub record IsWrittenOver (pinned : List ℕ) (old new : Pool) : Type 0 where
+  pub chosen : Pool
+  pub pages : HasSamePages old chosen
+  pub changes : HasSameChanges old chosen
+  pub place : ℕ
+  pub block : ℕ
+  pub act : ℕ
+  pub oldest : IsOldest chosen pinned place block act
+  pub order : changed_of new ≡ remove (changed_of old) place
+
+-- what is written for a frame: no page, or the oldest changed one that isn't pinned, where no frame was free
+abbrev pub WritesLeast : List ℕ → Pool → Pool → Type 0
+WritesLeast pinned old new =
+    (changed_of new ≡ changed_of old) ⊎ IsWrittenOver pinned old new
 
 -- the pinned blocks with one that isn't held are more than the frames
 abbrev pub AreTooMany : Pool → List ℕ → Type 0

@@ -1,14 +1,14 @@
 //! Pages are brought into memory, in the place of others where there is no room.
 
-ghost use Rattle.std.specs.Prelude.{◌≡◌, ◌≢◌, ◌<◌, ◌≤◌, Some, None, Err, OnErr, IfOk, IfErr, OnOk, IsSome, ℕ, true, false, length, slice_get, All};
+ghost use Rattle.std.specs.Prelude.{◌≡◌, ◌≢◌, ◌<◌, ◌≤◌, Some, None, Err, OnErr, IfOk, IfErr, OnOk, IsSome, ℕ, true, false, length, remove, slice_get, All};
 ghost use Rattle.buffer_pool.specs.Choices.{IsChoice};
 ghost use Rattle.buffer_pool.specs.Frames.{has_block};
-ghost use Rattle.buffer_pool.specs.Pools.{most_of, act_of, changed_of, frame_of, CanBeTaken, HasSamePages, IsPut};
+ghost use Rattle.buffer_pool.specs.Pools.{most_of, act_of, changed_of, frame_of, CanBeTaken, HasSamePages, HasSameChanges, IsPut};
 ghost use Rattle.page_action.specs.Stored.{IsStored, AreActable};
 ghost use Rattle.redo_log.specs.Kept.{IoOrStopped, is_stopped};
 ghost use Rattle.page_store.specs.Histories.{pages_now};
 ghost use Rattle.page_store.specs.Quiet.{IsQuiet};
-ghost use Rattle.page_store.specs.Taking.{KeepsFrames, FrameFails, TakingFails, FetchFails};
+ghost use Rattle.page_store.specs.Taking.{KeepsFrames, WritesLeast, FrameFails, TakingFails, FetchFails};
 ghost use Rattle.page_store.specs.Writing.{ReadingFails};
 ghost use Rattle.page_codec.specs.declared.page.Page.{Page};
 
@@ -25,6 +25,7 @@ impl<D: Device> LoggedPages<D> {
         ensures quiet { IsQuiet D.Device self.old self.new }
         ensures choice { IsChoice self.new.pool pinned.now result }
         ensures same { HasSamePages self.old.pool self.new.pool }
+        ensures changes { HasSameChanges self.old.pool self.new.pool }
         ensures log { self.new.log ≡ self.old.log }
         ensures device { self.new.device ≡ self.old.device }
     {
@@ -38,6 +39,9 @@ impl<D: Device> LoggedPages<D> {
         requires changed { 0 < act }
         ensures quiet { IsQuiet D.Device self.old self.new }
         ensures same { HasSamePages self.old.pool self.new.pool }
+        ensures order { OnOk result
+            (changed_of self.new.pool ≡ remove (changed_of self.old.pool) place) }
+        ensures refused { OnErr result (changed_of self.new.pool ≡ changed_of self.old.pool) }
         ensures frame { IfOk result (λ at. frame_of self.old.pool block ≡ Some at) }
         ensures free { IfOk result (CanBeTaken self.new.pool) }
         ensures alive { OnOk result (is_stopped self.new.log ≡ false) }
@@ -57,6 +61,7 @@ impl<D: Device> LoggedPages<D> {
     // page is written before. Refused with `NoFrame`, `Io` and `Stopped`.
     fn free_frame(&mut self, pinned: &[u32]) -> Result<usize, Fault>
         ensures quiet { IsQuiet D.Device self.old self.new }
+        ensures writes { WritesLeast pinned.now self.old.pool self.new.pool }
         ensures same { HasSamePages self.old.pool self.new.pool }
         ensures free { IfOk result (CanBeTaken self.new.pool) }
         ensures unpinned { IfOk result (λ at. (block : ℕ) → has_block pinned.now block ≡ true
@@ -119,6 +124,8 @@ impl<D: Device> LoggedPages<D> {
     pub fn fetch(&mut self, block: u32, pinned: &[u32]) -> Result<(), Fault>
         requires used { block < self.old.used }
         ensures quiet { IsQuiet D.Device self.old self.new }
+        // At most one page is written to its place for it.
+        ensures writes { WritesLeast pinned.now self.old.pool self.new.pool }
         ensures has { OnOk result (IsSome (frame_of self.new.pool block)) }
         ensures kept { KeepsFrames pinned.now self.old.pool self.new.pool }
         ensures alive { OnOk result

@@ -1,8 +1,9 @@
-use Rattle.std.proofs.Common.{subst}
-use Rattle.buffer_pool.specs.Pools.{IsPut}
+use Rattle.std.proofs.Common.{subst, ap, ◌∙◌}
+use Rattle.buffer_pool.specs.Pools.{IsPut, changed_of}
 use Rattle.buffer_pool.specs.declared.pool.Pool.{Pool}
 use Rattle.page_store.specs.Quiet.{IsQuiet}
 use Rattle.page_store.proofs.Frames.{kept_put}
+use Rattle.page_store.proofs.Evicting.{writes_on}
 use Rattle.page_store.proofs.Quieting.{quiet_same, quiet_both}
 use Rattle.page_store.proofs.logged_pages.LoggedPages.fetch.Given.{Over}
 use Rattle.page_store.proofs.logged_pages.LoggedPages.fetch.Goals.{After-read}
@@ -26,3 +27,8 @@ returns-clause-kept g c =
 
 pub returns-then-holds-clause-quiet : goal.returns-then-holds-clause-quiet
 returns-then-holds-clause-quiet g c = quiet_same g.D.Device c.args.self.now
+
+pub returns-clause-writes : goal.returns-clause-writes
+returns-clause-writes g c =
+    writes_on c.args.pinned.now c.args.self.now.pool c.free_frame.new.self.pool c.put.new.self.pool c.free_frame.ensures.writes
+    (c.put.ensures.pool.changes.order ∙ ap changed_of c.read.ensures.pool)
