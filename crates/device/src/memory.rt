@@ -202,7 +202,7 @@ impl Device for MemDevice {
         ensures trace { Syncs result (trace_of self.old) (trace_of self.new) }
         ensures len { length (trace_of self.new).now.seen ≡ length (trace_of self.old).now.seen }
         ensures failures { CountsFailures result (failures_of self.old) (failures_of self.new) }
-        ensures fate { IsOk result → fate_of (plan_of self.old) ≡ Fate.Runs }
+        ensures fate { IsOk result ↔ (fate_of (plan_of self.old) ≡ Fate.Runs) }
         ensures plan { plan_of self.new ≡ after_call (plan_of self.old) }
     {
         let Fate::Runs = self.plan.next() else {

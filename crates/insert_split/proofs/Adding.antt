@@ -34,7 +34,7 @@ use Rattle.descent.proofs.Tables.{any_excluded}
 use Rattle.descent.proofs.Working.{working_later, read_pinned_cause}
 use Rattle.std.specs.Prelude.{IfOk, IfErr, OnErr}
 use Rattle.split_finish.specs.Targets.{OnlyTargetsAreFlagged, is_among_targets}
-use Rattle.insert_split.specs.Inserts.{leaf_held, IsLeafFor, InsertFits, InsertStands, InsertSteps, IsToCome, images_at, frames_at, takes_block_at, targets_at, IsLeft, where_inserting}
+use Rattle.insert_split.specs.Inserts.{leaf_held, IsLeafFor, InsertFits, InsertStands, InsertSteps, IsToCome, count_halved, images_at, frames_at, takes_block_at, targets_at, IsLeft, where_inserting}
 use Rattle.insert_split.specs.Straight.{straight_steps}
 use Rattle.insert_split.specs.Turns.{EntryPut, PutsEntry, PlaceRefused}
 use Rattle.insert_split.specs.declared.insert.InsertAt.{InsertAt}
@@ -114,7 +114,7 @@ not_the_leaf st session other block order held differ alone =
     true_false (sym (any_excluded (holding_of st.table other).latches block Exclusive alone) ∙ free)
 
 -- how many images and frames a leaf takes that is full, or isn't, and whether a block
-pub full_is : (st : State) (block : ℕ) (page : Page) → slice_get st.pages block ≡ Some page → st.limits.items ≤ length (entries_of page.items) → (images_at st (Holds block) ≡ 3) × (frames_at st (Holds block) ≡ 2) × (takes_block_at st (Holds block) ≡ true)
+pub full_is : (st : State) (block : ℕ) (page : Page) → slice_get st.pages block ≡ Some page → st.limits.items ≤ length (entries_of page.items) → (images_at st (Holds block) ≡ suc (count_halved page.right)) × (frames_at st (Holds block) ≡ count_halved page.right) × (takes_block_at st (Holds block) ≡ true)
 full_is st block page found le =
     let full = le-leb st.limits.items (length (entries_of page.items)) le in
     (rw (found, full) refl, rw (found, full) refl, rw (found, full) refl)

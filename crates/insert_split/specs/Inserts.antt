@@ -89,20 +89,29 @@ abbrev pub is_full_page : ℕ → Option Page → Bool
 is_full_page items None = false
 is_full_page items (Some page) = nat_le items (length (entries_of page.items))
 
+-- how many pages are written beside a leaf with this right sibling that is split: its right half, and the sibling
+abbrev pub count_halved : Option ℕ → ℕ
+count_halved None = 1
+count_halved (Some right) = 2
+
+-- how many pages are written beside the leaf on which an entry is put
+abbrev pub count_put : ℕ → Option Page → ℕ
+count_put items None = 0
+count_put items (Some page) =
+    if nat_le items (length (entries_of page.items)) then count_halved page.right else 0
+
 -- how many images the act of a step has, at most
 abbrev pub images_at : State → InsertAt → ℕ
 images_at st Start = 0
 images_at st (At way) = 0
-images_at st (Holds block) =
-    if is_full_page st.limits.items (slice_get st.pages block) then 3 else 1
+images_at st (Holds block) = suc (count_put st.limits.items (slice_get st.pages block))
 images_at st (Finishing op) = images_of st op.at
 
 -- ... and how many frames it needs, beside that of the leaf that it has pinned
 abbrev pub frames_at : State → InsertAt → ℕ
 frames_at st Start = 1
 frames_at st (At way) = 1
-frames_at st (Holds block) =
-    if is_full_page st.limits.items (slice_get st.pages block) then 2 else 0
+frames_at st (Holds block) = count_put st.limits.items (slice_get st.pages block)
 frames_at st (Finishing op) = frames_of st op.at
 
 -- ... whether it may take a block: to split a full leaf, or what the finishing of a split takes

@@ -13,7 +13,7 @@ ghost use Rattle.page_action.specs.Stored.{AreActable, IsStored};
 ghost use Rattle.tree_shape.specs.Leaf.{IsPlaceOf, MayHold};
 ghost use Rattle.descent.specs.Shared.{where_working};
 ghost use Rattle.descent.specs.Splitting.{mended_to};
-ghost use Rattle.insert_split.specs.Inserts.{where_inserting_any};
+ghost use Rattle.insert_split.specs.Inserts.{where_inserting_any, count_halved};
 ghost use Rattle.insert_split.specs.Turns.{PlaceRefused, PutsEntry, SplitsLeaf, IsSplittable};
 
 use crate::insert::{InsertAt, InsertOp, InsertStep};
@@ -136,7 +136,8 @@ impl InsertOp {
             → IsSplittable (S.state store.old) page
             → has_pin (pinned_blocks (S.state store.old).table) page.block ≡ true
             → IfErr result (HasCause (where_working (S.state store.old) (S.backing store.old)
-            (S.backing store.new) self.old.session 3 2 true false)) }
+            (S.backing store.new) self.old.session (suc (count_halved page.right))
+            (count_halved page.right) true false)) }
     {
         let right = match read_right(store, self.session, page.right) {
             Ok(right) => right,

@@ -19,3 +19,4 @@ pub mod Reading
 pub mod Keeping
 pub mod Misfits
 pub mod Evicting
+pub mod Logging

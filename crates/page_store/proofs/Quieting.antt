@@ -1,12 +1,14 @@
 -- How calls that make no act follow one another.
-use Rattle.std.proofs.Common.{◌≡◌, ◌≤◌, ◌∙◌, refl, ap, arith}
+use Rattle.std.proofs.Common.{◌≡◌, ◌≤◌, ◌∙◌, refl, ap, inl, inr, arith}
 use Rattle.device.specs.declared.device.Device.{Ghosts}
 use Rattle.page_store.specs.Following.{Follows, follows_same}
-use Rattle.page_store.specs.Logged.{held_of, SameButDevice}
+use Rattle.page_store.specs.Logged.{held_of, backing_of, SameButDevice}
 use Rattle.page_store.specs.Quiet.{IsQuiet}
 use Rattle.page_store.specs.declared.logged_pages.LoggedPages.{LoggedPages}
 use Rattle.buffer_pool.specs.Pools.{changed_of}
 use Rattle.page_action.specs.Order.{IsPartOf}
+use Rattle.page_action.specs.Room.{WaitsOn}
+use Rattle.redo_log.specs.Kept.{waiting_blocks}
 use Rattle.page_store.proofs.Ordering.{part_same, part_both, part_is}
 use Rattle.page_store.proofs.FollowLaws.{follows_both}
 
@@ -17,7 +19,17 @@ quiet_same g a = record {
   promised = refl;
   idle = λ all. refl;
   order = part_same (changed_of a.pool);
+  waits = inl refl;
 }
+
+-- what waits waits on
+pub waits_both : {D : Type 0} (g : Ghosts D) (a b c : LoggedPages D g) → b.acts ≡ a.acts → c.acts ≡ b.acts → b.durable ≤ c.durable → WaitsOn a.acts (backing_of (held_of g a)) (backing_of (held_of g b)) → WaitsOn b.acts (backing_of (held_of g b)) (backing_of (held_of g c))
+    → WaitsOn a.acts (backing_of (held_of g a)) (backing_of (held_of g c))
+waits_both g a b c first second later f (inr forced) = inr (forced.0, forced.1 ∙ first)
+waits_both g a b c first second later (inl was) (inl same) = inl (same ∙ was)
+waits_both g a b c first second later (inr forced) (inl same) =
+    let few : c.durable ≤ c.acts = c.not_ahead in
+    inr (same ∙ forced.0, omega (arith, forced.1, few, later, first, second))
 
 pub quiet_both : {D : Type 0} (g : Ghosts D) (a b c : LoggedPages D g) → IsQuiet g a b → IsQuiet g b c → IsQuiet g a c
 quiet_both g a b c f s = record {
@@ -36,19 +48,21 @@ quiet_both g a b c f s = record {
       let here : b.durable ≡ b.acts = omega arith in
       s.idle here ∙ f.idle all;
   order = part_both (changed_of c.pool) (changed_of b.pool) (changed_of a.pool) s.order f.order;
+  waits = waits_both g a b c f.pages.acts s.pages.acts s.follows.later.durable f.waits s.waits;
 }
 
 -- where the store is as it was but for the pool, of which some changed pages are noted as written
-pub quiet_noted : {D : Type 0} (g : Ghosts D) (a b : LoggedPages D g) → b.limits ≡ a.limits → b.history ≡ a.history → b.used ≡ a.used → b.acts ≡ a.acts → b.promised ≡ a.promised → b.room ≡ a.room → IsPartOf (changed_of b.pool) (changed_of a.pool)
+pub quiet_noted : {D : Type 0} (g : Ghosts D) (a b : LoggedPages D g) → b.limits ≡ a.limits → b.history ≡ a.history → b.used ≡ a.used → b.acts ≡ a.acts → b.promised ≡ a.promised → b.room ≡ a.room → b.log ≡ a.log → IsPartOf (changed_of b.pool) (changed_of a.pool)
     → Follows (held_of g a) (held_of g b) → IsQuiet g a b
-quiet_noted g a b limits history used acts promised room order follows = record {
+quiet_noted g a b limits history used acts promised room log order follows = record {
   follows = follows;
   pages = record { limits = limits; history = history; used = used; acts = acts };
   promised = promised;
   idle = λ all. room;
   order = order;
+  waits = inl (ap waiting_blocks log);
 }
 
 -- where the device alone is another
 pub quiet_device : {D : Type 0} (g : Ghosts D) (a b : LoggedPages D g) → Follows (held_of g a) (held_of g b) → SameButDevice g a b → IsQuiet g a b
-quiet_device g a b follows same = record { follows = follows; pages = same.pages; promised = same.room.promised; idle = λ all. same.room.room; order = part_is (changed_of b.pool) (changed_of a.pool) (ap changed_of same.pool) }
+quiet_device g a b follows same = record { follows = follows; pages = same.pages; promised = same.room.promised; idle = λ all. same.room.room; order = part_is (changed_of b.pool) (changed_of a.pool) (ap changed_of same.pool); waits = inl (ap waiting_blocks same.log) }

@@ -10,7 +10,7 @@ use Rattle.page_codec.specs.declared.page.Page.{Page}
 use Rattle.page_action.specs.States.{Backing}
 use Rattle.page_action.specs.Stored.{AreStored}
 use Rattle.redo_log.specs.Images.{last_image, images_of}
-use Rattle.redo_log.specs.Kept.{Keeps, limits_of, is_stopped}
+use Rattle.redo_log.specs.Kept.{Keeps, limits_of, is_stopped, waiting_blocks}
 use Rattle.redo_log.specs.declared.log.Log.{Log}
 use Rattle.page_store.specs.Histories.{pages_after, pages_now, AreActs}
 use Rattle.device_layout.specs.Layout.{superblock, place}
@@ -85,6 +85,7 @@ backing_of held = record {
   honest = held.honest;
   failures = held.failures;
   changed = held.changed;
+  waiting = waiting_blocks held.log;
 }
 
 -- each block that has no image among these stands at its place: its page, or zeros where it has none

@@ -3,15 +3,17 @@ use Rattle.std.specs.Prelude.{◌≡◌}
 use Rattle.buffer_pool.specs.Pools.{changed_of}
 use Rattle.device.specs.declared.device.Device.{Ghosts}
 use Rattle.page_action.specs.Order.{IsPartOf}
+use Rattle.page_action.specs.Room.{WaitsOn}
 use Rattle.page_store.specs.Following.{Follows}
-use Rattle.page_store.specs.Logged.{held_of, SamePages}
+use Rattle.page_store.specs.Logged.{held_of, backing_of, SamePages}
 use Rattle.page_store.specs.declared.logged_pages.LoggedPages.{LoggedPages}
 
 -- the pages and what is promised are as they were; and the room, where no act waits for a force; of the changed pages some
--- were written
+-- were written; what waits in the log is as it was, or it was forced
 pub record IsQuiet {D : Type 0} (g : Ghosts D) (old new : LoggedPages D g) : Type 0 where
   pub follows : Follows (held_of g old) (held_of g new)
   pub pages : SamePages g old new
   pub promised : new.promised ≡ old.promised
   pub idle : old.durable ≡ old.acts → new.room ≡ old.room
   pub order : IsPartOf (changed_of new.pool) (changed_of old.pool)
+  pub waits : WaitsOn old.acts (backing_of (held_of g old)) (backing_of (held_of g new))

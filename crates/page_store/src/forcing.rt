@@ -6,10 +6,10 @@ ghost use Rattle.device.specs.Disk.{CountsFailures};
 ghost use Rattle.device.specs.Places.{Has, OnDisk, ChangesOnly};
 ghost use Rattle.device_layout.specs.Layout.{place};
 ghost use Rattle.page_action.specs.Order.{IsRestOf};
-ghost use Rattle.page_action.specs.Room.{HasWholeRoom};
+ghost use Rattle.page_action.specs.Room.{HasWholeRoom, WaitsOn};
 ghost use Rattle.page_codec.specs.Spelling.{page_bytes};
 ghost use Rattle.page_codec.specs.declared.page.Page.{Page};
-ghost use Rattle.redo_log.specs.Kept.{IoOrStopped, is_stopped, waiting_count};
+ghost use Rattle.redo_log.specs.Kept.{IoOrStopped, is_stopped, waiting_count, waiting_blocks};
 ghost use Rattle.page_store.specs.Following.{Follows};
 ghost use Rattle.page_store.specs.Logged.{held_of, backing_of, SamePages, SameRoom, SameButDevice};
 ghost use Rattle.page_store.specs.Quiet.{IsQuiet};
@@ -31,6 +31,9 @@ impl<D: Device> LoggedPages<D> {
         ensures alive { OnOk result (is_stopped self.old.log ≡ false) }
         ensures promised { self.new.promised ≡ self.old.promised }
         ensures idle { self.old.durable ≡ self.old.acts → self.new.room ≡ self.old.room }
+        ensures waits { WaitsOn self.old.acts (backing_of (held_of D.Device self.old))
+            (backing_of (held_of D.Device self.new)) }
+        ensures none { OnOk result (waiting_blocks self.new.log ≡ []) }
         ensures stopped { is_stopped self.old.log ≡ true → result ≡ Err Fault.Stopped }
         ensures failed { is_stopped self.new.log ≡ is_err result }
         ensures honest { D.is_honest self.new.device ≡ D.is_honest self.old.device }
@@ -248,6 +251,7 @@ impl<D: Device> LoggedPages<D> {
             (HasWholeRoom self.old.limits (backing_of (held_of D.Device self.new))) }
         ensures refused { OnErr result (SameRoom D.Device self.old self.new) }
         ensures durable { self.new.durable ≡ self.old.durable }
+        ensures waiting { waiting_blocks self.new.log ≡ waiting_blocks self.old.log }
         ensures failed { is_stopped self.new.log ≡ is_err result }
         ensures failures { CountsFailures result
             (D.failures self.old.device) (D.failures self.new.device) }
@@ -270,6 +274,9 @@ impl<D: Device> LoggedPages<D> {
             (HasWholeRoom self.old.limits (backing_of (held_of D.Device self.new))) }
         ensures rest { IsRestOf (changed_of self.new.pool) (changed_of self.old.pool) }
         ensures clean { OnOk result (changed_of self.new.pool ≡ []) }
+        ensures waits { WaitsOn self.old.acts (backing_of (held_of D.Device self.old))
+            (backing_of (held_of D.Device self.new)) }
+        ensures none { OnOk result (waiting_blocks self.new.log ≡ []) }
         ensures stopped { is_stopped self.old.log ≡ true → result ≡ Err Fault.Stopped }
         ensures failed { OnErr result
             ((is_stopped self.new.log ≡ true) ⊎ (self.new.durable ≡ self.old.acts)) }

@@ -62,10 +62,11 @@ impl<D: Device> LoggedPages<D> {
     ghost use Rattle.std.specs.Prelude.{◌⊎◌, ◌^◌, ◌-◌, Err, Some, IfOk, IfErr, OnOk, OnErr, IsSome, is_some, ℕ, true, All, slice_get};
     ghost use Rattle.buffer_pool.specs.Pools.{count_of, frame_of, held_page};
     ghost use Rattle.page_action.specs.Stored.{AreActable, IsStored};
-    ghost use Rattle.page_action.specs.Room.{HasWholeRoom};
+    ghost use Rattle.page_action.specs.Order.{with_changed};
+    ghost use Rattle.page_action.specs.Room.{HasWholeRoom, HasNoRoomFor};
     ghost use Rattle.page_action.specs.States.{with_pages};
     ghost use Rattle.page_codec.specs.declared.page.Page.{Page};
-    ghost use Rattle.redo_log.specs.Kept.{groups_end};
+    ghost use Rattle.redo_log.specs.Kept.{groups_end, waiting_blocks};
     ghost use Rattle.page_store.specs.Changing.{AreActed};
     ghost use Rattle.page_store.specs.Following.{Follows};
     ghost use Rattle.page_store.specs.Histories.{with_act};
@@ -183,6 +184,11 @@ impl<D: Device> LoggedPages<D> {
         ensures refused { OnErr result (SamePages D.Device self.old self.new) }
         ensures kept { OnErr result (SameRoom D.Device self.old self.new) }
         ensures frames { OnErr result (self.new.pool ≡ self.old.pool) }
+        ensures waiting { OnOk result (waiting_blocks self.new.log
+            ≡ with_changed (waiting_blocks self.old.log) pages.now) }
+        ensures log { OnErr result (self.new.log ≡ self.old.log) }
+        ensures full { result ≡ Err Fault.LogFull
+            → HasNoRoomFor (backing_of (held_of D.Device self.old)) pages.now }
         ensures cause { IfErr result (λ e.
             ((e ≡ Fault.Stopped)
             × ((is_stopped self.old.log ≡ true) ⊎ (self.old.acts ≡ 2 ^ 64 - 1)))

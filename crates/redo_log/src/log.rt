@@ -76,6 +76,7 @@ impl Log {
             → ImagesFit self.now (new_count (waiting_blocks self.now) images.now)) }
         ensures full { OnFalse result
             (¬ ImagesFit self.now (new_count (waiting_blocks self.now) images.now)) }
+        ensures some { OnFalse result (0 < new_count (waiting_blocks self.now) images.now) }
     {
         let room = self.room() as usize;
         images.len() <= room || self.waiting.count_new(images) <= room
@@ -110,6 +111,8 @@ impl Log {
             ⊎ ((e ≡ Fault.LogFull) × (¬ ImagesFit self.old (length images.now)))) }
         ensures full { IsErrOf result Fault.LogFull
             → ¬ ImagesFit self.old (new_count (waiting_blocks self.old) images.now) }
+        ensures some { IsErrOf result Fault.LogFull
+            → 0 < new_count (waiting_blocks self.old) images.now }
     {
         if self.stopped || self.actions == u64::MAX {
             return Err(Fault::Stopped);
@@ -141,6 +144,7 @@ impl Log {
         ensures moments { RestartsThroughout self.old (D.trace device.old) (D.trace device.new) }
         ensures number { IfOk result (λ n. n ≡ actions_of self.old) }
         ensures written { OnOk result (waiting_count self.new ≡ 0) }
+        ensures waiting { OnErr result (waiting_blocks self.new ≡ waiting_blocks self.old) }
         // It costs at most one image of room.
         ensures room { OnOk result ((n : ℕ) → end_with self.new n ≤ end_with self.old (suc n)) }
         ensures refused { OnErr result ((n : ℕ) → end_with self.new n ≡ end_with self.old n) }

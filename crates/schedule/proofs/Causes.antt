@@ -14,6 +14,7 @@ use Rattle.page_action.specs.Causes.{nothing_wrong, count_apart, has_failed, is_
 use Rattle.page_action.specs.Reuse.{is_deleted, is_deleted_state, is_deleted_page, began_after, others_began_after, is_reusable}
 use Rattle.page_action.specs.States.{State}
 use Rattle.page_action.specs.declared.page_store.PageStore.{Ghosts}
+use Rattle.page_codec.specs.Edits.{entries_of}
 use Rattle.page_codec.specs.declared.page.Items.{Items}
 use Rattle.page_codec.specs.declared.page.Items.TheVariants.{Meta, Entries, Downlinks}
 use Rattle.page_codec.specs.declared.page.Page.{Page}
@@ -26,7 +27,7 @@ use Rattle.descent.specs.Ways.{level_with, level_of, root_level}
 use Rattle.split_finish.specs.Finishes.{count_linked, count_parted, images_of, frames_of}
 use Rattle.split_finish.specs.declared.finish.FinishAt.{FinishAt}
 use Rattle.split_finish.specs.declared.finish.FinishAt.TheVariants.{Start as FinishStart, Down, Link, Root}
-use Rattle.insert_split.specs.Inserts.{is_full_page, images_at, frames_at, takes_block_at, splits_root_at}
+use Rattle.insert_split.specs.Inserts.{count_halved, count_put, images_at, frames_at, takes_block_at, splits_root_at}
 use Rattle.insert_split.specs.declared.insert.InsertAt.{InsertAt}
 use Rattle.insert_split.specs.declared.insert.InsertAt.TheVariants.{Start, At, Holding as Holds, Finishing}
 use Rattle.vacuum.specs.BulkDeletes.{is_full_count, is_counted_out}
@@ -249,24 +250,28 @@ pub frames_for_few : (written : ℕ) → written ≤ 3 → frames_for written �
 frames_for_few zero few = omega arith
 frames_for_few (suc written) few = few
 
+halved_few : (right : Option ℕ) → count_halved right ≤ 2
+halved_few None = omega arith
+halved_few (Some right) = omega arith
+
+pub put_few : (items : ℕ) (page : Option Page) → count_put items page ≤ 2
+put_few items None = omega arith
+put_few items (Some page) = by (nat_le items (length (entries_of page.items)))
+  where
+    by : (b : Bool) → (if b then count_halved page.right else 0) ≤ 2
+    by true = halved_few page.right
+    by false = omega arith
+
 pub insert_images_few : (st : State) (at : InsertAt) → images_at st at ≤ 4
 insert_images_few st Start = omega arith
 insert_images_few st (At way) = omega arith
-insert_images_few st (Holds block) = by (is_full_page st.limits.items (slice_get st.pages block)) refl
-  where
-    by : (b : Bool) → is_full_page st.limits.items (slice_get st.pages block) ≡ b → images_at st (Holds block) ≤ 4
-    by true is = rw is (omega arith)
-    by false is = rw is (omega arith)
+insert_images_few st (Holds block) = (let k = put_few st.limits.items (slice_get st.pages block) in omega (arith, k))
 insert_images_few st (Finishing op) = images_few st op.at
 
 insert_frames_few : (st : State) (at : InsertAt) → frames_at st at ≤ 4
 insert_frames_few st Start = omega arith
 insert_frames_few st (At way) = omega arith
-insert_frames_few st (Holds block) = by (is_full_page st.limits.items (slice_get st.pages block)) refl
-  where
-    by : (b : Bool) → is_full_page st.limits.items (slice_get st.pages block) ≡ b → frames_at st (Holds block) ≤ 4
-    by true is = rw is (omega arith)
-    by false is = rw is (omega arith)
+insert_frames_few st (Holds block) = (let k = put_few st.limits.items (slice_get st.pages block) in omega (arith, k))
 insert_frames_few st (Finishing op) = frames_few st op.at
 
 module _ {S : Type 0} (g : Ghosts S) (old : Snapshot S) (new : S) where

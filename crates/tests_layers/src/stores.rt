@@ -41,7 +41,7 @@ fn pages_and_acts(rt: HostRuntime) -> Result<(), Fail> {
     assert!(rt; change(&mut store, &[marked(1, 0)]) == Ok(1));
     assert!(rt; block_at(&mut store, 1) == Ok(1));
     assert!(rt; block_at(&mut store, 2) == Err(Fault::PageDamaged(2)));
-    assert!(rt; (store.used(), store.durable(), store.acts()) == (2, 0, 1));
+    assert!(rt; (store.used(), store.durable(), store.acts()) == (2, 1, 1));
     assert!(rt; force(&mut store) == Ok(1));
     assert!(rt; store.durable() == 1);
     assert!(rt; checkpoint(&mut store) == Ok(1));

@@ -15,7 +15,7 @@ use Rattle.descent.specs.Ways.{root_level}
 use Rattle.split_finish.specs.Finishes.{frames_of}
 use Rattle.split_finish.specs.declared.finish.FinishAt.{FinishAt}
 use Rattle.split_finish.specs.declared.finish.FinishAt.TheVariants.{Start as FinishStart}
-use Rattle.insert_split.specs.Inserts.{InsertFits, InsertStands, leaf_held, is_full_page, images_at, frames_at, takes_block_at, splits_root_at, where_inserting}
+use Rattle.insert_split.specs.Inserts.{InsertFits, InsertStands, leaf_held, images_at, frames_at, takes_block_at, splits_root_at, where_inserting}
 use Rattle.insert_split.specs.declared.insert.InsertAt.{InsertAt}
 use Rattle.insert_split.specs.declared.insert.InsertAt.TheVariants.{Start, At, Holding as Holds, Finishing}
 use Rattle.insert_split.specs.declared.insert.InsertOp.{InsertOp}
@@ -31,7 +31,7 @@ use Rattle.session_calls.specs.declared.op.Op.TheVariants.{Insert, Scan, Bulk, C
 use Rattle.whole_calls.proofs.Words.{Effect, Ask, AskInsert, AskScan, AskBulkDelete, AskCleanup, Call, Circumstances, HasCause, Entry, Fault, Limits, State, Backing, IsLater, Ghosts, Page, DeadSets, acts_of, OpFits, IsCaused, once_added, where_stepped, asked_of, session_of, Told, is_busy, AnswersNext, Answer, Added, Gave, Refused, Op, Request, StoreAndSlots, Snapshot, IsRunningCall, EventDoes, Fits, here_at, slot_of, one_vacuums, MovesCall, Steps, CallMoves, MovesOn, where_moving, where_begun_at, is_of_sets, OthersStay}
 use Rattle.whole_calls.specs.Refusing.{others_run, another_runs, is_full_vacuum, where_gone, where_inserted, is_used_up, is_tall, where_asked, where_called}
 use Rattle.whole_calls.proofs.Tellings.{runs_in_slot, runs_has_call, one_runs, true_false}
-use Rattle.schedule.proofs.Causes.{insert_images_few, frames_few, written_few, frames_for_few}
+use Rattle.schedule.proofs.Causes.{insert_images_few, put_few, frames_few, written_few, frames_for_few}
 use Rattle.schedule.proofs.Fitting.{beyond_of, running_of}
 
 pub or_left : (a b : Bool) → a ≡ true → (a || b) ≡ true
@@ -242,11 +242,7 @@ module _ {S : Type 0} (g : Ghosts S) (start : Entry → Bool) (session least_roo
   insert_frames of n e Start is stands h = pins_cause 1 1 nothing_held (subst (λ (s : ℕ). holding_of st.table s ≡ nothing_held) is stands) (omega arith) (omega arith) h
   insert_frames of n e (At way) is stands h = pins_cause 1 1 nothing_held (subst (λ (s : ℕ). holding_of st.table s ≡ nothing_held) is stands.0) (omega arith) (omega arith) h
   insert_frames of n e (Holds block) is stands h =
-      pins_cause (frames_at st (Holds block)) 3 (leaf_held block) (subst (λ (s : ℕ). holding_of st.table s ≡ leaf_held block) is stands.0) (few (is_full_page st.limits.items (slice_get st.pages block))) (omega arith) h
-    where
-      few : (b : Bool) → (if b then 2 else 0) + count_apart (block ∷ []) ≤ 3
-      few true = omega arith
-      few false = omega arith
+      pins_cause (frames_at st (Holds block)) 3 (leaf_held block) (subst (λ (s : ℕ). holding_of st.table s ≡ leaf_held block) is stands.0) (let k = put_few st.limits.items (slice_get st.pages block) in omega (arith, k)) (omega arith) h
   insert_frames of n e (Finishing op) is stands h =
       pins_cause (frames_of st op.at) 4 nothing_held (subst (λ (s : ℕ). holding_of st.table s ≡ nothing_held) (stands.0 ∙ is) stands.1.free) few (omega arith) h
     where

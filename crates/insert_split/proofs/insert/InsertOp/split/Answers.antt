@@ -16,11 +16,12 @@ use Rattle.insert_split.specs.declared.insert.InsertOp.{InsertOp}
 use Rattle.descent.specs.Shared.{where_working}
 use Rattle.descent.specs.Splitting.{mended_to}
 use Rattle.descent.proofs.Working.{working_later, act_cause}
-use Rattle.insert_split.proofs.Halving.{halves_may, few_changed, frames_for}
+use Rattle.insert_split.specs.Inserts.{count_halved}
+use Rattle.insert_split.proofs.Halving.{halves_may, halved_some, few_changed, frames_for}
 use Rattle.insert_split.proofs.insert.InsertOp.split.Goals as goal
 
 pub returns-in-Err-clause-cause : goal.returns-in-Err-clause-cause
-returns-in-Err-clause-cause g c honest room fits pinned = c.in-Err.ensures.cause honest room fits.mendable 3 2 true false (omega arith)
+returns-in-Err-clause-cause g c honest room fits pinned = c.in-Err.ensures.cause honest room fits.mendable (suc (count_halved c.args.page.right)) (count_halved c.args.page.right) true false (halved_some c.args.page.right)
 
 pub returns-in-Err-take_block-clause-cause : goal.returns-in-Err-take_block-clause-cause
 returns-in-Err-take_block-clause-cause g c honest room fits pinned =
@@ -31,9 +32,9 @@ returns-in-Err-take_block-clause-cause g c honest room fits pinned =
     let third : Backing = g.S.PageStore.backing c.take_block.new.store in
     let same = c.read_right.ensures.state in
     let later : IsLater first second = g.met.S.PageStore.laws.follows_later _ _ (c.read_right.ensures.steps _ (g.met.S.PageStore.laws.follows_same _)) in
-    working_later st first second third session 3 2 true false c.in-Err-take_block.fault later.failures c.in-Ok.ensures.alive c.read_right.ensures.room.promised
-    (subst (λ (s : State). HasCause (where_working s second third session 3 2 true false) c.in-Err-take_block.fault) same
-    (c.in-Err-take_block.ensures.cause (subst (λ (s : State). HasRoom s.table session) (sym same) room) 3 2 false))
+    working_later st first second third session (suc (count_halved c.args.page.right)) (count_halved c.args.page.right) true false c.in-Err-take_block.fault later.failures c.in-Ok.ensures.alive c.read_right.ensures.room.promised
+    (subst (λ (s : State). HasCause (where_working s second third session (suc (count_halved c.args.page.right)) (count_halved c.args.page.right) true false) c.in-Err-take_block.fault) same
+    (c.in-Err-take_block.ensures.cause (subst (λ (s : State). HasRoom s.table session) (sym same) room) (suc (count_halved c.args.page.right)) (count_halved c.args.page.right) false))
 
 pub returns-in-Ok-act_on_halves-clause-splits : goal.returns-in-Ok-act_on_halves-clause-splits
 returns-in-Ok-act_on_halves-clause-splits g c =
@@ -108,7 +109,7 @@ returns-in-Err-act_on_halves-clause-cause g c honest room fits pinned =
     (subst (λ (s : State). HasCause (where_acted s (g.S.PageStore.backing c.take_block.new.store) third changed) c.in-Err-act_on_halves.fault) same
     (c.in-Err-act_on_halves.ensures.cause (subst (λ (s : State). AreActable s.limits (length s.pages) changed) (sym same) may))) in
     let later : IsLater first second = g.met.S.PageStore.laws.follows_later _ _ (c.read_right.ensures.steps _ (g.met.S.PageStore.laws.follows_same _)) in
-    act_cause st first second third session 3 2 true false changed c.in-Err-act_on_halves.fault later.failures c.in-Ok.ensures.alive c.read_right.ensures.room.promised
-    (omega arith) (few_changed left half half.block right)
-    (frames_for st.table left half half.block right (subst (λ (b : ℕ). has_pin (pinned_blocks st.table) b ≡ true) (sym left_block) pinned))
+    act_cause st first second third session (suc (count_halved c.args.page.right)) (count_halved c.args.page.right) true false changed c.in-Err-act_on_halves.fault later.failures c.in-Ok.ensures.alive c.read_right.ensures.room.promised
+    (omega arith) (few_changed st session left half half.block c.args.page.right right c.in-Ok.ensures.stored)
+    (frames_for st session left half half.block c.args.page.right right c.in-Ok.ensures.stored (subst (λ (b : ℕ). has_pin (pinned_blocks st.table) b ≡ true) (sym left_block) pinned))
     why

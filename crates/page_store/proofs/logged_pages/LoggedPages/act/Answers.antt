@@ -1,11 +1,11 @@
-use Rattle.std.proofs.Common.{◌≡◌, ◌≤◌, ◌∙◌, ℕ, suc, List, ap, subst, sym, length, get_or, arith}
+use Rattle.std.proofs.Common.{◌≡◌, ◌≤◌, ◌∙◌, ℕ, suc, Err, List, ap, subst, sym, length, get_or, arith}
 use Rattle.std.proofs.lemmas.Option.{slice_get-get_or}
 use Rattle.index_model.specs.declared.limits.Limits.{Limits}
 use Rattle.page_codec.specs.declared.page.Page.{Page}
 use Rattle.page_action.specs.States.{with_pages}
 use Rattle.page_action.specs.Stored.{AreStored, AreActable}
 use Rattle.redo_log.specs.Groups.{AreImages}
-use Rattle.redo_log.specs.Kept.{end_with}
+use Rattle.redo_log.specs.Kept.{end_with, waiting_blocks}
 use Rattle.page_store.specs.Changing.{AreActed, used_after}
 use Rattle.page_store.specs.Histories.{pages_now}
 use Rattle.page_store.specs.Logged.{held_of}
@@ -18,6 +18,7 @@ use Rattle.page_store.proofs.Images.{stored-with_pages}
 use Rattle.page_store.proofs.Keeping.{holds_acted}
 use Rattle.page_store.proofs.Misfits.{room_left}
 use Rattle.page_store.proofs.FollowLaws.{follows_log}
+use Rattle.page_store.proofs.Logging.{blocks_changed, no_room, alive_full, full_is}
 use Rattle.page_store.proofs.logged_pages.LoggedPages.act.Given.{Over}
 use Rattle.page_store.proofs.logged_pages.LoggedPages.act.Goals.{After-note}
 use Rattle.page_store.proofs.logged_pages.LoggedPages.act.Goals as goal
@@ -109,3 +110,14 @@ returns-clause-room g c =
 
 pub returns-clause-pages : goal.returns-clause-pages
 returns-clause-pages g c = pages_are g (goal.at.returns-clause-pages g c).After-note
+
+pub returns-clause-waiting : goal.returns-clause-waiting
+returns-clause-waiting g c = c.in_ok-number.ensures.blocks ∙ blocks_changed (waiting_blocks c.args.self.now.log) c.args.pages.now
+
+pub returns-in_err-number-clause-full : goal.returns-in_err-number-clause-full
+returns-in_err-number-clause-full g c is =
+    let own = c.args.self.now in
+    let refused = c.in_err-number.was ∙ ap Err (full_is c.from_residual.result _ c.from_residual.ensures.1 is) in
+    no_room own.log own.room c.args.pages.now
+    (λ some. subst (λ (l : Limits). end_with own.log own.room ≤ l.log_bytes) (sym own.log_limits) (own.fits (alive_full c.append.result _ refused c.append.ensures.stopped_first) some))
+    (c.append.ensures.some refused) (c.append.ensures.full refused)

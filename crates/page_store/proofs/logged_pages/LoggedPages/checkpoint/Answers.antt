@@ -1,10 +1,13 @@
-use Rattle.std.proofs.Common.{sym, ap, subst}
+use Rattle.std.proofs.Common.{◌∙◌, sym, ap, subst}
 use Rattle.buffer_pool.specs.Pools.{changed_of}
 use Rattle.buffer_pool.specs.declared.pool.Pool.{Pool}
 use Rattle.page_action.specs.Order.{IsRestOf}
+use Rattle.page_action.specs.Room.{WaitsOn}
+use Rattle.redo_log.specs.Kept.{waiting_blocks}
 use Rattle.page_store.specs.Following.{Follows}
-use Rattle.page_store.specs.Logged.{held_of}
+use Rattle.page_store.specs.Logged.{held_of, backing_of}
 use Rattle.page_store.proofs.FollowLaws.{follows_both}
+use Rattle.page_store.proofs.Logging.{waits_same}
 use Rattle.page_store.proofs.logged_pages.LoggedPages.checkpoint.Given.{Over}
 use Rattle.page_store.proofs.logged_pages.LoggedPages.checkpoint.Goals.{After-write_all, After-close}
 use Rattle.page_store.proofs.logged_pages.LoggedPages.checkpoint.Goals as goal
@@ -46,3 +49,24 @@ returns-in_err-close-clause-rest g c = close_rest g (goal.at.returns-in_err-clos
 
 pub returns-clause-rest : goal.returns-clause-rest
 returns-clause-rest g c = close_rest g (goal.at.returns-clause-rest g c).After-close
+
+-- what waits in the log
+home_waits : (g : Over) (c : After-write_all g) → WaitsOn c.args.self.now.acts (backing_of (held_of g.D.Device c.args.self.now)) (backing_of (held_of g.D.Device c.write_all.new.self))
+home_waits g c =
+    waits_same c.args.self.now.acts (backing_of (held_of g.D.Device c.args.self.now)) (backing_of (held_of g.D.Device c.force.new.self)) (backing_of (held_of g.D.Device c.write_all.new.self)) c.force.ensures.waits (ap waiting_blocks c.write_all.ensures.log) c.write_all.ensures.durable
+
+close_waits : (g : Over) (c : After-close g) → WaitsOn c.args.self.now.acts (backing_of (held_of g.D.Device c.args.self.now)) (backing_of (held_of g.D.Device c.close.new.self))
+close_waits g c =
+    waits_same c.args.self.now.acts (backing_of (held_of g.D.Device c.args.self.now)) (backing_of (held_of g.D.Device c.write_all.new.self)) (backing_of (held_of g.D.Device c.close.new.self)) (home_waits g (goal.at.After-close g c).After-write_all) c.close.ensures.waiting c.close.ensures.durable
+
+pub returns-in_err-write_all-clause-waits : goal.returns-in_err-write_all-clause-waits
+returns-in_err-write_all-clause-waits g c = home_waits g (goal.at.returns-in_err-write_all-clause-waits g c).After-write_all
+
+pub returns-in_err-close-clause-waits : goal.returns-in_err-close-clause-waits
+returns-in_err-close-clause-waits g c = close_waits g (goal.at.returns-in_err-close-clause-waits g c).After-close
+
+pub returns-clause-waits : goal.returns-clause-waits
+returns-clause-waits g c = close_waits g (goal.at.returns-clause-waits g c).After-close
+
+pub returns-clause-none : goal.returns-clause-none
+returns-clause-none g c = c.close.ensures.waiting ∙ (ap waiting_blocks c.write_all.ensures.log ∙ c.in_ok-acts.ensures.none)

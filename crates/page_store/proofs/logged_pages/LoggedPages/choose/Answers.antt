@@ -14,5 +14,5 @@ invariant_of-self-clause-holds g c =
 
 pub returns-clause-quiet : goal.returns-clause-quiet
 returns-clause-quiet g c =
-    quiet_noted g.D.Device c.args.self.now _ refl refl refl refl refl refl (part_is _ _ c.choose.ensures.changes.order)
+    quiet_noted g.D.Device c.args.self.now _ refl refl refl refl refl refl refl (part_is _ _ c.choose.ensures.changes.order)
     (follows_noted (held_of g.D.Device c.args.self.now) _ _ c.args.self.now.limits c.args.self.now.log_limits (λ block. inl (c.choose.ensures.changes.acts block)))

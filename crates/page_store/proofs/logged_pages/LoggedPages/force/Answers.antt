@@ -1,8 +1,11 @@
-use Rattle.std.proofs.Common.{rules, ◌∙◌, ◌+◌, ◌<◌, ap, subst, sym, arith}
+use Rattle.std.proofs.Common.{rules, ◌≡◌, ◌∙◌, ◌+◌, ◌<◌, [], inl, inr, refl, ap, subst, sym, arith}
 use Rattle.std.specs.Result.{is_err}
 use Rattle.index_model.specs.declared.limits.Limits.{Limits}
-use Rattle.redo_log.specs.Kept.{end_with}
-use Rattle.page_store.specs.Logged.{held_of}
+use Rattle.page_action.specs.Room.{WaitsOn}
+use Rattle.redo_log.specs.Kept.{end_with, waiting_blocks}
+use Rattle.page_store.specs.Logged.{held_of, backing_of}
+use Rattle.page_store.specs.declared.logged_pages.LoggedPages.{LoggedPages}
+use Rattle.page_store.proofs.Logging.{none_waits}
 use Rattle.page_store.specs.Following.{Follows, follows_same}
 use Rattle.page_store.proofs.Misfits.{misfit, promise_left}
 use Rattle.page_store.proofs.Acting.{failures_rise, stop_fails}
@@ -74,4 +77,22 @@ returns-clause-steps g c =
           w.force.ensures.same.limits (sym c.is_stopped.ensures ∙ c.if-is_stopped.false) w.force.ensures.moments w.force.ensures.outside w.force.ensures.len w.force.ensures.honest
           (failures_rise w.force.result _ _ _ w.force.ensures.cause) w.in_ok-force.ensures.keeps c.args.self.now.not_ahead w.min-self.result (w.force.ensures.stopped ∙ ap is_err w.in_ok-force.was))
       | else-self w ↦ subst (λ s. Follows start (held_of g.D.Device s)) (sym w.self-is) (follows_same start)
+    ]
+
+pub returns-clause-waits : goal.returns-clause-waits
+returns-clause-waits g c =
+    let held = c.args.self.now in
+    let start = backing_of (held_of g.D.Device held) in
+    elim c.if-self.branch [
+      | then-self+in_ok-force w ↦ subst (λ s. WaitsOn held.acts start (backing_of (held_of g.D.Device s))) (sym w.self-is) (inr (none_waits _ w.in_ok-force.ensures.written, refl))
+      | else-self w ↦ subst (λ s. WaitsOn held.acts start (backing_of (held_of g.D.Device s))) (sym w.self-is) (inl refl)
+    ]
+
+pub returns-clause-none : goal.returns-clause-none
+returns-clause-none g c =
+    let held = c.args.self.now in
+    elim c.if-self.branch [
+      | then-self+in_ok-force w ↦ subst (λ (s : LoggedPages _ g.D.Device). waiting_blocks s.log ≡ []) (sym w.self-is) (none_waits _ w.in_ok-force.ensures.written)
+      | else-self w ↦ subst (λ (s : LoggedPages _ g.D.Device). waiting_blocks s.log ≡ []) (sym w.self-is)
+          (none_waits _ (held.forced (sym c.is_stopped.ensures ∙ c.if-is_stopped.false) (let few = held.not_ahead in omega (arith, few, w.if-self.false))))
     ]

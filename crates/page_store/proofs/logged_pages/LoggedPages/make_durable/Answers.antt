@@ -14,6 +14,7 @@ forced g c = record {
   promised = c.force.ensures.promised;
   idle = c.force.ensures.idle;
   order = part_is (changed_of c.force.new.self.pool) (changed_of c.args.self.now.pool) (ap changed_of c.force.ensures.pool);
+  waits = c.force.ensures.waits;
 }
 
 pub returns-then-is_stopped-clause-quiet : goal.returns-then-is_stopped-clause-quiet

@@ -19,5 +19,5 @@ invariant_of-self-clause-holds g c =
 pub returns-clause-quiet : goal.returns-clause-quiet
 returns-clause-quiet g c =
     let held = c.args.self.now in
-    quiet_noted g.D.Device held _ refl refl refl refl refl refl (part_is _ _ c.put.ensures.changes.order)
+    quiet_noted g.D.Device held _ refl refl refl refl refl refl refl (part_is _ _ c.put.ensures.changes.order)
     (follows_noted (held_of g.D.Device held) _ _ held.limits held.log_limits (λ block. inl (c.put.ensures.changes.acts block)))

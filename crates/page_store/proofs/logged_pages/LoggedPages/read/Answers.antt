@@ -28,7 +28,7 @@ gives g c honest =
 pub returns-clause-quiet : goal.returns-clause-quiet
 returns-clause-quiet g c =
     let held = c.args.self.now in
-    quiet_noted g.D.Device held _ refl refl refl refl refl refl (part_same (changed_of held.pool))
+    quiet_noted g.D.Device held _ refl refl refl refl refl refl refl (part_same (changed_of held.pool))
     (follows_read (held_of g.D.Device held) _ _ _ c.read_page.ensures.trace c.read_page.ensures.honest (reading_rises c.args.block c.read_page.result _ _ c.read_page.ensures.cause))
 
 pub returns-clause-right : goal.returns-clause-right

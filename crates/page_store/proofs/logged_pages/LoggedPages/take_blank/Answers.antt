@@ -12,7 +12,7 @@ use Rattle.page_store.proofs.logged_pages.LoggedPages.take_blank.Goals as goal
 pub returns-clause-quiet : goal.returns-clause-quiet
 returns-clause-quiet g c =
     let had = c.free_frame.new.self in
-    let copied = quiet_noted g.D.Device had _ refl refl refl refl refl refl (part_same (changed_of had.pool)) (follows_same (held_of g.D.Device had)) in
+    let copied = quiet_noted g.D.Device had _ refl refl refl refl refl refl refl (part_same (changed_of had.pool)) (follows_same (held_of g.D.Device had)) in
     quiet_both g.D.Device c.args.self.now _ c.put.new.self (quiet_both g.D.Device c.args.self.now had _ c.free_frame.ensures.quiet copied) c.put.ensures.quiet
 
 pub returns-clause-kept : goal.returns-clause-kept
