@@ -9,9 +9,9 @@ use Rattle.page_codec.specs.declared.page.Page.{Page}
 use Rattle.page_action.specs.Stored.{AreStored}
 use Rattle.page_action.proofs.StoredPages.{stored_page}
 use Rattle.tree_shape.specs.Nodes.{nodes_of}
-use Rattle.tree_shape.specs.Chains.{IsTreeOf, IsRootLevel, IsIn}
+use Rattle.tree_shape.specs.Chains.{IsTreeOf, IsIn}
 use Rattle.tree_acts.specs.TheoremTree.{IsTree}
-use Rattle.amcheck.specs.Levels.{NamesRoot, AreWalked, IsStray, HasLevels}
+use Rattle.amcheck.specs.Levels.{NamesRoot, AreWalked, IsStray}
 use Rattle.amcheck.specs.Marks.{IsMet}
 use Rattle.amcheck.specs.Places.{StandAtTheirBlocks}
 use Rattle.amcheck.specs.Reports.{IsReport, report_of}
@@ -52,23 +52,6 @@ met_or met used b h = elim (cases_Bool (get_or met.marks.items b false)) [
 module _ (pages : List Page) (root top : ℕ) (met : Met) (way : Way) (names : NamesRoot pages root top) (walked : AreWalked pages root top 0 met way) where
   in_use : (level b : ℕ) → level ≤ top → IsIn b (walked.chain level) → (0 < b) × (b < length pages)
   in_use level b in_top i = walked.met_is.in_use b (walked.members level (omega arith) in_top b i)
-
-  pub levels_hold : HasLevels pages
-  levels_hold = record {
-    meta = names.meta;
-    meta_at = names.meta_at;
-    root = root;
-    names_root = names.names;
-    chain = walked.chain;
-    are = record {
-      some = λ l in_top. walked.some l (omega arith) (omega (arith, in_top, names.top_is));
-      runs = λ l in_top. walked.runs l (omega arith) (omega (arith, in_top, names.top_is));
-      distinct = λ l in_top. walked.distinct l (omega arith) (omega (arith, in_top, names.top_is));
-      in_use = λ l b in_top i. in_use l b (omega (arith, in_top, names.top_is)) i;
-      above = λ l lt. walked.above l (omega arith) (omega (arith, lt, names.top_is));
-      root_level = subst (λ (n : ℕ). IsRootLevel (nodes_of pages) root (walked.chain n)) names.top_is walked.root_level;
-    };
-  }
 
   pub tree_holds : way.agree ≡ true → ((b : ℕ) → IsStray pages met.blocks.items b → ⊥) → IsTree pages
   tree_holds agree none = record {

@@ -7,3 +7,10 @@ pub mod Compared
 pub mod Levelling
 pub mod ReadOn
 pub mod Judged
+pub mod WaysLeft
+pub mod Beyond
+pub mod Walked
+pub mod Found
+pub mod Chained
+pub mod ChainDamages
+pub mod FirstDamages

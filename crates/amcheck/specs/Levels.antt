@@ -100,24 +100,3 @@ pub record IsStray (pages : List Page) (met : List ℕ) (block : ℕ) : Type 0 w
   pub in_use : block < length pages
   pub stands : (nodes_of pages block).state ≢ Deleted
   pub unmet : IsIn block met → ⊥
-
--- Each level, from the root's to the leaves, is one chain of pages, linked both ways. It is the one to whose leftmost page
--- left links lead from the first child of the level above.
-pub record AreLevels (pages : List Page) (root top : ℕ) (chain : ℕ → List ℕ) : Type 0 where
-  pub some : (level : ℕ) → level ≤ top → chain level ≢ []
-  pub runs : (level : ℕ) → level ≤ top
-      → IsRunOf (nodes_of pages) level first_spot (chain level) None
-  pub distinct : (level : ℕ) → level ≤ top → AreDistinct (chain level)
-  pub in_use : (level b : ℕ) → level ≤ top → IsIn b (chain level)
-      → (0 < b) × (b < length pages)
-  pub above : (level : ℕ) → level < top → IsAbove pages (chain (suc level)) (chain level)
-  pub root_level : IsRootLevel (nodes_of pages) root (chain top)
-
--- the pages are an index of levels, under the metapage
-pub record HasLevels (pages : List Page) : Type 0 where
-  pub meta : Page
-  pub meta_at : slice_get pages 0 ≡ Some meta
-  pub root : ℕ
-  pub names_root : IsMetaOf meta root meta.level
-  pub chain : ℕ → List ℕ
-  pub are : AreLevels pages root meta.level chain

@@ -5,3 +5,9 @@ pub mod Levels
 pub mod Reports
 pub mod Reading
 pub mod Checks
+pub mod Ways
+pub mod Stops
+pub mod Ends
+pub mod Chains
+pub mod LevelDamages
+pub mod Answers

@@ -1,16 +1,18 @@
 -- The pages of a store as a check has read them.
-use Rattle.std.specs.Prelude.{◌≡◌, ℕ, ◌≤◌, true, List, [], length, vec_capacity}
+use Rattle.std.specs.Prelude.{◌≡◌, ℕ, ◌≤◌, true, false, List, [], length, replicate, vec_capacity}
 use Rattle.page_codec.specs.declared.page.Page.{Page}
 use Rattle.page_action.specs.States.{State, Backing}
 use Rattle.page_action.specs.Stored.{AreStored}
 use Rattle.amcheck.specs.Marks.{IsMet}
 use Rattle.amcheck.specs.declared.reading.Room.{Room}
 
--- there is room to check so many pages, and no block was met
+-- there is room to check so many pages, and no block was seen or met
 pub record HasRoom (room : Room) (used : ℕ) : Type 0 where
   pub pages : used ≤ vec_capacity room.pages
   pub met : IsMet room.met used
   pub none : room.met.blocks.items ≡ []
+  pub seen : room.seen.items ≡ replicate used false
+  pub stops : used ≤ vec_capacity room.stops
   pub due : used ≤ vec_capacity room.due
 
 -- these were read, one for each block in use: pages as the format demands, and where the device kept its

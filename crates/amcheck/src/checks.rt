@@ -1,52 +1,26 @@
 //! The checks of a store's pages.
 
-ghost use Rattle.std.specs.Prelude.{◌≡◌, true, IfOk, IfErr, OnOk};
+ghost use Rattle.std.specs.Prelude.{◌≡◌, true, false, IfOk, IfErr, OnOk};
 ghost use Rattle.page_action.specs.Room.{KeepsRoom};
 ghost use Rattle.page_action.specs.States.{Continues};
 ghost use Rattle.tree_acts.specs.TheoremTree.{IsTree};
+ghost use Rattle.damages.specs.Levels.{HasLevels};
+ghost use Rattle.amcheck.specs.Answers.{IsAnswer};
 ghost use Rattle.amcheck.specs.Checks.{IsCheckFault};
-ghost use Rattle.amcheck.specs.Levels.{HasLevels};
 ghost use Rattle.amcheck.specs.Reports.{IsReport};
 
-use crate::judging::judge;
+use crate::judging::{judge, judge_chains};
 use crate::reading::{Room, read_pages};
-use crate::report::{CheckFault, Report};
+use crate::report::{CheckFault, Damage, Report};
 use page_action::PageStore;
 use std::alloc::Global;
 
-// Reads all pages, and judges them, with parents and children or without.
-fn look_over<S: PageStore>(
-    alloc: Global,
-    store: &mut S,
-    parents: bool,
-) -> Result<Report, CheckFault>
-    ensures steps { Continues S.follows store.old store.new }
-    ensures state { S.state store.new ≡ S.state store.old }
-    ensures room { KeepsRoom (S.state store.old) (S.backing store.old) (S.backing store.new) }
-    ensures levels { (S.backing store.new).honest ≡ true
-        → OnOk result (HasLevels (S.state store.old).pages) }
-    ensures tree { parents ≡ true → (S.backing store.new).honest ≡ true
-        → OnOk result (IsTree (S.state store.old).pages) }
-    ensures report { (S.backing store.new).honest ≡ true
-        → IfOk result (IsReport (S.state store.old).pages) }
-    ensures fault { IfErr result (IsCheckFault (S.state store.old) (S.backing store.old)
-        (S.backing store.new) (IsTree (S.state store.old).pages)) }
+// What is answered of a report or a damage.
+fn told(judged: Result<Report, Damage>) -> Result<Report, CheckFault>
+    ensures ok { IfOk judged (λ report. result ≡ Ok report) }
+    ensures err { IfErr judged (λ d. result ≡ Err (CheckFault.Damage d.number d.block)) }
 {
-    let mut room = match Room::new(alloc, store.used()) {
-        Ok(room) => room,
-        Err(fault) => return Err(CheckFault::Refused(fault)),
-    };
-    match read_pages(store, &mut room.pages) {
-        Ok(()) => {}
-        Err(fault) => return Err(CheckFault::Refused(fault)),
-    }
-    match judge(
-        &room.pages,
-        &mut room.met,
-        &mut room.due,
-        &mut room.linked,
-        parents,
-    ) {
+    match judged {
         Ok(report) => Ok(report),
         Err(damage) => Err(CheckFault::Damage {
             number: damage.number,
@@ -70,10 +44,21 @@ pub fn check<S: PageStore>(alloc: Global, store: &mut S) -> Result<Report, Check
         → OnOk result (HasLevels (S.state store.old).pages) }
     ensures report { (S.backing store.new).honest ≡ true
         → IfOk result (IsReport (S.state store.old).pages) }
+    // It answers the first damage that there is, if there is one.
+    ensures answer { (S.backing store.new).honest ≡ true
+        → IsAnswer false (S.state store.old).pages result }
     ensures fault { IfErr result (IsCheckFault (S.state store.old) (S.backing store.old)
         (S.backing store.new) (IsTree (S.state store.old).pages)) }
 {
-    look_over(alloc, store, false)
+    let mut room = match Room::new(alloc, store.used()) {
+        Ok(room) => room,
+        Err(fault) => return Err(CheckFault::Refused(fault)),
+    };
+    match read_pages(store, &mut room.pages) {
+        Ok(()) => {}
+        Err(fault) => return Err(CheckFault::Refused(fault)),
+    }
+    told(judge_chains(&room.pages, &mut room.seen, &mut room.met, &mut room.stops))
 }
 
 /// Judges the levels of an index, their links, and its parents and children: a report, or the first damage. It reads each
@@ -92,5 +77,13 @@ pub fn check_parents<S: PageStore>(alloc: Global, store: &mut S) -> Result<Repor
     ensures fault { IfErr result (IsCheckFault (S.state store.old) (S.backing store.old)
         (S.backing store.new) (IsTree (S.state store.old).pages)) }
 {
-    look_over(alloc, store, true)
+    let mut room = match Room::new(alloc, store.used()) {
+        Ok(room) => room,
+        Err(fault) => return Err(CheckFault::Refused(fault)),
+    };
+    match read_pages(store, &mut room.pages) {
+        Ok(()) => {}
+        Err(fault) => return Err(CheckFault::Refused(fault)),
+    }
+    told(judge(&room.pages, &mut room.met, &mut room.due, &mut room.linked))
 }

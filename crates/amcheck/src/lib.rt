@@ -1,6 +1,8 @@
 //! The verifier: it reads every page of a store and answers what stands there, or the first damage.
 #![tactic(auto)]
 
+mod bad_places;
+mod chain_damages;
 mod chains;
 mod checks;
 mod counts;
@@ -12,7 +14,10 @@ mod parents;
 mod places;
 mod reading;
 mod report;
+mod stops;
 mod strays;
+mod walks;
+mod ways;
 
 pub use checks::{check, check_parents};
 pub use report::{CheckFault, Report};

@@ -65,7 +65,7 @@ fn is_beyond(low: &Option<Bound>, bound: &Bound) -> bool
 }
 
 /// Whether the high key lies beyond the low, an absent low being below all and an absent high key above.
-fn rises(low: &Option<Bound>, high: &Option<Bound>) -> bool
+pub(crate) fn rises(low: &Option<Bound>, high: &Option<Bound>) -> bool
     ensures { IsTrue result ↔ Rises low.now high.now }
 {
     match high {
@@ -75,7 +75,7 @@ fn rises(low: &Option<Bound>, high: &Option<Bound>) -> bool
 }
 
 /// Whether the first entry, if there is one, lies beyond the low.
-fn first_is_beyond(low: &Option<Bound>, entries: &[Entry]) -> bool
+pub(crate) fn first_is_beyond(low: &Option<Bound>, entries: &[Entry]) -> bool
     ensures { IsTrue result ↔ IsFirstBeyond low.now entries.now }
 {
     match entries.first() {
@@ -85,7 +85,7 @@ fn first_is_beyond(low: &Option<Bound>, entries: &[Entry]) -> bool
 }
 
 /// Whether the bound of the second downlink, if there is one, lies beyond the low.
-fn second_is_beyond(low: &Option<Bound>, links: &[Downlink]) -> bool
+pub(crate) fn second_is_beyond(low: &Option<Bound>, links: &[Downlink]) -> bool
     ensures { IsTrue result ↔ IsSecondBeyond low.now links.now }
 {
     if links.len() < 2 {

@@ -9,6 +9,7 @@ ghost use Rattle.amcheck.specs.Checks.{where_checked};
 ghost use Rattle.amcheck.specs.Reading.{HasRoom, AreRead};
 
 use crate::marks::Met;
+use crate::stops::Stop;
 use index_model::Fault;
 use page_action::PageStore;
 use page_codec::{Downlink, Page};
@@ -20,6 +21,10 @@ pub(crate) struct Room {
     /// A copy of each page in use.
     pub(crate) pages: Vec<Page>,
     pub(crate) met: Met,
+    /// For each page in use whether it was seen on the way to the leftmost page of a level.
+    pub(crate) seen: Vec<bool>,
+    /// The places of the chain of one level.
+    pub(crate) stops: Vec<Stop>,
     /// The downlinks that the pages of one level are to have.
     pub(crate) due: Vec<Downlink>,
     /// For each page in use whether a downlink to it was found.
@@ -42,10 +47,18 @@ impl Room {
         let Ok(linked) = vec![in alloc; false; used as usize] else {
             return Err(Fault::NoMemory);
         };
+        let Ok(seen) = vec![in alloc; false; used as usize] else {
+            return Err(Fault::NoMemory);
+        };
+        let Ok(stops) = Vec::with_capacity(alloc, used as usize) else {
+            return Err(Fault::NoMemory);
+        };
         let met = Met::new(alloc, used)?;
         Ok(Room {
             pages,
             met,
+            seen,
+            stops,
             due,
             linked,
         })

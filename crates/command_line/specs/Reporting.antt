@@ -1,7 +1,7 @@
 -- What a check prints, and what that means.
 use Rattle.std.specs.Prelude.{◌≡◌, true, false, Bool, ℕ, Option, List, [], ◌∷◌, ◌++◌, codes, ⊤}
 use Rattle.std.specs.Io.KnownBytes.{Appends}
-use Rattle.amcheck.specs.Levels.{HasLevels}
+use Rattle.damages.specs.Levels.{HasLevels}
 use Rattle.amcheck.specs.Reports.{IsReport}
 use Rattle.amcheck.specs.declared.report.Report.{Report}
 use Rattle.command_line.specs.Printing.{numbered}

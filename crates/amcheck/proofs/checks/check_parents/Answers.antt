@@ -1,9 +1,9 @@
 use Rattle.std.proofs.Common.{sym, subst}
 use Rattle.amcheck.specs.Places.{StandAtTheirBlocks}
 use Rattle.amcheck.proofs.Judged.{they_stand, they_are_few}
-use Rattle.amcheck.proofs.checks.look_over.Given.{Over}
-use Rattle.amcheck.proofs.checks.look_over.Goals.{After-deref}
-use Rattle.amcheck.proofs.checks.look_over.Goals as goal
+use Rattle.amcheck.proofs.checks.check_parents.Given.{Over}
+use Rattle.amcheck.proofs.checks.check_parents.Goals.{After-deref}
+use Rattle.amcheck.proofs.checks.check_parents.Goals as goal
 
 stand : (g : Over) (c : After-deref g) → StandAtTheirBlocks c.deref.result.now
 stand g c = subst StandAtTheirBlocks (sym c.deref.ensures.value) (they_stand (g.S.PageStore.state c.args.store.now).limits c.read_pages.new.pages.items c.in-Ok-read_pages.ensures.read.stored)

@@ -1,0 +1,105 @@
+-- Whether an entry or a bound of a page of the format isn't beyond its low: the first entry and the second bound tell.
+use Rattle.std.proofs.Common.{◌≡◌, ◌≢◌, ◌⊎◌, ◌↔◌, ℕ, ◌<◌, inl, inr, Bool, true, false, not, IsTrue, Option, Some, None, List, [], ◌∷◌, length, slice_get, refl, sym, ap, subst, arith}
+use Rattle.std.specs.List.{Contains, AllByRecursion}
+use Rattle.index_model.specs.Order.{bound_of}
+use Rattle.index_model.specs.declared.bound.Bound.{Bound}
+use Rattle.index_model.specs.declared.entry.Entry.{Entry}
+use Rattle.page_codec.specs.Edits.{entries_of}
+use Rattle.page_codec.specs.Grammar.{IsPage, IsOfKind, IsLeafIn, LinkBefore, Ascends, StartsLow, Below}
+use Rattle.page_codec.specs.declared.page.Downlink.{Downlink}
+use Rattle.page_codec.specs.declared.page.Items.{Items}
+use Rattle.page_codec.specs.declared.page.Items.TheVariants.{Meta, Entries, Downlinks}
+use Rattle.page_codec.specs.declared.page.Page.{Page}
+use Rattle.page_codec.specs.declared.page.PageState.{PageState}
+use Rattle.page_codec.specs.declared.page.PageState.TheVariants.{Live, HalfDead, Deleted}
+use Rattle.tree_shape.specs.Nodes.{Node, links_of, node_of}
+use Rattle.tree_shape.specs.Chains.{Spot, Rises, IsBeyond, LinksWithin}
+use Rattle.damages.specs.Damages.{HasNotBeyond}
+use Rattle.damages.proofs.Decided.{no_link}
+use Rattle.damages.proofs.TreesSound.{entry_beyond, link_beyond}
+use Rattle.amcheck.specs.Places.{IsFirstBeyond, IsSecondBeyond, IsBoundBeyond}
+use Rattle.amcheck.specs.Stops.{HasWrongItem, IsWrong, IsLeastNumber}
+use Rattle.amcheck.proofs.ItemsWithin.{entries_within, links_within}
+
+pub first_not : (low : Option Bound) (es : List Entry) → (IsFirstBeyond low es → ⊥) → (e : Entry) × Contains es e × (IsBeyond low (bound_of e) → ⊥)
+first_not low [] h = absurd (h tt)
+first_not low (e ∷ es) h = (e, (0, omega arith, refl), h)
+
+some_bound : (i j : Downlink) → LinkBefore i j → (b : Bound) × (j.bound ≡ Some b)
+some_bound i j before = go i.bound j.bound before refl
+  where
+    go : (a b : Option Bound) → LinkBefore (record { bound = a; child = 0 }) (record { bound = b; child = 0 }) → j.bound ≡ b → (c : Bound) × (j.bound ≡ Some c)
+    go a (Some x) before e = (x, e)
+    go None None before e = absurd cc
+    go (Some y) None before e = absurd cc
+
+second_not : (low : Option Bound) (ds : List Downlink) → Ascends LinkBefore ds → (IsSecondBeyond low ds → ⊥)
+    → (item : ℕ) × (link : Downlink) × (bound : Bound) × (0 < item) × (slice_get ds item ≡ Some link) × (link.bound ≡ Some bound) × (IsBeyond low bound → ⊥)
+second_not low [] up h = absurd (h tt)
+second_not low (i ∷ []) up h = absurd (h tt)
+second_not low (i ∷ j ∷ js) up h =
+    let b = some_bound i j up.0 in
+    (1, j, b.0, omega arith, refl, b.1, λ beyond. h (subst (IsBoundBeyond low) (sym b.1) beyond))
+
+pub links_ascend : (page : Page) → IsPage page → Ascends LinkBefore (links_of page.items)
+links_ascend page admitted = by page.items admitted.kind
+  where
+    by : (items : Items) → IsOfKind page items → Ascends LinkBefore (links_of items)
+    by Meta k = tt
+    by (Entries v) k = tt
+    by (Downlinks v) k = k.links.ascends
+
+pub second_tells : (low : Option Bound) (page : Page) → IsPage page → (IsSecondBeyond low (links_of page.items) → ⊥) → HasNotBeyond low (node_of page)
+second_tells low page admitted h = inr (second_not low (links_of page.items) (links_ascend page admitted) h)
+
+-- where both are beyond the low, all are
+pub all_beyond : (low : Option Bound) (page : Page) → IsPage page → IsFirstBeyond low (entries_of page.items) → IsSecondBeyond low (links_of page.items) → HasNotBeyond low (node_of page) → ⊥
+all_beyond low page admitted first second has = by page.items admitted.kind first second has
+  where
+    links : (ds : List Downlink) → StartsLow ds → Ascends LinkBefore ds → AllByRecursion (Below page.high) ds → IsSecondBeyond low ds → LinksWithin low ds page.high
+    links [] start up below second = absurd start
+    links (d ∷ ds) start up below second = links_within low d ds page.high start up below.1 second
+
+    no_entry : (e : Entry) → Contains [] e → ⊥
+    no_entry e c = (let lt = c.1 in absurd (omega arith))
+
+    by : (items : Items) → IsOfKind page items → IsFirstBeyond low (entries_of items) → IsSecondBeyond low (links_of items)
+        → ((e : Entry) × Contains (entries_of items) e × (IsBeyond low (bound_of e) → ⊥))
+        ⊎ ((item : ℕ) × (link : Downlink) × (bound : Bound) × (0 < item) × (slice_get (links_of items) item ≡ Some link) × (link.bound ≡ Some bound) × (IsBeyond low bound → ⊥)) → ⊥
+    by Meta k first second (inl e) = no_entry e.0 e.1
+    by Meta k first second (inr i) = no_link i.4
+    by (Downlinks v) k first second (inl e) = no_entry e.0 e.1
+    by (Downlinks v) k first second (inr i) = i.6 (link_beyond low v.items page.high i.0 i.1 i.2 (links v.items k.first k.links.ascends k.links.within second) i.3 i.4 i.5)
+    by (Entries v) k first second (inr i) = no_link i.4
+    by (Entries v) k first second (inl e) = state page.state k.rest
+      where
+        none' : v.items ≡ [] → ⊥
+        none' is = (let lt = e.1.1 in let size = ap length is in absurd (omega (arith, lt, size)))
+
+        state : (s : PageState) → IsLeafIn s page v.items → ⊥
+        state Live r = e.2 (entry_beyond low v.items page.high e.1.0 e.0 (entries_within low v.items page.high r.entries.ascends r.entries.within first) e.1.1 e.1.2)
+        state HalfDead r = none' r.entries
+        state Deleted r = none' r.entries
+
+pub wrong_first : (low : Option Bound) (page : Page) → (IsFirstBeyond low (entries_of page.items) → ⊥) → HasWrongItem low (node_of page)
+wrong_first low page h = record { is = inl (first_not low (entries_of page.items) h) }
+
+pub wrong_second : (r : Bool) (low : Option Bound) (page : Page) → IsPage page → IsFirstBeyond low (entries_of page.items) → (IsTrue r ↔ IsSecondBeyond low (links_of page.items))
+    → IsTrue (not r) ↔ HasWrongItem low (node_of page)
+wrong_second true low page admitted first told = (λ e. absurd (let k : false ≡ true = e in cc), λ w. absurd (all_beyond low page admitted first (told.0 refl) w.is))
+wrong_second false low page admitted first told = (
+  λ e. record { is = second_tells low page admitted (λ second. absurd (let k : false ≡ true = told.1 second in cc)) },
+  λ w. refl,
+)
+
+pub least_six : (node : Node) (root : Option ℕ) (s : Spot) (block : ℕ) → ((node.left ≢ s.left) → ⊥) → (node.state ≡ Deleted → ⊥) → ((node.state ≡ Live) × (Rises s.low node.high → ⊥) → ⊥)
+    → HasWrongItem s.low node → IsLeastNumber (IsWrong node root s block) (Some 6)
+least_six node root s block linked stands rises wrong = (inr (inr (inr (inl (refl, wrong)))), less)
+  where
+    less : (m : ℕ) → m < 6 → IsWrong node root s block m → ⊥
+    less m lt (inl a) = linked a.1
+    less m lt (inr (inl a)) = stands a.1
+    less m lt (inr (inr (inl a))) = rises (a.1, a.2)
+    less m lt (inr (inr (inr (inl a)))) = (let k = a.0 in omega arith)
+    less m lt (inr (inr (inr (inr (inl a))))) = (let k = a.0 in omega arith)
+    less m lt (inr (inr (inr (inr (inr a))))) = (let k = a.0 in omega arith)

@@ -1,0 +1,109 @@
+-- What the search for the first damage of the chains comes to.
+use Rattle.std.proofs.Common.{◌≡◌, ℕ, ◌<◌, ◌≤◌, inl, inr, true, false, Option, Some, None, List, [], ◌∷◌, length, slice_get, refl, sym, ap, subst, ◌∙◌, arith}
+use Rattle.std.proofs.lemmas.Option.{slice_get_within}
+use Rattle.std.specs.Prelude.{IsSome, ◌≢◌, Result, Ok, Err, IfOk, IfErr, OnOk}
+use Rattle.page_codec.specs.Grammar.{IsBlock, IsPage, IsOfKind}
+use Rattle.page_codec.specs.declared.page.Items.{Items}
+use Rattle.page_codec.specs.declared.page.Items.TheVariants.{Meta, Entries, Downlinks}
+use Rattle.page_codec.specs.declared.page.Page.{Page}
+use Rattle.tree_shape.specs.Nodes.{Node, nodes_of, node_from, node_of}
+use Rattle.tree_acts.specs.TheoremTree.{IsTree}
+use Rattle.damages.specs.Damages.{index_of, or_block, Site, IsDamage, IsSound, IsFirstDamage, ComesBefore, rank}
+use Rattle.damages.specs.Damages.Site.{on_way, on_chain, at_child, at_page, nowhere}
+use Rattle.damages.specs.Levels as levels
+use Rattle.amcheck.specs.Levels.{NamesRoot}
+use Rattle.amcheck.specs.Places.{StandAtTheirBlocks}
+use Rattle.amcheck.specs.Answers.{IsAnswer}
+use Rattle.amcheck.specs.Reports.{IsReport}
+use Rattle.amcheck.specs.declared.report.CheckFault.{CheckFault}
+use Rattle.amcheck.specs.declared.report.CheckFault.TheVariants.{Damage as Damaged}
+use Rattle.amcheck.specs.declared.report.Damage.{Damage}
+use Rattle.amcheck.specs.declared.report.Report.{Report}
+
+none_of_length : (pages : List Page) → length pages ≡ 0 → pages ≡ []
+none_of_length [] e = refl
+none_of_length (page ∷ pages) e = absurd (omega arith)
+
+not_so : false ≡ true → ⊥
+not_so e = cc
+
+-- without a metapage the root is block 0, which is on no level
+nothing_there : IsFirstDamage false [] 1 0
+nothing_there = record { site = on_way 0 0 (omega arith); is = inl (refl, λ on. (let k = on.in_use in omega arith)); block_is = refl; first = first }
+  where
+    first : (other : Site (index_of [])) (n : ℕ) → IsDamage false other n → ComesBefore (rank other n) (0 ∷ 0 ∷ 0 ∷ 0 ∷ 1 ∷ []) → ⊥
+    first (on_way d s e) n damage (inl lt) = omega (arith, lt)
+    first (on_way d s e) n damage (inr (same, inl lt)) = omega (arith, lt)
+    first (on_way d s e) n damage (inr (same, inr (is, inl lt))) = omega (arith, lt)
+    first (on_way d s e) n damage (inr (same, inr (is, inr (zero_is, inl lt)))) = omega (arith, lt)
+    first (on_way d s e) n (inl one) (inr (same, inr (is, inr (zero_is, inr (step, inl lt))))) = (let k = one.0 in omega (arith, lt))
+    first (on_way d s e) n (inr three) (inr (same, inr (is, inr (zero_is, inr (step, inl lt))))) = (let k = three.0 in omega (arith, lt))
+    first (on_way d s e) n damage (inr (same, inr (is, inr (zero_is, inr (step, inr (number_is, end)))))) = end
+    first (on_chain h) n damage (inl lt) = omega (arith, lt)
+    first (on_chain h) n damage (inr (same, inl lt)) = omega (arith, lt)
+    first (on_chain h) n damage (inr (same, inr (is, inl lt))) = omega (arith, lt)
+    first (on_chain h) n damage (inr (same, inr (is, inr (one, more)))) = omega (arith, one)
+    first (at_child h i) n damage before = not_so damage.0
+    first (at_page h) n damage before = not_so damage.0
+    first (nowhere b) n damage before = not_so damage.0
+
+pub no_pages : (pages : List Page) (number block : ℕ) → length pages ≡ 0 → number ≡ 1 → block ≡ 0 → IsFirstDamage false pages number block
+no_pages pages number block none one zero_is =
+    subst (λ (n : ℕ). IsFirstDamage false pages n block) (sym one)
+    (subst (λ (b : ℕ). IsFirstDamage false pages 1 b) (sym zero_is)
+    (subst (λ (ps : List Page). IsFirstDamage false ps 1 0) (sym (none_of_length pages none)) nothing_there))
+
+-- the root that the metapage names, and its level
+module _ (pages : List Page) (root top : ℕ) (names : NamesRoot pages root top) where
+  meta_is : nodes_of pages 0 ≡ node_of names.meta
+  meta_is = ap node_from names.meta_at
+
+  pub root_is : root ≡ (index_of pages).root
+  root_is = sym (ap (λ (n : Node). or_block n.right 0) meta_is ∙ ap (λ (o : Option ℕ). or_block o 0) names.names.root_is)
+
+  pub top_is : top ≡ (index_of pages).top
+  top_is = names.top_is ∙ sym (ap (λ (n : Node). n.level) meta_is)
+
+  pub some_pages : 0 < length pages
+  some_pages = slice_get_within pages 0 names.meta names.meta_at
+
+  pub top_low : StandAtTheirBlocks pages → top ≤ 31
+  top_low stand =
+      let kind = (stand 0 names.meta names.meta_at).0.kind in
+      let low = (subst (IsOfKind names.meta) names.names.kind kind).level in
+      omega (arith, low, names.top_is)
+
+no_block : (n : ℕ) → n ≡ 0 → IsBlock n → ⊥
+no_block n zero_is block = (let k = block.0 in omega (arith, k, zero_is))
+
+-- the page of block 0 is the metapage, and names a root
+pub first_is_meta : (pages : List Page) (page : Page) → StandAtTheirBlocks pages → slice_get pages 0 ≡ Some page → (page.items ≡ Meta) × IsSome page.right
+first_is_meta pages page stand found = by page.items refl own.0.kind
+  where
+    own : IsPage page × (page.block ≡ 0)
+    own = stand 0 page found
+
+    by : (items : Items) → page.items ≡ items → IsOfKind page items → (page.items ≡ Meta) × IsSome page.right
+    by Meta is kind = (is, kind.right)
+    by (Entries v) is kind = absurd (no_block page.block own.1 kind.block)
+    by (Downlinks v) is kind = absurd (no_block page.block own.1 kind.block)
+
+pub never_other : (pages : List Page) (page : Page) → StandAtTheirBlocks pages → slice_get pages 0 ≡ Some page → page.items ≢ Meta → ⊥
+never_other pages page stand found other = other (first_is_meta pages page stand found).0
+
+pub never_rootless : (pages : List Page) (page : Page) → StandAtTheirBlocks pages → slice_get pages 0 ≡ Some page → page.right ≡ None → ⊥
+never_rootless pages page stand found none = by page.right none (first_is_meta pages page stand found).1
+  where
+    by : (o : Option ℕ) → o ≡ None → IsSome o → ⊥
+    by None is some = not_so some
+    by (Some b) is some = cc
+
+-- the two words of a tree say the same
+pub tree_there : (pages : List Page) → IsTree pages → levels.HasTree pages
+tree_there pages t = record { meta = t.meta; meta_at = t.meta_at; root = t.root; names_root = t.names_root; chain = t.chain; is = t.is }
+
+-- what is told of the judgement of the chains
+pub answer_told : (pages : List Page) (judged : Result Report Damage) (result : Result Report CheckFault) → OnOk judged (IsSound false pages) → IfOk judged (IsReport pages) → IfErr judged (λ d. IsFirstDamage false pages d.number d.block)
+    → IfOk judged (λ report. result ≡ Ok report) → IfErr judged (λ d. result ≡ Err (Damaged d.number d.block)) → IsAnswer false pages result
+answer_told pages (Ok report) result sound is first ok err = subst (IsAnswer false pages) (sym ok) (sound, is)
+answer_told pages (Err d) result sound is first ok err = subst (IsAnswer false pages) (sym err) first

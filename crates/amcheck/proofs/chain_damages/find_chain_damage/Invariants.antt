@@ -1,0 +1,15 @@
+use Rattle.std.proofs.Common.{◌≡◌, ◌<◌, ℕ, length, vec_capacity}
+use Rattle.damages.specs.Damages.{index_of, start}
+use Rattle.amcheck.specs.LevelDamages.{IsClearLevel, AreOfUpper}
+use Rattle.amcheck.specs.Marks.{IsMet}
+use Rattle.amcheck.proofs.chain_damages.find_chain_damage.Given as goal
+
+abbrev pub invariant-loop-depth : goal.invariant-loop-depth
+invariant-loop-depth l = record {
+  size : length l.seen ≡ length l.pages;
+  met : IsMet l.met (length l.pages);
+  room : vec_capacity l.stops ≡ vec_capacity l.fn.stops;
+  upper : AreOfUpper (index_of l.pages) l.depth l.seen l.met;
+  clear : (d : ℕ) → d < l.depth → IsClearLevel (index_of l.pages) d;
+  begin : l.begin ≡ start (index_of l.pages) l.depth;
+}

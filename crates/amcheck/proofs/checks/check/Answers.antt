@@ -1,0 +1,23 @@
+use Rattle.std.proofs.Common.{false, List, sym, subst, ◌∙◌}
+use Rattle.page_codec.specs.declared.page.Page.{Page}
+use Rattle.amcheck.specs.Answers.{IsAnswer}
+use Rattle.amcheck.proofs.FirstDamages.{answer_told}
+use Rattle.amcheck.specs.Places.{StandAtTheirBlocks}
+use Rattle.amcheck.proofs.Judged.{they_stand, they_are_few}
+use Rattle.amcheck.proofs.checks.check.Given.{Over}
+use Rattle.amcheck.proofs.checks.check.Goals.{After-deref}
+use Rattle.amcheck.proofs.checks.check.Goals as goal
+
+stand : (g : Over) (c : After-deref g) → StandAtTheirBlocks c.deref.result.now
+stand g c = subst StandAtTheirBlocks (sym c.deref.ensures.value) (they_stand (g.S.PageStore.state c.args.store.now).limits c.read_pages.new.pages.items c.in-Ok-read_pages.ensures.read.stored)
+
+pub judge_chains-requires-clause-stand : goal.judge_chains-requires-clause-stand
+judge_chains-requires-clause-stand g c = stand g (goal.at.judge_chains-requires-clause-stand g c).After-deref
+
+pub judge_chains-requires-clause-few : goal.judge_chains-requires-clause-few
+judge_chains-requires-clause-few g c = they_are_few c.deref.result.now (stand g (goal.at.judge_chains-requires-clause-few g c).After-deref)
+
+pub returns-clause-answer : goal.returns-clause-answer
+returns-clause-answer g c honest =
+    subst (λ (ps : List Page). IsAnswer false ps c.told.result) (c.deref.ensures.value ∙ c.in-Ok-read_pages.ensures.read.same honest)
+    (answer_told c.deref.result.now c.judge_chains.result c.told.result c.judge_chains.ensures.sound c.judge_chains.ensures.report c.judge_chains.ensures.first c.told.ensures.ok c.told.ensures.err)

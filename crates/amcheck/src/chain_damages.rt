@@ -1,0 +1,113 @@
+//! The first damage of the chains of all levels.
+
+ghost use Rattle.std.specs.Prelude.{◌≡◌, ◌+◌, ◌<◌, ◌≤◌, [], suc, false, IfNone, IfSome, IfOk, OnOk, IfErr, length, replicate, vec_capacity};
+ghost use Rattle.tree_shape.specs.Nodes.{nodes_of};
+ghost use Rattle.damages.specs.Damages.{index_of, head, start, first_child, IsSound, IsFirstDamage};
+ghost use Rattle.amcheck.specs.LevelDamages.{IsClearLevel, IsFirstOfLevel, AreOfUpper};
+ghost use Rattle.amcheck.specs.Marks.{IsMet};
+ghost use Rattle.amcheck.specs.Places.{StandAtTheirBlocks};
+ghost use Rattle.amcheck.specs.Stops.{IsRootAt};
+
+use crate::bad_places::first_in_chain;
+use crate::marks::Met;
+use crate::report::Damage;
+use crate::stops::Stop;
+use crate::walks::walk;
+use crate::ways::find_leftmost;
+use page_codec::Page;
+use tree_shape::links_on;
+
+/// Where the way to the leftmost page of the next level begins: the child of the first downlink of this one's, or 0.
+fn next_begin(pages: &[Page], head: u32) -> u32
+    ensures { result ≡ first_child (nodes_of pages.now head).links }
+{
+    let Some(page) = pages.get(head as usize) else {
+        return 0;
+    };
+    match links_on(page).first() {
+        None => 0,
+        Some(link) => link.child,
+    }
+}
+
+/// The root, on its own level.
+fn root_at(root: u32, depth: u8) -> Option<u32>
+    ensures { (pages : _) → root ≡ (index_of pages).root
+        → IsRootAt (index_of pages) depth result }
+{
+    if depth == 0 { Some(root) } else { None }
+}
+
+/// Judges the chain of a level: the leftmost page, or the first damage. `stops` has room for a stop at each page in use.
+fn judge_level(
+    pages: &[Page],
+    seen: &mut [bool],
+    met: &mut Met,
+    stops: &mut Vec<Stop>,
+    root: u32,
+    depth: u8,
+    level: u8,
+    begin: u32,
+) -> Result<u32, Damage>
+    requires stand { StandAtTheirBlocks pages.now }
+    requires some { 0 < length pages.now }
+    requires few { length pages.now ≤ 65536 }
+    requires size { length seen.old ≡ length pages.now }
+    requires met { IsMet met.old (length pages.now) }
+    requires room { length pages.now ≤ vec_capacity stops.old }
+    requires root { root ≡ (index_of pages.now).root }
+    requires level { level + depth ≡ (index_of pages.now).top }
+    requires begin { begin ≡ start (index_of pages.now) depth }
+    requires upper { AreOfUpper (index_of pages.now) depth seen.old met.old }
+    ensures size { length seen.new ≡ length pages.now }
+    ensures met { IsMet met.new (length pages.now) }
+    ensures room { vec_capacity stops.new ≡ vec_capacity stops.old }
+    ensures upper { AreOfUpper (index_of pages.now) (suc depth) seen.new met.new }
+    ensures head { IfOk result (λ found. found ≡ head (index_of pages.now) depth) }
+    ensures clear { OnOk result (IsClearLevel (index_of pages.now) depth) }
+    ensures first { IfErr result
+        (λ d. IsFirstOfLevel (index_of pages.now) depth d.number d.block) }
+{
+    let head = match find_leftmost(pages, seen, depth, level, begin) {
+        Ok(head) => head,
+        Err(damage) => return Err(damage),
+    };
+    let end = walk(pages, met, stops, depth, level, head);
+    match first_in_chain(pages, root_at(root, depth), depth, stops, end) {
+        None => Ok(head),
+        Some(damage) => Err(damage),
+    }
+}
+
+/// The first damage of the chains of all levels, from the root's to the leaves. No block was seen or met before; `stops` has
+/// room for a stop at each page in use.
+pub(crate) fn find_chain_damage(
+    pages: &[Page],
+    seen: &mut [bool],
+    met: &mut Met,
+    stops: &mut Vec<Stop>,
+    root: u32,
+    top: u8,
+) -> Option<Damage>
+    requires stand { StandAtTheirBlocks pages.now }
+    requires some { 0 < length pages.now }
+    requires few { length pages.now ≤ 65536 }
+    requires seen { seen.old ≡ replicate (length pages.now) false }
+    requires met { IsMet met.old (length pages.now) }
+    requires none { met.old.blocks.items ≡ [] }
+    requires room { length pages.now ≤ vec_capacity stops.old }
+    requires root { root ≡ (index_of pages.now).root }
+    requires top { top ≡ (index_of pages.now).top }
+    requires low { top ≤ 31 }
+    ensures none { IfNone result (IsSound false pages.now) }
+    ensures some { IfSome result (λ d. IsFirstDamage false pages.now d.number d.block) }
+{
+    let mut begin = root;
+    for depth in 0..top + 1 {
+        match judge_level(pages, seen, met, stops, root, depth, top - depth, begin) {
+            Ok(head) => begin = next_begin(pages, head),
+            Err(damage) => return Some(damage),
+        }
+    }
+    None
+}

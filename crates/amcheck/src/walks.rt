@@ -1,0 +1,74 @@
+//! A walk along the chain of a level by right links.
+
+ghost use Rattle.std.specs.Prelude.{◌≡◌, ◌+◌, ◌++◌, ◌<◌, ◌≤◌, ℕ, length, vec_capacity};
+ghost use Rattle.tree_shape.specs.Chains.{IsIn};
+ghost use Rattle.damages.specs.Damages.{index_of, head, IsOnLevel};
+ghost use Rattle.amcheck.specs.Marks.{IsMet};
+ghost use Rattle.amcheck.specs.Stops.{blocks_of, AreStops};
+ghost use Rattle.amcheck.specs.Ends.{IsEnd};
+
+use crate::marks::Met;
+use crate::places::is_on_level;
+use crate::stops::{Stop, next_stop};
+use page_codec::Page;
+
+/// How a walk ended.
+#[derive(Clone, Copy)]
+pub(crate) enum End {
+    /// At the rightmost page.
+    Whole,
+    /// At a block that isn't in use, or whose page is of another level.
+    Off(u32),
+    /// At a page that was met before, at this stop.
+    Met(Stop),
+}
+
+/// Walks along the chain of a level as far as its pages are of this level and new: the stops, and how it ended. Of blocks of
+/// this level none was met before.
+pub(crate) fn walk(
+    pages: &[Page],
+    met: &mut Met,
+    stops: &mut Vec<Stop>,
+    depth: u8,
+    level: u8,
+    begin: u32,
+) -> End
+    requires some { 0 < length pages.now }
+    requires few { length pages.now ≤ 65536 }
+    requires met { IsMet met.old (length pages.now) }
+    requires room { length pages.now ≤ vec_capacity stops.old }
+    requires level { level + depth ≡ (index_of pages.now).top }
+    requires begin { begin ≡ head (index_of pages.now) depth }
+    requires apart { (b : ℕ) → IsIn b met.old.blocks.items
+        → IsOnLevel (index_of pages.now) depth b → ⊥ }
+    ensures met { IsMet met.new (length pages.now) }
+    ensures added { met.new.blocks.items
+        ≡ met.old.blocks.items ++ blocks_of stops.new.items }
+    ensures stops { AreStops (index_of pages.now) depth stops.new.items }
+    ensures end { IsEnd (index_of pages.now) depth (length stops.new.items) result }
+    ensures room { vec_capacity stops.new ≡ vec_capacity stops.old }
+{
+    stops.clear();
+    let mut stop = Stop {
+        block: begin,
+        low_at: None,
+        left: None,
+        behind: false,
+    };
+    for _ in 0..pages.len() {
+        if !is_on_level(pages, level, stop.block) {
+            return End::Off(stop.block);
+        }
+        if met.has(pages.len() as u32, stop.block) {
+            return End::Met(stop);
+        }
+        met.add(pages.len() as u32, stop.block);
+        stops.push_reserved(stop);
+        let page = &pages[stop.block as usize];
+        match page.right {
+            None => return End::Whole,
+            Some(right) => stop = next_stop(&stop, page, right),
+        }
+    }
+    End::Met(stop)
+}

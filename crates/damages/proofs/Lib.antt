@@ -1,0 +1,15 @@
+pub mod Ranks
+pub mod Decided
+pub mod Blocks
+pub mod Items
+pub mod Fitting
+pub mod Walks
+pub mod Places
+pub mod Levels
+pub mod Ascending
+pub mod Linking
+pub mod Parents
+pub mod SoundTrees
+pub mod Ways
+pub mod TreePlaces
+pub mod TreesSound

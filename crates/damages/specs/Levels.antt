@@ -1,0 +1,62 @@
+-- What pages without a damage are: an index of levels, and with parents and children a B-link tree, under the metapage.
+use Rattle.std.specs.Prelude.{◌≡◌, ◌≢◌, ℕ, suc, ◌<◌, ◌≤◌, Some, None, List, [], ◌∷◌, length, slice_get}
+use Rattle.page_codec.specs.Grammar.{IsPage}
+use Rattle.page_codec.specs.declared.page.Downlink.{Downlink}
+use Rattle.page_codec.specs.declared.page.Page.{Page}
+use Rattle.tree_shape.specs.Nodes.{Node, nodes_of}
+use Rattle.tree_shape.specs.Chains.{IsRunOf, IsRootLevel, IsIn, IsTreeOf, AreDistinct, first_spot, first_or}
+use Rattle.tree_shape.specs.Tree.{IsMetaOf}
+use Rattle.damages.specs.Damages.{gone_left}
+
+-- each page is one of the format, and stands at its block
+abbrev pub StandAtTheirBlocks : List Page → Type 0
+StandAtTheirBlocks pages = (block : ℕ) (page : Page) → slice_get pages block ≡ Some page
+    → IsPage page × (page.block ≡ block)
+
+-- the child of the first downlink of the page at a block
+pub record HasFirstChild (pages : List Page) (block child : ℕ) : Type 0 where
+  pub link : Downlink
+  pub rest : List Downlink
+  pub links_are : (nodes_of pages block).links ≡ link ∷ rest
+  pub child_is : child ≡ link.child
+
+-- left links lead from the first block to the second
+pub record LeadsLeft (at : ℕ → Node) (start head : ℕ) : Type 0 where
+  pub steps : ℕ
+  pub leads : gone_left at start steps ≡ head
+
+-- from the first child of the leftmost page of the upper chain left links lead to that of the lower one
+abbrev pub IsAbove : List Page → List ℕ → List ℕ → Type 0
+IsAbove pages upper lower = (head child first : ℕ) → first_or upper None ≡ Some head
+    → HasFirstChild pages head child → first_or lower None ≡ Some first
+    → LeadsLeft (nodes_of pages) child first
+
+-- Each level, from the root's to the leaves, is one chain of pages, linked both ways. It is the one to whose leftmost page
+-- left links lead from the first child of the level above.
+pub record AreLevels (pages : List Page) (root top : ℕ) (chain : ℕ → List ℕ) : Type 0 where
+  pub some : (level : ℕ) → level ≤ top → chain level ≢ []
+  pub runs : (level : ℕ) → level ≤ top
+      → IsRunOf (nodes_of pages) level first_spot (chain level) None
+  pub distinct : (level : ℕ) → level ≤ top → AreDistinct (chain level)
+  pub in_use : (level b : ℕ) → level ≤ top → IsIn b (chain level)
+      → (0 < b) × (b < length pages)
+  pub above : (level : ℕ) → level < top → IsAbove pages (chain (suc level)) (chain level)
+  pub root_level : IsRootLevel (nodes_of pages) root (chain top)
+
+-- the pages are an index of levels, under the metapage
+pub record HasLevels (pages : List Page) : Type 0 where
+  pub meta : Page
+  pub meta_at : slice_get pages 0 ≡ Some meta
+  pub root : ℕ
+  pub names_root : IsMetaOf meta root meta.level
+  pub chain : ℕ → List ℕ
+  pub are : AreLevels pages root meta.level chain
+
+-- the pages are a B-link tree, under the metapage
+pub record HasTree (pages : List Page) : Type 0 where
+  pub meta : Page
+  pub meta_at : slice_get pages 0 ≡ Some meta
+  pub root : ℕ
+  pub names_root : IsMetaOf meta root meta.level
+  pub chain : ℕ → List ℕ
+  pub is : IsTreeOf (nodes_of pages) (length pages) root meta.level chain
