@@ -191,7 +191,7 @@ where_begun_at g store vacuums sets request (Some slot) = record (where_beginnin
 -- the circumstances of a move of a session's call, with these sets, from this store to that
 abbrev pub where_moving : {S : Type 0} → Ghosts S → DeadSets → S → S → Move → Option (Option Op) → Circumstances
 where_moving g sets old new Steps slot =
-    where_moved (where_no_call (g.backing old).stopped) (λ op. where_stepped op (g.state old) (g.backing old) (g.backing new)) slot
+    where_moved (where_no_call (g.backing old).stopped) (λ op. where_stepped sets op (g.state old) (g.backing old) (g.backing new)) slot
 where_moving g sets old new Takes slot = where_moved (where_no_call false) (λ op. where_asked_next (asked_of sets op)) slot
 where_moving g sets old new GivesUp slot = where_moved (where_no_call false) (λ op. nothing_wrong) slot
 

@@ -166,7 +166,7 @@ module _ {sets : DeadSets} (old new : State) (first second : Backing) (start : E
   dead = set_at sets set
 
   abbrev at_op : Circumstances
-  at_op = where_stepped (Bulk set before) old first second
+  at_op = where_stepped sets (Bulk set before) old first second
 
   within : call.began ≤ length history
   within = began_before start history number call fits.meets fits.running
@@ -252,7 +252,7 @@ module _ {sets : DeadSets} (old new : State) (first second : Backing) (start : E
       sweeps = λ more. absurd (true_false more);
     }
 
-  pub bulk_is_refused : (fault : Fault) → BulkDeleteStays old new before after → HasCause (where_deleting old first second before) fault
+  pub bulk_is_refused : (fault : Fault) → BulkDeleteStays old new before after → HasCause (where_deleting dead old first second before) fault
       → OpGoes at_op old new sets start history number call (Bulk set after) (Refused fault)
   bulk_is_refused fault stays cause =
       step_is_refused at_op old new start history number call (Bulk set before) (Bulk set after) fits session refl fault stays.state

@@ -89,8 +89,8 @@ impl Op {
         ensures goes { (S.backing store.new).honest ≡ true
             → (start : Entry → Bool) (history : List Action) (number : ℕ) (call : Call)
             → CallFits (S.state store.old) (map T.is_in sets.now) start history number call self.old
-            → OpGoes (where_stepped self.old (S.state store.old) (S.backing store.old)
-            (S.backing store.new))
+            → OpGoes (where_stepped (map T.is_in sets.now) self.old (S.state store.old)
+            (S.backing store.old) (S.backing store.new))
             (S.state store.old) (S.state store.new) (map T.is_in sets.now) start history number
             call self.new result }
         ensures flagged { (S.backing store.new).honest ≡ true → IsInOrder (S.state store.old)
