@@ -13,7 +13,7 @@ use Rattle.tree_acts.specs.Deletions.{StartsAreBelow}
 use Rattle.tree_acts.specs.Trees.{HasTrail}
 use Rattle.descent.specs.Onward.{IsOnWay}
 use Rattle.descent.specs.Shared.{IsInOrder, CleansUp, IsOneStep}
-use Rattle.page_delete.specs.Counts.{IsCleaned, CleansOn}
+use Rattle.page_delete.specs.Counts.{IsCleaned, CleansOn, CountsDeleted}
 use Rattle.page_delete.specs.Needs.{count_written, where_trying}
 use Rattle.page_delete.specs.Ops.{is_counted_out, cleanup_stats}
 use Rattle.page_delete.specs.Parts.{PinnedLeavesStay}
@@ -99,9 +99,9 @@ CleanupLeavesLess old new before after (Err fault) = Unit {0}
 
 -- A step of a cleanup. On any pages: it does one act at most and holds nothing behind it, a refused one changes nothing, a
 -- stopped log refuses it, each that goes on leaves less to do, and the statistics are told as they are. Over a device that
--- keeps its model: live leaves that others have pinned stay; where nobody else acts, it counts the entries, and leaves no
--- half-dead page behind it; on pages in order: what it does, where it goes on, why it is refused, and, where nobody else holds
--- a page, which empty leaves stay.
+-- keeps its model: live leaves that others have pinned stay; it counts the pages that it deletes; where nobody else acts, it
+-- counts the entries, and leaves no half-dead page behind it; on pages in order: what it does, where it goes on, why it is
+-- refused, and, where nobody else holds a page, which empty leaves stay.
 pub record CleanupSteps {S : Type 0} (g : Ghosts S) (before after : CleanupOp) (old new : S)
     (result : Result CleanupStep Fault) : Type 0 where
   pub steps : Continues g.follows old new
@@ -115,6 +115,8 @@ pub record CleanupSteps {S : Type 0} (g : Ghosts S) (before after : CleanupOp) (
   pub less : CleanupLeavesLess (g.state old) (g.state new) before after result
   pub pins : (g.backing new).honest ≡ true
       → PinnedLeavesStay before.session (g.state old) (g.state new)
+  pub deletes : (g.backing new).honest ≡ true
+      → CountsDeleted (g.state old) (g.state new) before after result
   pub counts : (g.backing new).honest ≡ true → CleanupFits (g.state old) before
       → IsCleaned (g.state old) before → CleansOn (g.state new) after result
   pub stepped : (g.backing new).honest ≡ true → IsInOrder (g.state old)

@@ -206,6 +206,16 @@ returns-in-Ok-Finished-step-clause-entries g c honest =
     let counts = c.in-Ok-Finished-step.ensures.all.counts honest in
     rw c.in-Cleanup.is (λ fits cleaned. (tt, rw c.in-Ok-Finished-step.field-0-is at (counts fits cleaned)))
 
+pub returns-in-Ok-Going-step-3-clause-deletes : goal.returns-in-Ok-Going-step-3-clause-deletes
+returns-in-Ok-Going-step-3-clause-deletes g c honest =
+    let deletes = c.in-Ok-Going-step-3.ensures.all.deletes honest in
+    rw c.in-Cleanup.is (rw c.in-Ok-Going-step-3.field-0-is at deletes)
+
+pub returns-in-Ok-Finished-step-clause-deletes : goal.returns-in-Ok-Finished-step-clause-deletes
+returns-in-Ok-Finished-step-clause-deletes g c honest =
+    let deletes = c.in-Ok-Finished-step.ensures.all.deletes honest in
+    rw c.in-Cleanup.is (rw c.in-Ok-Finished-step.field-0-is at deletes)
+
 pub returns-in-Ok-Going-step-3-clause-spares : goal.returns-in-Ok-Going-step-3-clause-spares
 returns-in-Ok-Going-step-3-clause-spares g c honest =
     let spares = c.in-Ok-Going-step-3.ensures.all.spares honest in
