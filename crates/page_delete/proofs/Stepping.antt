@@ -20,7 +20,7 @@ use Rattle.tree_shape.specs.Nodes.{node_from, nodes_of}
 use Rattle.tree_shape.specs.Tree.{IsMetaOf}
 use Rattle.tree_shape.specs.Walks.{bound_aim}
 use Rattle.tree_acts.specs.Deletions.{state_in}
-use Rattle.tree_acts.specs.Trees.{HasTrail}
+use Rattle.tree_acts.specs.Trees.{HasPlace, HasTrail}
 use Rattle.tree_acts.specs.Ways.{RootIsThere}
 use Rattle.tree_acts.proofs.Removing.{leaf_begins_trail}
 use Rattle.tree_acts.proofs.Telling.{metapage_tells, trail_begins_here}
@@ -214,20 +214,20 @@ try_refused g written sure change reason op old new fault tried alive same there
     (subst (λ (n : ℕ). HasCause (where_trying (g.state old) (g.backing old) (g.backing new) op.session n) fault) same (tried.cause honest order (has_room (g.state old) op fits) (there order fits))))
 
 -- the leaf is judged
-module _ {S : Type 0} (g : Ghosts S) (before : CleanupOp) (parent : ℕ) (old new : S) (at : before.at ≡ Judge parent) (alive : (g.backing old).stopped ≡ false) where
+module _ {S : Type 0} (g : Ghosts S) (before : CleanupOp) (high : Bound) (parent : ℕ) (old new : S) (at : before.at ≡ Judge high parent) (alive : (g.backing old).stopped ≡ false) where
   abbrev most : ℕ
   most = (g.state old).limits.pages
 
   abbrev used : ℕ
   used = length (g.state old).pages
 
-  under : (fits : CleanupFits (g.state old) before) → IsUnderway (g.state old) fits.start before.cursor (Judge parent)
+  under : (fits : CleanupFits (g.state old) before) → IsUnderway (g.state old) fits.start before.cursor (Judge high parent)
   under fits = subst (IsUnderway (g.state old) fits.start before.cursor) at fits.at
 
   pub judge_in_use : IsInOrder (g.state old) → CleanupFits (g.state old) before → AreInUse before.cursor parent (g.state old)
   judge_in_use order fits =
       let u = under fits in
-      (trail_in_use (g.state old) fits.start 0 before.cursor 0 order.tree u.0, trail_in_use (g.state old) fits.start 1 parent 0 order.tree u.1)
+      (trail_in_use (g.state old) fits.start 0 before.cursor 0 order.tree u.0, trail_in_use (g.state old) fits.start 1 parent 0 order.tree (trail_begins_here (g.state old) fits.start 1 (bound_aim high) false parent order.tree u.1))
 
   found_empty : IsCleaned (g.state old) before → IsEmptyAt (g.state old) before.cursor × (state_in (g.state old) before.cursor ≢ HalfDead)
   found_empty h = subst (IsFoundEmpty (g.state old) before.cursor) at h.empty
@@ -235,20 +235,20 @@ module _ {S : Type 0} (g : Ghosts S) (before : CleanupOp) (parent : ℕ) (old ne
   pub leaf_dies : IsTried g before.session count_judged (AreInUse before.cursor parent) (LeafDies before.cursor) (IsSpared before.session before.cursor parent) old new (Ok true) → CleanupSteps g before (turned_to before Unlink) old new (Ok Going)
   leaf_dies tried =
       acts g count_judged (AreInUse before.cursor parent) (LeafDies before.cursor) (IsSpared before.session before.cursor parent) before (turned_to before Unlink) old new tried refl alive
-      (subst (λ (a : CleanupAt). cleanup_left most used before.cursor Unlink < cleanup_left most used before.cursor a) (sym at) (judge_unlinks most used before.cursor parent))
+      (subst (λ (a : CleanupAt). cleanup_left most used before.cursor Unlink < cleanup_left most used before.cursor a) (sym at) (judge_unlinks most used before.cursor high parent))
       (subst (λ (a : CleanupAt). TurnsFrom a (g.state old) before (Some Shape) (turned_to before Unlink)) (sym at) (inl (refl, refl)))
       (λ order fits d. (d.own fits.start fits.running).trails 0 before.cursor 0 (under fits).0)
       (λ same moved. ap (λ (n : ℕ). n + before.deleted) (none_deleted (g.state old) (g.state new) before.cursor same moved))
-      (λ h moved. cleaned_dying (g.state old) (g.state new) before h (come_within (g.state old) before (Judge parent) at h) tried.used moved (found_empty h).0)
-      (λ order h moved edit. spared_dying (g.state old) (g.state new) before parent at tried.used h moved edit)
+      (λ h moved. cleaned_dying (g.state old) (g.state new) before h (come_within (g.state old) before (Judge high parent) at h) tried.used moved (found_empty h).0)
+      (λ order h moved edit. spared_dying (g.state old) (g.state new) before high parent at tried.used h moved edit)
 
   pub leaf_spared : IsTried g before.session count_judged (AreInUse before.cursor parent) (LeafDies before.cursor) (IsSpared before.session before.cursor parent) old new (Ok false) → CleanupSteps g before (gone_past before 0) old new (Ok Going)
   leaf_spared tried =
       moves g before (gone_past before 0) old new tried.steps (tried.stays refl) refl refl alive
-      (subst (λ (a : CleanupAt). cleanup_left most used (suc before.cursor) Look < cleanup_left most used before.cursor a) (sym at) (judge_passes most used before.cursor parent))
+      (subst (λ (a : CleanupAt). cleanup_left most used (suc before.cursor) Look < cleanup_left most used before.cursor a) (sym at) (judge_passes most used before.cursor high parent))
       (λ honest order fits. (subst (λ (a : CleanupAt). TurnsFrom a (g.state old) before None (gone_past before 0)) (sym at) (inr (refl, refl, tried.passes honest (has_room (g.state old) before fits) refl)), tt))
-      (λ honest fits h. cleaned_past (g.state old) before 0 h (come_within (g.state old) before (Judge parent) at h) (found_empty h).0 (found_empty h).1)
-      (λ honest order fits alone h. spared_judged (g.state old) before parent order alone at h (tried.passes honest (has_room (g.state old) before fits) refl))
+      (λ honest fits h. cleaned_past (g.state old) before 0 h (come_within (g.state old) before (Judge high parent) at h) (found_empty h).0 (found_empty h).1)
+      (λ honest order fits alone h. spared_judged (g.state old) before high parent order alone at h (tried.passes honest (has_room (g.state old) before fits) refl))
 
 -- a page that isn't half-dead, or none
 never_dead : (pages : List Page) (b : ℕ) → ((page : Page) → slice_get pages b ≡ Some page → page.state ≢ HalfDead) → (nodes_of pages b).state ≢ HalfDead
@@ -427,12 +427,11 @@ descends g before after high way old new (Some Here) result at alive steps same 
       subst (λ (a : CleanupAt). TurnsFrom a (g.state old) before None after) (sym at) (refl, inr op),
       rw op (
         u.0,
-        subst (λ (k : ℕ). HasTrail (g.state old) fits.start k way.block 0) here.0
-            (trail_begins_here (g.state old) fits.start way.level (bound_aim high) false way.block order.tree u.1.place),
+        subst (λ (k : ℕ). HasPlace (g.state old) fits.start k (bound_aim high) false way.block) here.0 u.1.place,
       ),
     ))
-    (λ honest fits h. rw op (cleaned_at (g.state old) before (Judge way.block) h (come_within (g.state old) before (Down high way) at h) (subst (IsFoundEmpty (g.state old) before.cursor) at h.empty)))
-    (λ honest order fits alone h. rw op (spared_at (g.state old) before (Judge way.block) h (λ e. down_differs (sym at ∙ e)) (record {
+    (λ honest fits h. rw op (cleaned_at (g.state old) before (Judge high way.block) h (come_within (g.state old) before (Down high way) at h) (subst (IsFoundEmpty (g.state old) before.cursor) at h.empty)))
+    (λ honest order fits alone h. rw op (spared_at (g.state old) before (Judge high way.block) h (λ e. down_differs (sym at ∙ e)) (record {
       high = high;
       leaf = subst (IsSought (g.state old) before.cursor) at h.sought;
       above = (leads honest fits.start order (subst (IsUnderway (g.state old) fits.start before.cursor) at fits.at).1).1;

@@ -2,6 +2,7 @@
 use Rattle.std.specs.Prelude.{◌≡◌, ℕ, ◌<◌, ◌≤◌, ◌||◌, true, false, Option, Some, Result, Ok, Err, OnErr, length, slice_get}
 use Rattle.index_model.specs.Actions.{Effect}
 use Rattle.index_model.specs.Faults.{Circumstances, HasCause}
+use Rattle.index_model.specs.declared.bound.Bound.{Bound}
 use Rattle.index_model.specs.declared.fault.Fault.{Fault}
 use Rattle.index_model.specs.declared.fault.Fault.TheVariants.{Stopped}
 use Rattle.latch_table.specs.Holdings.{holding_of, nothing_held}
@@ -10,7 +11,7 @@ use Rattle.page_action.specs.States.{State, Backing, Continues}
 use Rattle.page_action.specs.declared.page_store.PageStore.{Ghosts}
 use Rattle.tree_shape.specs.Walks.{bound_aim}
 use Rattle.tree_acts.specs.Deletions.{StartsAreBelow}
-use Rattle.tree_acts.specs.Trees.{HasTrail}
+use Rattle.tree_acts.specs.Trees.{HasPlace, HasTrail}
 use Rattle.descent.specs.Onward.{IsOnWay}
 use Rattle.descent.specs.Shared.{IsInOrder, CleansUp, IsOneStep}
 use Rattle.page_delete.specs.Counts.{IsCleaned, CleansOn, CountsDeleted}
@@ -27,15 +28,20 @@ use Rattle.page_delete.specs.declared.steps.CleanupStep.{CleanupStep}
 use Rattle.page_delete.specs.declared.steps.CleanupStep.TheVariants.{Going, Finished}
 
 -- The leaf at the cursor is on the chain of leaves, or was deleted since; its parent is looked for on the way to its high key,
--- or may be this page of the level above.
+-- or may be this page of the level above, from which right links lead to the one that covers the high key.
 abbrev pub IsUnderway : State → ℕ → ℕ → CleanupAt → Type 0
 IsUnderway st start cursor Look = Unit {0}
 IsUnderway st start cursor (Start high) = HasTrail st start 0 cursor 0
 IsUnderway st start cursor (Down high way) =
     HasTrail st start 0 cursor 0 × IsOnWay st start (bound_aim high) false 1 way
-IsUnderway st start cursor (Judge parent) =
-    HasTrail st start 0 cursor 0 × HasTrail st start 1 parent 0
+IsUnderway st start cursor (Judge high parent) =
+    HasTrail st start 0 cursor 0 × HasPlace st start 1 (bound_aim high) false parent
 IsUnderway st start cursor Unlink = HasTrail st start 0 cursor 0
+
+-- it tests the leaf, and this page, which may be its parent
+pub record IsJudging (at : CleanupAt) (parent : ℕ) : Type 0 where
+  pub high : Bound
+  pub is : at ≡ Judge high parent
 
 -- what a cleanup knows between its steps
 pub record CleanupFits (st : State) (op : CleanupOp) : Type 0 where

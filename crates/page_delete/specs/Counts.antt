@@ -20,7 +20,7 @@ abbrev pub IsFoundEmpty : State → ℕ → CleanupAt → Type 0
 IsFoundEmpty st cursor Look = Unit {0}
 IsFoundEmpty st cursor (Start high) = IsEmptyAt st cursor × (state_in st cursor ≢ HalfDead)
 IsFoundEmpty st cursor (Down high way) = IsEmptyAt st cursor × (state_in st cursor ≢ HalfDead)
-IsFoundEmpty st cursor (Judge parent) = IsEmptyAt st cursor × (state_in st cursor ≢ HalfDead)
+IsFoundEmpty st cursor (Judge high parent) = IsEmptyAt st cursor × (state_in st cursor ≢ HalfDead)
 IsFoundEmpty st cursor Unlink = IsEmptyAt st cursor
 
 -- how many blocks it has come to: those before the cursor, and the one at it once it was looked at
@@ -28,7 +28,7 @@ abbrev pub come_to : ℕ → CleanupAt → ℕ
 come_to cursor Look = cursor
 come_to cursor (Start high) = suc cursor
 come_to cursor (Down high way) = suc cursor
-come_to cursor (Judge parent) = suc cursor
+come_to cursor (Judge high parent) = suc cursor
 come_to cursor Unlink = suc cursor
 
 -- Where nobody else acted since it began: the pages before the cursor have as many entries as it counted, and none of them is

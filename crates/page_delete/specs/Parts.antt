@@ -43,7 +43,7 @@ left_root op way high = left_to op way.level way high
 abbrev pub left_page : CleanupOp → Option Onward → ℕ → Bound → CleanupOp
 left_page op None block high = op
 left_page op (Some (LeadsOn on)) block high = turned_to op (Down high on)
-left_page op (Some Here) block high = turned_to op (Judge block)
+left_page op (Some Here) block high = turned_to op (Judge high block)
 
 abbrev pub left_answer : Option Onward → ℕ → Result CleanupStep Fault
 left_answer None block = Err (PageDamaged block)

@@ -242,7 +242,7 @@ pub written_few : (at : CleanupAt) (cursor : ℕ) (st : State) → count_written
 written_few Look cursor st = omega arith
 written_few (CleanupStart high) cursor st = omega arith
 written_few (CleanupDown high way) cursor st = omega arith
-written_few (Judge parent) cursor st = omega arith
+written_few (Judge high parent) cursor st = omega arith
 written_few Unlink cursor st = unlinked_of_few (slice_get st.pages cursor)
 
 pub frames_for_few : (written : ℕ) → written ≤ 3 → frames_for written ≤ 3
