@@ -7,11 +7,12 @@ use Rattle.index_model.specs.declared.fault.Fault.{Fault}
 use Rattle.index_model.specs.declared.stats.VacuumStats.{VacuumStats}
 use Rattle.index_model.proofs.Histories.{contents_after-append}
 use Rattle.page_action.specs.declared.page_store.PageStore.{Ghosts}
+use Rattle.page_delete.specs.Counts.{deleted_in}
 use Rattle.session_calls.specs.declared.request.Request.TheVariants.{Cleanup as ToCleanup}
 use Rattle.schedule.specs.TheoremMoments.{StoreAndSlots, snapshot_of}
 use Rattle.schedule.specs.TheoremRuns.{Fits}
 use Rattle.whole_calls.specs.Going.{CallRuns}
-use Rattle.whole_calls.specs.Sweeping.{SweepTold, swept_came, TellsCleaned, TellsPages}
+use Rattle.whole_calls.specs.Sweeping.{SweepTold, swept_came, TellsCleaned, TellsDeleted, TellsPages}
 use Rattle.whole_calls.specs.Telling.{acts_by, AreOwnEffects, first_call}
 use Rattle.access_method.specs.Indexes.{IsCleanedUp}
 
@@ -34,12 +35,12 @@ module _ {S : Type 0} (g : Ghosts S) (old new : StoreAndSlots S) (start : Entry 
       ∙ ap (λ (o : Option Bool). unwrap_or o (contents_after start history e)) (says_nothing (length calls) (first_call 63 ToCleanup (snapshot_of old history calls)) (length history) effects e refl own)
 
   pub cleaned_up : (result : Result VacuumStats Fault)
-      → (r : CallRuns g 63 (SweepTold 63 ToCleanup result) (swept_came result) old new start history calls) → TellsCleaned (g.state new.store) result
+      → (r : CallRuns g 63 (SweepTold 63 ToCleanup result) (swept_came result) old new start history calls) → TellsCleaned (g.state new.store) result → TellsDeleted (deleted_in (g.state old.store)) (g.state new.store) result
       → IfOk result (λ stats. TellsPages (g.state new.store) stats × (stats.tuples_removed ≡ 0))
       → IsCleanedUp g result old.store new.store
-  cleaned_up (Ok stats) r told pages =
+  cleaned_up (Ok stats) r told deleted pages =
       let t = r.tells in
-      record { contents = λ e. r.ran.fits.explains.contents e ∙ stays r.then_history t.effects t.own t.history_is e ∙ sym (fits.explains.contents e); told = told; stats = pages }
-  cleaned_up (Err fault) r told pages =
+      record { contents = λ e. r.ran.fits.explains.contents e ∙ stays r.then_history t.effects t.own t.history_is e ∙ sym (fits.explains.contents e); told = told; deleted = deleted; stats = pages }
+  cleaned_up (Err fault) r told deleted pages =
       let t = r.tells in
-      record { contents = λ e. r.ran.fits.explains.contents e ∙ stays r.then_history t.effects t.own t.history_is e ∙ sym (fits.explains.contents e); told = told; stats = pages }
+      record { contents = λ e. r.ran.fits.explains.contents e ∙ stays r.then_history t.effects t.own t.history_is e ∙ sym (fits.explains.contents e); told = told; deleted = deleted; stats = pages }

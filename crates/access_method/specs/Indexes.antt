@@ -16,6 +16,7 @@ use Rattle.index_model.specs.declared.range.Range.{Range}
 use Rattle.index_model.specs.declared.stats.VacuumStats.{VacuumStats}
 use Rattle.page_action.specs.declared.page_store.PageStore.{Ghosts}
 use Rattle.page_codec.specs.declared.page.Page.{Page}
+use Rattle.page_delete.specs.Counts.{deleted_in}
 use Rattle.page_store.specs.Stores.{state_of, device_of}
 use Rattle.page_store.specs.declared.store.Store.{Store}
 use Rattle.recovery.specs.declared.opening.Refused.{Refused as NotOpened}
@@ -29,7 +30,7 @@ use Rattle.vacuum.specs.Counts.{entries_below}
 use Rattle.whole_calls.specs.Going.{CallRuns, CallGoes}
 use Rattle.whole_calls.specs.Inserting.{InsertGoes}
 use Rattle.whole_calls.specs.Made.{IsMadeOf}
-use Rattle.whole_calls.specs.Sweeping.{SweepTold, swept_came, TellsCleaned, TellsPages}
+use Rattle.whole_calls.specs.Sweeping.{SweepTold, swept_came, TellsCleaned, TellsDeleted, TellsPages}
 use Rattle.whole_calls.specs.Telling.{HasNone}
 use Rattle.whole_calls.specs.declared.inserted.Inserted.{Inserted}
 use Rattle.access_method.specs.Tokens.{seat_of, AreTaken}
@@ -176,10 +177,11 @@ IsSweptOrLess g dead (Ok stats) old new = IsSwept g dead stats old new
 IsSweptOrLess g dead (Err fault) old new = LosesDeadRows g dead old new
 
 -- the contents are those before a cleanup; where it answers, it tells how many entries there are, and no half-dead page is left; and how many
--- pages are in use, how many of them are deleted, and that it has removed no entry
+-- pages are in use, how many of them are deleted, how many of these were not before, and that it has removed no entry
 pub record IsCleanedUp {S : Type 0} (g : Ghosts S) (result : Result VacuumStats Fault) (old new : S) : Type 0 where
   pub contents : (e : Entry) → has_entry g new e ≡ has_entry g old e
   pub told : TellsCleaned (g.state new) result
+  pub deleted : TellsDeleted (deleted_in (g.state old)) (g.state new) result
   pub stats : IfOk result (λ stats. TellsPages (g.state new) stats × (stats.tuples_removed ≡ 0))
 
 -- what a scan has given with this entry is right so far; or all that it gave is the right answer since it was begun

@@ -42,21 +42,21 @@ counts_alike old new zero same = refl
 counts_alike old new (suc n) same = ap₂ (λ (a b : ℕ). a + b) (same n) (counts_alike old new n same)
 
 -- behind an act that moves the state of the page at the cursor
-moved_counts : (old new : State) (op : CleanupOp) (is : PageState) → IsCleaned old op → MovesState op.cursor is old new
+moved_counts : (old new : State) (op : CleanupOp) (was is : PageState) → IsCleaned old op → MovesState op.cursor was is old new
     → (op.left ≡ entries_below new.pages op.cursor) × ((block : ℕ) → block < op.cursor → state_in new block ≢ HalfDead)
-moved_counts old new op is h moves = (
+moved_counts old new op was is h moves = (
   h.counted ∙ sym (counts_alike old new op.cursor moves.counts),
   (λ block lt dead. h.none_dead block lt (sym (moves.others block (λ same. (let e : block ≡ op.cursor = same in omega (arith, lt, e)))) ∙ dead)),
 )
 
 pub cleaned_dying : (old new : State) (op : CleanupOp) → IsCleaned old op → suc op.cursor ≤ length old.pages → length new.pages ≡ length old.pages → LeafDies op.cursor old new → IsEmptyAt old op.cursor → IsCleaned new (turned_to op Unlink)
 cleaned_dying old new op h inside used moves empty =
-    let m = moved_counts old new op HalfDead h moves in
+    let m = moved_counts old new op Live HalfDead h moves in
     record { counted = m.0; none_dead = m.1; empty = moves.counts op.cursor ∙ empty; within = subst (λ (n : ℕ). suc op.cursor ≤ n) (sym used) inside; fewer = h.fewer }
 
 pub cleaned_deleted : (old new : State) (op : CleanupOp) → IsCleaned old op → suc op.cursor ≤ length old.pages → length new.pages ≡ length old.pages → PageGoes op.cursor old new → IsEmptyAt old op.cursor → IsCleaned new (gone_past_deleted op)
 cleaned_deleted old new op h inside used moves empty =
-    let m = moved_counts old new op Deleted h moves in
+    let m = moved_counts old new op HalfDead Deleted h moves in
     let none = moves.counts op.cursor ∙ empty in
     record {
       counted = (let a = m.0 in omega (arith, a, none));

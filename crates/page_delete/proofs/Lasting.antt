@@ -26,7 +26,7 @@ pub underway_still : (old new : State) (start cursor : ℕ) (at : CleanupAt) →
 underway_still old new start cursor Look stay h = tt
 underway_still old new start cursor (Start high) stay h = stay.trails 0 cursor 0 h
 underway_still old new start cursor (Down high way) stay h = (stay.trails 0 cursor 0 h.0, way_stays old new start high way stay h.1)
-underway_still old new start cursor (Judge parent) stay h = (stay.trails 0 cursor 0 h.0, stay.trails 1 parent 0 h.1)
+underway_still old new start cursor (Judge high parent) stay h = (stay.trails 0 cursor 0 h.0, stay.places 1 (bound_aim high) false parent (bound_falls high) h.1)
 underway_still old new start cursor Unlink stay h = stay.trails 0 cursor 0 h
 
 pub undisturbed : CleanupsAreUndisturbed
@@ -45,14 +45,14 @@ turn_small st start cursor (Down high way) order h =
     let low = low_level st start way.level (bound_aim high) false way.block order.tree h.1.place in
     let m = mul_le way.level 31 (st.limits.pages + 2) low in
     omega (arith, m)
-turn_small st start cursor (Judge parent) order h = omega arith
+turn_small st start cursor (Judge high parent) order h = omega arith
 turn_small st start cursor Unlink order h = omega arith
 
 pages_small : (used cursor : ℕ) (at : CleanupAt) → pages_left used cursor at ≤ used
 pages_small used cursor Look = omega arith
 pages_small used cursor (Start high) = omega arith
 pages_small used cursor (Down high way) = omega arith
-pages_small used cursor (Judge parent) = omega arith
+pages_small used cursor (Judge high parent) = omega arith
 pages_small used cursor Unlink = omega arith
 
 pub cleanups_bounded : CleanupsAreBounded

@@ -8,5 +8,6 @@ pub mod Moving
 pub mod Pinned
 pub mod Cleaning
 pub mod Sparing
+pub mod Tallying
 pub mod Stepping
 pub mod Lasting

@@ -55,15 +55,15 @@ module _ (most used cursor : ℕ) where
         (subst (λ (l : ℕ). l * (most + 2) + ((suc most - on.moves) + 2) < way.level * (most + 2) + ((suc most - way.moves) + 2)) (sym same.0) (let a = same.1.0 in let b = same.1.1 in omega (arith, a, b)))
   ]
 
-  pub down_judges : (high : Bound) (way : Way) (parent : ℕ) → 0 < way.level → cleanup_left most used cursor (Judge parent) < cleanup_left most used cursor (Down high way)
+  pub down_judges : (high : Bound) (way : Way) (parent : ℕ) → 0 < way.level → cleanup_left most used cursor (Judge high parent) < cleanup_left most used cursor (Down high way)
   down_judges high way parent some = more ((used - suc cursor) * steps_for_page most) 2 (way.level * (most + 2) + ((suc most - way.moves) + 2))
       (let m = mul_le 1 way.level (most + 2) some in omega (arith, m))
 
-  pub judge_unlinks : (parent : ℕ) → cleanup_left most used cursor Unlink < cleanup_left most used cursor (Judge parent)
-  judge_unlinks parent = more ((used - suc cursor) * steps_for_page most) 1 2 (omega arith)
+  pub judge_unlinks : (high : Bound) (parent : ℕ) → cleanup_left most used cursor Unlink < cleanup_left most used cursor (Judge high parent)
+  judge_unlinks high parent = more ((used - suc cursor) * steps_for_page most) 1 2 (omega arith)
 
-  pub judge_passes : (parent : ℕ) → cleanup_left most used (suc cursor) Look < cleanup_left most used cursor (Judge parent)
-  judge_passes parent = more ((used - suc cursor) * steps_for_page most) 0 2 (omega arith)
+  pub judge_passes : (high : Bound) (parent : ℕ) → cleanup_left most used (suc cursor) Look < cleanup_left most used cursor (Judge high parent)
+  judge_passes high parent = more ((used - suc cursor) * steps_for_page most) 0 2 (omega arith)
 
   pub unlink_passes : cleanup_left most used (suc cursor) Look < cleanup_left most used cursor Unlink
   unlink_passes = more ((used - suc cursor) * steps_for_page most) 0 1 (omega arith)

@@ -52,6 +52,7 @@ dying_moves st leaf parent leaf_after parent_after links found parent_found may_
     | inl is_parent ↦ rw is_parent (state_at pages2 parent.block parent_after parent_there ∙ ap (λ (p : Page). p.state) parent_is ∙ sym (state_at st.pages parent.block parent parent_found))
     | inr not_parent ↦ ap (λ (o : Option Page). (node_from o).state) (other b not_leaf not_parent)
   ];
+  before = state_at st.pages leaf.block leaf found ∙ may_die.alive;
   after = state_at pages2 leaf.block leaf_after leaf_there ∙ ap (λ (p : Page). p.state) leaf_is;
 }
   where
@@ -113,7 +114,7 @@ module _ (st : State) (page right : Page) (number : ℕ) (found : slice_get st.p
           (λ b not_page not_right.
           let same = pages_other st.limits (length st.pages) st.pages (gone ∷ right_after ∷ []) b may (omega arith) ((λ e. not_page (sym e)), ((λ e. not_right (sym e)), tt)) in
           (ap entry_count same, ap (λ (o : Option Page). (node_from o).state) same)) in
-          record { counts = m.0; others = m.1; after = state_at _ page.block gone there }
+          record { counts = m.0; others = m.1; before = state_at st.pages page.block page found ∙ dead; after = state_at _ page.block gone there }
       by None (Some l) t may = absurd t
       by (Some k) None t may = absurd t
       by (Some k) (Some l) t may =
@@ -128,4 +129,4 @@ module _ (st : State) (page right : Page) (number : ℕ) (found : slice_get st.p
                 let same = pages_other st.limits (length st.pages) st.pages (left_after ∷ gone ∷ right_after ∷ []) b may (omega arith) ((λ e. not_left (sym e)), ((λ e. not_page (sym e)), ((λ e. not_right (sym e)), tt))) in
                 (ap entry_count same, ap (λ (o : Option Page). (node_from o).state) same)
           ]) in
-          record { counts = m.0; others = m.1; after = state_at _ page.block gone there }
+          record { counts = m.0; others = m.1; before = state_at st.pages page.block page found ∙ dead; after = state_at _ page.block gone there }

@@ -337,15 +337,15 @@ spared_looking st before after page has found at h turn = by turn
     by (passes alive empty is) = rw is (spared_past st before _ h none (looked_stays st before.cursor page has found empty))
 
 -- behind the test of the leaf, which is passed
-pub spared_judged : (st : State) (before : CleanupOp) (parent : ℕ) → IsInOrder st → IsAlone st before.session → before.at ≡ Judge parent → IsSparing st before
+pub spared_judged : (st : State) (before : CleanupOp) (high : Bound) (parent : ℕ) → IsInOrder st → IsAlone st before.session → before.at ≡ Judge high parent → IsSparing st before
     → (IsToDie st before.session before.cursor parent → ⊥) → IsSparing st (gone_past before 0)
-spared_judged st before parent order alone at h spared =
+spared_judged st before high parent order alone at h spared =
     spared_past st before 0 h none (λ e. judged_stays st before.session before.cursor parent order alone none (subst (IsSought st before.cursor) at h.sought) spared)
   where
     none : (b : ℕ) → state_in st b ≢ HalfDead
     none = no_dead st before h (λ e. clash (sym at ∙ e))
       where
-        clash : Judge parent ≡ Unlink → ⊥
+        clash : Judge high parent ≡ Unlink → ⊥
         clash k = cc
 
 -- the other pages are the leaves that they were
@@ -387,8 +387,8 @@ leaf_before_unlink old new n b used u not_n e = record {
     ]
 
 -- the leaf at the cursor became half-dead
-pub spared_dying : (old new : State) (op : CleanupOp) (parent : ℕ) → op.at ≡ Judge parent → length new.pages ≡ length old.pages → IsSparing old op → LeafDies op.cursor old new → EditsALeaf old new → IsSparing new (turned_to op Unlink)
-spared_dying old new op parent at used h moves edit = record {
+pub spared_dying : (old new : State) (op : CleanupOp) (high : Bound) (parent : ℕ) → op.at ≡ Judge high parent → length new.pages ≡ length old.pages → IsSparing old op → LeafDies op.cursor old new → EditsALeaf old new → IsSparing new (turned_to op Unlink)
+spared_dying old new op high parent at used h moves edit = record {
   none_dead = λ b dead. elim (cases_eq b op.cursor) [
     | inl same ↦ (same, refl)
     | inr differ ↦ absurd (none b (sym (moves.others b differ) ∙ dead))
@@ -400,7 +400,7 @@ spared_dying old new op parent at used h moves edit = record {
     none : (b : ℕ) → state_in old b ≢ HalfDead
     none = no_dead old op h (λ e. clash (sym at ∙ e))
       where
-        clash : Judge parent ≡ Unlink → ⊥
+        clash : Judge high parent ≡ Unlink → ⊥
         clash k = cc
 
     by : EditsALeaf old new → (b : ℕ) → b < op.cursor → IsEmptyLeaf new b → HasToStay new b

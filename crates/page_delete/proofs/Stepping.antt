@@ -1,5 +1,5 @@
 -- Steps of a cleanup.
-use Rattle.std.proofs.Common.{◌≡◌, ◌≢◌, ℕ, zero, suc, ◌<◌, ◌≤◌, ◌||◌, inl, inr, Bool, true, false, Option, Some, None, Ok, Err, Result, List, length, slice_get, refl, sym, ap, subst, ◌∙◌, arith}
+use Rattle.std.proofs.Common.{◌≡◌, ◌≢◌, ℕ, zero, suc, ◌+◌, ◌<◌, ◌≤◌, ◌||◌, inl, inr, Bool, true, false, Option, Some, None, Ok, Err, Result, List, length, slice_get, refl, sym, ap, subst, ◌∙◌, arith}
 use Rattle.index_model.specs.Actions.{Shape}
 use Rattle.index_model.specs.Faults.{HasCause}
 use Rattle.index_model.specs.declared.bound.Bound.{Bound}
@@ -20,7 +20,7 @@ use Rattle.tree_shape.specs.Nodes.{node_from, nodes_of}
 use Rattle.tree_shape.specs.Tree.{IsMetaOf}
 use Rattle.tree_shape.specs.Walks.{bound_aim}
 use Rattle.tree_acts.specs.Deletions.{state_in}
-use Rattle.tree_acts.specs.Trees.{HasTrail}
+use Rattle.tree_acts.specs.Trees.{HasPlace, HasTrail}
 use Rattle.tree_acts.specs.Ways.{RootIsThere}
 use Rattle.tree_acts.proofs.Removing.{leaf_begins_trail}
 use Rattle.tree_acts.proofs.Telling.{metapage_tells, trail_begins_here}
@@ -31,7 +31,7 @@ use Rattle.descent.specs.declared.way.Onward.TheVariants.{Going as LeadsOn, Here
 use Rattle.descent.specs.declared.way.Way.{Way}
 use Rattle.descent.proofs.Acting.{one_nothing, cleans_nothing}
 use Rattle.page_delete.specs.Cleanups.{IsUnderway, CleanupFits, CleanupSteps, where_cleaning}
-use Rattle.page_delete.specs.Counts.{IsEmptyAt, IsFoundEmpty, come_to, IsCleaned, AllIsCleaned}
+use Rattle.page_delete.specs.Counts.{IsEmptyAt, IsFoundEmpty, come_to, IsCleaned, AllIsCleaned, deleted_in}
 use Rattle.page_delete.specs.Ops.{is_counted_out, cleanup_stats, turned_to, gone_past, gone_past_deleted, TurnsAt, unlinks, tries, passes}
 use Rattle.page_delete.specs.Needs.{count_judged, count_unlinked_at, count_written, where_trying}
 use Rattle.page_delete.specs.Parts.{IsTried, DeletesOn, AreInUse, LeafDies, IsSpared, IsInUse, PageGoes, IsNotDead, left_to, left_root, left_page, left_answer}
@@ -42,6 +42,7 @@ use Rattle.page_delete.proofs.Cleaning.{cleaned_past, cleaned_at, cleaned_dying,
 use Rattle.page_delete.proofs.Measuring.{look_starts, look_unlinks, look_passes, start_passes, start_goes_down, down_goes_on, down_judges, judge_unlinks, judge_passes, unlink_passes}
 use Rattle.page_delete.proofs.Siblings.{trail_in_use, dead_begins_trail}
 use Rattle.page_delete.proofs.Sparing.{spared_at, spared_looking, spared_judged, spared_dying, spared_deleted, spared_all, no_root_leaf}
+use Rattle.page_delete.proofs.Tallying.{none_deleted, one_deleted}
 use Rattle.page_delete.proofs.Trying.{same_page, pinned_same}
 use Rattle.page_delete.specs.declared.steps.CleanupAt.{CleanupAt}
 use Rattle.page_delete.specs.declared.steps.CleanupAt.TheVariants.{Look, Start, Down, Judge, Unlink}
@@ -93,6 +94,7 @@ refuses g op old new fault steps same stops cause = record {
   stats = tt;
   less = tt;
   pins = λ honest. pinned_same op.session (g.state old) (g.state new) same;
+  deletes = λ honest. tt;
   counts = λ honest fits h. subst (λ (st : State). IsCleaned st op) (sym same) h;
   stepped = λ honest order below fits. cause honest order fits;
   spares = λ honest order below fits alone h. subst (λ (st : State). IsSparing st op) (sym same) h;
@@ -112,6 +114,7 @@ ends g op store stats alive at last told steps = record {
   stats = told;
   less = tt;
   pins = λ honest. pinned_same op.session (g.state store) (g.state store) refl;
+  deletes = λ honest. ap (λ (s : VacuumStats). deleted_in (g.state store) + s.pages_newly_deleted) (sym told);
   counts = λ honest fits h. subst (λ (s : VacuumStats). AllIsCleaned (g.state store) s.num_index_tuples) (sym told) (cleaned_all (g.state store) op h last);
   stepped = λ honest order below fits. record { state = refl; op = refl; at = at; last = last };
   spares = λ honest order below fits alone h. spared_all (g.state store) op h last;
@@ -128,14 +131,14 @@ fits_at st before after fits session at = record {
 }
 
 -- a step that goes on without an act
-pub moves : {S : Type 0} (g : Ghosts S) (before after : CleanupOp) (old new : S) → Continues g.follows old new → g.state new ≡ g.state old → after.session ≡ before.session → (g.backing old).stopped ≡ false
+pub moves : {S : Type 0} (g : Ghosts S) (before after : CleanupOp) (old new : S) → Continues g.follows old new → g.state new ≡ g.state old → after.session ≡ before.session → after.deleted ≡ before.deleted → (g.backing old).stopped ≡ false
     → cleanup_left (g.state old).limits.pages (length (g.state old).pages) after.cursor after.at < cleanup_left (g.state old).limits.pages (length (g.state old).pages) before.cursor before.at
     → ((g.backing new).honest ≡ true → IsInOrder (g.state old) → (fits : CleanupFits (g.state old) before)
     → TurnsFrom before.at (g.state old) before None after × IsUnderway (g.state old) fits.start after.cursor after.at)
     → ((g.backing new).honest ≡ true → CleanupFits (g.state old) before → IsCleaned (g.state old) before → IsCleaned (g.state old) after)
     → ((g.backing new).honest ≡ true → IsInOrder (g.state old) → CleanupFits (g.state old) before → IsAlone (g.state old) before.session → IsSparing (g.state old) before → IsSparing (g.state old) after)
     → CleanupSteps g before after old new (Ok Going)
-moves g before after old new steps same session alive less stepped cleans spares = record {
+moves g before after old new steps same session none alive less stepped cleans spares = record {
   steps = steps;
   session = session;
   kept = one_nothing (g.state old) (g.state new) same;
@@ -146,6 +149,7 @@ moves g before after old new steps same session alive less stepped cleans spares
   stats = tt;
   less = subst (λ (st : State). cleanup_left st.limits.pages (length st.pages) after.cursor after.at < cleanup_left (g.state old).limits.pages (length (g.state old).pages) before.cursor before.at) (sym same) less;
   pins = λ honest. pinned_same before.session (g.state old) (g.state new) same;
+  deletes = λ honest. ap (λ (st : State). deleted_in st + before.deleted) same ∙ ap (λ (n : ℕ). deleted_in (g.state old) + n) (sym none);
   counts = λ honest fits h. subst (λ (st : State). IsCleaned st after) (sym same) (cleans honest fits h);
   stepped = λ honest order below fits.
       let s = stepped honest order fits in
@@ -163,10 +167,11 @@ pub acts : {S : Type 0} (g : Ghosts S) (written : State → ℕ) (sure : State �
     → cleanup_left (g.state old).limits.pages (length (g.state old).pages) after.cursor after.at < cleanup_left (g.state old).limits.pages (length (g.state old).pages) before.cursor before.at
     → TurnsFrom before.at (g.state old) before (Some Shape) after
     → (IsInOrder (g.state old) → (fits : CleanupFits (g.state old) before) → DeletesOn before.session (g.state old) (g.state new) → IsUnderway (g.state new) fits.start after.cursor after.at)
+    → (length (g.state new).pages ≡ length (g.state old).pages → change (g.state old) (g.state new) → deleted_in (g.state new) + before.deleted ≡ deleted_in (g.state old) + after.deleted)
     → (IsCleaned (g.state old) before → change (g.state old) (g.state new) → IsCleaned (g.state new) after)
     → (IsInOrder (g.state old) → IsSparing (g.state old) before → change (g.state old) (g.state new) → EditsALeaf (g.state old) (g.state new) → IsSparing (g.state new) after)
     → CleanupSteps g before after old new (Ok Going)
-acts g written sure change reason before after old new tried session alive less turns under cleans spares = record {
+acts g written sure change reason before after old new tried session alive less turns under deletes cleans spares = record {
   steps = tried.steps;
   session = session;
   kept = tried.kept;
@@ -180,6 +185,7 @@ acts g written sure change reason before after old new tried session alive less 
       subst (λ (n : ℕ). cleanup_left (g.state new).limits.pages n after.cursor after.at < cleanup_left (g.state old).limits.pages (length (g.state old).pages) before.cursor before.at) (sym tried.used)
       (subst (λ (m : ℕ). cleanup_left m (length (g.state old).pages) after.cursor after.at < cleanup_left (g.state old).limits.pages (length (g.state old).pages) before.cursor before.at) (sym most) less);
   pins = tried.pins;
+  deletes = λ honest. deletes tried.used (tried.changed honest refl);
   counts = λ honest fits h. cleans h (tried.changed honest refl);
   stepped = λ honest order below fits.
       let d = tried.does honest order below refl in
@@ -208,20 +214,20 @@ try_refused g written sure change reason op old new fault tried alive same there
     (subst (λ (n : ℕ). HasCause (where_trying (g.state old) (g.backing old) (g.backing new) op.session n) fault) same (tried.cause honest order (has_room (g.state old) op fits) (there order fits))))
 
 -- the leaf is judged
-module _ {S : Type 0} (g : Ghosts S) (before : CleanupOp) (parent : ℕ) (old new : S) (at : before.at ≡ Judge parent) (alive : (g.backing old).stopped ≡ false) where
+module _ {S : Type 0} (g : Ghosts S) (before : CleanupOp) (high : Bound) (parent : ℕ) (old new : S) (at : before.at ≡ Judge high parent) (alive : (g.backing old).stopped ≡ false) where
   abbrev most : ℕ
   most = (g.state old).limits.pages
 
   abbrev used : ℕ
   used = length (g.state old).pages
 
-  under : (fits : CleanupFits (g.state old) before) → IsUnderway (g.state old) fits.start before.cursor (Judge parent)
+  under : (fits : CleanupFits (g.state old) before) → IsUnderway (g.state old) fits.start before.cursor (Judge high parent)
   under fits = subst (IsUnderway (g.state old) fits.start before.cursor) at fits.at
 
   pub judge_in_use : IsInOrder (g.state old) → CleanupFits (g.state old) before → AreInUse before.cursor parent (g.state old)
   judge_in_use order fits =
       let u = under fits in
-      (trail_in_use (g.state old) fits.start 0 before.cursor 0 order.tree u.0, trail_in_use (g.state old) fits.start 1 parent 0 order.tree u.1)
+      (trail_in_use (g.state old) fits.start 0 before.cursor 0 order.tree u.0, trail_in_use (g.state old) fits.start 1 parent 0 order.tree (trail_begins_here (g.state old) fits.start 1 (bound_aim high) false parent order.tree u.1))
 
   found_empty : IsCleaned (g.state old) before → IsEmptyAt (g.state old) before.cursor × (state_in (g.state old) before.cursor ≢ HalfDead)
   found_empty h = subst (IsFoundEmpty (g.state old) before.cursor) at h.empty
@@ -229,19 +235,20 @@ module _ {S : Type 0} (g : Ghosts S) (before : CleanupOp) (parent : ℕ) (old ne
   pub leaf_dies : IsTried g before.session count_judged (AreInUse before.cursor parent) (LeafDies before.cursor) (IsSpared before.session before.cursor parent) old new (Ok true) → CleanupSteps g before (turned_to before Unlink) old new (Ok Going)
   leaf_dies tried =
       acts g count_judged (AreInUse before.cursor parent) (LeafDies before.cursor) (IsSpared before.session before.cursor parent) before (turned_to before Unlink) old new tried refl alive
-      (subst (λ (a : CleanupAt). cleanup_left most used before.cursor Unlink < cleanup_left most used before.cursor a) (sym at) (judge_unlinks most used before.cursor parent))
+      (subst (λ (a : CleanupAt). cleanup_left most used before.cursor Unlink < cleanup_left most used before.cursor a) (sym at) (judge_unlinks most used before.cursor high parent))
       (subst (λ (a : CleanupAt). TurnsFrom a (g.state old) before (Some Shape) (turned_to before Unlink)) (sym at) (inl (refl, refl)))
       (λ order fits d. (d.own fits.start fits.running).trails 0 before.cursor 0 (under fits).0)
-      (λ h moved. cleaned_dying (g.state old) (g.state new) before h (come_within (g.state old) before (Judge parent) at h) tried.used moved (found_empty h).0)
-      (λ order h moved edit. spared_dying (g.state old) (g.state new) before parent at tried.used h moved edit)
+      (λ same moved. ap (λ (n : ℕ). n + before.deleted) (none_deleted (g.state old) (g.state new) before.cursor same moved))
+      (λ h moved. cleaned_dying (g.state old) (g.state new) before h (come_within (g.state old) before (Judge high parent) at h) tried.used moved (found_empty h).0)
+      (λ order h moved edit. spared_dying (g.state old) (g.state new) before high parent at tried.used h moved edit)
 
   pub leaf_spared : IsTried g before.session count_judged (AreInUse before.cursor parent) (LeafDies before.cursor) (IsSpared before.session before.cursor parent) old new (Ok false) → CleanupSteps g before (gone_past before 0) old new (Ok Going)
   leaf_spared tried =
-      moves g before (gone_past before 0) old new tried.steps (tried.stays refl) refl alive
-      (subst (λ (a : CleanupAt). cleanup_left most used (suc before.cursor) Look < cleanup_left most used before.cursor a) (sym at) (judge_passes most used before.cursor parent))
+      moves g before (gone_past before 0) old new tried.steps (tried.stays refl) refl refl alive
+      (subst (λ (a : CleanupAt). cleanup_left most used (suc before.cursor) Look < cleanup_left most used before.cursor a) (sym at) (judge_passes most used before.cursor high parent))
       (λ honest order fits. (subst (λ (a : CleanupAt). TurnsFrom a (g.state old) before None (gone_past before 0)) (sym at) (inr (refl, refl, tried.passes honest (has_room (g.state old) before fits) refl)), tt))
-      (λ honest fits h. cleaned_past (g.state old) before 0 h (come_within (g.state old) before (Judge parent) at h) (found_empty h).0 (found_empty h).1)
-      (λ honest order fits alone h. spared_judged (g.state old) before parent order alone at h (tried.passes honest (has_room (g.state old) before fits) refl))
+      (λ honest fits h. cleaned_past (g.state old) before 0 h (come_within (g.state old) before (Judge high parent) at h) (found_empty h).0 (found_empty h).1)
+      (λ honest order fits alone h. spared_judged (g.state old) before high parent order alone at h (tried.passes honest (has_room (g.state old) before fits) refl))
 
 -- a page that isn't half-dead, or none
 never_dead : (pages : List Page) (b : ℕ) → ((page : Page) → slice_get pages b ≡ Some page → page.state ≢ HalfDead) → (nodes_of pages b).state ≢ HalfDead
@@ -268,12 +275,13 @@ module _ {S : Type 0} (g : Ghosts S) (before : CleanupOp) (old new : S) (at : be
       (subst (λ (a : CleanupAt). cleanup_left (g.state old).limits.pages (length (g.state old).pages) (suc before.cursor) Look < cleanup_left (g.state old).limits.pages (length (g.state old).pages) before.cursor a) (sym at) (unlink_passes (g.state old).limits.pages (length (g.state old).pages) before.cursor))
       (subst (λ (a : CleanupAt). TurnsFrom a (g.state old) before (Some Shape) (gone_past_deleted before)) (sym at) (inl (refl, refl)))
       (λ order fits d. tt)
+      (λ same moved. let one = one_deleted (g.state old) (g.state new) before.cursor same moved in omega (arith, one))
       (λ h moved. cleaned_deleted (g.state old) (g.state new) before h (come_within (g.state old) before Unlink at h) tried.used moved (subst (IsFoundEmpty (g.state old) before.cursor) at h.empty))
       (λ order h moved edit. spared_deleted (g.state old) (g.state new) before order.tree at tried.used h moved edit)
 
   pub page_stays : IsTried g before.session (count_unlinked_at before.cursor) (IsInUse before.cursor) (PageGoes before.cursor) (IsNotDead before.cursor) old new (Ok false) → CleanupSteps g before (gone_past before 0) old new (Ok Going)
   page_stays tried =
-      moves g before (gone_past before 0) old new tried.steps (tried.stays refl) refl alive
+      moves g before (gone_past before 0) old new tried.steps (tried.stays refl) refl refl alive
       (subst (λ (a : CleanupAt). cleanup_left (g.state old).limits.pages (length (g.state old).pages) (suc before.cursor) Look < cleanup_left (g.state old).limits.pages (length (g.state old).pages) before.cursor a) (sym at) (unlink_passes (g.state old).limits.pages (length (g.state old).pages) before.cursor))
       (λ honest order fits. (subst (λ (a : CleanupAt). TurnsFrom a (g.state old) before None (gone_past before 0)) (sym at) (inr (refl, refl, tried.passes honest (has_room (g.state old) before fits) refl)), tt))
       (λ honest fits h. cleaned_past (g.state old) before 0 h (come_within (g.state old) before Unlink at h) (subst (IsFoundEmpty (g.state old) before.cursor) at h.empty) (not_dead (tried.passes honest (has_room (g.state old) before fits) refl)))
@@ -284,7 +292,7 @@ pub looks : {S : Type 0} (g : Ghosts S) (before after : CleanupOp) (old new : S)
     → before.cursor < length (g.state old).pages → IsStored (g.state old).limits before.cursor page → ((g.backing new).honest ≡ true → slice_get (g.state old).pages before.cursor ≡ Some page) → TurnsAt page before after
     → CleanupSteps g before after old new (Ok Going)
 looks g before after old new page at alive steps same inside stored found turn =
-    moves g before after old new steps same (session_is turn) alive
+    moves g before after old new steps same (session_is turn) (deleted_is turn) alive
     (subst (λ (a : CleanupAt). cleanup_left (g.state old).limits.pages (length (g.state old).pages) after.cursor after.at < cleanup_left (g.state old).limits.pages (length (g.state old).pages) before.cursor a) (sym at) (less turn))
     (λ honest order fits. (
       subst (λ (a : CleanupAt). TurnsFrom a (g.state old) before None after) (sym at)
@@ -298,6 +306,11 @@ looks g before after old new page at alive steps same inside stored found turn =
     session_is (unlinks dead is) = ap (λ (op : CleanupOp). op.session) is
     session_is (tries high may is_high is) = ap (λ (op : CleanupOp). op.session) is
     session_is (passes alive empty is) = ap (λ (op : CleanupOp). op.session) is
+
+    deleted_is : TurnsAt page before after → after.deleted ≡ before.deleted
+    deleted_is (unlinks dead is) = ap (λ (op : CleanupOp). op.deleted) is
+    deleted_is (tries high may is_high is) = ap (λ (op : CleanupOp). op.deleted) is
+    deleted_is (passes alive empty is) = ap (λ (op : CleanupOp). op.deleted) is
 
     less : TurnsAt page before after → cleanup_left (g.state old).limits.pages (length (g.state old).pages) after.cursor after.at < cleanup_left (g.state old).limits.pages (length (g.state old).pages) before.cursor Look
     less (unlinks dead is) = rw is (look_unlinks (g.state old).limits.pages (length (g.state old).pages) before.cursor inside)
@@ -348,7 +361,7 @@ starts g before after high old new meta way at alive steps same admitted found l
     root_is honest order start = let t = tells honest order start in some_is way (way_from t.root meta.level) (named t.root t.names)
 
     by : (l : ℕ) → way.level ≡ l → after ≡ left_to before l way high → CleanupSteps g before after old new (Ok Going)
-    by zero z is0 = moves g before after old new steps same (ap (λ (op : CleanupOp). op.session) is0) alive
+    by zero z is0 = moves g before after old new steps same (ap (λ (op : CleanupOp). op.session) is0) (ap (λ (op : CleanupOp). op.deleted) is0) alive
         (subst (λ (a : CleanupAt). cleanup_left (g.state old).limits.pages (length (g.state old).pages) after.cursor after.at < cleanup_left (g.state old).limits.pages (length (g.state old).pages) before.cursor a) (sym at) (rw is0 (start_passes (g.state old).limits.pages (length (g.state old).pages) before.cursor high)))
         (λ honest order fits. (
           subst (λ (a : CleanupAt). TurnsFrom a (g.state old) before None after) (sym at)
@@ -359,7 +372,7 @@ starts g before after high old new meta way at alive steps same admitted found l
         (λ honest order fits alone h. absurd (no_root_leaf (g.state old) before.cursor high order.tree
         (ap (λ (p : Page). p.level) (same_page (g.state old).pages 0 order.tree.tree.meta meta order.tree.tree.meta_at (found honest)) ∙ sym level ∙ z)
         (subst (IsSought (g.state old) before.cursor) at h.sought)))
-    by (suc n) some is1 = moves g before after old new steps same (ap (λ (op : CleanupOp). op.session) is1) alive
+    by (suc n) some is1 = moves g before after old new steps same (ap (λ (op : CleanupOp). op.session) is1) (ap (λ (op : CleanupOp). op.deleted) is1) alive
         (subst (λ (a : CleanupAt). cleanup_left (g.state old).limits.pages (length (g.state old).pages) after.cursor after.at < cleanup_left (g.state old).limits.pages (length (g.state old).pages) before.cursor a) (sym at)
         (rw is1 (start_goes_down (g.state old).limits.pages (length (g.state old).pages) before.cursor high way (subst (λ (k : ℕ). k ≤ 31) (sym level) (page_low meta admitted)))))
         (λ honest order fits.
@@ -394,7 +407,7 @@ descends g before after high way old new None result at alive steps same some le
     (refuses g before old new (PageDamaged way.block) steps same (λ h. runs_no_more (g.backing old).stopped alive h)
     (λ honest order fits. absurd (leads honest fits.start order (subst (IsUnderway (g.state old) fits.start before.cursor) at fits.at).1))))
 descends g before after high way old new (Some (LeadsOn on)) result at alive steps same some less leads op is = subst (CleanupSteps g before after old new) (sym is)
-    (moves g before after old new steps same (ap (λ (o : CleanupOp). o.session) op) alive
+    (moves g before after old new steps same (ap (λ (o : CleanupOp). o.session) op) (ap (λ (o : CleanupOp). o.deleted) op) alive
     (subst (λ (a : CleanupAt). cleanup_left (g.state old).limits.pages (length (g.state old).pages) after.cursor after.at < cleanup_left (g.state old).limits.pages (length (g.state old).pages) before.cursor a) (sym at)
     (rw op (down_goes_on (g.state old).limits.pages (length (g.state old).pages) before.cursor high way on less)))
     (λ honest order fits.
@@ -405,7 +418,7 @@ descends g before after high way old new (Some (LeadsOn on)) result at alive ste
     (λ honest fits h. rw op (cleaned_at (g.state old) before (Down high on) h (come_within (g.state old) before (Down high way) at h) (subst (IsFoundEmpty (g.state old) before.cursor) at h.empty)))
     (λ honest order fits alone h. rw op (spared_at (g.state old) before (Down high on) h (λ e. down_differs (sym at ∙ e)) (subst (IsSought (g.state old) before.cursor) at h.sought))))
 descends g before after high way old new (Some Here) result at alive steps same some less leads op is = subst (CleanupSteps g before after old new) (sym is)
-    (moves g before after old new steps same (ap (λ (o : CleanupOp). o.session) op) alive
+    (moves g before after old new steps same (ap (λ (o : CleanupOp). o.session) op) (ap (λ (o : CleanupOp). o.deleted) op) alive
     (subst (λ (a : CleanupAt). cleanup_left (g.state old).limits.pages (length (g.state old).pages) after.cursor after.at < cleanup_left (g.state old).limits.pages (length (g.state old).pages) before.cursor a) (sym at)
     (rw op (down_judges (g.state old).limits.pages (length (g.state old).pages) before.cursor high way way.block (omega (arith, some)))))
     (λ honest order fits.
@@ -414,12 +427,11 @@ descends g before after high way old new (Some Here) result at alive steps same 
       subst (λ (a : CleanupAt). TurnsFrom a (g.state old) before None after) (sym at) (refl, inr op),
       rw op (
         u.0,
-        subst (λ (k : ℕ). HasTrail (g.state old) fits.start k way.block 0) here.0
-            (trail_begins_here (g.state old) fits.start way.level (bound_aim high) false way.block order.tree u.1.place),
+        subst (λ (k : ℕ). HasPlace (g.state old) fits.start k (bound_aim high) false way.block) here.0 u.1.place,
       ),
     ))
-    (λ honest fits h. rw op (cleaned_at (g.state old) before (Judge way.block) h (come_within (g.state old) before (Down high way) at h) (subst (IsFoundEmpty (g.state old) before.cursor) at h.empty)))
-    (λ honest order fits alone h. rw op (spared_at (g.state old) before (Judge way.block) h (λ e. down_differs (sym at ∙ e)) (record {
+    (λ honest fits h. rw op (cleaned_at (g.state old) before (Judge high way.block) h (come_within (g.state old) before (Down high way) at h) (subst (IsFoundEmpty (g.state old) before.cursor) at h.empty)))
+    (λ honest order fits alone h. rw op (spared_at (g.state old) before (Judge high way.block) h (λ e. down_differs (sym at ∙ e)) (record {
       high = high;
       leaf = subst (IsSought (g.state old) before.cursor) at h.sought;
       above = (leads honest fits.start order (subst (IsUnderway (g.state old) fits.start before.cursor) at fits.at).1).1;

@@ -2,6 +2,7 @@
 use Rattle.std.specs.Prelude.{◌≡◌, ℕ, ◌<◌, ◌≤◌, ◌||◌, true, false, Option, Some, Result, Ok, Err, OnErr, length, slice_get}
 use Rattle.index_model.specs.Actions.{Effect}
 use Rattle.index_model.specs.Faults.{Circumstances, HasCause}
+use Rattle.index_model.specs.declared.bound.Bound.{Bound}
 use Rattle.index_model.specs.declared.fault.Fault.{Fault}
 use Rattle.index_model.specs.declared.fault.Fault.TheVariants.{Stopped}
 use Rattle.latch_table.specs.Holdings.{holding_of, nothing_held}
@@ -10,10 +11,10 @@ use Rattle.page_action.specs.States.{State, Backing, Continues}
 use Rattle.page_action.specs.declared.page_store.PageStore.{Ghosts}
 use Rattle.tree_shape.specs.Walks.{bound_aim}
 use Rattle.tree_acts.specs.Deletions.{StartsAreBelow}
-use Rattle.tree_acts.specs.Trees.{HasTrail}
+use Rattle.tree_acts.specs.Trees.{HasPlace, HasTrail}
 use Rattle.descent.specs.Onward.{IsOnWay}
 use Rattle.descent.specs.Shared.{IsInOrder, CleansUp, IsOneStep}
-use Rattle.page_delete.specs.Counts.{IsCleaned, CleansOn}
+use Rattle.page_delete.specs.Counts.{IsCleaned, CleansOn, CountsDeleted}
 use Rattle.page_delete.specs.Needs.{count_written, where_trying}
 use Rattle.page_delete.specs.Ops.{is_counted_out, cleanup_stats}
 use Rattle.page_delete.specs.Parts.{PinnedLeavesStay}
@@ -27,15 +28,20 @@ use Rattle.page_delete.specs.declared.steps.CleanupStep.{CleanupStep}
 use Rattle.page_delete.specs.declared.steps.CleanupStep.TheVariants.{Going, Finished}
 
 -- The leaf at the cursor is on the chain of leaves, or was deleted since; its parent is looked for on the way to its high key,
--- or may be this page of the level above.
+-- or may be this page of the level above, from which right links lead to the one that covers the high key.
 abbrev pub IsUnderway : State → ℕ → ℕ → CleanupAt → Type 0
 IsUnderway st start cursor Look = Unit {0}
 IsUnderway st start cursor (Start high) = HasTrail st start 0 cursor 0
 IsUnderway st start cursor (Down high way) =
     HasTrail st start 0 cursor 0 × IsOnWay st start (bound_aim high) false 1 way
-IsUnderway st start cursor (Judge parent) =
-    HasTrail st start 0 cursor 0 × HasTrail st start 1 parent 0
+IsUnderway st start cursor (Judge high parent) =
+    HasTrail st start 0 cursor 0 × HasPlace st start 1 (bound_aim high) false parent
 IsUnderway st start cursor Unlink = HasTrail st start 0 cursor 0
+
+-- it tests the leaf, and this page, which may be its parent
+pub record IsJudging (at : CleanupAt) (parent : ℕ) : Type 0 where
+  pub high : Bound
+  pub is : at ≡ Judge high parent
 
 -- what a cleanup knows between its steps
 pub record CleanupFits (st : State) (op : CleanupOp) : Type 0 where
@@ -99,9 +105,9 @@ CleanupLeavesLess old new before after (Err fault) = Unit {0}
 
 -- A step of a cleanup. On any pages: it does one act at most and holds nothing behind it, a refused one changes nothing, a
 -- stopped log refuses it, each that goes on leaves less to do, and the statistics are told as they are. Over a device that
--- keeps its model: live leaves that others have pinned stay; where nobody else acts, it counts the entries, and leaves no
--- half-dead page behind it; on pages in order: what it does, where it goes on, why it is refused, and, where nobody else holds
--- a page, which empty leaves stay.
+-- keeps its model: live leaves that others have pinned stay; it counts the pages that it deletes; where nobody else acts, it
+-- counts the entries, and leaves no half-dead page behind it; on pages in order: what it does, where it goes on, why it is
+-- refused, and, where nobody else holds a page, which empty leaves stay.
 pub record CleanupSteps {S : Type 0} (g : Ghosts S) (before after : CleanupOp) (old new : S)
     (result : Result CleanupStep Fault) : Type 0 where
   pub steps : Continues g.follows old new
@@ -115,6 +121,8 @@ pub record CleanupSteps {S : Type 0} (g : Ghosts S) (before after : CleanupOp) (
   pub less : CleanupLeavesLess (g.state old) (g.state new) before after result
   pub pins : (g.backing new).honest ≡ true
       → PinnedLeavesStay before.session (g.state old) (g.state new)
+  pub deletes : (g.backing new).honest ≡ true
+      → CountsDeleted (g.state old) (g.state new) before after result
   pub counts : (g.backing new).honest ≡ true → CleanupFits (g.state old) before
       → IsCleaned (g.state old) before → CleansOn (g.state new) after result
   pub stepped : (g.backing new).honest ≡ true → IsInOrder (g.state old)

@@ -1,10 +1,10 @@
 -- What a cleanup counts, and what it has cleaned, where nobody else acts.
-use Rattle.std.specs.Prelude.{◌≡◌, ◌≢◌, ℕ, suc, ◌<◌, ◌≤◌, Result, Ok, Err, length, slice_get}
+use Rattle.std.specs.Prelude.{◌≡◌, ◌≢◌, ℕ, suc, ◌+◌, ◌<◌, ◌≤◌, Result, Ok, Err, length, slice_get}
 use Rattle.index_model.specs.declared.fault.Fault.{Fault}
 use Rattle.page_codec.specs.declared.page.PageState.TheVariants.{HalfDead}
 use Rattle.page_action.specs.States.{State}
 use Rattle.tree_acts.specs.Deletions.{state_in}
-use Rattle.vacuum.specs.Counts.{entry_count, entries_below}
+use Rattle.vacuum.specs.Counts.{entry_count, entries_below, deleted_count}
 use Rattle.page_delete.specs.declared.steps.CleanupAt.{CleanupAt}
 use Rattle.page_delete.specs.declared.steps.CleanupAt.TheVariants.{Look, Start, Down, Judge, Unlink}
 use Rattle.page_delete.specs.declared.steps.CleanupOp.{CleanupOp}
@@ -20,7 +20,7 @@ abbrev pub IsFoundEmpty : State → ℕ → CleanupAt → Type 0
 IsFoundEmpty st cursor Look = Unit {0}
 IsFoundEmpty st cursor (Start high) = IsEmptyAt st cursor × (state_in st cursor ≢ HalfDead)
 IsFoundEmpty st cursor (Down high way) = IsEmptyAt st cursor × (state_in st cursor ≢ HalfDead)
-IsFoundEmpty st cursor (Judge parent) = IsEmptyAt st cursor × (state_in st cursor ≢ HalfDead)
+IsFoundEmpty st cursor (Judge high parent) = IsEmptyAt st cursor × (state_in st cursor ≢ HalfDead)
 IsFoundEmpty st cursor Unlink = IsEmptyAt st cursor
 
 -- how many blocks it has come to: those before the cursor, and the one at it once it was looked at
@@ -28,7 +28,7 @@ abbrev pub come_to : ℕ → CleanupAt → ℕ
 come_to cursor Look = cursor
 come_to cursor (Start high) = suc cursor
 come_to cursor (Down high way) = suc cursor
-come_to cursor (Judge parent) = suc cursor
+come_to cursor (Judge high parent) = suc cursor
 come_to cursor Unlink = suc cursor
 
 -- Where nobody else acted since it began: the pages before the cursor have as many entries as it counted, and none of them is
@@ -50,3 +50,15 @@ abbrev pub CleansOn : State → CleanupOp → Result CleanupStep Fault → Type 
 CleansOn new after (Ok Going) = IsCleaned new after
 CleansOn new after (Ok (Finished stats)) = AllIsCleaned new stats.num_index_tuples
 CleansOn new after (Err fault) = IsCleaned new after
+
+-- how many pages are deleted
+abbrev pub deleted_in : State → ℕ
+deleted_in st = deleted_count st (length st.pages)
+
+-- as many more pages are deleted behind a step as it has counted more; at the end it tells as many as it has counted
+abbrev pub CountsDeleted : State → State → CleanupOp → CleanupOp → Result CleanupStep Fault → Type 0
+CountsDeleted old new before after (Ok Going) =
+    deleted_in new + before.deleted ≡ deleted_in old + after.deleted
+CountsDeleted old new before after (Ok (Finished stats)) =
+    deleted_in new + before.deleted ≡ deleted_in old + stats.pages_newly_deleted
+CountsDeleted old new before after (Err fault) = Unit {0}

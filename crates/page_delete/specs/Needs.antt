@@ -36,7 +36,7 @@ abbrev pub count_written : CleanupAt → ℕ → State → ℕ
 count_written Look cursor st = 0
 count_written (Start high) cursor st = 0
 count_written (Down high way) cursor st = 0
-count_written (Judge parent) cursor st = count_judged st
+count_written (Judge high parent) cursor st = count_judged st
 count_written Unlink cursor st = count_unlinked_at cursor st
 
 -- it needs a frame for each, or one for the page that it reads

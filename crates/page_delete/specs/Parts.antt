@@ -43,7 +43,7 @@ left_root op way high = left_to op way.level way high
 abbrev pub left_page : CleanupOp → Option Onward → ℕ → Bound → CleanupOp
 left_page op None block high = op
 left_page op (Some (LeadsOn on)) block high = turned_to op (Down high on)
-left_page op (Some Here) block high = turned_to op (Judge block)
+left_page op (Some Here) block high = turned_to op (Judge high block)
 
 abbrev pub left_answer : Option Onward → ℕ → Result CleanupStep Fault
 left_answer None block = Err (PageDamaged block)
@@ -201,16 +201,18 @@ unlinked (Some left) page right number =
     record left { right = Some right.block } ∷ as_deleted page number
     ∷ record right { left = page.left } ∷ []
 
--- no page has more entries on live leaves, or fewer, and no other page's state is changed
-pub record MovesState (block : ℕ) (is : PageState) (old new : State) : Type 0 where
+-- no page has more entries on live leaves, or fewer; the page of the block moves from one state to another, and no other page's
+-- state is changed
+pub record MovesState (block : ℕ) (was is : PageState) (old new : State) : Type 0 where
   pub counts : (b : ℕ) → entry_count (slice_get new.pages b) ≡ entry_count (slice_get old.pages b)
   pub others : (b : ℕ) → b ≢ block → state_in new b ≡ state_in old b
+  pub before : state_in old block ≡ was
   pub after : state_in new block ≡ is
 
--- the leaf becomes half-dead
+-- the live leaf becomes half-dead
 abbrev pub LeafDies : ℕ → State → State → Type 0
-LeafDies block = MovesState block HalfDead
+LeafDies block = MovesState block Live HalfDead
 
--- the page is deleted
+-- the half-dead page is deleted
 abbrev pub PageGoes : ℕ → State → State → Type 0
-PageGoes block = MovesState block Deleted
+PageGoes block = MovesState block HalfDead Deleted

@@ -53,7 +53,7 @@ abbrev pub IsSought : State → ℕ → CleanupAt → Type 0
 IsSought st cursor Look = Unit {0}
 IsSought st cursor (Start high) = MayGo st cursor high
 IsSought st cursor (Down high way) = MayGo st cursor high
-IsSought st cursor (Judge parent) = MayGoFrom st cursor parent
+IsSought st cursor (Judge high parent) = MayGoFrom st cursor parent
 IsSought st cursor Unlink = state_in st cursor ≡ HalfDead
 
 -- Where nobody else acted since it began, and no page was half-dead then: no page is, but one at the cursor that is to be

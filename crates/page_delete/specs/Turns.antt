@@ -24,7 +24,7 @@ LeavesMetapage meta high before after =
 abbrev pub LeavesPage : Bound → Way → CleanupOp → CleanupOp → Type 0
 LeavesPage high way before after =
     ((on : Way) × (after ≡ turned_to before (Down high on)))
-    ⊎ (after ≡ turned_to before (Judge way.block))
+    ⊎ (after ≡ turned_to before (Judge high way.block))
 
 -- the leaf is made half-dead where it is to be, and passed where not
 abbrev pub JudgesLeaf : State → ℕ → CleanupOp → Option Effect → CleanupOp → Type 0
@@ -47,5 +47,5 @@ TurnsFrom Look st before effect after = (effect ≡ None)
 TurnsFrom (Start high) st before effect after = (effect ≡ None)
     × ((meta : Page) → slice_get st.pages 0 ≡ Some meta → LeavesMetapage meta high before after)
 TurnsFrom (Down high way) st before effect after = (effect ≡ None) × LeavesPage high way before after
-TurnsFrom (Judge parent) st before effect after = JudgesLeaf st parent before effect after
+TurnsFrom (Judge high parent) st before effect after = JudgesLeaf st parent before effect after
 TurnsFrom Unlink st before effect after = UnlinksPage st before effect after

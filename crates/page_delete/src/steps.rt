@@ -20,8 +20,8 @@ pub enum CleanupAt {
     /// It reads a page on that way.
     Down(Bound, Way),
     /// It tests the leaf at the cursor, its siblings and this page, which may be its parent, and makes the leaf half-dead
-    /// if it may.
-    Judge(u32),
+    /// if it may. The page was found on the way to this high key.
+    Judge(Bound, u32),
     /// It unlinks the half-dead page at the cursor.
     Unlink,
 }
@@ -51,7 +51,7 @@ pub enum CleanupStep {
 
 impl CleanupOp {
     ghost use Rattle.page_delete.specs.Ops.{fresh_cleanup, is_counted_out};
-    ghost use Rattle.page_delete.specs.Cleanups.{CleanupSteps};
+    ghost use Rattle.page_delete.specs.Cleanups.{CleanupSteps, IsJudging};
 
     /// A cleanup before its first step.
     pub fn new(session: Session) -> CleanupOp
@@ -85,7 +85,7 @@ impl CleanupOp {
             CleanupAt::Look => Ok(CleanupStep::Finished(stats(self, store))),
             CleanupAt::Start(high) => self.read_metapage(store, high),
             CleanupAt::Down(high, way) => self.read_page(store, high, way),
-            CleanupAt::Judge(parent) => self.judge(store, parent),
+            CleanupAt::Judge(_, parent) => self.judge(store, parent),
             CleanupAt::Unlink => self.unlink(store),
         }
     }
@@ -165,7 +165,7 @@ impl CleanupOp {
 
     // Makes the leaf at the cursor half-dead, or passes it.
     fn judge<S: PageStore>(&mut self, store: &mut S, parent: u32) -> Result<CleanupStep, Fault>
-        requires at { self.old.at ≡ CleanupAt.Judge parent }
+        requires at { IsJudging self.old.at parent }
         requires alive { (S.backing store.old).stopped ≡ false }
         requires room { is_counted_out self.old ≡ false }
         ensures all { CleanupSteps S.PageStore self.old self.new store.old store.new result }

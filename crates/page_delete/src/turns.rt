@@ -117,7 +117,7 @@ impl CleanupOp {
                 Ok(CleanupStep::Going)
             }
             Some(Onward::Here) => {
-                self.at = CleanupAt::Judge(block);
+                self.at = CleanupAt::Judge(*high, block);
                 Ok(CleanupStep::Going)
             }
         }

@@ -30,13 +30,13 @@ use Rattle.split_finish.specs.declared.finish.FinishAt.TheVariants.{Start as Fin
 use Rattle.insert_split.specs.Inserts.{count_halved, count_put, images_at, frames_at, takes_block_at, splits_root_at}
 use Rattle.insert_split.specs.declared.insert.InsertAt.{InsertAt}
 use Rattle.insert_split.specs.declared.insert.InsertAt.TheVariants.{Start, At, Holding as Holds, Finishing}
-use Rattle.vacuum.specs.BulkDeletes.{is_full_count, is_counted_out}
+use Rattle.vacuum.specs.BulkDeletes.{is_full_count, is_counted_out, has_dead}
 use Rattle.page_delete.specs.Needs.{count_between, count_unlinked, count_unlinked_of, count_written, frames_for}
 use Rattle.page_delete.specs.declared.steps.CleanupAt.{CleanupAt}
 use Rattle.page_delete.specs.declared.steps.CleanupAt.TheVariants.{Look, Start as CleanupStart, Down as CleanupDown, Judge, Unlink}
 use Rattle.page_delete.specs.Ops.{is_last_number, is_counted_out as is_cleanup_full}
 use Rattle.session_calls.specs.TheoremCalls.{DeadSets}
-use Rattle.session_calls.specs.Ops.{asked_of, session_of, where_stepped}
+use Rattle.session_calls.specs.Ops.{set_at, asked_of, session_of, where_stepped}
 use Rattle.session_calls.specs.declared.op.Op.{Op}
 use Rattle.session_calls.specs.declared.op.Op.TheVariants.{Insert, Scan, Bulk, Cleanup}
 use Rattle.schedule.specs.TheoremMoments.{Snapshot}
@@ -243,7 +243,7 @@ pub written_few : (at : CleanupAt) (cursor : ℕ) (st : State) → count_written
 written_few Look cursor st = omega arith
 written_few (CleanupStart high) cursor st = omega arith
 written_few (CleanupDown high way) cursor st = omega arith
-written_few (Judge parent) cursor st = omega arith
+written_few (Judge high parent) cursor st = omega arith
 written_few Unlink cursor st = unlinked_of_few (slice_get st.pages cursor)
 
 pub frames_for_few : (written : ℕ) → written ≤ 3 → frames_for written ≤ 3
@@ -333,9 +333,13 @@ module _ {S : Type 0} (g : Ghosts S) (old : Snapshot S) (new : S) where
   few_images : (images : ℕ) → images ≤ 4 → (nat_lt 0 images && nat_le (g.backing old.store).promised images) ≡ true → (g.backing old.store).promised ≤ 4
   few_images images le h = let few : (g.backing old.store).promised ≤ images = leb-true (g.backing old.store).promised images (and_parts (nat_lt 0 images) (nat_le (g.backing old.store).promised images) h).1 in omega arith
 
-  pub step_fails : (sets : DeadSets) (op : Op) (fault : Fault) → HasCause (where_stepped op (g.state old.store) (g.backing old.store) (g.backing new)) fault
+  -- ... of one that writes a page, or none
+  one_image : (writes : Bool) → (writes && nat_le (g.backing old.store).promised 1) ≡ true → (nat_lt 0 1 && nat_le (g.backing old.store).promised 1) ≡ true
+  one_image writes h = (and_parts writes (nat_le (g.backing old.store).promised 1) h).1
+
+  pub step_fails : (sets : DeadSets) (op : Op) (fault : Fault) → HasCause (where_stepped sets op (g.state old.store) (g.backing old.store) (g.backing new)) fault
       → MoveFails g Steps (session_of op) (asked_of sets op) op old new fault
-  step_fails sets (Insert op) fault h = fails_by (where_stepped (Insert op) (g.state old.store) (g.backing old.store) (g.backing new)) op.session (AskInsert op.entry) (Insert op) (record {
+  step_fails sets (Insert op) fault h = fails_by (where_stepped sets (Insert op) (g.state old.store) (g.backing old.store) (g.backing new)) op.session (AskInsert op.entry) (Insert op) (record {
     growth = false≢true;
     device = failed;
     stopped = λ k. elim (or_cases (g.backing old.store).stopped (is_at_end (g.state old.store).acts) k) [ inl a ↦ inl a | inr b ↦ inr (inl (at_end (g.state old.store).acts b)) ];
@@ -353,7 +357,7 @@ module _ {S : Type 0} (g : Ghosts S) (old : Snapshot S) (new : S) where
     damaged = λ b. false≢true;
     root = λ k. tall (g.state old.store).pages (leb-true 31 (root_level (g.state old.store).pages) (and_parts (splits_root_at op.at) (nat_le 31 (root_level (g.state old.store).pages)) k).1);
   }) fault h
-  step_fails sets (Scan op) fault h = fails_by (where_stepped (Scan op) (g.state old.store) (g.backing old.store) (g.backing new)) op.session (AskScan op.range) (Scan op) (record {
+  step_fails sets (Scan op) fault h = fails_by (where_stepped sets (Scan op) (g.state old.store) (g.backing old.store) (g.backing new)) op.session (AskScan op.range) (Scan op) (record {
     growth = false≢true;
     device = failed;
     stopped = λ k. inl k;
@@ -368,7 +372,7 @@ module _ {S : Type 0} (g : Ghosts S) (old : Snapshot S) (new : S) where
     damaged = λ b. false≢true;
     root = λ k. absurd (false≢true k);
   }) fault h
-  step_fails sets (Bulk set op) fault h = fails_by (where_stepped (Bulk set op) (g.state old.store) (g.backing old.store) (g.backing new)) op.session (asked_of sets (Bulk set op)) (Bulk set op) (record {
+  step_fails sets (Bulk set op) fault h = fails_by (where_stepped sets (Bulk set op) (g.state old.store) (g.backing old.store) (g.backing new)) op.session (asked_of sets (Bulk set op)) (Bulk set op) (record {
     growth = false≢true;
     device = failed;
     stopped = λ k. elim (or_cases (g.backing old.store).stopped (is_at_end (g.state old.store).acts || is_counted_out op) k) [
@@ -381,7 +385,7 @@ module _ {S : Type 0} (g : Ghosts S) (old : Snapshot S) (new : S) where
     held = λ b k. held_for_cleanup (g.state old.store).table op.session b _ k;
     entry = λ k. absurd (false≢true k);
     block = λ k. absurd (false≢true k);
-    log = λ k. few_images 1 (omega arith) k;
+    log = λ k. few_images 1 (omega arith) (one_image (has_dead (set_at sets set) (g.state old.store) op) k);
     frames = λ k. few_frames 1 (omega arith) k;
     vacuum = false≢true;
     session_is = false≢true;
@@ -389,7 +393,7 @@ module _ {S : Type 0} (g : Ghosts S) (old : Snapshot S) (new : S) where
     damaged = λ b. false≢true;
     root = λ k. absurd (false≢true k);
   }) fault h
-  step_fails sets (Cleanup op) fault h = fails_by (where_stepped (Cleanup op) (g.state old.store) (g.backing old.store) (g.backing new)) op.session AskCleanup (Cleanup op) (record {
+  step_fails sets (Cleanup op) fault h = fails_by (where_stepped sets (Cleanup op) (g.state old.store) (g.backing old.store) (g.backing new)) op.session AskCleanup (Cleanup op) (record {
     growth = false≢true;
     device = failed;
     stopped = λ k. elim (or_cases (g.backing old.store).stopped (is_at_end (g.state old.store).acts || is_cleanup_full op) k) [

@@ -73,15 +73,15 @@ module _ {S : Type 0} (g : Ghosts S) (laws : Laws g) (old new : S) (follows_stor
 
   pub step_makes : StepAlways g old new before slot answer
       → ((g.backing new).honest ≡ true → (start : Entry → Bool) (history : List Action) (number : ℕ) (call : Call) → SlotFits (g.state old) sets start history number call before
-      → SessionGoes (where_slot_stepped before (g.state old) (g.backing old) (g.backing new)) (g.state old) (g.state new) sets start history number call slot answer)
+      → SessionGoes (where_slot_stepped sets before (g.state old) (g.backing old) (g.backing new)) (g.state old) (g.state new) sets start history number call slot answer)
       → ((g.backing new).honest ≡ true → StepFollows sets (g.state old) (g.state new) before slot answer)
       → Makes g (MovesCall session Steps) answer (here_with old slots sets) (here_with new (slice_set slots session slot) sets)
   step_makes made goes follows = record {
     sessions = length_set slots session slot;
     always = always;
     does = λ honest start history calls fits.
-        moves_on g start (snapshot_of (here_with old slots sets) history calls) new session op slot Steps (where_slot_stepped (Some op) (g.state old) (g.backing old) (g.backing new)) answer fits found_op follows_store (laws.follows_later old new follows_store)
-        (λ number call runs. subst (λ (x : Option Op). SessionGoes (where_slot_stepped x (g.state old) (g.backing old) (g.backing new)) (g.state old) (g.state new) sets start history number call slot answer) is
+        moves_on g start (snapshot_of (here_with old slots sets) history calls) new session op slot Steps (where_slot_stepped sets (Some op) (g.state old) (g.backing old) (g.backing new)) answer fits found_op follows_store (laws.follows_later old new follows_store)
+        (λ number call runs. subst (λ (x : Option Op). SessionGoes (where_slot_stepped sets x (g.state old) (g.backing old) (g.backing new)) (g.state old) (g.state new) sets start history number call slot answer) is
         (goes honest start history number call (subst (λ (x : Option Op). SlotFits (g.state old) sets start history number call x) (sym is) runs))) refl always
         (λ s l n c runs. subst (λ (x : Option Op). CallIsFollowed (MovesCall session Steps) sets answer (g.state old) (g.state new) x slot) is
         (followed honest (record { start = s; history = l; number = n; call = c; fits = subst (λ (x : Option Op). SlotFits (g.state old) sets s l n c x) (sym is) runs })));
@@ -90,7 +90,7 @@ module _ {S : Type 0} (g : Ghosts S) (laws : Laws g) (old new : S) (follows_stor
       followed : (g.backing new).honest ≡ true → IsFitted (g.state old) sets before → CallIsFollowed (MovesCall session Steps) sets answer (g.state old) (g.state new) before slot
       followed honest fitted =
           let told = follows honest in
-          record { due = told.due fitted; no_more = made.no_more honest; flagged = told.flagged fitted; stands = told.stands fitted; waits = told.waits; entries = told.entries; spares = told.spares }
+          record { due = told.due fitted; no_more = made.no_more honest; flagged = told.flagged fitted; stands = told.stands fitted; waits = told.waits; entries = told.entries; deletes = told.deletes; spares = told.spares }
 
       always : EventAlways g (MovesCall session Steps) answer (here_with old slots sets) (here_with new (slice_set slots session slot) sets)
       always = record {

@@ -20,7 +20,7 @@ use Rattle.session_calls.specs.Due.{IsDueIn, CountsDown, HasSteps}
 use Rattle.session_calls.specs.Following.{StepTells}
 use Rattle.session_calls.specs.TheoremCalls.{DeadSets, asked_by, acts_of, begun_call}
 use Rattle.session_calls.specs.Ops.{op_before, asks_vacuum, asked_of, where_stepped, where_asked_next, where_beginning, RunsOn, IsCaused, AnswersStopped}
-use Rattle.session_calls.specs.Sessions.{Told, IsAsked, MovesShape, is_busy, slot_add, LeavesLess, LeavesNoMore, GivesLess, AnswersStep, AnswersNext, AnswersEnd, RefusalChangesNothing, RunsUntilLast, leaf_of, StandsByAnswer, OnlyWritersAct, OnlyOwnAreFlagged, LeavesOwnFlagged, KeepsBeforePins, CountsEntries, SparesLeaves}
+use Rattle.session_calls.specs.Sessions.{Told, IsAsked, MovesShape, is_busy, slot_add, LeavesLess, LeavesNoMore, GivesLess, AnswersStep, AnswersNext, AnswersEnd, RefusalChangesNothing, RunsUntilLast, leaf_of, StandsByAnswer, OnlyWritersAct, OnlyOwnAreFlagged, LeavesOwnFlagged, KeepsBeforePins, CountsEntries, CountsPages, SparesLeaves}
 use Rattle.session_calls.specs.declared.answer.Answer.{Answer}
 use Rattle.session_calls.specs.declared.answer.Answer.TheVariants.{Begun, Forced, Flushed, Checkpointed, Refused}
 use Rattle.session_calls.specs.declared.op.Op.{Op}
@@ -191,7 +191,7 @@ where_begun_at g store vacuums sets request (Some slot) = record (where_beginnin
 -- the circumstances of a move of a session's call, with these sets, from this store to that
 abbrev pub where_moving : {S : Type 0} → Ghosts S → DeadSets → S → S → Move → Option (Option Op) → Circumstances
 where_moving g sets old new Steps slot =
-    where_moved (where_no_call (g.backing old).stopped) (λ op. where_stepped op (g.state old) (g.backing old) (g.backing new)) slot
+    where_moved (where_no_call (g.backing old).stopped) (λ op. where_stepped sets op (g.state old) (g.backing old) (g.backing new)) slot
 where_moving g sets old new Takes slot = where_moved (where_no_call false) (λ op. where_asked_next (asked_of sets op)) slot
 where_moving g sets old new GivesUp slot = where_moved (where_no_call false) (λ op. nothing_wrong) slot
 
@@ -386,6 +386,8 @@ pub record StepIsFollowed (sets : DeadSets) (old new : State) (before after : Op
   -- where nobody else acts, what a bulk delete or a cleanup has counted are the entries that it has left; at its end it tells how many
   -- there are, and a cleanup leaves no half-dead page
   pub entries : CountsEntries sets old new before after answer
+  -- a cleanup counts the pages that it deletes, and tells how many they were
+  pub deletes : CountsPages old new before after answer
   -- where nobody else holds a page, a cleanup leaves no empty leaf behind it that might leave the tree
   pub spares : SparesLeaves old new before after answer
 

@@ -59,7 +59,7 @@ cleaned_still sets st op fault h = by (ends_call fault)
 module _ {sets : DeadSets} (old new : State) (first second : Backing) (start : Entry → Bool) (history : List Action) (number : ℕ) (call : Call) (before after : CleanupOp)
     (fits : CallFits old sets start history number call (Cleanup before)) (session : after.session ≡ before.session) where
   abbrev at_op : Circumstances
-  at_op = where_stepped (Cleanup before) old first second
+  at_op = where_stepped sets (Cleanup before) old first second
 
   asked : (effect : Option Effect) → DeletesLeaves effect old new → IsAsked (contents_after start history) call.ask call.added effect
   asked effect h = subst (λ (a : Ask). IsAsked (contents_after start history) a call.added effect) (sym fits.runs.ask) (may_do (contents_after start history) call.added old new effect h)

@@ -25,10 +25,11 @@ use Rattle.vacuum.specs.Ops.{next_block}
 use Rattle.vacuum.specs.Sweeping.{DueIsToCome}
 use Rattle.vacuum.specs.declared.steps.BulkDeleteOp.{BulkDeleteOp}
 use Rattle.page_delete.specs.Counts.{AllIsCleaned}
+use Rattle.page_delete.proofs.Tallying.{deleted_alike}
 use Rattle.session_calls.specs.Ops.{set_at, ends_call}
 use Rattle.session_calls.specs.TheoremCalls.{DeadSets, acts_of}
 use Rattle.session_calls.specs.Ops.{where_stepped, is_sweeping}
-use Rattle.session_calls.specs.Sessions.{CallFits, IsAsked, add_after, ended, OpGoes, let_go, slot_after, SlotIsCounted, TellsAllEntries, TellsAllCleaned, CountsEntries, SparesLeaves, LeavesNeeded}
+use Rattle.session_calls.specs.Sessions.{CallFits, IsAsked, add_after, ended, OpGoes, let_go, slot_after, SlotIsCounted, TellsAllEntries, TellsAllCleaned, CountsPages, CountsEntries, SparesLeaves, LeavesNeeded}
 use Rattle.page_delete.specs.Spares.{OnlyNeededStay}
 use Rattle.session_calls.specs.Sweeps.{IsDue, IsSweepSoFar}
 use Rattle.session_calls.specs.declared.answer.Answer.{Answer}
@@ -116,6 +117,12 @@ spares_over v session old mid (Some (Cleanup op)) after answer h = λ order belo
     needs (Checkpointed n) t = tt
     needs (Refused f) t = tt
 
+-- at the end of a call as many pages are deleted as were
+pub deletes_over : (v : Bool) (session : ℕ) (old mid : State) (before after : Option Op) (answer : Answer) → CountsPages old mid before after answer → CountsPages old (let_go v session mid) before None answer
+deletes_over v session old mid (Some (Cleanup op)) after Going h = tt
+deletes_over v session old mid (Some (Cleanup op)) after (Finished stats) h = ap (λ (n : ℕ). n + op.deleted) (deleted_alike mid (let_go v session mid) (go_pages v session mid)) ∙ h
+deletes_over v session old mid before after answer h = tt
+
 -- what is clean is of the pages alone
 all_cleaned : (v : Bool) (session : ℕ) (mid : State) (count : ℕ) → AllIsCleaned mid count → AllIsCleaned (let_go v session mid) count
 all_cleaned false session mid count h = record { counted = h.counted; none_dead = h.none_dead }
@@ -166,7 +173,7 @@ module _ {sets : DeadSets} (old new : State) (first second : Backing) (start : E
   dead = set_at sets set
 
   abbrev at_op : Circumstances
-  at_op = where_stepped (Bulk set before) old first second
+  at_op = where_stepped sets (Bulk set before) old first second
 
   within : call.began ≤ length history
   within = began_before start history number call fits.meets fits.running
@@ -252,7 +259,7 @@ module _ {sets : DeadSets} (old new : State) (first second : Backing) (start : E
       sweeps = λ more. absurd (true_false more);
     }
 
-  pub bulk_is_refused : (fault : Fault) → BulkDeleteStays old new before after → HasCause (where_deleting old first second before) fault
+  pub bulk_is_refused : (fault : Fault) → BulkDeleteStays old new before after → HasCause (where_deleting dead old first second before) fault
       → OpGoes at_op old new sets start history number call (Bulk set after) (Refused fault)
   bulk_is_refused fault stays cause =
       step_is_refused at_op old new start history number call (Bulk set before) (Bulk set after) fits session refl fault stays.state

@@ -52,7 +52,7 @@ none_logged (Some action) fault h ends = absurd (blocked_goes_on fault h ends)
 module _ {sets : DeadSets} (old new : State) (first second : Backing) (start : Entry → Bool) (history : List Action) (number : ℕ) (call : Call) (before after : InsertOp)
     (fits : CallFits old sets start history number call (Insert before)) (session : after.session ≡ before.session) (entry : after.entry ≡ before.entry) where
   abbrev at_op : Circumstances
-  at_op = where_stepped (Insert before) old first second
+  at_op = where_stepped sets (Insert before) old first second
 
   -- what is noted of a step is the number of its Add
   noted_is : (effect : Option Effect) (now : Option ℕ) → IsNoted effect old.acts before.entry before.added now → now ≡ add_after before.added (suc (length history)) effect

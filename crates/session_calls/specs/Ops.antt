@@ -151,17 +151,17 @@ OpKnows start history began given (Scan op) = IsScanSoFar start history began gi
 OpKnows start history began given (Bulk set op) = Unit {0}
 OpKnows start history began given (Cleanup op) = Unit {0}
 
--- the circumstances of a step, by where the operation stands
-abbrev pub where_stepped : Op → State → Backing → Backing → Circumstances
-where_stepped (Insert op) st old new = where_inserting st old new op.session op.entry op.at
-where_stepped (Scan op) st old new = where_scanning st old new op.session
-where_stepped (Bulk set op) st old new = where_deleting st old new op
-where_stepped (Cleanup op) st old new = where_cleaning st old new op
+-- the circumstances of a step with these sets, by where the operation stands
+abbrev pub where_stepped : DeadSets → Op → State → Backing → Backing → Circumstances
+where_stepped sets (Insert op) st old new = where_inserting st old new op.session op.entry op.at
+where_stepped sets (Scan op) st old new = where_scanning st old new op.session
+where_stepped sets (Bulk set op) st old new = where_deleting (set_at sets set) st old new op
+where_stepped sets (Cleanup op) st old new = where_cleaning st old new op
 
 -- ... of what a session runs, if anything
-abbrev pub where_slot_stepped : Option Op → State → Backing → Backing → Circumstances
-where_slot_stepped None st old new = nothing_wrong
-where_slot_stepped (Some op) st old new = where_stepped op st old new
+abbrev pub where_slot_stepped : DeadSets → Option Op → State → Backing → Backing → Circumstances
+where_slot_stepped sets None st old new = nothing_wrong
+where_slot_stepped sets (Some op) st old new = where_stepped sets op st old new
 
 -- the circumstances of a `next`: only a scan has entries to give
 abbrev pub where_asked_next : Ask → Circumstances

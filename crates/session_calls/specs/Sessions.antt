@@ -18,10 +18,11 @@ use Rattle.tree_acts.specs.Deletions.{StartsAreBelow}
 use Rattle.descent.specs.Steps.{IsApt, Changes}
 use Rattle.descent.specs.Shared.{IsInOrder, OthersRely, MovesFlags, DeletesLeaves, IsOneStep}
 use Rattle.page_delete.specs.Cleanups.{CleanupFits}
-use Rattle.page_delete.specs.Counts.{IsCleaned, AllIsCleaned}
+use Rattle.page_delete.specs.Counts.{IsCleaned, AllIsCleaned, deleted_in}
 use Rattle.page_delete.specs.Ops.{cleanup_stats}
 use Rattle.page_delete.specs.Parts.{PinnedLeavesStay}
 use Rattle.page_delete.specs.Spares.{IsAlone, IsSparing, OnlyNeededStay}
+use Rattle.page_delete.specs.declared.steps.CleanupOp.{CleanupOp}
 use Rattle.scan.specs.Scans.{waiting}
 use Rattle.vacuum.specs.Counts.{IsCounted, entries_below, stats_of}
 use Rattle.session_calls.specs.Ops.{set_at, ends_call}
@@ -419,6 +420,17 @@ abbrev pub TellsStats : State → Option Op → Answer → Type 0
 TellsStats st (Some (Bulk set op)) (Finished stats) = stats ≡ stats_of st op
 TellsStats st (Some (Cleanup op)) (Finished stats) = stats ≡ cleanup_stats st op
 TellsStats st before answer = Unit {0}
+
+-- as many more pages are deleted behind a step of a cleanup as it has counted more, where it runs on
+abbrev pub CountsPagesOn : State → State → CleanupOp → Option Op → Type 0
+CountsPagesOn old new before (Some (Cleanup after)) = deleted_in new + before.deleted ≡ deleted_in old + after.deleted
+CountsPagesOn old new before after = Unit {0}
+
+-- a cleanup counts the pages that it deletes, and tells at its end how many they were
+abbrev pub CountsPages : State → State → Option Op → Option Op → Answer → Type 0
+CountsPages old new (Some (Cleanup op)) after Going = CountsPagesOn old new op after
+CountsPages old new (Some (Cleanup op)) after (Finished stats) = deleted_in new + op.deleted ≡ deleted_in old + stats.pages_newly_deleted
+CountsPages old new before after answer = Unit {0}
 
 -- where nobody else acts, what a bulk delete or a cleanup has counted are the entries that it has left; at the end all of them;
 -- and a cleanup leaves no half-dead page

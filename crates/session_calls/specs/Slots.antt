@@ -77,7 +77,7 @@ pub record SlotBegins {S : Type 0} (g : Ghosts S) (old new : S) (session : ℕ) 
 pub record SlotSteps {S : Type 0} (g : Ghosts S) (sets : DeadSets) (old new : S) (answer : Answer) (before after : Option Op) : Type 0 where
   pub always : StepAlways g old new before after answer
   pub goes : (g.backing new).honest ≡ true → (start : Entry → Bool) (history : List Action) (number : ℕ) (call : Call) → SlotFits (g.state old) sets start history number call before
-      → SessionGoes (where_slot_stepped before (g.state old) (g.backing old) (g.backing new)) (g.state old) (g.state new) sets start history number call after answer
+      → SessionGoes (where_slot_stepped sets before (g.state old) (g.backing old) (g.backing new)) (g.state old) (g.state new) sets start history number call after answer
   pub follows : (g.backing new).honest ≡ true → StepFollows sets (g.state old) (g.state new) before after answer
 
 -- what a slot runs is asked for its next entry, which changes no pages

@@ -35,8 +35,8 @@ pub(crate) fn step<S: PageStore, T: DeadRows>(
     ensures goes { (S.backing store.new).honest ≡ true
         → (start : Entry → Bool) (history : List Action) (number : ℕ) (call : Call)
         → SlotFits (S.state store.old) (map T.is_in sets.now) start history number call slot.old
-        → SessionGoes (where_slot_stepped slot.old (S.state store.old) (S.backing store.old)
-        (S.backing store.new))
+        → SessionGoes (where_slot_stepped (map T.is_in sets.now) slot.old (S.state store.old)
+        (S.backing store.old) (S.backing store.new))
         (S.state store.old) (S.state store.new) (map T.is_in sets.now) start history number call
         slot.new result }
     // What is followed of the call it follows still, or tells at its end.

@@ -30,7 +30,7 @@ pub enum Op {
 impl Op {
     ghost use Rattle.session_calls.specs.Due.{IsDueIn, CountsDown};
     ghost use Rattle.session_calls.specs.Ops.{op_before, session_of, is_vacuum, is_sweep, add_of, OpFits, where_stepped};
-    ghost use Rattle.session_calls.specs.Sessions.{CallFits, OpSteps, OpGoes, OnlyOwnAreFlagged, LeavesOwnFlagged, StandsByAnswer, KeepsBeforePins, CountsEntries, SparesLeaves, slot_after};
+    ghost use Rattle.session_calls.specs.Sessions.{CallFits, OpSteps, OpGoes, OnlyOwnAreFlagged, LeavesOwnFlagged, StandsByAnswer, KeepsBeforePins, CountsEntries, CountsPages, SparesLeaves, slot_after};
 
     /// The call that a session asks for, before its first step.
     pub fn new(session: Session, request: Request) -> Op
@@ -89,8 +89,8 @@ impl Op {
         ensures goes { (S.backing store.new).honest ≡ true
             → (start : Entry → Bool) (history : List Action) (number : ℕ) (call : Call)
             → CallFits (S.state store.old) (map T.is_in sets.now) start history number call self.old
-            → OpGoes (where_stepped self.old (S.state store.old) (S.backing store.old)
-            (S.backing store.new))
+            → OpGoes (where_stepped (map T.is_in sets.now) self.old (S.state store.old)
+            (S.backing store.old) (S.backing store.new))
             (S.state store.old) (S.state store.new) (map T.is_in sets.now) start history number
             call self.new result }
         ensures flagged { (S.backing store.new).honest ≡ true → IsInOrder (S.state store.old)
@@ -108,6 +108,9 @@ impl Op {
         ensures entries { (S.backing store.new).honest ≡ true
             → CountsEntries (map T.is_in sets.now) (S.state store.old) (S.state store.new)
             (Some self.old) (slot_after result self.new) result }
+        ensures deletes { (S.backing store.new).honest ≡ true
+            → CountsPages (S.state store.old) (S.state store.new) (Some self.old)
+            (slot_after result self.new) result }
         ensures spares { (S.backing store.new).honest ≡ true
             → SparesLeaves (S.state store.old) (S.state store.new) (Some self.old)
             (slot_after result self.new) result }

@@ -1,7 +1,8 @@
 -- Why a step of a bulk delete is refused.
-use Rattle.std.proofs.Common.{◌≡◌, ℕ, ◌<◌, ◌≤◌, inl, inr, Bool, true, false, ◌||◌, nat_le, refl, subst, arith}
+use Rattle.std.proofs.Common.{◌≡◌, ℕ, ◌<◌, ◌≤◌, inl, inr, Bool, true, false, ◌||◌, ◌&&◌, nat_le, refl, subst, arith}
 use Rattle.std.proofs.lemmas.Bool.{or_cases, ltb-true, lt-ltb}
 use Rattle.index_model.specs.Faults.{HasCause}
+use Rattle.index_model.specs.Row.{Row}
 use Rattle.index_model.specs.declared.fault.Fault.{Fault}
 use Rattle.index_model.specs.declared.fault.Fault.TheVariants.{Io, Stopped, Blocked, LogFull}
 use Rattle.latch_table.specs.Holdings.{is_held_by_another}
@@ -9,7 +10,7 @@ use Rattle.latch_table.specs.declared.mode.Mode.TheVariants.{Shared, Exclusive}
 use Rattle.page_action.specs.Causes.{is_at_end}
 use Rattle.page_action.specs.States.{State, Backing}
 use Rattle.descent.specs.Shared.{where_working}
-use Rattle.vacuum.specs.BulkDeletes.{where_deleting, is_counted_out}
+use Rattle.vacuum.specs.BulkDeletes.{where_taking, where_deleting, is_counted_out}
 use Rattle.vacuum.specs.declared.steps.BulkDeleteOp.{BulkDeleteOp}
 use Rattle.vacuum.proofs.Holding.{held_for_cleanup}
 
@@ -29,25 +30,26 @@ or_there false true c h = refl
 or_there false false c h = h
 
 -- a page isn't read
-pub reading_cause : (st : State) (old new : Backing) (op : BulkDeleteOp) (fault : Fault) → HasCause (where_working st old new op.session 1 1 false false) fault → HasCause (where_deleting st old new op) fault
-reading_cause st old new op Io h = h
-reading_cause st old new op Stopped h = or_more old.stopped (is_at_end st.acts) (is_counted_out op) h
-reading_cause st old new op (Blocked b) h = elim (or_cases (is_held_by_another st.table op.session b Shared) (is_held_by_another st.table op.session b Exclusive) h) [
+pub reading_cause : (dead : Row → Bool) (st : State) (old new : Backing) (op : BulkDeleteOp) (fault : Fault) → HasCause (where_working st old new op.session 0 1 false false) fault → HasCause (where_deleting dead st old new op) fault
+reading_cause dead st old new op Io h = h
+reading_cause dead st old new op Stopped h = or_more old.stopped (is_at_end st.acts) (is_counted_out op) h
+reading_cause dead st old new op (Blocked b) h = elim (or_cases (is_held_by_another st.table op.session b Shared) (is_held_by_another st.table op.session b Exclusive) h) [
   | inl shared ↦ held_for_cleanup st.table op.session b Shared shared
   | inr alone ↦ held_for_cleanup st.table op.session b Exclusive alone
 ]
-reading_cause st old new op fault h = h
+reading_cause dead st old new op LogFull h = absurd (let k : false ≡ true = h in cc)
+reading_cause dead st old new op fault h = h
 
 -- what is a cause where a page was read before is one from before that
-pub deleting_later : (st : State) (first second third : Backing) (op : BulkDeleteOp) (fault : Fault) → first.failures ≤ second.failures → (second.stopped ≡ true → first.stopped ≡ true)
-    → second.promised ≡ first.promised → HasCause (where_deleting st second third op) fault → HasCause (where_deleting st first third op) fault
-deleting_later st first second third op Io le alive promised h =
+pub taking_later : (writes : Bool) (st : State) (first second third : Backing) (op : BulkDeleteOp) (fault : Fault) → first.failures ≤ second.failures → (second.stopped ≡ true → first.stopped ≡ true)
+    → second.promised ≡ first.promised → HasCause (where_taking writes st second third op) fault → HasCause (where_taking writes st first third op) fault
+taking_later writes st first second third op Io le alive promised h =
     let k : second.failures < third.failures = ltb-true second.failures third.failures h in
     lt-ltb first.failures third.failures (omega (arith, le, k))
-deleting_later st first second third op Stopped le alive promised h = or_later first.stopped second.stopped (is_at_end st.acts || is_counted_out op) alive h
-deleting_later st first second third op LogFull le alive promised h = subst (λ (n : ℕ). nat_le n 1 ≡ true) promised h
-deleting_later st first second third op fault le alive promised h = h
+taking_later writes st first second third op Stopped le alive promised h = or_later first.stopped second.stopped (is_at_end st.acts || is_counted_out op) alive h
+taking_later writes st first second third op LogFull le alive promised h = subst (λ (n : ℕ). (writes && nat_le n 1) ≡ true) promised h
+taking_later writes st first second third op fault le alive promised h = h
 
 -- a counter is at its end, or the log had stopped
-pub counted_out_cause : (st : State) (old new : Backing) (op : BulkDeleteOp) → is_counted_out op ≡ true → HasCause (where_deleting st old new op) Stopped
-counted_out_cause st old new op h = or_there old.stopped (is_at_end st.acts) (is_counted_out op) h
+pub counted_out_cause : (dead : Row → Bool) (st : State) (old new : Backing) (op : BulkDeleteOp) → is_counted_out op ≡ true → HasCause (where_deleting dead st old new op) Stopped
+counted_out_cause dead st old new op h = or_there old.stopped (is_at_end st.acts) (is_counted_out op) h

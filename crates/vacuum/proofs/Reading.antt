@@ -30,7 +30,7 @@ use Rattle.tree_acts.proofs.Telling.{trail_goes_right, trail_is_short_here}
 use Rattle.tree_acts.proofs.Words.{trail_in}
 use Rattle.descent.specs.Shared.{IsInOrder, Does, IsOneStep}
 use Rattle.descent.proofs.Acting.{one_act, one_nothing, nothing_else}
-use Rattle.vacuum.specs.BulkDeletes.{GoesBack, BulkDeleteFits, BulkDeleteSteps, where_deleting, removes, dead_of, dead_at}
+use Rattle.vacuum.specs.BulkDeletes.{GoesBack, BulkDeleteFits, BulkDeleteSteps, where_deleting, removes, dead_of, dead_at, has_dead}
 use Rattle.vacuum.specs.Counts.{stats_of, IsBelow, IsCounted, entry_count}
 use Rattle.vacuum.specs.Ops.{lives, without_dead, dead_entries, next_block, last_read, moves_of, cursor_past}
 use Rattle.vacuum.specs.Sweeping.{IsSibling, DueIsToCome}
@@ -52,7 +52,7 @@ runs_no_more b alive stopped = absurd cc
 -- a step that is refused before anything is changed
 pub refuses : {S : Type 0} (g : Ghosts S) (dead : Row → Bool) (op : BulkDeleteOp) (old new : S) (fault : Fault) → Continues g.follows old new → g.state new ≡ g.state old
     → ((g.backing old).stopped ≡ true → fault ≡ Stopped)
-    → ((g.backing new).honest ≡ true → IsInOrder (g.state old) → BulkDeleteFits (g.state old) op → HasCause (where_deleting (g.state old) (g.backing old) (g.backing new) op) fault)
+    → ((g.backing new).honest ≡ true → IsInOrder (g.state old) → BulkDeleteFits (g.state old) op → HasCause (where_deleting dead (g.state old) (g.backing old) (g.backing new) op) fault)
     → BulkDeleteSteps g dead op op old new (Err fault)
 refuses g dead op old new fault steps same stops cause = record {
   steps = steps;
@@ -284,6 +284,13 @@ not_written n is = rw is refl
 
 is_written : (n m : ℕ) → n ≡ suc m → nat_lt 0 n ≡ true
 is_written n m is = lt-ltb 0 n (omega (arith, is))
+
+-- a page that is read is written exactly where it has dead entries
+pub writes_dead : (dead : Row → Bool) (st : State) (op : BulkDeleteOp) (block : ℕ) (page : Page) (swept : Swept) → next_block op.cursor op.back ≡ block → slice_get st.pages block ≡ Some page
+    → page.state ≡ Live → HasEntries page.items → IsSwept dead page swept → nat_lt 0 swept.gone ≡ has_dead dead st op
+writes_dead dead st op block page swept at found alive leaf sw =
+    let here : slice_get st.pages (next_block op.cursor op.back) ≡ Some page = subst (λ (b : ℕ). slice_get st.pages b ≡ Some page) (sym at) found in
+    ap (λ (n : ℕ). nat_lt 0 n) (gone_is dead page swept alive leaf sw ∙ ap (λ (o : Option Page). length (dead_of dead o)) (sym here))
 
 -- a live leaf loses its dead entries, and may lead back
 module _ {S : Type 0} (g : Ghosts S) (dead : Row → Bool) (before : BulkDeleteOp) (old new : S) (block : ℕ) (page : Page) (swept : Swept) (onward : Option Back)

@@ -1,5 +1,5 @@
 -- What a bulk delete knows between its steps, and what a step of it does.
-use Rattle.std.specs.Prelude.{◌≡◌, ◌≢◌, ℕ, ◌+◌, ◌<◌, ◌≤◌, ◌||◌, nat_lt, nat_le, Bool, true, false, Option, Some, None, Result, Ok, Err, OnErr, List, [], ◌∷◌, length, slice_get}
+use Rattle.std.specs.Prelude.{◌≡◌, ◌≢◌, ℕ, ◌+◌, ◌<◌, ◌≤◌, ◌||◌, ◌&&◌, nat_lt, nat_le, Bool, true, false, Option, Some, None, Result, Ok, Err, OnErr, List, [], ◌∷◌, length, slice_get}
 use Rattle.index_model.specs.Actions.{Effect, Remove}
 use Rattle.index_model.specs.Faults.{Circumstances, HasCause}
 use Rattle.index_model.specs.Order.{is_among}
@@ -47,16 +47,6 @@ is_full_count count = nat_lt 18446744073709551565 count
 abbrev pub is_counted_out : BulkDeleteOp → Bool
 is_counted_out op = is_full_count op.left || is_full_count op.removed
 
--- why a step of a bulk delete is refused, on pages that are a tree and a device that keeps its model
-abbrev pub where_deleting : State → Backing → Backing → BulkDeleteOp → Circumstances
-where_deleting st old new op = record nothing_wrong {
-  device_failed = has_failed old new;
-  is_stopped = old.stopped || (is_at_end st.acts || is_counted_out op);
-  is_held_by_another = λ b. is_held_by_another st.table op.session b Cleanup;
-  log_is_full = nat_le old.promised 1;
-  frames_are_pinned = nat_lt st.frames (1 + count_apart (pinned_blocks st.table));
-}
-
 -- these entries are removed, if there are any
 abbrev pub removes : List Entry → Option Effect
 removes [] = None
@@ -69,6 +59,25 @@ dead_of dead (Some page) = dead_entries dead page
 
 abbrev pub dead_at : (Row → Bool) → State → ℕ → List Entry
 dead_at dead st block = dead_of dead (slice_get st.pages block)
+
+-- the page that is read next has dead entries
+abbrev pub has_dead : (Row → Bool) → State → BulkDeleteOp → Bool
+has_dead dead st op = nat_lt 0 (length (dead_at dead st (next_block op.cursor op.back)))
+
+-- why a step of a bulk delete is refused that writes a page, or none
+abbrev pub where_taking : Bool → State → Backing → Backing → BulkDeleteOp → Circumstances
+where_taking writes st old new op = record nothing_wrong {
+  device_failed = has_failed old new;
+  is_stopped = old.stopped || (is_at_end st.acts || is_counted_out op);
+  is_held_by_another = λ b. is_held_by_another st.table op.session b Cleanup;
+  log_is_full = writes && nat_le old.promised 1;
+  frames_are_pinned = nat_lt st.frames (1 + count_apart (pinned_blocks st.table));
+}
+
+-- why a step of a bulk delete of this set of rows is refused, on pages that are a tree and a device that keeps its model: it
+-- writes the page that it reads where that has dead entries
+abbrev pub where_deleting : (Row → Bool) → State → Backing → Backing → BulkDeleteOp → Circumstances
+where_deleting dead st old new op = where_taking (has_dead dead st op) st old new op
 
 -- a page is read: its dead entries are removed in one act
 pub record BulkDeleteGoesOn (dead : Row → Bool) (old new : State) (before after : BulkDeleteOp)
@@ -97,7 +106,7 @@ BulkDeleteStepped dead old old_backing new new_backing before after (Ok Going) =
 BulkDeleteStepped dead old old_backing new new_backing before after (Ok (Finished stats)) =
     BulkDeleteEnds old new before after
 BulkDeleteStepped dead old old_backing new new_backing before after (Err fault) =
-    HasCause (where_deleting old old_backing new_backing before) fault
+    HasCause (where_deleting dead old old_backing new_backing before) fault
 
 -- a refused step changes neither the pages, nor who holds what, nor the call
 pub record BulkDeleteStays (old new : State) (before after : BulkDeleteOp) : Type 0 where

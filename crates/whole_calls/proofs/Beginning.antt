@@ -1,17 +1,19 @@
 -- Beginnings as runs of one event.
-use Rattle.std.proofs.Common.{◌≡◌, ℕ, Bool, Option, Some, None, List, [], ◌∷◌, slice_get, refl, sym, subst, inl, inr}
+use Rattle.std.proofs.Common.{◌≡◌, ℕ, Bool, Option, Some, None, List, [], ◌∷◌, slice_get, refl, sym, subst, arith, inl, inr}
 use Rattle.page_codec.specs.declared.page.PageState.TheVariants.{HalfDead}
 use Rattle.tree_shape.specs.Nodes.{nodes_of}
 use Rattle.vacuum.specs.Laws.{NothingIsCounted}
+use Rattle.page_delete.specs.Counts.{deleted_in}
 use Rattle.page_delete.specs.Spares.{IsAlone}
 use Rattle.page_delete.proofs.Cleaning.{nothing_cleaned}
 use Rattle.page_delete.proofs.Sparing.{nothing_spared}
+use Rattle.page_delete.proofs.Tallying.{deleted_alike}
 use Rattle.session_calls.specs.declared.request.Request.TheVariants.{Bulk as ToBulk, Cleanup as ToCleanup}
 use Rattle.schedule.specs.declared.event.Event.{Event}
 use Rattle.whole_calls.proofs.Words.{Entry, State, Ghosts, Page, op_before, set_at, Answer, Begun, Refused, Op, Request, StoreAndSlots, Snapshot, snapshot_of, Kind, BeginsCall, kind_of, EventDoes, IsOfSession, AnswersBeginning, MayBegin, slot_of, Carries, Runs, Laws}
 use Rattle.whole_calls.specs.Going.{CameBy, CallGoes}
 use Rattle.whole_calls.specs.Stepping.{BeginGoes}
-use Rattle.whole_calls.specs.Sweeping.{Followed, of_sweep, of_cleanup, of_leaves, FollowsFrom, IsCountedAs, BeginsToCount}
+use Rattle.whole_calls.specs.Sweeping.{Followed, of_sweep, of_cleanup, of_deleted, of_leaves, FollowsFrom, IsCountedAs, BeginsToCount}
 use Rattle.whole_calls.specs.Telling.{begun_of, begin_came}
 use Rattle.whole_calls.proofs.Composing.{goes_once, goes_told}
 use Rattle.whole_calls.proofs.Counting.{alone_on}
@@ -44,6 +46,10 @@ module _ {S : Type 0} (g : Ghosts S) (start : Entry → Bool) (session : ℕ) (r
   fresh_counts : NothingIsCounted → (what : Followed) (asked : Request) → FollowsFrom what asked (g.state x.store) session → IsCountedAs what y.sets now (Some (op_before session asked))
   fresh_counts nothing of_sweep (ToBulk set) follows = nothing (set_at y.sets set) now session does.also.invariant.order
   fresh_counts nothing of_cleanup ToCleanup follows = nothing_cleaned now session does.also.invariant.order
+  fresh_counts nothing (of_deleted was) ToCleanup follows =
+      let alike : deleted_in now ≡ deleted_in (g.state x.store) = deleted_alike (g.state x.store) now (does.also.quiet.pages (same (slice_get x.slots session) does.also.happens)) in
+      let were : was ≡ deleted_in (g.state x.store) = follows in
+      omega (arith, alike, were)
   fresh_counts nothing of_leaves ToCleanup calm = (
     alone (slice_get x.slots session) does.also.happens calm.alone,
     nothing_spared now session does.also.invariant.order

@@ -1,18 +1,19 @@
 -- What a bulk delete or a cleanup counts, step by step.
-use Rattle.std.proofs.Common.{◌≡◌, ℕ, ◌<◌, Bool, true, false, Option, Some, None, Ok, List, [], length, slice_get, refl, sym, ap, subst, ◌∙◌, unwrap_or}
+use Rattle.std.proofs.Common.{◌≡◌, ℕ, ◌+◌, ◌<◌, Bool, true, false, Option, Some, None, Ok, List, [], length, slice_get, refl, sym, ap, subst, ◌∙◌, arith, unwrap_or}
 use Rattle.index_model.specs.declared.stats.VacuumStats.{VacuumStats}
 use Rattle.vacuum.specs.Counts.{entries_below}
 use Rattle.page_codec.specs.declared.page.PageState.TheVariants.{Live, HalfDead}
 use Rattle.tree_shape.specs.Nodes.{nodes_of}
 use Rattle.tree_shape.specs.Staying.{MustStay}
 use Rattle.tree_acts.specs.Deletions.{StartsAreBelow}
-use Rattle.page_delete.specs.Counts.{AllIsCleaned}
+use Rattle.page_delete.specs.Counts.{AllIsCleaned, deleted_in}
+use Rattle.page_delete.proofs.Tallying.{deleted_alike}
 use Rattle.page_delete.specs.Spares.{IsAlone, OnlyNeededStay}
 use Rattle.session_calls.specs.declared.op.Op.TheVariants.{Bulk, Cleanup}
 use Rattle.schedule.proofs.Lists.{get_set_same, get_within}
 use Rattle.schedule.proofs.Standing.{slot_found}
-use Rattle.whole_calls.proofs.Words.{Call, Entry, State, Ghosts, Page, DeadSets, asked_of, session_of, OpFits, CountsEntries, SparesLeaves, Answer, Going, Finished, Op, Snapshot, IsRunningCall, EventDoes, Fits, slot_of, SlotRuns, has_call, MovesCall, Steps, CallMoves, MovesOn}
-use Rattle.whole_calls.specs.Sweeping.{Followed, of_sweep, of_cleanup, of_leaves, IsCountedAs, TellsAs, CountsThrough}
+use Rattle.whole_calls.proofs.Words.{Call, Entry, State, Ghosts, Page, DeadSets, asked_of, session_of, OpFits, CountsEntries, CountsPages, SparesLeaves, Answer, Going, Finished, Op, Snapshot, IsRunningCall, EventDoes, Fits, slot_of, SlotRuns, has_call, MovesCall, Steps, CallMoves, MovesOn}
+use Rattle.whole_calls.specs.Sweeping.{Followed, of_sweep, of_cleanup, of_deleted, of_leaves, IsCountedAs, TellsAs, CountsThrough}
 use Rattle.descent.specs.Shared.{IsInOrder, OthersRely}
 use Rattle.whole_calls.proofs.Tellings.{runs_in_slot, one_runs}
 use Rattle.schedule.proofs.Fitting.{fits_behind, running_of}
@@ -28,24 +29,28 @@ record StepCounts (sets : DeadSets) (old now : State) (op : Op) (after : Option 
   starts : StartsAreBelow old
   fits : OpFits old op
   entries : CountsEntries sets old now (Some op) after answer
+  deletes : CountsPages old now (Some op) after answer
   spares : SparesLeaves old now (Some op) after answer
 
 -- a call that was asked the same runs the same, and counts on
-counted_next : (what : Followed) (sets : DeadSets) (old now : State) (op next : Op) (answer : Answer) → (IsAlone old (session_of op) → IsAlone now (session_of next)) → asked_of sets next ≡ asked_of sets op
-    → IsCountedAs what sets old (Some op) → StepCounts sets old now op (Some next) answer → IsCountedAs what sets now (Some next)
-counted_next of_sweep sets old now (Bulk set op) (Bulk place next) answer alone same counted h = (h.entries counted).0
-counted_next of_cleanup sets old now (Cleanup op) (Cleanup next) answer alone same counted h = (h.entries h.fits counted).0
-counted_next of_leaves sets old now (Cleanup op) (Cleanup next) answer alone same counted h = (alone counted.0, (h.spares h.order h.starts h.fits counted.0 counted.1).0)
-counted_next of_sweep sets old now (Bulk set op) next answer alone same counted h = absurd cc
-counted_next of_cleanup sets old now (Cleanup op) next answer alone same counted h = absurd cc
-counted_next of_leaves sets old now (Cleanup op) next answer alone same counted h = absurd cc
-counted_next what sets old now op next answer alone same counted h = absurd counted
+counted_next : (what : Followed) (sets : DeadSets) (old now : State) (op next : Op) → (IsAlone old (session_of op) → IsAlone now (session_of next)) → asked_of sets next ≡ asked_of sets op
+    → IsCountedAs what sets old (Some op) → StepCounts sets old now op (Some next) Going → IsCountedAs what sets now (Some next)
+counted_next of_sweep sets old now (Bulk set op) (Bulk place next) alone same counted h = (h.entries counted).0
+counted_next of_cleanup sets old now (Cleanup op) (Cleanup next) alone same counted h = (h.entries h.fits counted).0
+counted_next (of_deleted was) sets old now (Cleanup op) (Cleanup next) alone same counted h = (let d : deleted_in now + op.deleted ≡ deleted_in old + next.deleted = h.deletes in let c : deleted_in old ≡ was + op.deleted = counted in omega (arith, d, c))
+counted_next of_leaves sets old now (Cleanup op) (Cleanup next) alone same counted h = (alone counted.0, (h.spares h.order h.starts h.fits counted.0 counted.1).0)
+counted_next of_sweep sets old now (Bulk set op) next alone same counted h = absurd cc
+counted_next of_cleanup sets old now (Cleanup op) next alone same counted h = absurd cc
+counted_next (of_deleted was) sets old now (Cleanup op) next alone same counted h = absurd cc
+counted_next of_leaves sets old now (Cleanup op) next alone same counted h = absurd cc
+counted_next what sets old now op next alone same counted h = absurd counted
 
 -- ... and tells at its end
 counted_last : (what : Followed) (sets : DeadSets) (old now : State) (op : Op) (after : Option Op) (stats : VacuumStats) → IsCountedAs what sets old (Some op)
     → StepCounts sets old now op after (Finished stats) → TellsAs what now (Ok stats)
 counted_last of_sweep sets old now (Bulk set op) after stats counted h = (h.entries counted).1
 counted_last of_cleanup sets old now (Cleanup op) after stats counted h = (h.entries h.fits counted).1
+counted_last (of_deleted was) sets old now (Cleanup op) after stats counted h = (let d : deleted_in now + op.deleted ≡ deleted_in old + stats.pages_newly_deleted = h.deletes in let c : deleted_in old ≡ was + op.deleted = counted in omega (arith, d, c))
 counted_last of_leaves sets old now (Cleanup op) after stats counted h = (h.spares h.order h.starts h.fits counted.0 counted.1).1
 counted_last what sets old now op after stats counted h = absurd counted
 
@@ -70,6 +75,7 @@ module _ {S : Type 0} (g : Ghosts S) (start : Entry → Bool) (session : ℕ) (x
     starts = fits.invariant.starts;
     fits = runs_fits op is;
     entries = subst (λ (o : Option Op). CountsEntries x.sets old now o (slot_of y.slots session) answer) is does.also.followed.entries;
+    deletes = subst (λ (o : Option Op). CountsPages old now o (slot_of y.slots session) answer) is does.also.followed.deletes;
     spares = subst (λ (o : Option Op). SparesLeaves old now o (slot_of y.slots session) answer) is does.also.followed.spares;
   }
 
@@ -95,7 +101,7 @@ module _ {S : Type 0} (g : Ghosts S) (start : Entry → Bool) (session : ℕ) (x
           let asked : asked_of x.sets q.0 ≡ asked_of x.sets op =
           ap (λ (l : DeadSets). asked_of l q.0) (sym does.means.sets) ∙ sym q.2.runs.ask ∙ ap (λ (k : Call). k.ask) then_same ∙ ap (λ (k : Call). k.ask) c.told ∙ ask in
           subst (λ (o : Option Op). IsCountedAs what x.sets now o) (sym is)
-          (counted_next what x.sets old now op q.0 Going
+          (counted_next what x.sets old now op q.0
           (alone_on session old now (session_of op) (session_of q.0) c.others (ap session_of (sym op_is) ∙ r.2.runs.session ∙ r.2.is.session_is) (q.2.runs.session ∙ q.2.is.session_is))
           asked counted (subst (λ (o : Option Op). StepCounts x.sets old now op o Going) is (stands op Going does slot)))
 
@@ -133,4 +139,5 @@ spared_on new last same h block e = subst (λ (ps : List Page). MustStay (nodes_
 pub tells_on : (what : Followed) (new last : State) (stats : VacuumStats) → last.pages ≡ new.pages → TellsAs what new (Ok stats) → TellsAs what last (Ok stats)
 tells_on of_sweep new last stats same h = h ∙ ap (λ (ps : List Page). entries_below ps (length ps)) (sym same)
 tells_on of_cleanup new last stats same h = cleaned_on new last stats.num_index_tuples same h
+tells_on (of_deleted was) new last stats same h = deleted_alike new last same ∙ h
 tells_on of_leaves new last stats same h = spared_on new last same h

@@ -3,6 +3,7 @@ use Rattle.std.proofs.Common.{◌≡◌, ◌≢◌, ◌⊎◌, ℕ, zero, suc, �
 use Rattle.std.proofs.lemmas.Bool.{or_cases, and_parts, ne_eqb, ltb-true, lt-ltb, ltb-false, leb-true, le-leb, eqb-true, eq-eqb}
 use Rattle.std.proofs.lemmas.List.{append-nil}
 use Rattle.index_model.specs.declared.fault.Fault.TheVariants.{Io, Stopped, Blocked, Exists, KeyTooLong, BadRow, IndexFull, LogFull, NoFrame, VacuumRunning, NoSession, SessionBusy, BadSuper, BadVersion, LogDamaged, BadLimits, TooTall, DeviceTooSmall}
+use Rattle.index_model.specs.Row.{Row}
 use Rattle.index_model.specs.declared.range.Range.{Range}
 use Rattle.latch_table.specs.Holdings.{Holding, Table, nothing_held, holding_of, holding_excludes, is_held_by_another}
 use Rattle.latch_table.specs.declared.mode.Mode.{Mode}
@@ -13,22 +14,20 @@ use Rattle.page_action.specs.Causes.{nothing_wrong, where_forced, has_failed, is
 use Rattle.descent.specs.Shared.{is_out_of_blocks, any_is_reusable}
 use Rattle.descent.specs.Ways.{root_level}
 use Rattle.split_finish.specs.Finishes.{frames_of}
-use Rattle.split_finish.specs.declared.finish.FinishAt.{FinishAt}
-use Rattle.split_finish.specs.declared.finish.FinishAt.TheVariants.{Start as FinishStart}
 use Rattle.insert_split.specs.Inserts.{InsertFits, InsertStands, leaf_held, images_at, frames_at, takes_block_at, splits_root_at, where_inserting}
 use Rattle.insert_split.specs.declared.insert.InsertAt.{InsertAt}
 use Rattle.insert_split.specs.declared.insert.InsertAt.TheVariants.{Start, At, Holding as Holds, Finishing}
 use Rattle.insert_split.specs.declared.insert.InsertOp.{InsertOp}
 use Rattle.scan.specs.Scans.{ScanFits, leaf_pinned, pins_of, where_scanning}
 use Rattle.scan.specs.declared.steps.ScanOp.{ScanOp}
-use Rattle.vacuum.specs.BulkDeletes.{BulkDeleteFits, where_deleting, is_counted_out}
+use Rattle.vacuum.specs.BulkDeletes.{BulkDeleteFits, where_deleting, is_counted_out, has_dead}
 use Rattle.vacuum.specs.declared.steps.BulkDeleteOp.{BulkDeleteOp}
 use Rattle.page_delete.specs.Cleanups.{CleanupFits, where_cleaning}
 use Rattle.page_delete.specs.Needs.{count_written, frames_for}
 use Rattle.page_delete.specs.Ops.{is_counted_out as is_cleanup_full}
 use Rattle.page_delete.specs.declared.steps.CleanupOp.{CleanupOp}
 use Rattle.session_calls.specs.declared.op.Op.TheVariants.{Insert, Scan, Bulk, Cleanup}
-use Rattle.whole_calls.proofs.Words.{Effect, Ask, AskInsert, AskScan, AskBulkDelete, AskCleanup, Call, Circumstances, HasCause, Entry, Fault, Limits, State, Backing, IsLater, Ghosts, Page, DeadSets, acts_of, OpFits, IsCaused, once_added, where_stepped, asked_of, session_of, Told, is_busy, AnswersNext, Answer, Added, Gave, Refused, Op, Request, StoreAndSlots, Snapshot, IsRunningCall, EventDoes, Fits, here_at, slot_of, one_vacuums, MovesCall, Steps, CallMoves, MovesOn, where_moving, where_begun_at, is_of_sets, OthersStay}
+use Rattle.whole_calls.proofs.Words.{Effect, Ask, AskInsert, AskScan, AskBulkDelete, AskCleanup, Call, Circumstances, HasCause, Entry, Fault, Limits, State, Backing, IsLater, Ghosts, Page, DeadSets, acts_of, OpFits, IsCaused, once_added, where_stepped, set_at, asked_of, session_of, Told, is_busy, AnswersNext, Answer, Added, Gave, Refused, Op, Request, StoreAndSlots, Snapshot, IsRunningCall, EventDoes, Fits, here_at, slot_of, one_vacuums, MovesCall, Steps, CallMoves, MovesOn, where_moving, where_begun_at, is_of_sets, OthersStay}
 use Rattle.whole_calls.specs.Refusing.{others_run, another_runs, is_full_vacuum, where_gone, where_inserted, is_used_up, is_tall, where_asked, where_called}
 use Rattle.whole_calls.proofs.Tellings.{runs_in_slot, runs_has_call, one_runs, true_false}
 use Rattle.schedule.proofs.Causes.{insert_images_few, put_few, frames_few, written_few, frames_for_few}
@@ -284,12 +283,12 @@ module _ {S : Type 0} (g : Ghosts S) (start : Entry → Bool) (session least_roo
   counts_cause true failed full h = refl
   counts_cause false failed full h = or_right failed (nat_le 18446744073709551615 (g.state y.store).acts || full) (or_wider (is_at_end st.acts) full (nat_le 18446744073709551615 (g.state y.store).acts) full at_end (λ k. k) h)
 
-  deleting : (op : BulkDeleteOp) → op.session ≡ session → BulkDeleteFits st op → (fault : Fault) → HasCause (where_deleting st (g.backing x.store) (g.backing y.store) op) fault → HasCause (where_gone g session least_room (is_counted_out op) (here_at x) y.store) fault
-  deleting op is f Stopped h = counts_cause (g.backing x.store).stopped (has_failed (g.backing x.store) (g.backing y.store)) (is_counted_out op) h
-  deleting op is f (Blocked b) h = held_cause b Cleanup (subst (λ (s : ℕ). is_held_by_another st.table s b Cleanup ≡ true) is h)
-  deleting op is f LogFull h = enough least_room (g.backing x.store).promised 1 room (omega arith) h
-  deleting op is f NoFrame h = pins_cause 1 1 nothing_held (subst (λ (s : ℕ). holding_of st.table s ≡ nothing_held) is f.held) (omega arith) (omega arith) h
-  deleting op is f fault h = h
+  deleting : (dead : Row → Bool) (op : BulkDeleteOp) → op.session ≡ session → BulkDeleteFits st op → (fault : Fault) → HasCause (where_deleting dead st (g.backing x.store) (g.backing y.store) op) fault → HasCause (where_gone g session least_room (is_counted_out op) (here_at x) y.store) fault
+  deleting dead op is f Stopped h = counts_cause (g.backing x.store).stopped (has_failed (g.backing x.store) (g.backing y.store)) (is_counted_out op) h
+  deleting dead op is f (Blocked b) h = held_cause b Cleanup (subst (λ (s : ℕ). is_held_by_another st.table s b Cleanup ≡ true) is h)
+  deleting dead op is f LogFull h = enough least_room (g.backing x.store).promised 1 room (omega arith) (and_parts (has_dead dead st op) (nat_le (g.backing x.store).promised 1) h).1
+  deleting dead op is f NoFrame h = pins_cause 1 1 nothing_held (subst (λ (s : ℕ). holding_of st.table s ≡ nothing_held) is f.held) (omega arith) (omega arith) h
+  deleting dead op is f fault h = h
 
   cleaning : (op : CleanupOp) → op.session ≡ session → CleanupFits st op → (fault : Fault) → HasCause (where_cleaning st (g.backing x.store) (g.backing y.store) op) fault → HasCause (where_gone g session least_room (is_cleanup_full op) (here_at x) y.store) fault
   cleaning op is f Stopped h = counts_cause (g.backing x.store).stopped (has_failed (g.backing x.store) (g.backing y.store)) (is_cleanup_full op) h
@@ -326,11 +325,11 @@ module _ {S : Type 0} (g : Ghosts S) (start : Entry → Bool) (session least_roo
         (inserting (entry_on_live_leaf st.pages op.entry) (is_used_up (g.state y.store)) (is_tall (g.state y.store)) op is f (used (takes_block_at st op.at) (same fault refl)) (tall (splits_root_at op.at) (same fault refl)) k h)) fault c
     insert_came full e op is f answer same c = tt
 
-    op_came : (op : Op) → session_of op ≡ session → OpFits st op → (answer : Answer) → ((fault : Fault) → fault_of answer ≡ Some fault → (g.state y.store).pages ≡ st.pages) → IsCaused (where_stepped op st (g.backing x.store) (g.backing y.store)) answer
+    op_came : (op : Op) → session_of op ≡ session → OpFits st op → (answer : Answer) → ((fault : Fault) → fault_of answer ≡ Some fault → (g.state y.store).pages ≡ st.pages) → IsCaused (where_stepped x.sets op st (g.backing x.store) (g.backing y.store)) answer
         → IsCaused (where_asked g session least_room (is_full_vacuum (Some op)) (asked_of x.sets op) (here_at x) y.store) answer
     op_came (Insert op) is f answer same c = insert_came false op.entry op is f answer same c
     op_came (Scan op) is f answer same c = cause_wider _ _ (scanning op is f) answer c
-    op_came (Bulk set op) is f answer same c = cause_wider _ _ (deleting op is f) answer c
+    op_came (Bulk set op) is f answer same c = cause_wider _ _ (deleting (set_at x.sets set) op is f) answer c
     op_came (Cleanup op) is f answer same c = cause_wider _ _ (cleaning op is f) answer c
 
 -- where it appends none, it leaves the pages as they were
@@ -360,7 +359,7 @@ module _ {S : Type 0} (g : Ghosts S) (start : Entry → Bool) (session least_roo
       let same : r.2.call ≡ call = (one_runs g start x fits session number r.2.number call r.2.call is r.2.is).1 in
       let slot : slot_of x.slots session ≡ Some r.0 = ap (λ (o : Option (Option Op)). unwrap_or o None) r.1 in
       let ask : asked_of x.sets r.0 ≡ call.ask = sym r.2.runs.ask ∙ ap (λ (c : Call). c.ask) same in
-      let caused : IsCaused (where_stepped r.0 (g.state x.store) (g.backing x.store) (g.backing y.store)) answer = subst (λ (o : Option (Option Op)). IsCaused (where_moving g x.sets x.store y.store Steps o) answer) r.1 does.also.caused in
+      let caused : IsCaused (where_stepped x.sets r.0 (g.state x.store) (g.backing x.store) (g.backing y.store)) answer = subst (λ (o : Option (Option Op)). IsCaused (where_moving g x.sets x.store y.store Steps o) answer) r.1 does.also.caused in
       let came = op_came g start session least_room x y fits room does.also.quiet.frames acts_on does.also.quiet.limits r.0 (r.2.runs.session ∙ r.2.is.session_is) r.2.runs.fits answer pages_stay caused in
       subst (λ (o : Option Op). IsCaused (where_asked g session least_room (is_full_vacuum o) call.ask (here_at x) y.store) answer) (sym slot)
       (subst (λ (a : Ask). IsCaused (where_asked g session least_room (is_full_vacuum (Some r.0)) a (here_at x) y.store) answer) ask came)

@@ -1,5 +1,5 @@
 -- A bulk delete or a cleanup that is run to its end, as a run of events.
-use Rattle.std.specs.Prelude.{◌≡◌, ◌≢◌, ℕ, Option, Some, None, Result, Ok, Err, List, [], ◌∷◌, ◌++◌, length}
+use Rattle.std.specs.Prelude.{◌≡◌, ◌≢◌, ℕ, ◌+◌, Option, Some, None, Result, Ok, Err, List, [], ◌∷◌, ◌++◌, length}
 use Rattle.index_model.specs.Actions.{Effect, Add, Remove, Shape}
 use Rattle.index_model.specs.Calls.{Ask, AskBulkDelete, AskCleanup, Vacuumed}
 use Rattle.index_model.specs.declared.entry.Entry.{Entry}
@@ -10,7 +10,7 @@ use Rattle.page_codec.specs.declared.page.PageState.TheVariants.{HalfDead}
 use Rattle.page_action.specs.States.{State}
 use Rattle.tree_acts.specs.Deletions.{state_in}
 use Rattle.vacuum.specs.Counts.{IsCounted, entries_below, deleted_count}
-use Rattle.page_delete.specs.Counts.{IsCleaned, AllIsCleaned}
+use Rattle.page_delete.specs.Counts.{IsCleaned, AllIsCleaned, deleted_in}
 use Rattle.page_delete.specs.Spares.{IsAlone, IsSparing, OnlyNeededStay}
 use Rattle.session_calls.specs.Ops.{set_at}
 use Rattle.session_calls.specs.TheoremCalls.{DeadSets}
@@ -78,20 +78,24 @@ pub data Followed : Type 0 where
   of_sweep : Followed
   -- those that a cleanup counts, and the half-dead pages
   of_cleanup : Followed
+  -- the pages that a cleanup deletes, beside so many that were deleted before
+  of_deleted : (was : ℕ) → Followed
   -- where nobody else holds a page, the empty leaves that a cleanup leaves
   of_leaves : Followed
 
 -- such a vacuum runs, and what it has counted are the entries that it has left; a cleanup leaves no half-dead page behind it, nor
--- an empty leaf that might leave the tree
+-- an empty leaf that might leave the tree, and has counted the pages that it has deleted
 abbrev pub IsCountedAs : Followed → DeadSets → State → Option Op → Type 0
 IsCountedAs what sets st None = ⊥
 IsCountedAs what sets st (Some (Insert op)) = ⊥
 IsCountedAs what sets st (Some (Scan op)) = ⊥
 IsCountedAs of_sweep sets st (Some (Bulk set op)) = IsCounted (set_at sets set) st op
 IsCountedAs of_cleanup sets st (Some (Bulk set op)) = ⊥
+IsCountedAs (of_deleted was) sets st (Some (Bulk set op)) = ⊥
 IsCountedAs of_leaves sets st (Some (Bulk set op)) = ⊥
 IsCountedAs of_sweep sets st (Some (Cleanup op)) = ⊥
 IsCountedAs of_cleanup sets st (Some (Cleanup op)) = IsCleaned st op
+IsCountedAs (of_deleted was) sets st (Some (Cleanup op)) = deleted_in st ≡ was + op.deleted
 IsCountedAs of_leaves sets st (Some (Cleanup op)) = IsAlone st op.session × IsSparing st op
 
 -- a bulk delete runs, and what it has counted are the entries that it has left
@@ -108,6 +112,11 @@ abbrev pub TellsCleaned : State → Result VacuumStats Fault → Type 0
 TellsCleaned st (Ok stats) = AllIsCleaned st stats.num_index_tuples
 TellsCleaned st (Err fault) = Unit {0}
 
+-- the statistics tell how many pages are deleted now, beside so many that were deleted before
+abbrev pub TellsDeleted : ℕ → State → Result VacuumStats Fault → Type 0
+TellsDeleted was st (Ok stats) = deleted_in st ≡ was + stats.pages_newly_deleted
+TellsDeleted was st (Err fault) = Unit {0}
+
 -- no empty leaf is left that might leave the tree
 abbrev pub LeavesOnlyNeeded : State → Result VacuumStats Fault → Type 0
 LeavesOnlyNeeded st (Ok stats) = OnlyNeededStay st
@@ -117,6 +126,7 @@ LeavesOnlyNeeded st (Err fault) = Unit {0}
 abbrev pub TellsAs : Followed → State → Result VacuumStats Fault → Type 0
 TellsAs of_sweep st result = TellsEntries st result
 TellsAs of_cleanup st result = TellsCleaned st result
+TellsAs (of_deleted was) st result = TellsDeleted was st result
 TellsAs of_leaves st result = LeavesOnlyNeeded st result
 
 -- where nobody else acts: a bulk delete or a cleanup that goes on counts on, and at its end it tells how many entries there are
@@ -139,5 +149,6 @@ pub record IsUndisturbed (st : State) (session : ℕ) : Type 0 where
 abbrev pub FollowsFrom : Followed → Request → State → ℕ → Type 0
 FollowsFrom of_sweep (ToBulk set) st session = Unit {0}
 FollowsFrom of_cleanup ToCleanup st session = Unit {0}
+FollowsFrom (of_deleted was) ToCleanup st session = was ≡ deleted_in st
 FollowsFrom of_leaves ToCleanup st session = IsUndisturbed st session
 FollowsFrom what request st session = ⊥

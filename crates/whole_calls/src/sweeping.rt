@@ -3,6 +3,7 @@
 ghost use Rattle.std.specs.Prelude.{◌≡◌, ◌≤◌, false, length, map, IfOk, IfErr, None};
 ghost use Rattle.index_model.specs.Faults.{HasCause};
 ghost use Rattle.page_action.specs.States.{Continues};
+ghost use Rattle.page_delete.specs.Counts.{deleted_in};
 ghost use Rattle.session_calls.specs.declared.request.Request.TheVariants.{Bulk as ToBulk, Cleanup as ToCleanup};
 ghost use Rattle.schedule.specs.Sessions.{here, op_of, KeepsOthers};
 ghost use Rattle.schedule.specs.Events.{OthersStay};
@@ -10,7 +11,7 @@ ghost use Rattle.schedule.specs.TheoremRuns.{Carries};
 ghost use Rattle.whole_calls.specs.Going.{CallGoes};
 ghost use Rattle.whole_calls.specs.Made.{IsMadeOf, ComesTo};
 ghost use Rattle.whole_calls.specs.Refusing.{where_called, where_gone};
-ghost use Rattle.whole_calls.specs.Sweeping.{SweepTold, swept_of, swept_came, TellsEntries, TellsCleaned, TellsPages, LeavesOnlyNeeded, IsUndisturbed};
+ghost use Rattle.whole_calls.specs.Sweeping.{SweepTold, swept_of, swept_came, TellsEntries, TellsCleaned, TellsDeleted, TellsPages, LeavesOnlyNeeded, IsUndisturbed};
 
 use crate::running::run_call;
 use index_model::{DeadRows, Fault, VacuumStats};
@@ -100,6 +101,10 @@ pub fn clean_up<S: PageStore, T: DeadRows>(
     ensures entries { Carries S.PageStore (here T.DeadRows store.old calls.old sets.now)
         (here T.DeadRows store.new calls.new sets.now) (λ start history calls.
         TellsCleaned (S.state store.new) result) }
+    // As many more pages are deleted as it tells: it reuses none.
+    ensures deleted { Carries S.PageStore (here T.DeadRows store.old calls.old sets.now)
+        (here T.DeadRows store.new calls.new sets.now) (λ start history calls.
+        TellsDeleted (deleted_in (S.state store.old)) (S.state store.new) result) }
     // It has removed no entry.
     ensures stats { Carries S.PageStore (here T.DeadRows store.old calls.old sets.now)
         (here T.DeadRows store.new calls.new sets.now) (λ start history calls. IfOk result

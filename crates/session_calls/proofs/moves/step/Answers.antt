@@ -7,9 +7,9 @@ use Rattle.session_calls.proofs.Going.{event_of_last, event_of_more, low_of}
 use Rattle.std.specs.Prelude.{if◌then◌else◌, Some, None}
 use Rattle.page_action.specs.States.{State, Backing}
 use Rattle.session_calls.specs.Due.{CountsDown}
-use Rattle.session_calls.specs.Sessions.{LeavesOwnFlagged, StandsByAnswer, KeepsBeforePins, CountsEntries, SparesLeaves}
+use Rattle.session_calls.specs.Sessions.{LeavesOwnFlagged, StandsByAnswer, KeepsBeforePins, CountsEntries, CountsPages, SparesLeaves}
 use Rattle.session_calls.proofs.Counting.{flagged_on, counts_over}
-use Rattle.session_calls.proofs.Deleting.{tells_over, spares_over}
+use Rattle.session_calls.proofs.Deleting.{tells_over, deletes_over, spares_over}
 use Rattle.session_calls.proofs.Effects.{go_pages}
 use Rattle.session_calls.proofs.Scanning.{stands_over}
 use Rattle.session_calls.proofs.moves.step.Goals as goal
@@ -56,6 +56,8 @@ returns-then-is_last-clause-follows g c honest =
       waits = subst (λ (b : Bool). KeepsBeforePins old (Some c.in-Some.op) (if b then None else Some after) c.step-answer.result) last (c.step-answer.ensures.pins model);
       entries = subst (λ (st : State). CountsEntries sets old st (Some c.in-Some.op) None c.step-answer.result) (sym c.let_go.ensures.state)
           (tells_over sets (is_sweep after) (session_of after) old mid (Some c.in-Some.op) _ c.step-answer.result (c.step-answer.ensures.entries model));
+      deletes = subst (λ (st : State). CountsPages old st (Some c.in-Some.op) None c.step-answer.result) (sym c.let_go.ensures.state)
+          (deletes_over (is_sweep after) (session_of after) old mid (Some c.in-Some.op) _ c.step-answer.result (c.step-answer.ensures.deletes model));
       spares = subst (λ (st : State). SparesLeaves old st (Some c.in-Some.op) None c.step-answer.result) (sym c.let_go.ensures.state)
           (spares_over (is_sweep after) (session_of after) old mid (Some c.in-Some.op) _ c.step-answer.result (c.step-answer.ensures.spares model));
     })
@@ -77,5 +79,6 @@ returns-else-is_last-clause-follows g c honest =
           (c.step-answer.ensures.stands honest fitted.fits.world.order fitted.fits.runs.fits);
       waits = subst (λ (b : Bool). KeepsBeforePins old (Some c.in-Some.op) (if b then None else Some after) c.step-answer.result) on (c.step-answer.ensures.pins honest);
       entries = subst (λ (b : Bool). CountsEntries sets old new (Some c.in-Some.op) (if b then None else Some after) c.step-answer.result) on (c.step-answer.ensures.entries honest);
+      deletes = subst (λ (b : Bool). CountsPages old new (Some c.in-Some.op) (if b then None else Some after) c.step-answer.result) on (c.step-answer.ensures.deletes honest);
       spares = subst (λ (b : Bool). SparesLeaves old new (Some c.in-Some.op) (if b then None else Some after) c.step-answer.result) on (c.step-answer.ensures.spares honest);
     })

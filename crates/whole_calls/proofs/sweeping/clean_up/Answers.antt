@@ -1,7 +1,8 @@
 use Rattle.std.proofs.Common.{map, refl}
 use Rattle.session_calls.specs.declared.request.Request.TheVariants.{Cleanup as ToCleanup}
+use Rattle.page_delete.specs.Counts.{deleted_in}
 use Rattle.whole_calls.proofs.Words.{snapshot_of, here_with}
-use Rattle.whole_calls.specs.Sweeping.{of_cleanup, of_leaves}
+use Rattle.whole_calls.specs.Sweeping.{of_cleanup, of_deleted, of_leaves}
 use Rattle.whole_calls.specs.Made.{Answered}
 use Rattle.whole_calls.proofs.Made.{made_told}
 use Rattle.whole_calls.proofs.Swept.{sweep_goes, sweep_counts, sweep_caused, sweep_tells, sweep_comes}
@@ -21,6 +22,14 @@ returns-clause-entries g c honest start history calls fits =
     let r = c.run_call.ensures.goes honest start history calls fits in
     rw c.swept.ensures (sweep_counts g.S.PageStore c.args.session c.args.least_room ToCleanup refl came.answer came.added c.run_call.ensures.ended of_cleanup start
     (snapshot_of (here_with c.args.store.now c.args.calls.now.slots.items sets) history calls) (snapshot_of (here_with c.run_call.new.store c.run_call.new.calls.slots.items sets) r.then_history r.then_calls) tt r.tells)
+
+pub returns-clause-deleted : goal.returns-clause-deleted
+returns-clause-deleted g c honest start history calls fits =
+    let sets = map g.T.DeadRows.is_in c.args.sets.now in
+    let came = c.run_call.result in
+    let r = c.run_call.ensures.goes honest start history calls fits in
+    rw c.swept.ensures (sweep_counts g.S.PageStore c.args.session c.args.least_room ToCleanup refl came.answer came.added c.run_call.ensures.ended (of_deleted (deleted_in (g.S.PageStore.state c.args.store.now))) start
+    (snapshot_of (here_with c.args.store.now c.args.calls.now.slots.items sets) history calls) (snapshot_of (here_with c.run_call.new.store c.run_call.new.calls.slots.items sets) r.then_history r.then_calls) refl r.tells)
 
 pub returns-clause-cause : goal.returns-clause-cause
 returns-clause-cause g c honest start history calls fits =

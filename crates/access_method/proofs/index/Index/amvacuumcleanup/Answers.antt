@@ -11,7 +11,7 @@ pub returns-clause-cleans : goal.returns-clause-cleans
 returns-clause-cleans g c honest start history calls fits =
     let r = c.clean_up.ensures.goes honest start history calls fits in
     cleaned_up g.S.PageStore (slots_within c.args.self.now) (here_with c.clean_up.new.store c.clean_up.new.calls.slots.items []) start history calls fits c.clean_up.result r (c.clean_up.ensures.entries honest start history calls fits)
-    (c.clean_up.ensures.stats honest start history calls fits)
+    (c.clean_up.ensures.deleted honest start history calls fits) (c.clean_up.ensures.stats honest start history calls fits)
 
 pub returns-clause-spares : goal.returns-clause-spares
 returns-clause-spares g c honest start history calls fits calm =

@@ -9,8 +9,9 @@ use Rattle.session_calls.proofs.Hindering.{insert_hindered}
 use Rattle.session_calls.proofs.Inserting.{insert_goes_on, insert_ends, insert_is_refused}
 use Rattle.session_calls.proofs.Scanning.{moving_goes, ready_goes, done_goes, moving_stands, ready_stands}
 use Rattle.std.proofs.Common.{Bool}
+use Rattle.index_model.specs.Faults.{HasCause}
 use Rattle.index_model.specs.Row.{Row}
-use Rattle.vacuum.specs.BulkDeletes.{BulkDeleteGoesOn, IsDueOf}
+use Rattle.vacuum.specs.BulkDeletes.{BulkDeleteGoesOn, IsDueOf, where_deleting}
 use Rattle.std.proofs.Common.{ap, refl}
 use Rattle.index_model.specs.Calls.{AskScan}
 use Rattle.scan.specs.declared.steps.ScanOp.{ScanOp}
@@ -205,6 +206,16 @@ returns-in-Ok-Finished-step-clause-entries g c honest =
     let counts = c.in-Ok-Finished-step.ensures.all.counts honest in
     rw c.in-Cleanup.is (λ fits cleaned. (tt, rw c.in-Ok-Finished-step.field-0-is at (counts fits cleaned)))
 
+pub returns-in-Ok-Going-step-3-clause-deletes : goal.returns-in-Ok-Going-step-3-clause-deletes
+returns-in-Ok-Going-step-3-clause-deletes g c honest =
+    let deletes = c.in-Ok-Going-step-3.ensures.all.deletes honest in
+    rw c.in-Cleanup.is (rw c.in-Ok-Going-step-3.field-0-is at deletes)
+
+pub returns-in-Ok-Finished-step-clause-deletes : goal.returns-in-Ok-Finished-step-clause-deletes
+returns-in-Ok-Finished-step-clause-deletes g c honest =
+    let deletes = c.in-Ok-Finished-step.ensures.all.deletes honest in
+    rw c.in-Cleanup.is (rw c.in-Ok-Finished-step.field-0-is at deletes)
+
 pub returns-in-Ok-Going-step-3-clause-spares : goal.returns-in-Ok-Going-step-3-clause-spares
 returns-in-Ok-Going-step-3-clause-spares g c honest =
     let spares = c.in-Ok-Going-step-3.ensures.all.spares honest in
@@ -218,10 +229,14 @@ returns-in-Ok-Finished-step-clause-spares g c honest =
 pub returns-in-Err-step-2-clause-goes : goal.returns-in-Err-step-2-clause-goes
 returns-in-Err-step-2-clause-goes g c honest start history number call fits =
     let old = g.S.PageStore.state c.args.store.now in
+    let first = g.S.PageStore.backing c.args.store.now in
+    let second = g.S.PageStore.backing c.step-in-Some.new.store in
     let mine = subst (λ (op : Op). CallFits old (map g.T.DeadRows.is_in c.args.sets.now) start history number call op) c.in-Bulk.is fits in
+    let dead_is = set_found g.T.DeadRows.is_in c.args.sets.now c.in-Bulk.set c.in-Some.dead.now c.in-Some.ensures.lookup.3.0 c.in-Some.ensures.lookup.1 in
     rw c.in-Bulk.is (bulk_is_refused old (g.S.PageStore.state c.step-in-Some.new.store) (g.S.PageStore.backing c.args.store.now) (g.S.PageStore.backing c.step-in-Some.new.store)
     start history number call c.in-Bulk.set c.in-Bulk.op c.step-in-Some.new.self mine
-    c.step-in-Some.ensures.all.session c.in-Err-step-2.fault c.in-Err-step-2.ensures.all.refused (c.in-Err-step-2.ensures.all.stepped honest mine.world.order mine.runs.fits))
+    c.step-in-Some.ensures.all.session c.in-Err-step-2.fault c.in-Err-step-2.ensures.all.refused
+    (subst (λ (d : Row → Bool). HasCause (where_deleting d old first second c.in-Bulk.op) c.in-Err-step-2.fault) dead_is (c.in-Err-step-2.ensures.all.stepped honest mine.world.order mine.runs.fits)))
 
 pub returns-in-Err-clause-all : goal.returns-in-Err-clause-all
 returns-in-Err-clause-all g c =

@@ -1,4 +1,4 @@
-use Rattle.std.proofs.Common.{◌≡◌, ◌<◌, ℕ, [], ◌∷◌, true, false, Some, length, slice_get, refl, sym, ap, subst, ◌∙◌, arith}
+use Rattle.std.proofs.Common.{◌≡◌, ◌<◌, ℕ, [], ◌∷◌, Bool, true, false, nat_lt, Some, length, slice_get, refl, sym, ap, subst, ◌∙◌, arith}
 use Rattle.index_model.specs.Faults.{HasCause}
 use Rattle.index_model.specs.declared.limits.Limits.{Limits}
 use Rattle.latch_table.specs.Holdings.{HasRoom, is_held_by_another}
@@ -6,11 +6,11 @@ use Rattle.latch_table.specs.declared.mode.Mode.TheVariants.{Cleanup}
 use Rattle.page_codec.specs.declared.page.Page.{Page}
 use Rattle.page_action.specs.States.{State, IsLater}
 use Rattle.page_action.specs.Stored.{IsStored, AreActable}
-use Rattle.vacuum.specs.BulkDeletes.{where_deleting}
+use Rattle.vacuum.specs.BulkDeletes.{where_taking}
 use Rattle.vacuum.specs.Ops.{last_read, moves_of}
 use Rattle.vacuum.specs.Turns.{TurnsTo, TurnsNoMore, written}
-use Rattle.vacuum.proofs.Causes.{reading_cause, deleting_later}
-use Rattle.vacuum.proofs.Reading.{refuses, passes, takes, next_in_use, has_room, never_too_far}
+use Rattle.vacuum.proofs.Causes.{reading_cause, taking_later}
+use Rattle.vacuum.proofs.Reading.{refuses, passes, takes, next_in_use, has_room, never_too_far, writes_dead}
 use Rattle.vacuum.proofs.Removing.{swept_may}
 use Rattle.vacuum.proofs.steps.BulkDeleteOp.read.Given.{Over}
 use Rattle.vacuum.proofs.steps.BulkDeleteOp.read.Goals.{After-view-page}
@@ -31,8 +31,8 @@ returns-in-Err-clause-all g c =
     refuses g.S.PageStore (g.T.DeadRows.is_in c.args.dead.now) before c.args.store.now c.look.new.store c.in-Err.fault c.look.ensures.steps c.look.ensures.state
     (λ h. absurd (let k : false ≡ true = sym c.requires.alive ∙ h in cc))
     (λ honest order fits.
-    reading_cause old (g.S.PageStore.backing c.args.store.now) (g.S.PageStore.backing c.look.new.store) before c.in-Err.fault
-    (c.in-Err.ensures.works honest (has_room old before fits) (subst (λ (b : ℕ). b < length old.pages) c.requires.at (next_in_use old before order.tree fits c.requires.inside)) 1 1 false false (omega arith)))
+    reading_cause (g.T.DeadRows.is_in c.args.dead.now) old (g.S.PageStore.backing c.args.store.now) (g.S.PageStore.backing c.look.new.store) before c.in-Err.fault
+    (c.in-Err.ensures.works honest (has_room old before fits) (subst (λ (b : ℕ). b < length old.pages) c.requires.at (next_in_use old before order.tree fits c.requires.inside)) 0 1 false false (omega arith)))
 
 pub returns-then-not-is_live_leaf-clause-all : goal.returns-then-not-is_live_leaf-clause-all
 returns-then-not-is_live_leaf-clause-all g c =
@@ -70,14 +70,19 @@ returns-in-Err-take-clause-all g c =
     let old = g.S.PageStore.state c.args.store.now in
     let before = c.args.self.now in
     let later : IsLater (g.S.PageStore.backing c.args.store.now) (g.S.PageStore.backing c.look.new.store) = g.met.S.PageStore.laws.follows_later _ _ (c.look.ensures.steps _ (g.met.S.PageStore.laws.follows_same _)) in
+    let since : IsLater (g.S.PageStore.backing c.look.new.store) (g.S.PageStore.backing c.take.new.store) = g.met.S.PageStore.laws.follows_later _ _ (c.take.ensures.steps _ (g.met.S.PageStore.laws.follows_same _)) in
+    let leaf = c.if-not-is_live_leaf.ensures.0 refl in
     refuses g.S.PageStore (g.T.DeadRows.is_in c.args.dead.now) before c.args.store.now c.take.new.store c.in-Err-take.fault
     (λ first h. c.take.ensures.steps first (c.look.ensures.steps first h)) (c.in-Err-take.ensures.refused ∙ c.look.ensures.state)
     (λ h. absurd (let k : false ≡ true = sym c.requires.alive ∙ h in cc))
     (λ honest order fits.
-    deleting_later old (g.S.PageStore.backing c.args.store.now) (g.S.PageStore.backing c.look.new.store) (g.S.PageStore.backing c.take.new.store) before c.in-Err-take.fault
+    subst (λ (writes : Bool). HasCause (where_taking writes old (g.S.PageStore.backing c.args.store.now) (g.S.PageStore.backing c.take.new.store) before) c.in-Err-take.fault)
+    (writes_dead (g.T.DeadRows.is_in c.args.dead.now) old before c.args.block c.view-page.result.now c.sweep-swept.result c.requires.at
+    (found g (goal.at.returns-in-Err-take-clause-all g c).After-view-page (since.honest honest)) leaf.0 leaf.1 c.sweep-swept.ensures.swept)
+    (taking_later (nat_lt 0 c.sweep-swept.result.gone) old (g.S.PageStore.backing c.args.store.now) (g.S.PageStore.backing c.look.new.store) (g.S.PageStore.backing c.take.new.store) before c.in-Err-take.fault
     later.failures c.in-Ok.ensures.alive c.look.ensures.room.promised
-    (subst (λ (st : State). HasCause (where_deleting st (g.S.PageStore.backing c.look.new.store) (g.S.PageStore.backing c.take.new.store) before) c.in-Err-take.fault) c.look.ensures.state
-    (c.in-Err-take.ensures.cause (subst (λ (st : State). HasRoom st.table before.session) (sym c.look.ensures.state) (has_room old before fits)))))
+    (subst (λ (st : State). HasCause (where_taking (nat_lt 0 c.sweep-swept.result.gone) st (g.S.PageStore.backing c.look.new.store) (g.S.PageStore.backing c.take.new.store) before) c.in-Err-take.fault) c.look.ensures.state
+    (c.in-Err-take.ensures.cause (subst (λ (st : State). HasRoom st.table before.session) (sym c.look.ensures.state) (has_room old before fits))))))
 
 pub returns-clause-all : goal.returns-clause-all
 returns-clause-all g c =
