@@ -19,7 +19,7 @@ use Rattle.descent.specs.Shared.{OthersRely}
 use Rattle.session_calls.specs.Due.{IsDueIn, CountsDown, HasSteps}
 use Rattle.session_calls.specs.Following.{StepTells}
 use Rattle.session_calls.specs.TheoremCalls.{DeadSets, asked_by, acts_of, begun_call}
-use Rattle.session_calls.specs.Ops.{op_before, asks_vacuum, asked_of, where_stepped, where_asked_next, where_beginning, RunsOn, IsCaused, AnswersStopped}
+use Rattle.session_calls.specs.Ops.{op_before, asks_vacuum, asked_of, where_stepped, where_asked_next, no_call_begins, where_beginning, RunsOn, IsCaused, AnswersStopped}
 use Rattle.session_calls.specs.Sessions.{Told, IsAsked, MovesShape, is_busy, slot_add, LeavesLess, LeavesNoMore, GivesLess, AnswersStep, AnswersNext, AnswersEnd, RefusalChangesNothing, RunsUntilLast, leaf_of, StandsByAnswer, OnlyWritersAct, OnlyOwnAreFlagged, LeavesOwnFlagged, KeepsBeforePins, CountsEntries, SparesLeaves}
 use Rattle.session_calls.specs.declared.answer.Answer.{Answer}
 use Rattle.session_calls.specs.declared.answer.Answer.TheVariants.{Begun, Forced, Flushed, Checkpointed, Refused}
@@ -182,7 +182,7 @@ where_moved idle running (Some (Some op)) = running op
 
 -- the circumstances of a beginning with these sets, while a bulk delete or a cleanup runs or none
 abbrev pub where_begun_at : {S : Type 0} → Ghosts S → S → Bool → DeadSets → Request → Option (Option Op) → Circumstances
-where_begun_at g store vacuums sets request None = where_no_call (g.backing store).stopped
+where_begun_at g store vacuums sets request None = where_no_call (no_call_begins (g.state store) (g.backing store))
 where_begun_at g store vacuums sets request (Some slot) = record (where_beginning (g.state store) (g.backing store) (is_busy slot)) {
   no_such_session = not (is_of_sets sets request);
   vacuum_runs = asks_vacuum request && vacuums;
@@ -309,11 +309,12 @@ BeginningIsCaused g (BeginsCall session request) answer old =
     IsCaused (where_begun_at g old.store (one_vacuums old.slots) old.sets request (slice_get old.slots session)) answer
 BeginningIsCaused g kind answer old = Unit {0}
 
--- a beginning for which no session is found is refused for that, whatever else is so
+-- a beginning is refused for the first that stands in its way: no call begins, there is no such session or set, the session has
+-- a call
 abbrev pub RefusesInOrder : {S : Type 0} → Ghosts S → Kind → Answer → StoreAndSlots S → Type 0
 RefusesInOrder g (BeginsCall session request) answer old =
     (fault : Fault)
-    → session_to_begin (g.backing old.store).stopped (is_of_sets old.sets request) (slice_get old.slots session) session ≡ Err fault
+    → session_to_begin (no_call_begins (g.state old.store) (g.backing old.store)) (is_of_sets old.sets request) (slice_get old.slots session) session ≡ Err fault
     → answer ≡ Refused fault
 RefusesInOrder g kind answer old = Unit {0}
 
@@ -358,7 +359,8 @@ pub record EventAlways {S : Type 0} (g : Ghosts S) (kind : Kind) (answer : Answe
   pub left : IsLeft g kind old new
   -- a beginning that is refused has its cause
   pub causes : BeginningIsCaused g kind answer old
-  -- ... the first that there is of a log that has failed, no such session or set, and a session with a call
+  -- ... the first that there is of a log that has failed or a count of calls at its end, no such session or set, and a session
+  -- with a call
   pub order : RefusesInOrder g kind answer old
   -- what has begun is the call that was asked for, before its first step
   pub fresh : StartsFresh kind answer (slot_of new.slots (session_at kind))

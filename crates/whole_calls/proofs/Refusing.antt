@@ -13,8 +13,6 @@ use Rattle.page_action.specs.Causes.{nothing_wrong, where_forced, has_failed, is
 use Rattle.descent.specs.Shared.{is_out_of_blocks, any_is_reusable}
 use Rattle.descent.specs.Ways.{root_level}
 use Rattle.split_finish.specs.Finishes.{frames_of}
-use Rattle.split_finish.specs.declared.finish.FinishAt.{FinishAt}
-use Rattle.split_finish.specs.declared.finish.FinishAt.TheVariants.{Start as FinishStart}
 use Rattle.insert_split.specs.Inserts.{InsertFits, InsertStands, leaf_held, is_full_page, images_at, frames_at, takes_block_at, splits_root_at, where_inserting}
 use Rattle.insert_split.specs.declared.insert.InsertAt.{InsertAt}
 use Rattle.insert_split.specs.declared.insert.InsertAt.TheVariants.{Start, At, Holding as Holds, Finishing}
@@ -436,12 +434,12 @@ pub begun_called : {S : Type 0} (g : Ghosts S) (session : ℕ) (request : Reques
     → IsNarrower (where_begun_at g old.store (one_vacuums old.slots) old.sets request (slice_get old.slots session)) (where_called g session request old at)
 begun_called g session request old at stops = of (slice_get old.slots session) refl
   where
+    none_begins : ((g.backing old.store).stopped || is_at_end (g.state old.store).begun) ≡ true → (at.is_stopped || is_at_end (g.state old.store).begun) ≡ true
+    none_begins h = or_wider (g.backing old.store).stopped (is_at_end (g.state old.store).begun) at.is_stopped (is_at_end (g.state old.store).begun) stops (λ k. k) h
+
     of : (slot : Option (Option Op)) → slice_get old.slots session ≡ slot → IsNarrower (where_begun_at g old.store (one_vacuums old.slots) old.sets request slot) (where_called g session request old at)
-    of None is Stopped h = or_left at.is_stopped (is_at_end (g.state old.store).begun) (stops h)
-    of (Some slot) is Stopped h = elim (or_cases (g.backing old.store).stopped (is_at_end (g.state old.store).begun) h) [
-      | inl stopped ↦ or_left at.is_stopped (is_at_end (g.state old.store).begun) (stops stopped)
-      | inr ended ↦ or_right at.is_stopped (is_at_end (g.state old.store).begun) ended
-    ]
+    of None is Stopped h = none_begins h
+    of (Some slot) is Stopped h = none_begins h
     of None is NoSession h = or_right (not (is_of_sets old.sets request)) (is_none (slice_get old.slots session)) (ap is_none is)
     of (Some slot) is NoSession h = or_left (not (is_of_sets old.sets request)) (is_none (slice_get old.slots session)) h
     of (Some slot) is SessionBusy h = ap (λ (o : Option (Option Op)). is_busy (unwrap_or o None)) is ∙ h
