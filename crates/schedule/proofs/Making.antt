@@ -14,7 +14,7 @@ use Rattle.session_calls.specs.Due.{IsDueIn, HasSteps}
 use Rattle.session_calls.specs.Following.{StepTells, StepAlways, IsFitted, StepFollows}
 use Rattle.session_calls.specs.TheoremCalls.{DeadSets}
 use Rattle.session_calls.specs.Ops.{op_before, asks_vacuum, asks_sweep, is_sweep, session_of, asked_of, where_slot_stepped, where_asked_next, no_call_begins, where_requesting, where_beginning, RunsOn, AnswersStopped}
-use Rattle.session_calls.specs.Sessions.{Matches, IsIdle, SlotFits, SessionGoes, SessionBegins, IsBegun, BeginsBy, after_call, let_go, is_busy, slot_add, LeavesLess, GivesLess, AnswersStep, AnswersNext, AnswersEnd, RefusalChangesNothing, RunsUntilLast, leaf_of, OnlyWritersAct}
+use Rattle.session_calls.specs.Sessions.{Matches, IsIdle, SlotFits, SessionGoes, SessionBegins, IsBegun, BeginsBy, after_call, after_slot, let_go, is_busy, slot_add, LeavesLess, GivesLess, AnswersStep, AnswersNext, AnswersEnd, RefusalChangesNothing, RunsUntilLast, leaf_of, OnlyWritersAct}
 use Rattle.session_calls.specs.declared.answer.Answer.{Answer}
 use Rattle.session_calls.specs.declared.answer.Answer.TheVariants.{Begun, Going, Added, Ready, Done, Finished, Gave, Ended, Forced, Flushed, Checkpointed, Refused}
 use Rattle.session_calls.specs.declared.op.Op.{Op}
@@ -108,6 +108,7 @@ module _ {S : Type 0} (g : Ghosts S) (laws : Laws g) (old new : S) (follows_stor
         causes = tt;
         order = tt;
         fresh = tt;
+        numbered = tt;
         keeps_up = tt;
         runs_on = at_slots slots session before slot (λ x y. RunsOn x y) found_at made.runs_on;
       }
@@ -140,10 +141,11 @@ module _ {S : Type 0} (g : Ghosts S) (laws : Laws g) (old new : S) (follows_stor
             (ap (λ (st : State). st.limits) given_up ∙ over_limits (is_sweep op) (session_of op) (g.state old)) (ap (λ (st : State). st.frames) given_up ∙ over_frames (is_sweep op) (session_of op) (g.state old));
         calm = ap (λ (st : State). st.acts) given_up ∙ over_acts (is_sweep op) (session_of op) (g.state old);
         others = others_stay_set slots session slot;
-        left = record { over = at_slots slots session before slot (λ x y. y ≡ None) found_at over; backing = backing; begun = ap (λ (st : State). st.begun) given_up ∙ over_begun (is_sweep op) (session_of op) (g.state old) };
+        left = record { over = at_slots slots session before slot (λ x y. y ≡ None) found_at over; backing = backing; begun = ap (λ (st : State). st.begun) given_up ∙ over_begun (is_sweep op) (session_of op) (g.state old); state_is = given_up ∙ sym (ap (λ (o : Option Op). after_slot o (g.state old)) (slot_was ∙ is)) };
         causes = tt;
         order = tt;
         fresh = tt;
+        numbered = tt;
         keeps_up = tt;
         runs_on = at_slots slots session before slot (λ x y. RunsOn x y) found_at (runs_over before slot over);
       }
@@ -199,6 +201,7 @@ module _ {S : Type 0} (g : Ghosts S) (laws : Laws g) (store : S) (slots : List (
         causes = tt;
         order = tt;
         fresh = tt;
+        numbered = tt;
         keeps_up = tt;
         runs_on = at_slots slots session before slot (λ x y. RunsOn x y) found_at runs_on;
       }
@@ -245,6 +248,7 @@ module _ {S : Type 0} (g : Ghosts S) (laws : Laws g) (old new : S) (follows : g.
         causes = tt;
         order = tt;
         fresh = tt;
+        numbered = tt;
         keeps_up = leaves;
         runs_on = tt;
       }
@@ -276,6 +280,7 @@ module _ {S : Type 0} (g : Ghosts S) (laws : Laws g) (old new : S) (follows : g.
         causes = tt;
         order = tt;
         fresh = tt;
+        numbered = tt;
         keeps_up = subst (λ (a : Answer). UpkeepLeaves g upkeep a old new) is leaves;
         runs_on = tt;
       }
@@ -306,6 +311,7 @@ flush_makes g laws old new follows slots sets same block flushed alive = record 
       causes = tt;
       order = tt;
       fresh = tt;
+      numbered = tt;
       keeps_up = flushed;
       runs_on = tt;
     }
@@ -357,6 +363,7 @@ module _ {S : Type 0} (g : Ghosts S) (laws : Laws g) (old new : S) (follows : g.
     causes = tt;
     order = λ fault e. absurd (found_one fault e);
     fresh = λ begun. set_is slots session slot (get_within slots session None free) ∙ h.runs;
+    numbered = λ begun. h.state;
     keeps_up = tt;
     runs_on = tt;
   }
@@ -375,6 +382,7 @@ module _ {S : Type 0} (g : Ghosts S) (laws : Laws g) (old new : S) (follows : g.
     causes = cause_of fault h.cause;
     order = λ f e. absurd (found_one f e);
     fresh = λ e. absurd cc;
+    numbered = λ e. absurd cc;
     keeps_up = tt;
     runs_on = tt;
   }
@@ -466,6 +474,7 @@ not_found_makes g laws store slots sets session request fault none = record {
       causes = not_found_why g store (one_vacuums slots) sets request session (no_call_begins (g.state store) (g.backing store)) (is_of_sets sets request) (slice_get slots session) fault refl refl none;
       order = λ f e. ap Refused (let both : Err fault ≡ Err f = none ∙ e in cc);
       fresh = λ e. absurd cc;
+      numbered = λ e. absurd cc;
       keeps_up = tt;
       runs_on = tt;
     }
