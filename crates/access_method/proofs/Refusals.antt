@@ -29,10 +29,10 @@ use Rattle.schedule.specs.TheoremMoments.{StoreAndSlots, Snapshot, snapshot_of}
 use Rattle.session_calls.specs.Slots.{slot_of, slot_vacuums, one_vacuums}
 use Rattle.schedule.specs.Snapshots.{IsFree}
 use Rattle.schedule.proofs.Lists.{get_some}
-use Rattle.whole_calls.specs.Refusing.{another_runs, where_inserted, where_called, is_used_up, is_tall, InsertCallIsCaused, where_gone}
+use Rattle.whole_calls.specs.Refusing.{another_runs, where_inserted, where_called, is_tall, InsertCallIsCaused, where_gone}
 use Rattle.whole_calls.specs.declared.inserted.Inserted.{Inserted}
 use Rattle.access_method.specs.Indexes.{slots_within, has_entry, InsertsOrKeeps, slots_with}
-use Rattle.access_method.specs.Refusals.{where_run, where_inserting, InsertHasCause, IsUnhindered, IsForWantOfSpace, IsOfSpace, InsertsUnhindered}
+use Rattle.access_method.specs.Refusals.{where_run, where_inserting, none_is_left, InsertHasCause, IsUnhindered, IsForWantOfSpace, IsOfSpace, InsertsUnhindered}
 use Rattle.access_method.specs.Tokens.{NoneVacuums}
 use Rattle.access_method.specs.declared.index.Index.{Index}
 use Rattle.schedule.proofs.Fitting.{beyond_of, running_of}
@@ -104,8 +104,8 @@ module _ {S : Type 0} (g : Ghosts S) (old : Index S) (new : S) where
 
     pub insert_cause : (result : Result Inserted Fault) → InsertsOrKeeps g entry result old.store new
         → InsertCallIsCaused g 63 5 entry (slots_within old) new result → InsertHasCause g entry result old new
-    insert_cause (Ok inserted) told h = left_cause (is_used_up (g.state new)) (is_tall (g.state new)) inserted.unfinished h
-    insert_cause (Err fault) told h = refused_cause (has_entry g old.store entry) (is_used_up (g.state new)) (is_tall (g.state new)) fault told.was_there h
+    insert_cause (Ok inserted) told h = left_cause (none_is_left (g.state old.store).begun (g.state new)) (is_tall (g.state new)) inserted.unfinished h
+    insert_cause (Err fault) told h = refused_cause (has_entry g old.store entry) (none_is_left (g.state old.store).begun (g.state new)) (is_tall (g.state new)) fault told.was_there h
 
 -- a run leaves the number of frames as it was
 run_frames : {S : Type 0} (g : Ghosts S) (start : Entry → Bool) (told : List Answer) (events : List Event) (answers : List Answer) (first last : Snapshot S) → IsRun g start told events answers first last
@@ -176,13 +176,13 @@ module _ {S : Type 0} (g : Ghosts S) (session : ℕ) (old : Index S) (new : S) (
 
 -- ... of an insert
 module _ {S : Type 0} (g : Ghosts S) (entry : Entry) (old : Index S) (new : S) (un : IsUnhindered g 63 old new) (same_frames : (g.state new).frames ≡ (g.state old.store).frames) where
-  refused_unhindered : (fault : Fault) → HasCause (where_inserting g (has_entry g old.store entry) (is_used_up (g.state new)) (is_tall (g.state new)) old new) fault → IsForWantOfSpace g entry old.store new fault
+  refused_unhindered : (fault : Fault) → HasCause (where_inserting g (has_entry g old.store entry) (none_is_left (g.state old.store).begun (g.state new)) (is_tall (g.state new)) old new) fault → IsForWantOfSpace g entry old.store new fault
   refused_unhindered Exists h = h
   refused_unhindered IndexFull h = h
   refused_unhindered TooTall h = h
   refused_unhindered fault h = absurd (run_unhindered g 63 old new un same_frames fault h)
 
-  left_unhindered : (unfinished : Option Fault) → IsFaultCaused (where_inserting g false (is_used_up (g.state new)) (is_tall (g.state new)) old new) unfinished → IsOfSpace (g.state new) unfinished
+  left_unhindered : (unfinished : Option Fault) → IsFaultCaused (where_inserting g false (none_is_left (g.state old.store).begun (g.state new)) (is_tall (g.state new)) old new) unfinished → IsOfSpace (g.state old.store).begun (g.state new) unfinished
   left_unhindered None h = tt
   left_unhindered (Some IndexFull) h = h
   left_unhindered (Some TooTall) h = h

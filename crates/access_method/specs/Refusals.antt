@@ -14,7 +14,7 @@ use Rattle.page_action.specs.Causes.{nothing_wrong, has_failed, is_at_end}
 use Rattle.page_action.specs.States.{State}
 use Rattle.page_action.specs.declared.page_store.PageStore.{Ghosts}
 use Rattle.session_calls.specs.Ops.{IsFaultCaused}
-use Rattle.whole_calls.specs.Refusing.{another_runs, is_used_up, is_tall}
+use Rattle.whole_calls.specs.Refusing.{another_runs, has_no_block, is_tall}
 use Rattle.whole_calls.specs.declared.inserted.Inserted.{Inserted}
 use Rattle.access_method.specs.Indexes.{has_entry}
 use Rattle.access_method.specs.declared.index.Index.{Index}
@@ -31,18 +31,24 @@ where_run g session old new = record nothing_wrong {
   frames_are_pinned = another_runs old.calls.slots.items session || nat_lt (g.state new).frames 4;
 }
 
--- ... of an insert also that its entry was there, that each block is in use, or that the root is on level 31, as far as these say so
+-- ... of an insert also that its entry was there, that no block can be had, or that the root is on level 31, as far as these say so
 abbrev pub where_inserting : {S : Type 0} → Ghosts S → Bool → Bool → Bool → Index S → S → Circumstances
-where_inserting g was_there used_up tall old new = record (where_run g 63 old new) {
+where_inserting g was_there no_block tall old new = record (where_run g 63 old new) {
   entry_was_there = was_there;
-  no_block_is_free = used_up;
+  no_block_is_free = no_block;
   root_is_at_31 = tall;
 }
 
+-- no block is left for an insert, begun with so many calls before it: none is unused, and none may be used again while it and the calls
+-- of open scans run
+abbrev pub none_is_left : ℕ → State → Bool
+none_is_left begun st = has_no_block 63 (Some begun) st
+
 -- a refused insert had its cause; and so had what an insert leaves unfinished: never that its entry was there
 abbrev pub InsertHasCause : {S : Type 0} → Ghosts S → Entry → Result Inserted Fault → Index S → S → Type 0
-InsertHasCause g entry (Ok inserted) old new = IsFaultCaused (where_inserting g false (is_used_up (g.state new)) (is_tall (g.state new)) old new) inserted.unfinished
-InsertHasCause g entry (Err fault) old new = HasCause (where_inserting g (has_entry g old.store entry) (is_used_up (g.state new)) (is_tall (g.state new)) old new) fault
+InsertHasCause g entry (Ok inserted) old new = IsFaultCaused (where_inserting g false (none_is_left (g.state old.store).begun (g.state new)) (is_tall (g.state new)) old new) inserted.unfinished
+InsertHasCause g entry (Err fault) old new =
+    HasCause (where_inserting g (has_entry g old.store entry) (none_is_left (g.state old.store).begun (g.state new)) (is_tall (g.state new)) old new) fault
 
 -- Nothing hinders a call of this session between these moments: no other open scan's call runs, the log hasn't failed before and no
 -- device call meanwhile, no counter is at its end, and there are 16 frames.
@@ -59,23 +65,23 @@ pub record IsCalm {S : Type 0} (g : Ghosts S) (index : Index S) : Type 0 where
   pub alone : another_runs index.calls.slots.items 63 ≡ false
   pub none_dead : (block : ℕ) → state_in (g.state index.store) block ≢ HalfDead
 
--- why an insert is refused that nothing hinders: its entry was there, each block is in use, or the root is on level 31
+-- why an insert is refused that nothing hinders: its entry was there, no block is left, or the root is on level 31
 abbrev pub IsForWantOfSpace : {S : Type 0} → Ghosts S → Entry → S → S → Fault → Type 0
 IsForWantOfSpace g entry old new Exists = has_entry g old entry ≡ true
-IsForWantOfSpace g entry old new IndexFull = is_used_up (g.state new) ≡ true
+IsForWantOfSpace g entry old new IndexFull = none_is_left (g.state old).begun (g.state new) ≡ true
 IsForWantOfSpace g entry old new TooTall = is_tall (g.state new) ≡ true
 IsForWantOfSpace g entry old new fault = ⊥
 
--- what it leaves unfinished is so because each block is in use, or the root is on level 31
-abbrev pub IsOfSpace : State → Option Fault → Type 0
-IsOfSpace st None = Unit {0}
-IsOfSpace st (Some IndexFull) = is_used_up st ≡ true
-IsOfSpace st (Some TooTall) = is_tall st ≡ true
-IsOfSpace st (Some fault) = ⊥
+-- what it leaves unfinished, begun with so many calls before it, is so because no block is left, or the root is on level 31
+abbrev pub IsOfSpace : ℕ → State → Option Fault → Type 0
+IsOfSpace begun st None = Unit {0}
+IsOfSpace begun st (Some IndexFull) = none_is_left begun st ≡ true
+IsOfSpace begun st (Some TooTall) = is_tall st ≡ true
+IsOfSpace begun st (Some fault) = ⊥
 
 -- what an insert answers that nothing hinders
 abbrev pub InsertsUnhindered : {S : Type 0} → Ghosts S → Entry → Result Inserted Fault → S → S → Type 0
-InsertsUnhindered g entry (Ok inserted) old new = IsOfSpace (g.state new) inserted.unfinished
+InsertsUnhindered g entry (Ok inserted) old new = IsOfSpace (g.state old).begun (g.state new) inserted.unfinished
 InsertsUnhindered g entry (Err fault) old new = IsForWantOfSpace g entry old new fault
 
 -- the running scan of the session gives no entry that is asked for one: that has its cause

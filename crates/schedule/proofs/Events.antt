@@ -1,5 +1,5 @@
 -- Each event of a world that is fitted, by its kind.
-use Rattle.std.proofs.Common.{◌≡◌, ◌≢◌, ℕ, zero, suc, ◌<◌, ◌≤◌, ◌⊎◌, Bool, true, false, Option, Some, None, Err, List, [], ◌∷◌, ◌++◌, length, slice_get, slice_set, refl, sym, ap, subst, arith, inl, inr, ◌∙◌}
+use Rattle.std.proofs.Common.{◌≡◌, ◌≢◌, ℕ, zero, suc, ◌<◌, ◌≤◌, ◌⊎◌, ◌||◌, Bool, true, false, Option, Some, None, Err, List, [], ◌∷◌, ◌++◌, length, slice_get, slice_set, refl, sym, ap, subst, arith, inl, inr, ◌∙◌}
 use Rattle.std.specs.Prelude.{unwrap_or}
 use Rattle.std.proofs.lemmas.List.{append-nil, append_cancel_left}
 use Rattle.std.proofs.lemmas.Bool.{cases_eq, ltb-true}
@@ -16,7 +16,7 @@ use Rattle.descent.specs.Shared.{OthersRely}
 use Rattle.page_delete.specs.Parts.{PinnedLeavesStay}
 use Rattle.session_calls.specs.Due.{IsDueIn, HasSteps}
 use Rattle.session_calls.specs.TheoremCalls.{DeadSets, asked_by, acts_of, begun_call}
-use Rattle.session_calls.specs.Ops.{op_before, asks_vacuum, asks_sweep, is_vacuum, is_sweep, is_sweeping, IsOfSets, IsCaused}
+use Rattle.session_calls.specs.Ops.{op_before, asks_vacuum, asks_sweep, is_vacuum, is_sweep, is_sweeping, no_call_begins, IsOfSets, IsCaused}
 use Rattle.session_calls.specs.Sessions.{Matches, OpRuns, CallFits, SlotFits, IsIdle, after_request, SessionGoes, SessionBegins, OnlyOwnAreFlagged}
 use Rattle.session_calls.specs.Sweeps.{OpSweeps}
 use Rattle.session_calls.specs.declared.answer.Answer.{Answer}
@@ -488,14 +488,19 @@ not_begun g (Some (Some op)) session request answer old new h = h
 
 -- a session that isn't found has its cause
 module _ {S : Type 0} (g : Ghosts S) (store : S) (vacuums : Bool) (sets : DeadSets) (request : Request) (session : ℕ) where
-  pub not_found_why : (is_stopped has_set : Bool) (o : Option (Option Op)) (fault : Fault) → is_stopped ≡ (g.backing store).stopped → has_set ≡ is_of_sets sets request → Err fault ≡ session_to_begin is_stopped has_set o session
+  pub not_found_why : (is_stopped has_set : Bool) (o : Option (Option Op)) (fault : Fault) → is_stopped ≡ no_call_begins (g.state store) (g.backing store) → has_set ≡ is_of_sets sets request → Err fault ≡ session_to_begin is_stopped has_set o session
       → HasCause (where_begun_at g store vacuums sets request o) fault
   not_found_why true has_set None fault same there h = (let e : fault ≡ Stopped = cc in rw e (sym same))
-  not_found_why true has_set (Some slot) fault same there h = (let e : fault ≡ Stopped = cc in rw (e, ← same) refl)
+  not_found_why true has_set (Some slot) fault same there h = (let e : fault ≡ Stopped = cc in rw e (sym same))
   not_found_why false has_set None fault same there h = (let e : fault ≡ NoSession = cc in rw e refl)
   not_found_why false false (Some slot) fault same there h = (let e : fault ≡ NoSession = cc in rw (e, ← there) refl)
   not_found_why false true (Some None) fault same there h = absurd cc
   not_found_why false true (Some (Some op)) fault same there h = (let e : fault ≡ SessionBusy = cc in rw e refl)
+
+-- on a log that failed before no call begins
+pub none_begins : (is_stopped at_end : Bool) → is_stopped ≡ true → (is_stopped || at_end) ≡ true
+none_begins true at_end h = refl
+none_begins false at_end h = absurd cc
 
 pub not_found_first : (is_stopped has_set : Bool) (o : Option (Option Op)) (session : ℕ) (fault : Fault) → Err fault ≡ session_to_begin is_stopped has_set o session → is_stopped ≡ true → Refused fault ≡ Refused Stopped
 not_found_first true has_set o session fault h is = (let e : fault ≡ Stopped = cc in ap Refused e)

@@ -1,5 +1,5 @@
 -- What an event of a session that has no call makes: it is refused.
-use Rattle.std.proofs.Common.{◌≡◌, ℕ, Bool, true, false, Option, Some, None, List, slice_get, refl, sym, subst, inl, ◌∙◌}
+use Rattle.std.proofs.Common.{◌≡◌, ℕ, Bool, true, false, Option, Some, None, List, slice_get, refl, sym, ap, subst, inl, ◌∙◌}
 use Rattle.std.specs.Prelude.{unwrap_or}
 use Rattle.index_model.specs.Faults.{HasCause}
 use Rattle.index_model.specs.declared.fault.Fault.{Fault}
@@ -9,7 +9,7 @@ use Rattle.page_action.specs.declared.page_store.PageStore.{Ghosts}
 use Rattle.session_calls.specs.Following.{StepTells}
 use Rattle.session_calls.specs.TheoremCalls.{DeadSets}
 use Rattle.session_calls.specs.Ops.{where_slot_stepped_any, RunsOn, AnswersStopped}
-use Rattle.session_calls.specs.Sessions.{no_call, slot_add, GivesLess, AnswersStep, AnswersNext, AnswersEnd, RefusalChangesNothing, RunsUntilLast, OnlyWritersAct}
+use Rattle.session_calls.specs.Sessions.{no_call, slot_add, after_slot, GivesLess, AnswersStep, AnswersNext, AnswersEnd, RefusalChangesNothing, RunsUntilLast, OnlyWritersAct}
 use Rattle.session_calls.specs.declared.answer.Answer.{Answer}
 use Rattle.session_calls.specs.declared.answer.Answer.TheVariants.{Refused}
 use Rattle.session_calls.specs.declared.op.Op.{Op}
@@ -78,7 +78,7 @@ module _ {S : Type 0} (g : Ghosts S) (laws : Laws g) (store : S) (slots : List (
     answers = subst (λ (x : Option Op). AnswersStep x x (Refused fault)) (sym none) tt;
     until_last = subst (λ (x : Option Op). RunsUntilLast x x (Refused fault)) (sym none) refl;
     stands = tt;
-    tells = subst (λ (x : Option Op). StepTells (g.backing store).stopped (g.state store) (g.state store) x x (Refused fault)) (sym none) (record { faults = cause; logged = tt; unfinished = tt; stats = tt; waits = λ alive some. absurd (some tt) });
+    tells = subst (λ (x : Option Op). StepTells (g.backing store).stopped (g.state store) (g.state store) x x (Refused fault)) (sym none) (record { faults = cause; logged = tt; unfinished = tt; stats = tt; waits = λ alive some. absurd (some tt); starts = λ on. refl });
     refused = subst (λ (x : Option Op). RefusalChangesNothing (g.state store) (g.state store) x x (Refused fault)) (sym none) (refl, refl);
     stopped = λ h. subst (λ (x : Option Op). AnswersStopped (slot_add x) (Refused fault)) (sym none) (stopped h);
     less = λ honest. tt;
@@ -89,6 +89,7 @@ module _ {S : Type 0} (g : Ghosts S) (laws : Laws g) (store : S) (slots : List (
     causes = tt;
     order = tt;
     fresh = tt;
+    numbered = tt;
     keeps_up = tt;
     runs_on = subst (λ (x : Option Op). RunsOn x x) (sym none) tt;
   }
@@ -125,6 +126,7 @@ module _ {S : Type 0} (g : Ghosts S) (laws : Laws g) (store : S) (slots : List (
         causes = tt;
         order = tt;
         fresh = tt;
+        numbered = tt;
         keeps_up = tt;
         runs_on = subst (λ (x : Option Op). RunsOn x x) (sym none) tt;
       }
@@ -147,10 +149,11 @@ module _ {S : Type 0} (g : Ghosts S) (laws : Laws g) (store : S) (slots : List (
         kept = nothing_done (g.state store);
         calm = refl;
         others = λ s of other apart. refl;
-        left = record { over = none; backing = refl; begun = refl };
+        left = record { over = none; backing = refl; begun = refl; state_is = sym (ap (λ (o : Option Op). after_slot o (g.state store)) none) };
         causes = tt;
         order = tt;
         fresh = tt;
+        numbered = tt;
         keeps_up = tt;
         runs_on = subst (λ (x : Option Op). RunsOn x x) (sym none) tt;
       }

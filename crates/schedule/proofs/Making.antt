@@ -7,14 +7,14 @@ use Rattle.index_model.specs.Faults.{Circumstances, HasCause}
 use Rattle.index_model.specs.declared.entry.Entry.{Entry}
 use Rattle.index_model.specs.declared.fault.Fault.{Fault}
 use Rattle.index_model.specs.declared.fault.Fault.TheVariants.{Stopped}
-use Rattle.page_action.specs.Causes.{nothing_wrong, where_forced}
+use Rattle.page_action.specs.Causes.{nothing_wrong, is_at_end, where_forced}
 use Rattle.page_action.specs.States.{State}
 use Rattle.page_action.specs.declared.page_store.PageStore.{Ghosts}
 use Rattle.session_calls.specs.Due.{IsDueIn, HasSteps}
 use Rattle.session_calls.specs.Following.{StepTells, StepAlways, IsFitted, StepFollows}
 use Rattle.session_calls.specs.TheoremCalls.{DeadSets}
-use Rattle.session_calls.specs.Ops.{op_before, asks_vacuum, asks_sweep, is_sweep, session_of, asked_of, where_slot_stepped, where_asked_next, where_requesting, where_beginning, RunsOn, AnswersStopped}
-use Rattle.session_calls.specs.Sessions.{Matches, IsIdle, SlotFits, SessionGoes, SessionBegins, IsBegun, BeginsBy, after_call, let_go, is_busy, slot_add, LeavesLess, GivesLess, AnswersStep, AnswersNext, AnswersEnd, RefusalChangesNothing, RunsUntilLast, leaf_of, OnlyWritersAct}
+use Rattle.session_calls.specs.Ops.{op_before, asks_vacuum, asks_sweep, is_sweep, session_of, asked_of, where_slot_stepped, where_asked_next, no_call_begins, where_requesting, where_beginning, RunsOn, AnswersStopped}
+use Rattle.session_calls.specs.Sessions.{Matches, IsIdle, SlotFits, SessionGoes, SessionBegins, IsBegun, BeginsBy, after_call, after_slot, let_go, is_busy, slot_add, LeavesLess, GivesLess, AnswersStep, AnswersNext, AnswersEnd, RefusalChangesNothing, RunsUntilLast, leaf_of, OnlyWritersAct}
 use Rattle.session_calls.specs.declared.answer.Answer.{Answer}
 use Rattle.session_calls.specs.declared.answer.Answer.TheVariants.{Begun, Going, Added, Ready, Done, Finished, Gave, Ended, Forced, Flushed, Checkpointed, Refused}
 use Rattle.session_calls.specs.declared.op.Op.{Op}
@@ -27,7 +27,7 @@ use Rattle.schedule.specs.Snapshots.{here_with}
 use Rattle.schedule.specs.TheoremKinds.{Steps, Takes, GivesUp, Upkeep, Forces, Flushes, Checkpoints, BeginsCall, MovesCall, KeepsStore}
 use Rattle.schedule.specs.Events.{kept_answer, where_begun_at, DoesOneAct, EventAlways, CallIsFollowed, AnswersUpkeep, IsFlushed, UpkeepLeaves}
 use Rattle.schedule.specs.Making.{EventRuns, Makes}
-use Rattle.schedule.proofs.Events.{at_slots, others_stay_set, moves_on, stays_on, refused_stay, keeps_on_store, flushes_on_store, begins_on, named_of, request_pages, request_limits, request_frames, request_acts, not_begun, not_found_why, not_found_first, set_same}
+use Rattle.schedule.proofs.Events.{at_slots, others_stay_set, moves_on, stays_on, refused_stay, keeps_on_store, flushes_on_store, begins_on, named_of, request_pages, request_limits, request_frames, request_acts, not_begun, not_found_why, not_found_first, none_begins, set_same}
 use Rattle.schedule.proofs.Keeping.{Laws}
 use Rattle.schedule.proofs.Lists.{length_set, get_within, same_some}
 use Rattle.schedule.proofs.Vacuums.{set_is, not_excluded}
@@ -108,6 +108,7 @@ module _ {S : Type 0} (g : Ghosts S) (laws : Laws g) (old new : S) (follows_stor
         causes = tt;
         order = tt;
         fresh = tt;
+        numbered = tt;
         keeps_up = tt;
         runs_on = at_slots slots session before slot (λ x y. RunsOn x y) found_at made.runs_on;
       }
@@ -140,10 +141,11 @@ module _ {S : Type 0} (g : Ghosts S) (laws : Laws g) (old new : S) (follows_stor
             (ap (λ (st : State). st.limits) given_up ∙ over_limits (is_sweep op) (session_of op) (g.state old)) (ap (λ (st : State). st.frames) given_up ∙ over_frames (is_sweep op) (session_of op) (g.state old));
         calm = ap (λ (st : State). st.acts) given_up ∙ over_acts (is_sweep op) (session_of op) (g.state old);
         others = others_stay_set slots session slot;
-        left = record { over = at_slots slots session before slot (λ x y. y ≡ None) found_at over; backing = backing; begun = ap (λ (st : State). st.begun) given_up ∙ over_begun (is_sweep op) (session_of op) (g.state old) };
+        left = record { over = at_slots slots session before slot (λ x y. y ≡ None) found_at over; backing = backing; begun = ap (λ (st : State). st.begun) given_up ∙ over_begun (is_sweep op) (session_of op) (g.state old); state_is = given_up ∙ sym (ap (λ (o : Option Op). after_slot o (g.state old)) (slot_was ∙ is)) };
         causes = tt;
         order = tt;
         fresh = tt;
+        numbered = tt;
         keeps_up = tt;
         runs_on = at_slots slots session before slot (λ x y. RunsOn x y) found_at (runs_over before slot over);
       }
@@ -199,6 +201,7 @@ module _ {S : Type 0} (g : Ghosts S) (laws : Laws g) (store : S) (slots : List (
         causes = tt;
         order = tt;
         fresh = tt;
+        numbered = tt;
         keeps_up = tt;
         runs_on = at_slots slots session before slot (λ x y. RunsOn x y) found_at runs_on;
       }
@@ -245,6 +248,7 @@ module _ {S : Type 0} (g : Ghosts S) (laws : Laws g) (old new : S) (follows : g.
         causes = tt;
         order = tt;
         fresh = tt;
+        numbered = tt;
         keeps_up = leaves;
         runs_on = tt;
       }
@@ -276,6 +280,7 @@ module _ {S : Type 0} (g : Ghosts S) (laws : Laws g) (old new : S) (follows : g.
         causes = tt;
         order = tt;
         fresh = tt;
+        numbered = tt;
         keeps_up = subst (λ (a : Answer). UpkeepLeaves g upkeep a old new) is leaves;
         runs_on = tt;
       }
@@ -306,6 +311,7 @@ flush_makes g laws old new follows slots sets same block flushed alive = record 
       causes = tt;
       order = tt;
       fresh = tt;
+      numbered = tt;
       keeps_up = flushed;
       runs_on = tt;
     }
@@ -316,7 +322,7 @@ asked_why vacuums b c fault named h = subst (λ (x : Bool). HasCause (record c {
 
 -- a beginning in a session that was found
 module _ {S : Type 0} (g : Ghosts S) (laws : Laws g) (old new : S) (follows : g.follows old new) (slots : List (Option Op)) (sets : DeadSets) (session : ℕ) (request : Request) (before slot : Option Op) (answer : Answer)
-    (alive : (g.backing old).stopped ≡ false) (named : is_of_sets sets request ≡ true) (free : slice_get slots session ≡ Some None) (before_is : before ≡ None) where
+    (alive : no_call_begins (g.state old) (g.backing old) ≡ false) (named : is_of_sets sets request ≡ true) (free : slice_get slots session ≡ Some None) (before_is : before ≡ None) where
   abbrev excluded : Bool
   excluded = asks_vacuum request && one_vacuums slots
 
@@ -324,9 +330,9 @@ module _ {S : Type 0} (g : Ghosts S) (laws : Laws g) (old new : S) (follows : g.
   true_false h = cc
 
   -- no fault is the first of those for which no session is found
-  found_one : (fault : Fault) → session_to_begin (g.backing old).stopped (is_of_sets sets request) (slice_get slots session) session ≡ Err fault → ⊥
+  found_one : (fault : Fault) → session_to_begin (no_call_begins (g.state old) (g.backing old)) (is_of_sets sets request) (slice_get slots session) session ≡ Err fault → ⊥
   found_one fault h =
-      let found : session_to_begin (g.backing old).stopped (is_of_sets sets request) (slice_get slots session) session ≡ Ok session =
+      let found : session_to_begin (no_call_begins (g.state old) (g.backing old)) (is_of_sets sets request) (slice_get slots session) session ≡ Ok session =
       ap (λ (b : Bool). session_to_begin b (is_of_sets sets request) (slice_get slots session) session) alive
       ∙ ap (λ (b : Bool). session_to_begin false b (slice_get slots session) session) named
       ∙ ap (λ (o : Option (Option Op)). session_to_begin false true o session) free in
@@ -347,7 +353,7 @@ module _ {S : Type 0} (g : Ghosts S) (laws : Laws g) (old new : S) (follows : g.
     stands = tt;
     tells = tt;
     refused = λ fault e. absurd cc;
-    stopped = λ is. absurd (true_false (sym is ∙ alive));
+    stopped = λ is. absurd (true_false (sym (none_begins (g.backing old).stopped (is_at_end (g.state old).begun) is) ∙ alive));
     less = tt;
     kept = no_act (g.state old) (g.state new) (ap (λ (st : State). st.acts) h.state ∙ request_acts (asks_sweep request) session (g.state old)) (ap (λ (st : State). st.pages) h.state ∙ request_pages (asks_sweep request) session (g.state old))
         (ap (λ (st : State). st.limits) h.state ∙ request_limits (asks_sweep request) session (g.state old)) (ap (λ (st : State). st.frames) h.state ∙ request_frames (asks_sweep request) session (g.state old));
@@ -357,6 +363,7 @@ module _ {S : Type 0} (g : Ghosts S) (laws : Laws g) (old new : S) (follows : g.
     causes = tt;
     order = λ fault e. absurd (found_one fault e);
     fresh = λ begun. set_is slots session slot (get_within slots session None free) ∙ h.runs;
+    numbered = λ begun. h.state;
     keeps_up = tt;
     runs_on = tt;
   }
@@ -366,7 +373,7 @@ module _ {S : Type 0} (g : Ghosts S) (laws : Laws g) (old new : S) (follows : g.
     stands = tt;
     tells = tt;
     refused = λ f e. record { state_is = h.state; slots_is = ap (λ (x : Option Op). slice_set slots session x) (h.slot_is ∙ before_is) ∙ set_same slots session None free };
-    stopped = λ is. absurd (true_false (sym is ∙ alive));
+    stopped = λ is. absurd (true_false (sym (none_begins (g.backing old).stopped (is_at_end (g.state old).begun) is) ∙ alive));
     less = tt;
     kept = still (g.state old) (g.state new) h.state;
     calm = ap (λ (st : State). st.acts) h.state;
@@ -375,6 +382,7 @@ module _ {S : Type 0} (g : Ghosts S) (laws : Laws g) (old new : S) (follows : g.
     causes = cause_of fault h.cause;
     order = λ f e. absurd (found_one f e);
     fresh = λ e. absurd cc;
+    numbered = λ e. absurd cc;
     keeps_up = tt;
     runs_on = tt;
   }
@@ -436,7 +444,7 @@ module _ {S : Type 0} (g : Ghosts S) (laws : Laws g) (old new : S) (follows : g.
 
 -- a beginning that finds no session
 pub not_found_makes : {S : Type 0} (g : Ghosts S) (laws : Laws g) (store : S) (slots : List (Option Op)) (sets : DeadSets) (session : ℕ) (request : Request) (fault : Fault)
-    → Err fault ≡ session_to_begin (g.backing store).stopped (is_of_sets sets request) (slice_get slots session) session → Makes g (BeginsCall session request) (Refused fault) (here_with store slots sets) (here_with store slots sets)
+    → Err fault ≡ session_to_begin (no_call_begins (g.state store) (g.backing store)) (is_of_sets sets request) (slice_get slots session) session → Makes g (BeginsCall session request) (Refused fault) (here_with store slots sets) (here_with store slots sets)
 not_found_makes g laws store slots sets session request fault none = record {
   sessions = refl;
   always = always;
@@ -446,7 +454,7 @@ not_found_makes g laws store slots sets session request fault none = record {
       let later = laws.follows_later store store follows in
       stays_on g start snap store fault fits refl follows later (BeginsCall session request)
       (not_begun g (slice_get slots session) session request (Refused fault) snap _ (refused_stay g start snap store fault fits refl follows later)) always
-      (not_found_why g store (one_vacuums slots) sets request session (g.backing store).stopped (is_of_sets sets request) (slice_get slots session) fault refl refl none) (λ s e. absurd cc));
+      (not_found_why g store (one_vacuums slots) sets request session (no_call_begins (g.state store) (g.backing store)) (is_of_sets sets request) (slice_get slots session) fault refl refl none) (λ s e. absurd cc));
 }
   where
     always : EventAlways g (BeginsCall session request) (Refused fault) (here_with store slots sets) (here_with store slots sets)
@@ -456,15 +464,17 @@ not_found_makes g laws store slots sets session request fault none = record {
       stands = tt;
       tells = tt;
       refused = λ f h. record { state_is = refl; slots_is = refl };
-      stopped = not_found_first (g.backing store).stopped (is_of_sets sets request) (slice_get slots session) session fault none;
+      stopped = λ is. not_found_first (no_call_begins (g.state store) (g.backing store)) (is_of_sets sets request) (slice_get slots session) session fault none
+          (none_begins (g.backing store).stopped (is_at_end (g.state store).begun) is);
       less = tt;
       kept = still (g.state store) (g.state store) refl;
       calm = refl;
       others = λ s of other apart. refl;
       left = tt;
-      causes = not_found_why g store (one_vacuums slots) sets request session (g.backing store).stopped (is_of_sets sets request) (slice_get slots session) fault refl refl none;
+      causes = not_found_why g store (one_vacuums slots) sets request session (no_call_begins (g.state store) (g.backing store)) (is_of_sets sets request) (slice_get slots session) fault refl refl none;
       order = λ f e. ap Refused (let both : Err fault ≡ Err f = none ∙ e in cc);
       fresh = λ e. absurd cc;
+      numbered = λ e. absurd cc;
       keeps_up = tt;
       runs_on = tt;
     }

@@ -1,5 +1,5 @@
 -- What an event means follows from what its operation tells of it.
-use Rattle.std.proofs.Common.{◌≡◌, ◌≢◌, ◌⊎◌, ℕ, suc, ◌+◌, ◌≤◌, ◌&&◌, ◌||◌, ◌==◌, not, Bool, true, false, Option, Some, None, List, [], ◌∷◌, ◌++◌, length, slice_get, slice_set, refl, sym, ap, subst, arith, inl, inr, ◌∙◌, length-append}
+use Rattle.std.proofs.Common.{◌≡◌, ◌≢◌, ◌⊎◌, ℕ, suc, ◌+◌, ◌≤◌, ◌&&◌, ◌==◌, not, Bool, true, false, Option, Some, None, List, [], ◌∷◌, ◌++◌, length, slice_get, slice_set, refl, sym, ap, subst, arith, inl, inr, ◌∙◌, length-append}
 use Rattle.std.specs.Prelude.{if◌then◌else◌, nat_lt, unwrap_or}
 use Rattle.std.proofs.lemmas.Bool.{true≢false, false≢true, and_parts, or_cases, eqb-true, eq-eqb, ne_eqb, ltb-true, ltb-false}
 use Rattle.index_model.specs.Actions.{Effect, Add, Remove, Shape, Action}
@@ -15,7 +15,7 @@ use Rattle.tree_shape.specs.Nodes.{nodes_of}
 use Rattle.tree_acts.specs.Flags.{FlagsMove}
 use Rattle.descent.specs.Shared.{FinishesASplit, DeletesALeaf, IsRaised, is_flagged, level_in}
 use Rattle.session_calls.specs.TheoremCalls.{asked_by, acts_of, becomes, MayComeWith}
-use Rattle.session_calls.specs.Ops.{asked_of, session_of, asks_vacuum, is_vacuum, where_asked_next, once_added, IsCaused, ends_call}
+use Rattle.session_calls.specs.Ops.{asked_of, session_of, asks_vacuum, is_vacuum, where_asked_next, no_call_begins, once_added, IsCaused, ends_call}
 use Rattle.session_calls.specs.Sessions.{Told, MovesShape, act_count, noted, ended, is_busy}
 use Rattle.session_calls.specs.declared.answer.Answer.{Answer}
 use Rattle.session_calls.specs.declared.answer.Answer.TheVariants.{Begun, Going, Added, Ready, Done, Finished, Gave, Ended, Forced, Flushed, Checkpointed, Refused}
@@ -351,15 +351,21 @@ module _ {S : Type 0} (g : Ghosts S) (start : Entry → Bool) (old : Snapshot S)
   busy_runs session None at h = absurd (false≢true h)
   busy_runs session (Some op) at h = (op, at)
 
+  none_begin : no_call_begins (g.state old.store) (g.backing old.store) ≡ true → ((g.backing old.store).stopped ≡ true) ⊎ ((g.state old.store).begun ≡ 18446744073709551615)
+  none_begin k = elim (or_cases (g.backing old.store).stopped (is_at_end (g.state old.store).begun) k) [
+    | inl stopped ↦ inl stopped
+    | inr at_end ↦ inr (eqb-true (g.state old.store).begun 18446744073709551615 at_end)
+  ]
+
   begin_fails : (session : ℕ) (request : Request) (o : Option (Option Op)) → slice_get old.slots session ≡ o → (fault : Fault)
       → HasCause (where_begun_at g old.store (one_vacuums old.slots) old.sets request o) fault → EventFails g (BeginsCall session request) old new.store fault
   begin_fails session request None at fault h =
-      no_session (g.backing old.store).stopped (EventFails g (BeginsCall session request) old new.store) (λ k. inl k) (inl (none_beyond old.slots session at)) fault h
+      no_session (no_call_begins (g.state old.store) (g.backing old.store)) (EventFails g (BeginsCall session request) old new.store) none_begin (inl (none_beyond old.slots session at)) fault h
   begin_fails session request (Some slot) at fault h =
-      one_of_few false ((g.backing old.store).stopped || is_at_end (g.state old.store).begun) (asks_vacuum request && one_vacuums old.slots) (not (is_of_sets old.sets request)) (is_busy slot)
+      one_of_few false (no_call_begins (g.state old.store) (g.backing old.store)) (asks_vacuum request && one_vacuums old.slots) (not (is_of_sets old.sets request)) (is_busy slot)
       (EventFails g (BeginsCall session request) old new.store) (record {
         device = λ k. absurd (false≢true k);
-        stopped = λ k. elim (or_cases (g.backing old.store).stopped (is_at_end (g.state old.store).begun) k) [ inl a ↦ inl a | inr b ↦ inr (eqb-true (g.state old.store).begun 18446744073709551615 b) ];
+        stopped = none_begin;
         vacuum = λ k. let both = and_parts (asks_vacuum request) (one_vacuums old.slots) k in (vacuums_asked request both.0, one_runs both.1);
         session = λ k. inr (no_set request k);
         busy = busy_runs session slot at;

@@ -2,7 +2,7 @@
 use Rattle.std.proofs.Common.{◌≡◌, ℕ, ◌&&◌, Bool, true, false, Option, Result, Ok, Err, List, slice_get, refl, sym, ap, subst, ◌∙◌}
 use Rattle.index_model.specs.declared.fault.Fault.{Fault}
 use Rattle.page_action.specs.declared.page_store.PageStore.{Ghosts}
-use Rattle.session_calls.specs.Ops.{asks_vacuum}
+use Rattle.session_calls.specs.Ops.{asks_vacuum, no_call_begins}
 use Rattle.session_calls.specs.Sessions.{no_call}
 use Rattle.session_calls.specs.Slots.{has_call, one_vacuums, is_of_sets, session_to_begin, ChangesSlot, SlotBegins, SlotSteps, SlotGives, SlotEnds}
 use Rattle.session_calls.specs.TheoremCalls.{DeadSets}
@@ -35,20 +35,20 @@ module _ {S : Type 0} (g : Ghosts S) (laws : Laws g) (old new : S) (follows : g.
       (subst (λ (x : Answer). Makes g kind x (here_with old slots sets) (here_with old slots sets)) (sym is) made))
 
   pub begin_event : (request : Request)
-      → ((fault : Fault) → session_to_begin (g.backing old).stopped (is_of_sets sets request) (slice_get slots session) session ≡ Err fault
+      → ((fault : Fault) → session_to_begin (no_call_begins (g.state old) (g.backing old)) (is_of_sets sets request) (slice_get slots session) session ≡ Err fault
       → (answer ≡ Refused fault) × (then_calls ≡ calls) × (new ≡ old))
-      → (session_to_begin (g.backing old).stopped (is_of_sets sets request) (slice_get slots session) session ≡ Ok session
+      → (session_to_begin (no_call_begins (g.state old) (g.backing old)) (is_of_sets sets request) (slice_get slots session) session ≡ Ok session
       → ChangesSlot session slots then_slots (SlotBegins g old new session request (asks_vacuum request && one_vacuums slots) answer))
       → Makes g (BeginsCall session request) answer (here_with old slots sets) (here_with new then_slots sets)
-  begin_event request not_begun changes = by (session_to_begin (g.backing old).stopped (is_of_sets sets request) (slice_get slots session) session) refl
+  begin_event request not_begun changes = by (session_to_begin (no_call_begins (g.state old) (g.backing old)) (is_of_sets sets request) (slice_get slots session) session) refl
     where
-      by : (r : Result ℕ Fault) → session_to_begin (g.backing old).stopped (is_of_sets sets request) (slice_get slots session) session ≡ r
+      by : (r : Result ℕ Fault) → session_to_begin (no_call_begins (g.state old) (g.backing old)) (is_of_sets sets request) (slice_get slots session) session ≡ r
           → Makes g (BeginsCall session request) answer (here_with old slots sets) (here_with new then_slots sets)
       by (Err fault) is =
           let h = not_begun fault is in
           unmoved (BeginsCall session request) (Refused fault) h.1 h.2 h.0 (not_found_makes g laws old slots sets session request fault (sym is))
       by (Ok known) is =
-          let at = found (g.backing old).stopped (is_of_sets sets request) (slice_get slots session) session known (sym is) in
+          let at = found (no_call_begins (g.state old) (g.backing old)) (is_of_sets sets request) (slice_get slots session) session known (sym is) in
           let r = changes (is ∙ ap (λ (n : ℕ). Ok n) at.3) in
           let free : r.before ≡ _ = cc in
           subst (λ (l : List (Option Op)). Makes g (BeginsCall session request) answer (here_with old slots sets) (here_with new l sets)) (sym r.is)

@@ -19,8 +19,8 @@ use Rattle.descent.specs.Shared.{OthersRely}
 use Rattle.session_calls.specs.Due.{IsDueIn, CountsDown, HasSteps}
 use Rattle.session_calls.specs.Following.{StepTells}
 use Rattle.session_calls.specs.TheoremCalls.{DeadSets, asked_by, acts_of, begun_call}
-use Rattle.session_calls.specs.Ops.{op_before, asks_vacuum, asked_of, where_stepped, where_asked_next, where_beginning, RunsOn, IsCaused, AnswersStopped}
-use Rattle.session_calls.specs.Sessions.{Told, IsAsked, MovesShape, is_busy, slot_add, LeavesLess, LeavesNoMore, GivesLess, AnswersStep, AnswersNext, AnswersEnd, RefusalChangesNothing, RunsUntilLast, leaf_of, StandsByAnswer, OnlyWritersAct, OnlyOwnAreFlagged, LeavesOwnFlagged, KeepsBeforePins, CountsEntries, CountsPages, SparesLeaves}
+use Rattle.session_calls.specs.Ops.{op_before, asks_vacuum, asked_of, where_stepped, where_asked_next, where_beginning, RunsOn, IsCaused, AnswersStopped, asks_sweep, no_call_begins}
+use Rattle.session_calls.specs.Sessions.{Told, IsAsked, MovesShape, is_busy, slot_add, LeavesLess, LeavesNoMore, GivesLess, AnswersStep, AnswersNext, AnswersEnd, RefusalChangesNothing, RunsUntilLast, leaf_of, StandsByAnswer, OnlyWritersAct, OnlyOwnAreFlagged, LeavesOwnFlagged, KeepsBeforePins, CountsEntries, CountsPages, SparesLeaves, after_slot, after_request}
 use Rattle.session_calls.specs.declared.answer.Answer.{Answer}
 use Rattle.session_calls.specs.declared.answer.Answer.TheVariants.{Begun, Forced, Flushed, Checkpointed, Refused}
 use Rattle.session_calls.specs.declared.op.Op.{Op}
@@ -182,7 +182,7 @@ where_moved idle running (Some (Some op)) = running op
 
 -- the circumstances of a beginning with these sets, while a bulk delete or a cleanup runs or none
 abbrev pub where_begun_at : {S : Type 0} → Ghosts S → S → Bool → DeadSets → Request → Option (Option Op) → Circumstances
-where_begun_at g store vacuums sets request None = where_no_call (g.backing store).stopped
+where_begun_at g store vacuums sets request None = where_no_call (no_call_begins (g.state store) (g.backing store))
 where_begun_at g store vacuums sets request (Some slot) = record (where_beginning (g.state store) (g.backing store) (is_busy slot)) {
   no_such_session = not (is_of_sets sets request);
   vacuum_runs = asks_vacuum request && vacuums;
@@ -268,11 +268,13 @@ IsLessLeft honest (MovesCall session Steps) answer old new before after = honest
 IsLessLeft honest (MovesCall session Takes) answer old new before after = GivesLess before after answer
 IsLessLeft honest kind answer old new before after = Unit {0}
 
--- behind an `End` the session runs nothing; nothing of the log, and no count of calls, is changed
+-- behind an `End` the session runs nothing, and what its call held is let go; nothing of the log, and no count of calls, is
+-- changed
 pub record IsEnded {S : Type 0} (g : Ghosts S) (session : ℕ) (old new : StoreAndSlots S) : Type 0 where
   pub over : slot_of new.slots session ≡ None
   pub backing : g.backing new.store ≡ g.backing old.store
   pub begun : (g.state new.store).begun ≡ (g.state old.store).begun
+  pub state_is : g.state new.store ≡ after_slot (slot_of old.slots session) (g.state old.store)
 
 -- what is so behind an event: an end leaves its session nothing to run; asking for the next entry leaves the pages, calls and
 -- holdings of the store as they were
@@ -309,11 +311,12 @@ BeginningIsCaused g (BeginsCall session request) answer old =
     IsCaused (where_begun_at g old.store (one_vacuums old.slots) old.sets request (slice_get old.slots session)) answer
 BeginningIsCaused g kind answer old = Unit {0}
 
--- a beginning for which no session is found is refused for that, whatever else is so
+-- a beginning is refused for the first that stands in its way: no call begins, there is no such session or set, the session has
+-- a call
 abbrev pub RefusesInOrder : {S : Type 0} → Ghosts S → Kind → Answer → StoreAndSlots S → Type 0
 RefusesInOrder g (BeginsCall session request) answer old =
     (fault : Fault)
-    → session_to_begin (g.backing old.store).stopped (is_of_sets old.sets request) (slice_get old.slots session) session ≡ Err fault
+    → session_to_begin (no_call_begins (g.state old.store) (g.backing old.store)) (is_of_sets old.sets request) (slice_get old.slots session) session ≡ Err fault
     → answer ≡ Refused fault
 RefusesInOrder g kind answer old = Unit {0}
 
@@ -321,6 +324,12 @@ RefusesInOrder g kind answer old = Unit {0}
 abbrev pub StartsFresh : Kind → Answer → Option Op → Type 0
 StartsFresh (BeginsCall session request) answer after = answer ≡ Begun → after ≡ Some (op_before session request)
 StartsFresh kind answer after = Unit {0}
+
+-- a call that has begun has the count of calls begun before it for its start number, and a bulk delete the next cycle number;
+-- nothing else of the store is changed
+abbrev pub GetsNumber : Kind → Answer → State → State → Type 0
+GetsNumber (BeginsCall session request) answer old new = answer ≡ Begun → new ≡ after_request (asks_sweep request) session old
+GetsNumber kind answer old new = Unit {0}
 
 -- behind a move of its call a session runs nothing, or a call of the same kind
 abbrev pub MoveRunsOn : Kind → Option Op → Option Op → Type 0
@@ -358,10 +367,13 @@ pub record EventAlways {S : Type 0} (g : Ghosts S) (kind : Kind) (answer : Answe
   pub left : IsLeft g kind old new
   -- a beginning that is refused has its cause
   pub causes : BeginningIsCaused g kind answer old
-  -- ... the first that there is of a log that has failed, no such session or set, and a session with a call
+  -- ... the first that there is of a log that has failed or a count of calls at its end, no such session or set, and a session
+  -- with a call
   pub order : RefusesInOrder g kind answer old
   -- what has begun is the call that was asked for, before its first step
   pub fresh : StartsFresh kind answer (slot_of new.slots (session_at kind))
+  -- ... which has got its start number
+  pub numbered : GetsNumber kind answer (g.state old.store) (g.state new.store)
   -- what a force, a flush and a checkpoint do to the pages that wait to be written, and to the log's room
   pub keeps_up : KeepsUp g kind answer old.store new.store
   -- behind a move of its call a session runs nothing, or a call of the same kind

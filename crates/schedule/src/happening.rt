@@ -19,8 +19,8 @@ use session_calls::{Answer, Calls, Request};
 
 /// Does one event on a store with the calls of its sessions, and answers what the event gave, a refusal among the answers.
 /// Where several refusals apply, the first of `Stopped` (3), `NoSession` (12), `SessionBusy` (13) and `VacuumRunning` (11) is
-/// answered; a counter at its end, which is refused with `Stopped` too, is tested last. The sets of dead rows are those that
-/// calls name by their places, the same at each event.
+/// answered; a count of calls at its end is refused with `Stopped` too. The sets of dead rows are those that calls name by
+/// their places, the same at each event.
 pub fn one<S: PageStore, T: DeadRows>(
     store: &mut S,
     calls: &mut Calls,

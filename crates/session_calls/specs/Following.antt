@@ -1,5 +1,5 @@
 -- What a step of a session's call promises whatever the pages are, and what is followed of the call, step by step.
-use Rattle.std.specs.Prelude.{◌≡◌, ℕ, suc, Bool, true, Option, None, List}
+use Rattle.std.specs.Prelude.{◌≡◌, ℕ, suc, Bool, true, false, Option, None, List}
 use Rattle.index_model.specs.Actions.{Action}
 use Rattle.index_model.specs.Calls.{Call}
 use Rattle.index_model.specs.declared.entry.Entry.{Entry}
@@ -7,7 +7,7 @@ use Rattle.page_action.specs.States.{State}
 use Rattle.page_action.specs.declared.page_store.PageStore.{Ghosts}
 use Rattle.session_calls.specs.TheoremCalls.{DeadSets}
 use Rattle.session_calls.specs.Due.{IsDueIn, CountsDown}
-use Rattle.session_calls.specs.Ops.{where_slot_stepped_any, RunsOn, IsCaused, AnswersStopped, AnswersLogged}
+use Rattle.session_calls.specs.Ops.{where_slot_stepped_any, RunsOn, IsCaused, AnswersStopped, AnswersLogged, is_last}
 use Rattle.session_calls.specs.Sessions.{SlotFits, KeepsPages, OnlyWritersAct, OnlyOwnAreFlagged, LeavesOwnFlagged, KeepsBeforePins, CountsEntries, CountsPages, SparesLeaves, LeavesLess, LeavesNoMore, AnswersStep, RefusalChangesNothing, RunsUntilLast, UnfinishedChangesNothing, TellsStats, WaitsToGive, StandsByAnswer, no_call, slot_add}
 use Rattle.session_calls.specs.declared.answer.Answer.{Answer}
 use Rattle.session_calls.specs.declared.op.Op.{Op}
@@ -24,6 +24,8 @@ pub record StepTells (is_stopped : Bool) (old new : State) (before after : Optio
   pub stats : TellsStats old before answer
   -- while a scan has entries ready it tells how many, and changes nothing
   pub waits : WaitsToGive is_stopped old new before after answer
+  -- where it isn't the last of its call, each running call keeps its start number
+  pub starts : is_last answer ≡ false → new.running ≡ old.running
 
 -- a step, whatever the pages are
 pub record StepAlways {S : Type 0} (g : Ghosts S) (old new : S) (before after : Option Op) (answer : Answer) : Type 0 where

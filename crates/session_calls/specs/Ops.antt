@@ -170,9 +170,13 @@ where_asked_next (AskInsert e) = record nothing_wrong { no_such_session = true }
 where_asked_next (AskBulkDelete dead) = record nothing_wrong { no_such_session = true }
 where_asked_next AskCleanup = record nothing_wrong { no_such_session = true }
 
+-- no call begins: the log failed before, or the count of calls begun is at its end
+abbrev pub no_call_begins : State → Backing → Bool
+no_call_begins st old = old.stopped || is_at_end st.begun
+
 -- the circumstances of a beginning
 abbrev pub where_beginning : State → Backing → Bool → Circumstances
-where_beginning st old busy = record nothing_wrong { is_stopped = old.stopped || is_at_end st.begun; session_has_a_call = busy }
+where_beginning st old busy = record nothing_wrong { is_stopped = no_call_begins st old; session_has_a_call = busy }
 
 -- a bulk delete runs: the store has its cycle number
 abbrev pub is_sweeping : State → Bool

@@ -256,6 +256,11 @@ let_go true session st = after_stop_cycle (after_end session st)
 abbrev pub after_call : Op → State → State
 after_call op st = let_go (is_sweep op) (session_of op) st
 
+-- ... of what a session runs, if anything
+abbrev pub after_slot : Option Op → State → State
+after_slot None st = st
+after_slot (Some op) st = after_call op st
+
 -- a refusal ends the call, or leaves it as it was; nothing else is changed
 pub record StepIsRefused (old new : State) (op : Op) (after : Option Op) (fault : Fault) : Type 0 where
   pub state : new ≡ (if ends_call fault then after_call op old else old)

@@ -7,7 +7,7 @@ ghost use Rattle.index_model.specs.declared.entry.Entry.{Entry};
 ghost use Rattle.page_action.specs.States.{Continues};
 ghost use Rattle.session_calls.specs.Due.{HasSteps};
 ghost use Rattle.session_calls.specs.TheoremCalls.{DeadSets};
-ghost use Rattle.session_calls.specs.Ops.{op_before, asks_sweep, where_requesting};
+ghost use Rattle.session_calls.specs.Ops.{op_before, asks_sweep, no_call_begins, where_requesting};
 ghost use Rattle.session_calls.specs.Sessions.{Matches, IsIdle, BeginsBy, SessionBegins, after_request};
 ghost use Rattle.session_calls.specs.declared.request.Request.TheVariants.{Insert as ToInsert, Scan as ToScan, Bulk as ToBulk, Cleanup as ToCleanup};
 
@@ -21,9 +21,16 @@ use page_delete::CleanupOp;
 use scan::ScanOp;
 use vacuum::BulkDeleteOp;
 
+/// Whether no call begins: the log failed before, or the count of calls begun is at its end.
+pub(crate) fn no_call_begins<S: PageStore>(store: &S) -> bool
+    ensures { result ≡ no_call_begins (S.state store.now) (S.backing store.now) }
+{
+    store.is_stopped() || store.begun() == u64::MAX
+}
+
 /// Begins a call of a session. `excluded` tells that it is a bulk delete or a cleanup, and a session runs one. Refused with
-/// `Stopped` (3); with `SessionBusy` (13) where the session has a call; with `VacuumRunning` (11) where it is excluded:
-/// nothing is changed then.
+/// `Stopped` (3) where no call begins; with `SessionBusy` (13) where the session has a call; with `VacuumRunning` (11) where it
+/// is excluded: nothing is changed then.
 ///
 /// On its own, into a leaf with room, an insert takes three steps more than the root's level; the first entries of a scan
 /// are ready after two more.
@@ -38,7 +45,8 @@ pub(crate) fn begin<S: PageStore>(
     ensures backing { S.backing store.new ≡ S.backing store.old }
     ensures by { BeginsBy (S.state store.old) (S.backing store.old)
         (S.state store.new) session request excluded slot.old slot.new result }
-    ensures stopped { (S.backing store.old).stopped ≡ true → result ≡ Answer.Refused Fault.Stopped }
+    ensures stopped { no_call_begins (S.state store.old) (S.backing store.old) ≡ true
+        → result ≡ Answer.Refused Fault.Stopped }
     ensures begins { result ≡ Answer.Begun → (sets : DeadSets) (start : Entry → Bool)
         (history : List Action) (number : ℕ)
         → Matches (S.state store.old) start history → IsIdle (S.state store.old) session
@@ -125,14 +133,15 @@ fn start<S: PageStore>(
     ensures low { session < 64 }
     ensures limits { (S.state store.old).limits.pages ≤ 65536 }
     ensures few { length (S.state store.old).pages ≤ 65536 }
-    ensures stopped { (S.backing store.old).stopped ≡ true → result ≡ Err Fault.Stopped }
+    ensures stopped { no_call_begins (S.state store.old) (S.backing store.old) ≡ true
+        → result ≡ Err Fault.Stopped }
     ensures refused { OnErr result (S.state store.new ≡ S.state store.old) }
     ensures cause { IfErr result
         (HasCause (where_requesting excluded (S.state store.old) (S.backing store.old) busy)) }
 {
     let _number = session.number();
     let _limits = store.limits();
-    if store.is_stopped() {
+    if no_call_begins(store) {
         return Err(Fault::Stopped);
     }
     if busy {

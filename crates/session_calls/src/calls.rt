@@ -26,7 +26,7 @@ impl Calls {
     ghost use Rattle.std.specs.Prelude.{◌≡◌, ◌⊎◌, ◌<◌, ◌≤◌, ◌&&◌, true, false, Ok, Err, None, IfOk, IfErr, OnOk, length, map, replicate, slice_get};
     ghost use Rattle.index_model.specs.declared.fault.Fault.{Fault as Refusal};
     ghost use Rattle.page_action.specs.States.{Continues};
-    ghost use Rattle.session_calls.specs.Ops.{asks_vacuum};
+    ghost use Rattle.session_calls.specs.Ops.{asks_vacuum, no_call_begins};
     ghost use Rattle.session_calls.specs.Sessions.{slot_add, no_call};
     ghost use Rattle.session_calls.specs.Slots.{slot_of, has_call, one_vacuums, is_of_sets, session_to_begin, ChangesSlot, SlotBegins, SlotSteps, SlotGives, SlotEnds};
 
@@ -83,9 +83,10 @@ impl Calls {
         }
     }
 
-    /// Begins a call of the session. Refused with the first of these that applies: `Stopped` (3); `NoSession` (12), where there
-    /// is no such session, or not the set of dead rows that is named; `SessionBusy` (13); `VacuumRunning` (11), for a bulk
-    /// delete or a cleanup while a session runs either; `Stopped` again for a counter at its end. Nothing is changed then.
+    /// Begins a call of the session. Refused with the first of these that applies: `Stopped` (3), where the log failed before
+    /// or the count of calls begun is at its end; `NoSession` (12), where there is no such session, or not the set of dead rows
+    /// that is named; `SessionBusy` (13); `VacuumRunning` (11), for a bulk delete or a cleanup while a session runs either.
+    /// Nothing is changed then.
     pub fn begin<S: PageStore, T: DeadRows>(
         &mut self,
         store: &mut S,
@@ -95,11 +96,12 @@ impl Calls {
     ) -> Answer
         ensures steps { Continues S.follows store.old store.new }
         ensures not_begun { (fault : Refusal)
-            → session_to_begin (S.backing store.old).stopped
+            → session_to_begin (no_call_begins (S.state store.old) (S.backing store.old))
             (is_of_sets (map T.is_in sets.now) request)
             (slice_get self.old.slots.items session) session ≡ Err fault
             → (result ≡ Answer.Refused fault) × (self.new ≡ self.old) × (store.new ≡ store.old) }
-        ensures changes { session_to_begin (S.backing store.old).stopped
+        ensures changes { session_to_begin
+            (no_call_begins (S.state store.old) (S.backing store.old))
             (is_of_sets (map T.is_in sets.now) request)
             (slice_get self.old.slots.items session) session ≡ Ok session
             → ChangesSlot session self.old.slots.items self.new.slots.items
@@ -107,7 +109,7 @@ impl Calls {
             (asks_vacuum request && one_vacuums self.old.slots.items) result) }
     {
         match find(
-            store.is_stopped(),
+            begins::no_call_begins(store),
             is_of_sets(sets, &request),
             &self.slots,
             session,
@@ -218,8 +220,8 @@ fn is_of_sets<T: DeadRows>(sets: &[T], request: &Request) -> bool
     }
 }
 
-// The session that may begin a call: refused where the log failed before, then where there is none of this number or the set
-// that is named isn't there, then where it has a call.
+// The session that may begin a call: refused where no call begins, then where there is none of this number or the set that is
+// named isn't there, then where it has a call.
 fn find(
     is_stopped: bool,
     has_set: bool,

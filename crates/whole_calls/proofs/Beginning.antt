@@ -1,5 +1,5 @@
 -- Beginnings as runs of one event.
-use Rattle.std.proofs.Common.{◌≡◌, ℕ, Bool, Option, Some, None, List, [], ◌∷◌, slice_get, refl, sym, subst, arith, inl, inr}
+use Rattle.std.proofs.Common.{◌≡◌, ℕ, Bool, Option, Some, None, List, [], ◌∷◌, slice_get, refl, sym, subst, arith, inl, inr, zero, suc, true, false, Ok, slice_set, ap, ◌∙◌, unwrap_or}
 use Rattle.page_codec.specs.declared.page.PageState.TheVariants.{HalfDead}
 use Rattle.tree_shape.specs.Nodes.{nodes_of}
 use Rattle.vacuum.specs.Laws.{NothingIsCounted}
@@ -8,9 +8,13 @@ use Rattle.page_delete.specs.Spares.{IsAlone}
 use Rattle.page_delete.proofs.Cleaning.{nothing_cleaned}
 use Rattle.page_delete.proofs.Sparing.{nothing_spared}
 use Rattle.page_delete.proofs.Tallying.{deleted_alike}
+use Rattle.session_calls.specs.Ops.{asks_sweep}
+use Rattle.session_calls.specs.Sessions.{start_number, after_request}
 use Rattle.session_calls.specs.declared.request.Request.TheVariants.{Bulk as ToBulk, Cleanup as ToCleanup}
 use Rattle.schedule.specs.declared.event.Event.{Event}
-use Rattle.whole_calls.proofs.Words.{Entry, State, Ghosts, Page, op_before, set_at, Answer, Begun, Refused, Op, Request, StoreAndSlots, Snapshot, snapshot_of, Kind, BeginsCall, kind_of, EventDoes, IsOfSession, AnswersBeginning, MayBegin, slot_of, Carries, Runs, Laws}
+use Rattle.schedule.proofs.Fitting.{fits_behind, running_of}
+use Rattle.schedule.proofs.Standing.{slot_found}
+use Rattle.whole_calls.proofs.Words.{Entry, State, Ghosts, Page, op_before, set_at, Answer, Begun, Refused, Op, Request, StoreAndSlots, Snapshot, snapshot_of, Kind, BeginsCall, kind_of, EventDoes, IsOfSession, AnswersBeginning, MayBegin, slot_of, SlotRuns, Carries, Runs, Laws}
 use Rattle.whole_calls.specs.Going.{CameBy, CallGoes}
 use Rattle.whole_calls.specs.Stepping.{BeginGoes}
 use Rattle.whole_calls.specs.Sweeping.{Followed, of_sweep, of_cleanup, of_deleted, of_leaves, FollowsFrom, IsCountedAs, BeginsToCount}
@@ -65,6 +69,34 @@ module _ {S : Type 0} (g : Ghosts S) (start : Entry → Bool) (session : ℕ) (r
       of Begun is = subst (λ (o : Option Op). IsCountedAs what y.sets now o) (sym (fresh is)) (fresh_counts nothing what request follows)
       of a is = tt
 
+-- the place of a number that was put there
+start_set : (xs : List (Option ℕ)) (i n m : ℕ) → unwrap_or (slice_get (slice_set xs i (Some n)) i) None ≡ Some m → unwrap_or (slice_get (slice_set xs i (Some n)) i) None ≡ Some n
+start_set [] i n m h = absurd cc
+start_set (x ∷ xs) zero n m h = refl
+start_set (x ∷ xs) (suc i) n m h = start_set xs i n m h
+
+request_running : (v : Bool) (session : ℕ) (st : State) → (after_request v session st).running ≡ slice_set st.running session (Some st.begun)
+request_running true session st = refl
+request_running false session st = refl
+
+is_begun : (a : Answer) → begun_of a ≡ Ok tt → a ≡ Begun
+is_begun Begun h = refl
+is_begun (Refused fault) h = absurd cc
+is_begun a h = absurd cc
+
+-- a call that has begun has the count of calls begun before it for its start number
+number_of : {S : Type 0} (g : Ghosts S) (start : Entry → Bool) (session : ℕ) (request : Request) (answer : Answer) (x y : Snapshot S) → EventDoes g start (BeginsCall session request) answer x y
+    → (answer ≡ Begun → slot_of y.slots session ≡ Some (op_before session request)) → begun_of answer ≡ Ok tt → start_number (g.state y.store) session ≡ Some (g.state x.store).begun
+number_of g start session request answer x y does fresh ok =
+    let begun = is_begun answer ok in
+    let runs : SlotRuns g start y session (op_before session request) = running_of (fits_behind does) session (Some (op_before session request)) (slot_found y.slots session (op_before session request) (fresh begun)) in
+    let some : start_number (g.state y.store) session ≡ Some runs.runs.started.number = subst (λ (s : ℕ). start_number (g.state y.store) s ≡ Some runs.runs.started.number) runs.is.session_is runs.runs.started.is in
+    let is : (g.state y.store).running ≡ slice_set (g.state x.store).running session (Some (g.state x.store).begun) =
+    ap (λ (st : State). st.running) (does.also.always.numbered begun) ∙ request_running (asks_sweep request) session (g.state x.store) in
+    let here : start_number (g.state y.store) session ≡ unwrap_or (slice_get (slice_set (g.state x.store).running session (Some (g.state x.store).begun)) session) None =
+    ap (λ (l : List (Option ℕ)). unwrap_or (slice_get l session) None) is in
+    here ∙ start_set (g.state x.store).running session (g.state x.store).begun runs.runs.started.number (sym here ∙ some)
+
 pub goes_begun : {S : Type 0} (g : Ghosts S) (laws : Laws g) (session : ℕ) (request : Request) (event : Event) (answer : Answer) (a b : StoreAndSlots S) → NothingIsCounted
     → kind_of event ≡ BeginsCall session request → AnswersBeginning answer → (answer ≡ Begun → slot_of b.slots session ≡ Some (op_before session request)) → Carries g a b (Runs g a b (event ∷ []) (answer ∷ []))
     → CallGoes g session (BeginGoes g session request (begun_of answer)) (begin_came (begun_of answer)) a b
@@ -75,4 +107,4 @@ goes_begun {S} g laws session request event answer a b nothing kind answers fres
     (λ start h hc k kc honest fits does. by start (snapshot_of a h hc) (snapshot_of b k kc) fresh (subst (λ (x : Kind). EventDoes g start x answer (snapshot_of a h hc) (snapshot_of b k kc)) kind does)))
   where
     by : (start : Entry → Bool) (x y : Snapshot S) → (answer ≡ Begun → slot_of y.slots session ≡ Some (op_before session request)) → EventDoes g start (BeginsCall session request) answer x y → BeginGoes g session request (begun_of answer) x y
-    by start x y fresh does = record { told = begins_told g start session request answer x y does; counts = counts_by g start session request answer x y does nothing fresh }
+    by start x y fresh does = record { told = begins_told g start session request answer x y does; number = number_of g start session request answer x y does fresh; counts = counts_by g start session request answer x y does nothing fresh }

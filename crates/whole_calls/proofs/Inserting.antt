@@ -10,7 +10,7 @@ use Rattle.whole_calls.proofs.Words.{Effect, Add, Remove, Shape, Action, Ask, As
 use Rattle.whole_calls.specs.Made.{Answered, InsertComesTo}
 use Rattle.whole_calls.specs.Going.{CallGoes, GoesFrom}
 use Rattle.whole_calls.specs.Inserting.{InsertGoes}
-use Rattle.whole_calls.specs.Refusing.{where_inserted, where_asked, is_used_up, is_tall, InsertCallIsCaused}
+use Rattle.whole_calls.specs.Refusing.{where_inserted, where_asked, has_no_block, is_tall, InsertCallIsCaused}
 use Rattle.whole_calls.specs.Stepping.{RunGoes}
 use Rattle.whole_calls.specs.Telling.{MayAnswer, acts_by, noted_behind, AreOwnEffects, IsTold, StepTold, HasNone, TellsEnd, with_call, first_call, NextTold, NothingTold, left_behind, outcome_of, shapes, inserted_call, IsAddedNow, IsNotAdded, InsertTold}
 use Rattle.whole_calls.proofs.Composing.{goes_told}
@@ -310,13 +310,17 @@ module _ {S : Type 0} (g : Ghosts S) (session least_room : ℕ) (entry : Entry) 
   run_told start x z answer added over (inl n) = rw (n.refused, n.none) (not_begun session entry n.fault x z n.told)
   run_told start x z answer added over (inr r) = insert_told g start session entry x r.here z r.free r.fits r.end answer added r.add_is over r.told
 
+  -- no block is left for the insert
+  abbrev no_block : StoreAndSlots S → S → Bool
+  no_block old new = has_no_block session (Some (g.state old.store).begun) (g.state new)
+
   caused : (old : StoreAndSlots S) (new : S) (answer : Answer) (added : Option ℕ) → IsInsertAnswer answer → ((action : ℕ) → added ≡ Some action → answer ≢ Refused Exists)
-      → IsCaused (where_asked g session least_room false (AskInsert entry) old new) answer → InsertCallIsCaused g session least_room entry old new (outcome_of answer added)
+      → IsCaused (where_asked g session least_room (Some (g.state old.store).begun) false (AskInsert entry) old new) answer → InsertCallIsCaused g session least_room entry old new (outcome_of answer added)
   caused old new (Added action None) added may apart c = tt
-  caused old new (Added action (Some fault)) added may apart c = added_cause g session least_room old new (is_used_up (g.state new)) (is_tall (g.state new)) fault c
-  caused old new (Refused fault) None may apart c = called_wider g session (ToInsert entry) old (where_inserted g session least_room true (is_used_up (g.state new)) (is_tall (g.state new)) old new) refl refl refl fault c
+  caused old new (Added action (Some fault)) added may apart c = added_cause g session least_room old new (no_block old new) (is_tall (g.state new)) fault c
+  caused old new (Refused fault) None may apart c = called_wider g session (ToInsert entry) old (where_inserted g session least_room true (no_block old new) (is_tall (g.state new)) old new) refl refl refl fault c
   caused old new (Refused fault) (Some action) may apart c =
-      left_cause g session least_room old new (is_used_up (g.state new)) (is_tall (g.state new)) fault (λ e. apart action refl (ap (λ (f : Fault). Refused f) e)) c
+      left_cause g session least_room old new (no_block old new) (is_tall (g.state new)) fault (λ e. apart action refl (ap (λ (f : Fault). Refused f) e)) c
   caused old new answer added may apart c = absurd may
 
   may_run : (start : Entry → Bool) (x z : Snapshot S) (answer : Answer) (added : Option ℕ) → answer ≢ Going → RunGoes g session least_room (ToInsert entry) answer added start x z → IsInsertAnswer answer
@@ -326,7 +330,7 @@ module _ {S : Type 0} (g : Ghosts S) (session least_room : ℕ) (entry : Entry) 
   pub insert_caused : (start : Entry → Bool) (x z : Snapshot S) (answer : Answer) (added : Option ℕ) → answer ≢ Going → RunGoes g session least_room (ToInsert entry) answer added start x z
       → InsertCallIsCaused g session least_room entry (here_at x) z.store (outcome_of answer added)
   insert_caused start x z answer added over (inl n) =
-      rw (n.refused, n.none) (begun_called g session (ToInsert entry) (here_at x) (where_inserted g session least_room true (is_used_up (g.state z.store)) (is_tall (g.state z.store)) (here_at x) z.store) (λ h. stopped_before g session least_room false (here_at x) z.store h) n.fault n.cause)
+      rw (n.refused, n.none) (begun_called g session (ToInsert entry) (here_at x) (where_inserted g session least_room true (no_block (here_at x) z.store) (is_tall (g.state z.store)) (here_at x) z.store) (λ h. stopped_before g session least_room false (here_at x) z.store h) n.fault n.cause)
   insert_caused start x z answer added over (inr r) =
       caused (here_at x) z.store answer added (may_run start x z answer added over (inr r))
       (λ action some e. not_there g start session entry x r.here z r.free r.fits r.end action (r.add_is ∙ some) (subst (λ (a : Answer). NextTold session (ToInsert entry) a x r.here) e r.told)) r.caused

@@ -1,6 +1,8 @@
 -- One moment behind another, while a session's call goes on.
 use Rattle.std.proofs.Common.{◌≡◌, ◌≤◌, ◌⊎◌, ℕ, Bool, true, false, Option, Some, None, Result, Ok, List, [], refl, sym, ap, subst, inl, inr, ◌∙◌, unwrap_or}
 use Rattle.page_action.specs.Causes.{where_forced}
+use Rattle.session_calls.specs.Ops.{is_last}
+use Rattle.session_calls.specs.Sessions.{start_number}
 use Rattle.whole_calls.proofs.Words.{Ask, AskScan, Call, HasCause, Entry, Fault, State, IsLater, Continues, Ghosts, DeadSets, IsCaused, asked_of, AnswersNext, Answer, Going, Ready, Gave, Refused, Op, StoreAndSlots, Snapshot, snapshot_of, IsRunningCall, Fits, MovesCall, Steps, Takes, EventDoes, here_at, slot_of, Laws}
 use Rattle.whole_calls.specs.Going.{CameBy, CallGoes}
 use Rattle.whole_calls.specs.Giving.{AnswersSeek, TellsScan, ScanStays, TellsGiven, given_of, give_came}
@@ -36,6 +38,7 @@ module _ {S : Type 0} (g : Ghosts S) (session : ℕ) where
     lasts = lasts_then x y z gone.lasts lasts;
     sets_are = sets ∙ gone.sets_are;
     limits_are = limits ∙ gone.limits_are;
+    numbers = step.numbers refl ∙ gone.numbers;
     far = far_then session x y z gone.far step.told;
     counted = λ what so. (
         let counts : IsCountedAs what y.sets (g.state y.store) (slot_of y.slots session) → IsCountedAs what y.sets (g.state z.store) (slot_of z.slots session) = step.counts what in
@@ -53,6 +56,7 @@ step_goes g start session least_room answer x y honest fits room does = record {
   caused = step_caused g start session least_room answer x y fits room does;
   counts = λ what. step_counts g start session x y fits what answer does;
   fewer = takes_fewer g start session answer x y honest fits does;
+  numbers = λ going. does.also.always.tells.starts (ap is_last going);
   stats = finish_tells g start session answer x y fits does;
 }
 
@@ -65,9 +69,12 @@ room_then g session least_room answer x y z first later room step = record {
       let runs = subst (λ (cs : List Call). IsRunningCall cs session number call) (sym room.silent.calls_is) is in
       let busy = λ (h : another_runs y.slots session ≡ true). subst (λ (l : List (Option Op)). another_runs l session ≡ true) room.slots_are h in
       let full = λ (counts : AsksToCount call.ask) (h : is_full_vacuum (slot_of y.slots session) ≡ true). subst (λ (l : List (Option Op)). is_full_vacuum (slot_of l session) ≡ true) room.slots_are h in
-      cause_wider _ _ (asked_wider g session least_room (here_at x) (here_at y) z.store first later.failures busy (is_full_vacuum (slot_of y.slots session)) (is_full_vacuum (slot_of x.slots session)) call.ask full) answer (step.caused number call runs));
+      subst (λ (st : State). IsCaused (where_asked g session least_room (start_number st session) (is_full_vacuum (slot_of x.slots session)) call.ask (here_at x) z.store) answer) room.state_is
+      (cause_wider _ _ (asked_wider g session least_room (here_at x) (here_at y) z.store first later.failures busy (start_number (g.state y.store) session) (is_full_vacuum (slot_of y.slots session)) (is_full_vacuum (slot_of x.slots session)) call.ask full) answer
+      (step.caused number call runs)));
   counts = λ what. rw (room.sets_are, room.state_is, room.slots_are) at (step.counts what);
   fewer = rw (room.state_is, room.slots_are) at step.fewer;
+  numbers = λ going. step.numbers going ∙ ap (λ (st : State). st.running) room.state_is;
   stats = λ number call is. step.stats number call (subst (λ (cs : List Call). IsRunningCall cs session number call) (sym room.silent.calls_is) is);
 }
 
@@ -81,9 +88,10 @@ held_goes g session least_room fault x y room cause = record {
     gone = gone_nowhere session number call x y is room.silent;
     not_exists = kept_not_exists (g.backing x.store) (g.backing y.store) fault cause;
   });
-  caused = λ number call is. forced_cause g session least_room (is_full_vacuum (slot_of x.slots session)) call.ask (here_at x) y.store fault cause;
+  caused = λ number call is. forced_cause g session least_room (start_number (g.state x.store) session) (is_full_vacuum (slot_of x.slots session)) call.ask (here_at x) y.store fault cause;
   counts = λ what. tt;
   fewer = λ low going. absurd cc;
+  numbers = λ going. absurd cc;
   stats = λ number call is stats finished. absurd cc;
 }
 
@@ -138,7 +146,7 @@ module _ {S : Type 0} (g : Ghosts S) (session least_room : ℕ) where
     told = scan_told session answer x y step.told;
     caused = λ number call range is ask. (
         let full = is_full_vacuum (slot_of x.slots session) in
-        subst (λ (a : Ask). IsCaused (where_asked g session least_room full a (here_at x) y.store) answer) ask (step.caused number call is));
+        subst (λ (a : Ask). IsCaused (where_asked g session least_room (start_number (g.state x.store) session) full a (here_at x) y.store) answer) ask (step.caused number call is));
   }
 
   -- asking it for its next entry

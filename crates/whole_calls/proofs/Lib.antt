@@ -1,4 +1,5 @@
 pub mod Words
+pub mod Blocks
 pub mod Gone
 pub mod Composing
 pub mod Made

@@ -1,5 +1,5 @@
 -- Why a running call is refused: the causes of its events, told from the moment before the call to the moment behind it.
-use Rattle.std.proofs.Common.{◌≡◌, ◌≢◌, ◌⊎◌, ℕ, zero, suc, ◌+◌, ◌<◌, ◌≤◌, Bool, true, false, not, ◌&&◌, ◌||◌, ◌==◌, nat_lt, nat_le, Option, Some, None, List, [], ◌∷◌, ◌++◌, length, slice_get, refl, sym, ap, subst, arith, inl, inr, ◌∙◌, if◌then◌else◌, unwrap_or, is_none}
+use Rattle.std.proofs.Common.{◌≡◌, ◌≢◌, ◌⊎◌, ℕ, zero, suc, ◌+◌, ◌<◌, ◌≤◌, Bool, true, false, not, ◌&&◌, ◌||◌, ◌==◌, nat_lt, nat_le, Option, Some, None, List, [], ◌∷◌, ◌++◌, length, slice_get, slice_set, refl, sym, ap, subst, arith, inl, inr, ◌∙◌, if◌then◌else◌, unwrap_or, is_none}
 use Rattle.std.proofs.lemmas.Bool.{or_cases, and_parts, ne_eqb, ltb-true, lt-ltb, ltb-false, leb-true, le-leb, eqb-true, eq-eqb}
 use Rattle.std.proofs.lemmas.List.{append-nil}
 use Rattle.index_model.specs.declared.fault.Fault.TheVariants.{Io, Stopped, Blocked, Exists, KeyTooLong, BadRow, IndexFull, LogFull, NoFrame, VacuumRunning, NoSession, SessionBusy, BadSuper, BadVersion, LogDamaged, BadLimits, TooTall, DeviceTooSmall}
@@ -11,7 +11,7 @@ use Rattle.latch_table.specs.declared.mode.Mode.TheVariants.{Shared, Exclusive, 
 use Rattle.latch_table.proofs.Tables.{is_held_by_another-by}
 use Rattle.page_action.specs.Contents.{entry_on_live_leaf}
 use Rattle.page_action.specs.Causes.{nothing_wrong, where_forced, has_failed, is_at_end, pinned_blocks, count_apart}
-use Rattle.descent.specs.Shared.{is_out_of_blocks, any_is_reusable}
+use Rattle.descent.specs.Shared.{is_out_of_blocks}
 use Rattle.descent.specs.Ways.{root_level}
 use Rattle.split_finish.specs.Finishes.{frames_of}
 use Rattle.insert_split.specs.Inserts.{InsertFits, InsertStands, leaf_held, images_at, frames_at, takes_block_at, splits_root_at, where_inserting}
@@ -26,9 +26,11 @@ use Rattle.page_delete.specs.Cleanups.{CleanupFits, where_cleaning}
 use Rattle.page_delete.specs.Needs.{count_written, frames_for}
 use Rattle.page_delete.specs.Ops.{is_counted_out as is_cleanup_full}
 use Rattle.page_delete.specs.declared.steps.CleanupOp.{CleanupOp}
+use Rattle.session_calls.specs.Sessions.{start_number, after_call, StepIsRefused, RefusalChangesNothing, UnfinishedChangesNothing}
 use Rattle.session_calls.specs.declared.op.Op.TheVariants.{Insert, Scan, Bulk, Cleanup}
-use Rattle.whole_calls.proofs.Words.{Effect, Ask, AskInsert, AskScan, AskBulkDelete, AskCleanup, Call, Circumstances, HasCause, Entry, Fault, Limits, State, Backing, IsLater, Ghosts, Page, DeadSets, acts_of, OpFits, IsCaused, once_added, where_stepped, set_at, asked_of, session_of, Told, is_busy, AnswersNext, Answer, Added, Gave, Refused, Op, Request, StoreAndSlots, Snapshot, IsRunningCall, EventDoes, Fits, here_at, slot_of, one_vacuums, MovesCall, Steps, CallMoves, MovesOn, where_moving, where_begun_at, is_of_sets, OthersStay}
-use Rattle.whole_calls.specs.Refusing.{others_run, another_runs, is_full_vacuum, where_gone, where_inserted, is_used_up, is_tall, where_asked, where_called}
+use Rattle.whole_calls.proofs.Words.{Effect, Ask, AskInsert, AskScan, AskBulkDelete, AskCleanup, Call, Circumstances, HasCause, Entry, Fault, Limits, State, Backing, IsLater, Ghosts, Page, DeadSets, acts_of, OpFits, IsCaused, once_added, where_stepped, set_at, asked_of, session_of, Told, is_busy, AnswersNext, Answer, Added, Gave, Refused, Op, Request, StoreAndSlots, Snapshot, IsRunningCall, EventDoes, Fits, here_at, slot_of, one_vacuums, MovesCall, Steps, CallMoves, MovesOn, where_moving, where_begun_at, is_of_sets, OthersStay, ends_call}
+use Rattle.whole_calls.specs.Refusing.{others_run, another_runs, is_full_vacuum, where_gone, where_inserted, is_tall, where_asked, where_called, has_no_block}
+use Rattle.whole_calls.proofs.Blocks.{blocks_behind, blocks_same}
 use Rattle.whole_calls.proofs.Tellings.{runs_in_slot, runs_has_call, one_runs, true_false}
 use Rattle.schedule.proofs.Causes.{insert_images_few, put_few, frames_few, written_few, frames_for_few}
 use Rattle.schedule.proofs.Fitting.{beyond_of, running_of}
@@ -200,6 +202,19 @@ fault_tells_none (Added a (Some f)) count effect call after fault is told = told
 fault_tells_none (Added a None) count effect call after fault is told = absurd cc
 fault_tells_none answer count effect call after fault is told = absurd cc
 
+-- ... and changes nothing, but that the call is over, or leaves that too
+told_behind : (op : Op) (answer : Answer) (st new : State) (before after : Option Op) → before ≡ Some op → RefusalChangesNothing st new before after answer → UnfinishedChangesNothing st new before answer
+    → (fault : Fault) → fault_of answer ≡ Some fault → (new ≡ after_call op st) ⊎ (new ≡ st)
+told_behind op (Refused f) st new before after is refused unfinished fault told =
+    by (ends_call f) (let r : StepIsRefused st new op after f = subst (λ (o : Option Op). RefusalChangesNothing st new o after (Refused f)) is refused in r.state)
+  where
+    by : (b : Bool) → new ≡ (if b then after_call op st else st) → (new ≡ after_call op st) ⊎ (new ≡ st)
+    by true h = inl h
+    by false h = inr h
+told_behind op (Added a (Some f)) st new before after is refused unfinished fault told = inl (subst (λ (o : Option Op). UnfinishedChangesNothing st new o (Added a (Some f))) is unfinished)
+told_behind op (Added a None) st new before after is refused unfinished fault told = absurd cc
+told_behind op answer st new before after is refused unfinished fault told = absurd cc
+
 -- a step of the session's running call
 module _ {S : Type 0} (g : Ghosts S) (start : Entry → Bool) (session least_room : ℕ) (x y : Snapshot S) (fits : Fits g start x) (room : 5 ≤ least_room → 5 ≤ (g.backing x.store).promised)
     (frames : (g.state y.store).frames ≡ (g.state x.store).frames) (acts : (g.state x.store).acts ≤ (g.state y.store).acts) where
@@ -303,34 +318,39 @@ module _ {S : Type 0} (g : Ghosts S) (start : Entry → Bool) (session least_roo
       few = (let k = frames_for_few (count_written op.at op.cursor st) (written_few op.at op.cursor st) in omega (arith, k))
   cleaning op is f fault h = h
 
-  -- a refused step leaves the pages as they were
-  module _ (limits : (g.state y.store).limits ≡ st.limits) where
-    used : (takes : Bool) → (g.state y.store).pages ≡ st.pages → (takes && is_out_of_blocks st) ≡ true → is_used_up (g.state y.store) ≡ true
-    used takes pages h =
-        ap (λ (l : Limits). nat_le l.pages (length (g.state y.store).pages)) limits ∙ ap (λ (ps : List Page). nat_le st.limits.pages (length ps)) pages
-        ∙ (and_parts (nat_le st.limits.pages (length st.pages)) (not (any_is_reusable st (length st.pages))) (and_parts takes (is_out_of_blocks st) h).1).0
+  -- a refused step leaves the pages as they were, and each block as free as it was
+  abbrev no_block : Bool
+  no_block = has_no_block session (start_number st session) (g.state y.store)
 
-    tall : (splits : Bool) → (g.state y.store).pages ≡ st.pages → (splits && nat_le 31 (root_level st.pages)) ≡ true → is_tall (g.state y.store) ≡ true
-    tall splits pages h = ap (λ (ps : List Page). nat_le 31 (root_level ps)) pages ∙ (and_parts splits (nat_le 31 (root_level st.pages)) h).1
+  used : (takes : Bool) → no_block ≡ is_out_of_blocks st → (takes && is_out_of_blocks st) ≡ true → no_block ≡ true
+  used takes same h = same ∙ (and_parts takes (is_out_of_blocks st) h).1
 
-    insert_came : (counts_full : Bool) (e : Entry) (op : InsertOp) → op.session ≡ session → InsertFits st op → (answer : Answer) → ((fault : Fault) → fault_of answer ≡ Some fault → (g.state y.store).pages ≡ st.pages)
-        → IsCaused (where_inserting st (g.backing x.store) (g.backing y.store) op.session op.entry op.at) answer → IsCaused (where_asked g session least_room counts_full (AskInsert e) (here_at x) y.store) answer
-    insert_came full e op is f (Refused fault) same c =
-        any_was (entry_on_live_leaf st.pages op.entry) (is_used_up (g.state y.store)) (is_tall (g.state y.store)) fault
-        (inserting (entry_on_live_leaf st.pages op.entry) (is_used_up (g.state y.store)) (is_tall (g.state y.store)) op is f (used (takes_block_at st op.at) (same fault refl)) (tall (splits_root_at op.at) (same fault refl)) fault c)
-    insert_came full e op is f (Added a None) same c = tt
-    insert_came full e op is f (Added a (Some fault)) same c =
-        narrower_once (where_inserting st (g.backing x.store) (g.backing y.store) op.session op.entry op.at) (where_inserted g session least_room true (is_used_up (g.state y.store)) (is_tall (g.state y.store)) (here_at x) y.store)
-        (λ k h. any_was (entry_on_live_leaf st.pages op.entry) (is_used_up (g.state y.store)) (is_tall (g.state y.store)) k
-        (inserting (entry_on_live_leaf st.pages op.entry) (is_used_up (g.state y.store)) (is_tall (g.state y.store)) op is f (used (takes_block_at st op.at) (same fault refl)) (tall (splits_root_at op.at) (same fault refl)) k h)) fault c
-    insert_came full e op is f answer same c = tt
+  tall : (splits : Bool) → (g.state y.store).pages ≡ st.pages → (splits && nat_le 31 (root_level st.pages)) ≡ true → is_tall (g.state y.store) ≡ true
+  tall splits pages h = ap (λ (ps : List Page). nat_le 31 (root_level ps)) pages ∙ (and_parts splits (nat_le 31 (root_level st.pages)) h).1
 
-    op_came : (op : Op) → session_of op ≡ session → OpFits st op → (answer : Answer) → ((fault : Fault) → fault_of answer ≡ Some fault → (g.state y.store).pages ≡ st.pages) → IsCaused (where_stepped x.sets op st (g.backing x.store) (g.backing y.store)) answer
-        → IsCaused (where_asked g session least_room (is_full_vacuum (Some op)) (asked_of x.sets op) (here_at x) y.store) answer
-    op_came (Insert op) is f answer same c = insert_came false op.entry op is f answer same c
-    op_came (Scan op) is f answer same c = cause_wider _ _ (scanning op is f) answer c
-    op_came (Bulk set op) is f answer same c = cause_wider _ _ (deleting (set_at x.sets set) op is f) answer c
-    op_came (Cleanup op) is f answer same c = cause_wider _ _ (cleaning op is f) answer c
+  -- what is so of the store behind an answer that tells of a fault
+  abbrev TellsNothing : Answer → Op → Type 0
+  TellsNothing answer op = (fault : Fault) → fault_of answer ≡ Some fault → ((g.state y.store).pages ≡ st.pages) × ((g.state y.store ≡ after_call op st) ⊎ (g.state y.store ≡ st))
+
+  insert_came : (counts_full : Bool) (e : Entry) (op : InsertOp) → op.session ≡ session → InsertFits st op → (answer : Answer) → TellsNothing answer (Insert op)
+      → IsCaused (where_inserting st (g.backing x.store) (g.backing y.store) op.session op.entry op.at) answer
+      → IsCaused (where_asked g session least_room (start_number st session) counts_full (AskInsert e) (here_at x) y.store) answer
+  insert_came full e op is f (Refused fault) same c =
+      any_was (entry_on_live_leaf st.pages op.entry) no_block (is_tall (g.state y.store)) fault
+      (inserting (entry_on_live_leaf st.pages op.entry) no_block (is_tall (g.state y.store)) op is f (used (takes_block_at st op.at) (blocks_behind session op st (g.state y.store) is (same fault refl).1)) (tall (splits_root_at op.at) (same fault refl).0) fault c)
+  insert_came full e op is f (Added a None) same c = tt
+  insert_came full e op is f (Added a (Some fault)) same c =
+      narrower_once (where_inserting st (g.backing x.store) (g.backing y.store) op.session op.entry op.at) (where_inserted g session least_room true no_block (is_tall (g.state y.store)) (here_at x) y.store)
+      (λ k h. any_was (entry_on_live_leaf st.pages op.entry) no_block (is_tall (g.state y.store)) k
+      (inserting (entry_on_live_leaf st.pages op.entry) no_block (is_tall (g.state y.store)) op is f (used (takes_block_at st op.at) (blocks_behind session op st (g.state y.store) is (same fault refl).1)) (tall (splits_root_at op.at) (same fault refl).0) k h)) fault c
+  insert_came full e op is f answer same c = tt
+
+  op_came : (op : Op) → session_of op ≡ session → OpFits st op → (answer : Answer) → TellsNothing answer op → IsCaused (where_stepped x.sets op st (g.backing x.store) (g.backing y.store)) answer
+      → IsCaused (where_asked g session least_room (start_number st session) (is_full_vacuum (Some op)) (asked_of x.sets op) (here_at x) y.store) answer
+  op_came (Insert op) is f answer same c = insert_came false op.entry op is f answer same c
+  op_came (Scan op) is f answer same c = cause_wider _ _ (scanning op is f) answer c
+  op_came (Bulk set op) is f answer same c = cause_wider _ _ (deleting (set_at x.sets set) op is f) answer c
+  op_came (Cleanup op) is f answer same c = cause_wider _ _ (cleaning op is f) answer c
 
 -- where it appends none, it leaves the pages as they were
 pub quiet_pages : {S : Type 0} (g : Ghosts S) (start : Entry → Bool) (session : ℕ) (answer : Answer) (x y : Snapshot S) → EventDoes g start (MovesCall session Steps) answer x y → (c : CallMoves g start session answer x y)
@@ -353,16 +373,18 @@ module _ {S : Type 0} (g : Ghosts S) (start : Entry → Bool) (session least_roo
     | inr more ↦ omega (arith, more)
   ]
 
-  pub step_caused : IsCaused (where_asked g session least_room (is_full_vacuum (slot_of x.slots session)) call.ask (here_at x) y.store) answer
+  pub step_caused : IsCaused (where_asked g session least_room (start_number (g.state x.store) session) (is_full_vacuum (slot_of x.slots session)) call.ask (here_at x) y.store) answer
   step_caused =
       let r = runs_in_slot g start x fits session number call is in
       let same : r.2.call ≡ call = (one_runs g start x fits session number r.2.number call r.2.call is r.2.is).1 in
       let slot : slot_of x.slots session ≡ Some r.0 = ap (λ (o : Option (Option Op)). unwrap_or o None) r.1 in
       let ask : asked_of x.sets r.0 ≡ call.ask = sym r.2.runs.ask ∙ ap (λ (c : Call). c.ask) same in
       let caused : IsCaused (where_stepped x.sets r.0 (g.state x.store) (g.backing x.store) (g.backing y.store)) answer = subst (λ (o : Option (Option Op)). IsCaused (where_moving g x.sets x.store y.store Steps o) answer) r.1 does.also.caused in
-      let came = op_came g start session least_room x y fits room does.also.quiet.frames acts_on does.also.quiet.limits r.0 (r.2.runs.session ∙ r.2.is.session_is) r.2.runs.fits answer pages_stay caused in
-      subst (λ (o : Option Op). IsCaused (where_asked g session least_room (is_full_vacuum o) call.ask (here_at x) y.store) answer) (sym slot)
-      (subst (λ (a : Ask). IsCaused (where_asked g session least_room (is_full_vacuum (Some r.0)) a (here_at x) y.store) answer) ask came)
+      let left = told_behind r.0 answer (g.state x.store) (g.state y.store) (slot_of x.slots session) (slot_of y.slots session) slot does.also.always.refused does.also.always.tells.unfinished in
+      let came = op_came g start session least_room x y fits room does.also.quiet.frames acts_on r.0 (r.2.runs.session ∙ r.2.is.session_is) r.2.runs.fits answer (λ fault told. (pages_stay fault told, left fault told)) caused in
+      let number : Option ℕ = start_number (g.state x.store) session in
+      subst (λ (o : Option Op). IsCaused (where_asked g session least_room number (is_full_vacuum o) call.ask (here_at x) y.store) answer) (sym slot)
+      (subst (λ (a : Ask). IsCaused (where_asked g session least_room number (is_full_vacuum (Some r.0)) a (here_at x) y.store) answer) ask came)
 
 -- a call that was asked this counts pages or entries: a bulk delete, or a cleanup
 abbrev pub AsksToCount : Ask → Type 0
@@ -405,38 +427,38 @@ module _ {S : Type 0} (g : Ghosts S) (session least_room : ℕ) (old mid : Store
   inserted_wider was_there used_up tall TooTall h = h
   inserted_wider was_there used_up tall fault h = gone_wider false false (λ f. f) fault h
 
-  pub asked_wider : (full wide : Bool) (ask : Ask) → (AsksToCount ask → full ≡ true → wide ≡ true)
-      → IsNarrower (where_asked g session least_room full ask mid new) (where_asked g session least_room wide ask old new)
-  asked_wider full wide (AskInsert e) more = inserted_wider true (is_used_up (g.state new)) (is_tall (g.state new))
-  asked_wider full wide (AskScan range) more = gone_wider false false (λ f. f)
-  asked_wider full wide ask more = gone_wider full wide (more tt)
+  pub asked_wider : (number : Option ℕ) (full wide : Bool) (ask : Ask) → (AsksToCount ask → full ≡ true → wide ≡ true)
+      → IsNarrower (where_asked g session least_room number full ask mid new) (where_asked g session least_room number wide ask old new)
+  asked_wider number full wide (AskInsert e) more = inserted_wider true (has_no_block session number (g.state new)) (is_tall (g.state new))
+  asked_wider number full wide (AskScan range) more = gone_wider false false (λ f. f)
+  asked_wider number full wide ask more = gone_wider full wide (more tt)
 
 -- a log that had failed before stops the call
 pub stopped_before : {S : Type 0} (g : Ghosts S) (session least_room : ℕ) (full : Bool) (old : StoreAndSlots S) (new : S) → (g.backing old.store).stopped ≡ true → (where_gone g session least_room full old new).is_stopped ≡ true
 stopped_before g session least_room full old new h = or_left (g.backing old.store).stopped (has_failed (g.backing old.store) (g.backing new) || (nat_le 18446744073709551615 (g.state new).acts || full)) h
 
 -- the room for a step wasn't made: its cause is that of the checkpoint
-pub forced_cause : {S : Type 0} (g : Ghosts S) (session least_room : ℕ) (full : Bool) (ask : Ask) (old : StoreAndSlots S) (new : S)
-    → IsNarrower (where_forced (g.backing old.store) (g.backing new)) (where_asked g session least_room full ask old new)
-forced_cause g session least_room full ask old new = of ask
+pub forced_cause : {S : Type 0} (g : Ghosts S) (session least_room : ℕ) (number : Option ℕ) (full : Bool) (ask : Ask) (old : StoreAndSlots S) (new : S)
+    → IsNarrower (where_forced (g.backing old.store) (g.backing new)) (where_asked g session least_room number full ask old new)
+forced_cause g session least_room number full ask old new = of ask
   where
-    of : (a : Ask) → IsNarrower (where_forced (g.backing old.store) (g.backing new)) (where_asked g session least_room full a old new)
-    of (AskInsert e) = forced_in (g.backing old.store) (g.backing new) (where_asked g session least_room full (AskInsert e) old new) (λ h. h) (stopped_before g session least_room false old new)
-    of (AskScan range) = forced_in (g.backing old.store) (g.backing new) (where_asked g session least_room full (AskScan range) old new) (λ h. h) (stopped_before g session least_room false old new)
-    of (AskBulkDelete dead) = forced_in (g.backing old.store) (g.backing new) (where_asked g session least_room full (AskBulkDelete dead) old new) (λ h. h) (stopped_before g session least_room full old new)
-    of AskCleanup = forced_in (g.backing old.store) (g.backing new) (where_asked g session least_room full AskCleanup old new) (λ h. h) (stopped_before g session least_room full old new)
+    of : (a : Ask) → IsNarrower (where_forced (g.backing old.store) (g.backing new)) (where_asked g session least_room number full a old new)
+    of (AskInsert e) = forced_in (g.backing old.store) (g.backing new) (where_asked g session least_room number full (AskInsert e) old new) (λ h. h) (stopped_before g session least_room false old new)
+    of (AskScan range) = forced_in (g.backing old.store) (g.backing new) (where_asked g session least_room number full (AskScan range) old new) (λ h. h) (stopped_before g session least_room false old new)
+    of (AskBulkDelete dead) = forced_in (g.backing old.store) (g.backing new) (where_asked g session least_room number full (AskBulkDelete dead) old new) (λ h. h) (stopped_before g session least_room full old new)
+    of AskCleanup = forced_in (g.backing old.store) (g.backing new) (where_asked g session least_room number full AskCleanup old new) (λ h. h) (stopped_before g session least_room full old new)
 
 -- a call that wasn't begun
 pub begun_called : {S : Type 0} (g : Ghosts S) (session : ℕ) (request : Request) (old : StoreAndSlots S) (at : Circumstances) → ((g.backing old.store).stopped ≡ true → at.is_stopped ≡ true)
     → IsNarrower (where_begun_at g old.store (one_vacuums old.slots) old.sets request (slice_get old.slots session)) (where_called g session request old at)
 begun_called g session request old at stops = of (slice_get old.slots session) refl
   where
+    none_begins : ((g.backing old.store).stopped || is_at_end (g.state old.store).begun) ≡ true → (at.is_stopped || is_at_end (g.state old.store).begun) ≡ true
+    none_begins h = or_wider (g.backing old.store).stopped (is_at_end (g.state old.store).begun) at.is_stopped (is_at_end (g.state old.store).begun) stops (λ k. k) h
+
     of : (slot : Option (Option Op)) → slice_get old.slots session ≡ slot → IsNarrower (where_begun_at g old.store (one_vacuums old.slots) old.sets request slot) (where_called g session request old at)
-    of None is Stopped h = or_left at.is_stopped (is_at_end (g.state old.store).begun) (stops h)
-    of (Some slot) is Stopped h = elim (or_cases (g.backing old.store).stopped (is_at_end (g.state old.store).begun) h) [
-      | inl stopped ↦ or_left at.is_stopped (is_at_end (g.state old.store).begun) (stops stopped)
-      | inr ended ↦ or_right at.is_stopped (is_at_end (g.state old.store).begun) ended
-    ]
+    of None is Stopped h = none_begins h
+    of (Some slot) is Stopped h = none_begins h
     of None is NoSession h = or_right (not (is_of_sets old.sets request)) (is_none (slice_get old.slots session)) (ap is_none is)
     of (Some slot) is NoSession h = or_left (not (is_of_sets old.sets request)) (is_none (slice_get old.slots session)) h
     of (Some slot) is SessionBusy h = ap (λ (o : Option (Option Op)). is_busy (unwrap_or o None)) is ∙ h
@@ -457,12 +479,18 @@ pub gone_behind : {S : Type 0} (g : Ghosts S) (session least_room : ℕ) (full :
     → where_gone g session least_room full old new ≡ where_gone g session least_room full old mid
 gone_behind g session least_room full old mid new backing acts frames = rw (backing, acts, frames) refl
 
-pub asked_behind : {S : Type 0} (g : Ghosts S) (session least_room : ℕ) (full : Bool) (ask : Ask) (old : StoreAndSlots S) (mid new : S) → g.backing new ≡ g.backing mid → (g.state new).acts ≡ (g.state mid).acts
-    → (g.state new).frames ≡ (g.state mid).frames → (g.state new).limits ≡ (g.state mid).limits → (g.state new).pages ≡ (g.state mid).pages
-    → where_asked g session least_room full ask old new ≡ where_asked g session least_room full ask old mid
-asked_behind g session least_room full (AskInsert e) old mid new backing acts frames limits pages = rw (backing, acts, frames, limits, pages) refl
-asked_behind g session least_room full (AskScan range) old mid new backing acts frames limits pages = gone_behind g session least_room false old mid new backing acts frames
-asked_behind g session least_room full ask old mid new backing acts frames limits pages = gone_behind g session least_room full old mid new backing acts frames
+pub asked_behind : {S : Type 0} (g : Ghosts S) (session least_room : ℕ) (number : Option ℕ) (full : Bool) (ask : Ask) (old : StoreAndSlots S) (mid new : S) → g.backing new ≡ g.backing mid → (g.state new).acts ≡ (g.state mid).acts
+    → (g.state new).frames ≡ (g.state mid).frames → (g.state new).limits ≡ (g.state mid).limits → (g.state new).pages ≡ (g.state mid).pages → (g.state new).counted ≡ (g.state mid).counted
+    → slice_set (g.state new).running session number ≡ slice_set (g.state mid).running session number
+    → where_asked g session least_room number full ask old new ≡ where_asked g session least_room number full ask old mid
+asked_behind g session least_room number full (AskInsert e) old mid new backing acts frames limits pages counted numbers =
+    ap (λ (no_block : Bool). where_inserted g session least_room true no_block (is_tall (g.state new)) old new) (blocks_same session number (g.state mid) (g.state new) limits pages counted numbers)
+    ∙ behind (has_no_block session number (g.state mid))
+  where
+    behind : (no_block : Bool) → where_inserted g session least_room true no_block (is_tall (g.state new)) old new ≡ where_inserted g session least_room true no_block (is_tall (g.state mid)) old mid
+    behind no_block = rw (backing, acts, frames, pages) refl
+asked_behind g session least_room number full (AskScan range) old mid new backing acts frames limits pages counted numbers = gone_behind g session least_room false old mid new backing acts frames
+asked_behind g session least_room number full ask old mid new backing acts frames limits pages counted numbers = gone_behind g session least_room full old mid new backing acts frames
 
 -- asking a scan for its next entry alone isn't refused
 pub next_caused : (at : Circumstances) (sets : DeadSets) (op : Op) (range : Range) (answer : Answer) → asked_of sets op ≡ AskScan range → AnswersNext (Some op) answer → IsCaused at answer

@@ -151,7 +151,7 @@ module _ {S : Type 0} (g : Ghosts S) (session least_room : ℕ) (request : Reque
       swept_caused _ answer (may_run start x z (inr r))
       (cause_wider (where_gone g session least_room false (here_at x) z.store) _ (called_wider g session request (here_at x) (where_gone g session least_room false (here_at x) z.store) refl refl refl) answer (gone_of request vacuums r.caused))
     where
-      gone_of : (req : Request) → asks_vacuum req ≡ true → IsCaused (where_asked g session least_room false (asked_by x.sets req) (here_at x) z.store) answer → IsCaused (where_gone g session least_room false (here_at x) z.store) answer
+      gone_of : (req : Request) → asks_vacuum req ≡ true → IsCaused (where_asked g session least_room (Some (g.state x.store).begun) false (asked_by x.sets req) (here_at x) z.store) answer → IsCaused (where_gone g session least_room false (here_at x) z.store) answer
       gone_of (ToInsert e) vac h = absurd (true_false (sym vac))
       gone_of (ToScan range) vac h = absurd (true_false (sym vac))
       gone_of req vac h = h

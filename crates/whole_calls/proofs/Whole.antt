@@ -1,7 +1,8 @@
 -- A call that is begun, run to its last answer and given up.
-use Rattle.std.proofs.Common.{◌≡◌, ℕ, Bool, true, false, Option, Ok, List, length, refl, sym, ap, subst}
+use Rattle.std.proofs.Common.{◌≡◌, ℕ, Bool, true, false, Option, Some, None, Ok, List, length, slice_get, slice_set, refl, sym, ap, subst, ◌∙◌, unwrap_or}
 use Rattle.index_model.specs.Limits.{AreLimits}
 use Rattle.index_model.specs.declared.stats.VacuumStats.{VacuumStats}
+use Rattle.session_calls.specs.Sessions.{start_number}
 use Rattle.session_calls.specs.declared.request.Request.TheVariants.{Insert as ToInsert, Scan as ToScan, Bulk as ToBulk, Cleanup as ToCleanup}
 use Rattle.whole_calls.proofs.Words.{Action, Ask, Call, Entry, Ghosts, DeadSets, asked_by, IsCaused, set_at, slot_add, Answer, Finished, Request, Snapshot, IsRunningCall, Fits, here_at, slot_of, Laws}
 use Rattle.whole_calls.specs.Refusing.{where_asked, is_full_vacuum}
@@ -16,13 +17,15 @@ use Rattle.whole_calls.proofs.Refusing.{AsksToCount, cause_wider, asked_wider, a
 use Rattle.whole_calls.proofs.Statistics.{tells_behind}
 use Rattle.whole_calls.proofs.Tellings.{begun_next, begun_free, begun_runs}
 
--- the one store's pages and log are the other's
-pub record LeavesAll {S : Type 0} (g : Ghosts S) (old new : S) : Type 0 where
+-- the one store's pages and log are the other's, and so are the start numbers of its calls, but for the session's
+pub record LeavesAll {S : Type 0} (g : Ghosts S) (session : ℕ) (old new : S) : Type 0 where
   pub backing : g.backing new ≡ g.backing old
   pub acts : (g.state new).acts ≡ (g.state old).acts
   pub frames : (g.state new).frames ≡ (g.state old).frames
   pub limits : (g.state new).limits ≡ (g.state old).limits
   pub pages : (g.state new).pages ≡ (g.state old).pages
+  pub counted : (g.state new).counted ≡ (g.state old).counted
+  pub numbers : (number : Option ℕ) → slice_set (g.state new).running session number ≡ slice_set (g.state old).running session number
 
 -- a call that has begun is run to its last answer, and given up
 pub record RunsOut {S : Type 0} (g : Ghosts S) (session least_room : ℕ) (answer : Answer) (added : Option ℕ) (start : Entry → Bool) (old new : Snapshot S) : Type 0 where
@@ -31,7 +34,7 @@ pub record RunsOut {S : Type 0} (g : Ghosts S) (session least_room : ℕ) (answe
   pub finish : FinishGoes g session least_room answer start old here
   pub add : added ≡ slot_add (slot_of here.slots session)
   pub end : TellsEnd session here new
-  pub leaves : LeavesAll g here.store new.store
+  pub leaves : LeavesAll g session here.store new.store
 
 -- the moments before the call, behind its beginning, behind its last step, and behind its end
 module _ {S : Type 0} (g : Ghosts S) (laws : Laws g) (start : Entry → Bool) (session least_room : ℕ) (request : Request) (answer : Answer) (added : Option ℕ) (x y w : Snapshot S)
@@ -71,7 +74,7 @@ module _ {S : Type 0} (g : Ghosts S) (laws : Laws g) (start : Entry → Bool) (s
       of ToCleanup is history asks so = cleanup_fills g laws start session y fits_y are last finish.gone (so of_cleanup tt) full
 
   -- why it is refused, told from the moment before it
-  caused : AreLimits (g.state y.store).limits → IsCaused (where_asked g session least_room false (asked_by x.sets request) (here_at x) z.store) answer
+  caused : AreLimits (g.state y.store).limits → IsCaused (where_asked g session least_room (Some (g.state x.store).begun) false (asked_by x.sets request) (here_at x) z.store) answer
   caused are =
       let far = finish.gone.far number call runs in
       let then_call = noted_behind call (length y.history) far.0 in
@@ -80,8 +83,10 @@ module _ {S : Type 0} (g : Ghosts S) (laws : Laws g) (start : Entry → Bool) (s
       let behind = later_of g session laws last z finish.lasts in
       let full = is_full_vacuum (slot_of last.slots session) in
       let asked : then_call.ask ≡ call.ask = same_ask call (length y.history) far.0 in
-      let came = subst (λ (a : Ask). IsCaused (where_asked g session least_room full a (here_at last) z.store) answer) asked (finish.step.caused number then_call then_runs) in
-      cause_wider _ _ (asked_wider g session least_room (here_at x) (here_at last) z.store (later_of g session laws x last up_to) behind.failures (busier_of g session x last up_to) full false call.ask (has_room are)) answer came
+      let number_is : start_number (g.state last.store) session ≡ Some (g.state x.store).begun = ap (λ (l : List (Option ℕ)). unwrap_or (slice_get l session) None) finish.gone.numbers ∙ begun.number refl in
+      let came = subst (λ (a : Ask). IsCaused (where_asked g session least_room (start_number (g.state last.store) session) full a (here_at last) z.store) answer) asked (finish.step.caused number then_call then_runs) in
+      let came_so = subst (λ (n : Option ℕ). IsCaused (where_asked g session least_room n full call.ask (here_at last) z.store) answer) number_is came in
+      cause_wider _ _ (asked_wider g session least_room (here_at x) (here_at last) z.store (later_of g session laws x last up_to) behind.failures (busier_of g session x last up_to) (Some (g.state x.store).begun) full false call.ask (has_room are)) answer came_so
 
   -- what it tells at its end
   told_stats : (stats : VacuumStats) → answer ≡ Finished stats → TellsFor (asked_by x.sets request) (g.state w.store) stats
@@ -101,7 +106,8 @@ module _ {S : Type 0} (g : Ghosts S) (laws : Laws g) (start : Entry → Bool) (s
     told = begun_next session request x y z begun.told answer (far_last session answer y last z finish.gone.far finish.step.told);
     add_is = sym out.add;
     end = out.end;
-    caused = rw (asked_behind g session least_room false (asked_by x.sets request) (here_at x) z.store w.store out.leaves.backing out.leaves.acts out.leaves.frames out.leaves.limits out.leaves.pages) (caused are);
+    caused = rw (asked_behind g session least_room (Some (g.state x.store).begun) false (asked_by x.sets request) (here_at x) z.store w.store out.leaves.backing out.leaves.acts out.leaves.frames out.leaves.limits out.leaves.pages out.leaves.counted
+        (out.leaves.numbers (Some (g.state x.store).begun))) (caused are);
     stats = told_stats;
     counts = λ what stats follows is. (
         let counts : CountsThrough what last.sets (g.state last.store) (g.state z.store) (slot_of last.slots session) (slot_of z.slots session) (Finished stats) =

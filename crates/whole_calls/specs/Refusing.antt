@@ -1,5 +1,5 @@
 -- Why a call is refused that is run to its end, told from the moment before to the moment behind it.
-use Rattle.std.specs.Prelude.{◌≡◌, ℕ, suc, ◌&&◌, ◌||◌, ◌==◌, not, nat_lt, nat_le, Bool, true, false, Option, Some, None, Result, Ok, Err, List, [], ◌∷◌, length, slice_get, is_none, IfErr}
+use Rattle.std.specs.Prelude.{◌≡◌, ℕ, suc, ◌&&◌, ◌||◌, ◌==◌, not, nat_lt, nat_le, Bool, true, false, Option, Some, None, Result, Ok, Err, List, [], ◌∷◌, slice_get, slice_set, is_none, IfErr}
 use Rattle.index_model.specs.Calls.{Ask, AskInsert, AskScan, AskBulkDelete, AskCleanup, Call}
 use Rattle.index_model.specs.Faults.{Circumstances, HasCause}
 use Rattle.index_model.specs.declared.entry.Entry.{Entry}
@@ -8,9 +8,10 @@ use Rattle.index_model.specs.declared.range.Range.{Range}
 use Rattle.page_action.specs.Causes.{nothing_wrong, has_failed, is_at_end}
 use Rattle.page_action.specs.States.{State}
 use Rattle.page_action.specs.declared.page_store.PageStore.{Ghosts}
+use Rattle.descent.specs.Shared.{is_out_of_blocks}
 use Rattle.descent.specs.Ways.{root_level}
 use Rattle.session_calls.specs.Ops.{asks_vacuum, IsFaultCaused, IsCaused}
-use Rattle.session_calls.specs.Sessions.{is_busy}
+use Rattle.session_calls.specs.Sessions.{start_number, is_busy}
 use Rattle.session_calls.specs.declared.answer.Answer.{Answer}
 use Rattle.session_calls.specs.declared.op.Op.{Op}
 use Rattle.session_calls.specs.declared.op.Op.TheVariants.{Insert, Scan, Bulk, Cleanup}
@@ -53,35 +54,40 @@ where_gone g session least_room counts_full old new = record nothing_wrong {
   frames_are_pinned = another_runs old.slots session || nat_lt (g.state new).frames 4;
 }
 
--- ... of an insert also that its entry was there, that no block is unused or that the root is on level 31, as far as these say so
+-- ... of an insert also that its entry was there, that no block can be had or that the root is on level 31, as far as these say so
 abbrev pub where_inserted : {S : Type 0} → Ghosts S → ℕ → ℕ → Bool → Bool → Bool → StoreAndSlots S → S → Circumstances
-where_inserted g session least_room was_there used_up tall old new = record (where_gone g session least_room false old new) {
+where_inserted g session least_room was_there no_block tall old new = record (where_gone g session least_room false old new) {
   entry_was_there = was_there;
-  no_block_is_free = used_up;
+  no_block_is_free = no_block;
   root_is_at_31 = tall;
 }
 
--- every block is in use
-abbrev pub is_used_up : State → Bool
-is_used_up st = nat_le st.limits.pages (length st.pages)
+-- with this start number, if any, of the session's call
+abbrev pub with_number : ℕ → Option ℕ → State → State
+with_number session number st = record st { running = slice_set st.running session number }
+
+-- no block is unused, and none may be used again, while the session's call runs that has this start number
+abbrev pub has_no_block : ℕ → Option ℕ → State → Bool
+has_no_block session number st = is_out_of_blocks (with_number session number st)
 
 -- the root is on level 31
 abbrev pub is_tall : State → Bool
 is_tall st = nat_le 31 (root_level st.pages)
 
--- What may be the cause where a call is refused that was asked this, or leaves a split unfinished: of an insert that may also be that each
--- block is in use, or that the root is on level 31.
-abbrev pub where_asked : {S : Type 0} → Ghosts S → ℕ → ℕ → Bool → Ask → StoreAndSlots S → S → Circumstances
-where_asked g session least_room counts_full (AskInsert e) old new =
-    where_inserted g session least_room true (is_used_up (g.state new)) (is_tall (g.state new)) old new
-where_asked g session least_room counts_full (AskScan range) old new = where_gone g session least_room false old new
-where_asked g session least_room counts_full (AskBulkDelete dead) old new = where_gone g session least_room counts_full old new
-where_asked g session least_room counts_full AskCleanup old new = where_gone g session least_room counts_full old new
+-- What may be the cause where a call is refused that was asked this and has this start number, or leaves a split unfinished: of an
+-- insert that may also be that no block can be had while it runs, or that the root is on level 31.
+abbrev pub where_asked : {S : Type 0} → Ghosts S → ℕ → ℕ → Option ℕ → Bool → Ask → StoreAndSlots S → S → Circumstances
+where_asked g session least_room number counts_full (AskInsert e) old new =
+    where_inserted g session least_room true (has_no_block session number (g.state new)) (is_tall (g.state new)) old new
+where_asked g session least_room number counts_full (AskScan range) old new = where_gone g session least_room false old new
+where_asked g session least_room number counts_full (AskBulkDelete dead) old new = where_gone g session least_room counts_full old new
+where_asked g session least_room number counts_full AskCleanup old new = where_gone g session least_room counts_full old new
 
 -- what the session's running call came to had its cause
 abbrev pub CallIsCaused : {S : Type 0} → Ghosts S → ℕ → ℕ → Bool → Answer → Snapshot S → Snapshot S → Type 0
 CallIsCaused g session least_room counts_full answer old new =
-    (number : ℕ) (call : Call) → IsRunningCall old.calls session number call → IsCaused (where_asked g session least_room counts_full call.ask (here_at old) new.store) answer
+    (number : ℕ) (call : Call) → IsRunningCall old.calls session number call
+    → IsCaused (where_asked g session least_room (start_number (g.state old.store) session) counts_full call.ask (here_at old) new.store) answer
 
 -- why a call is refused that is run from its beginning on: for one of these causes, or since it wasn't begun: the log had failed or a
 -- counter was at its end; there is no such session, or no such set; the session has a call; a bulk delete or a cleanup runs
@@ -93,12 +99,14 @@ where_called g session request old at = record at {
   session_has_a_call = is_busy (slot_of old.slots session);
 }
 
--- why an insert answers this that is run to its end in the session: for its refusal, and for what it leaves unfinished
+-- why an insert answers this that is run to its end in the session: for its refusal, and for what it leaves unfinished; its start number
+-- was the count of calls begun before it
 abbrev pub InsertCallIsCaused : {S : Type 0} → Ghosts S → ℕ → ℕ → Entry → StoreAndSlots S → S → Result Inserted Fault → Type 0
 InsertCallIsCaused g session least_room entry old new (Ok inserted) =
-    IsFaultCaused (where_inserted g session least_room false (is_used_up (g.state new)) (is_tall (g.state new)) old new) inserted.unfinished
+    IsFaultCaused (where_inserted g session least_room false (has_no_block session (Some (g.state old.store).begun) (g.state new)) (is_tall (g.state new)) old new) inserted.unfinished
 InsertCallIsCaused g session least_room entry old new (Err fault) =
-    HasCause (where_called g session (ToInsert entry) old (where_inserted g session least_room true (is_used_up (g.state new)) (is_tall (g.state new)) old new)) fault
+    HasCause (where_called g session (ToInsert entry) old
+    (where_inserted g session least_room true (has_no_block session (Some (g.state old.store).begun) (g.state new)) (is_tall (g.state new)) old new)) fault
 
 -- what the session's running scan came to had its cause
 abbrev pub ScanIsCaused : {S : Type 0} → Ghosts S → ℕ → ℕ → Answer → Snapshot S → Snapshot S → Type 0

@@ -1,6 +1,6 @@
 -- A call that is begun, stepped and given up: what is told of it, why it is refused, and what is counted, by the moment before and the one
 -- behind.
-use Rattle.std.specs.Prelude.{◌≡◌, ◌⊎◌, ℕ, Bool, false, Option, None, Result, Ok, slice_get}
+use Rattle.std.specs.Prelude.{◌≡◌, ◌⊎◌, ℕ, Bool, false, Option, None, Some, Result, Ok, slice_get}
 use Rattle.index_model.specs.Calls.{Call}
 use Rattle.index_model.specs.Faults.{HasCause}
 use Rattle.index_model.specs.declared.entry.Entry.{Entry}
@@ -10,9 +10,9 @@ use Rattle.page_action.specs.States.{Continues}
 use Rattle.page_action.specs.declared.page_store.PageStore.{Ghosts}
 use Rattle.session_calls.specs.TheoremCalls.{asked_by}
 use Rattle.session_calls.specs.Ops.{IsCaused}
-use Rattle.session_calls.specs.Sessions.{slot_add}
+use Rattle.session_calls.specs.Sessions.{start_number, slot_add}
 use Rattle.session_calls.specs.declared.answer.Answer.{Answer}
-use Rattle.session_calls.specs.declared.answer.Answer.TheVariants.{Finished, Refused}
+use Rattle.session_calls.specs.declared.answer.Answer.TheVariants.{Going, Finished, Refused}
 use Rattle.session_calls.specs.declared.request.Request.{Request}
 use Rattle.schedule.specs.TheoremMoments.{Snapshot, IsRunningCall}
 use Rattle.schedule.specs.TheoremRuns.{Fits}
@@ -43,19 +43,21 @@ FinishTells g session answer old new =
     (number : ℕ) (call : Call) → IsRunningCall old.calls session number call → (stats : VacuumStats) → answer ≡ Finished stats → TellsFor call.ask (g.state new.store) stats
 
 -- What a step of the session's call tells, or the refusal of the room for it; why it is refused; what is counted on; that fewer steps are
--- left where it goes on; and the statistics where it finishes.
+-- left where it goes on, and each running call keeps its start number then; and the statistics where it finishes.
 pub record StepGoes {S : Type 0} (g : Ghosts S) (session least_room : ℕ) (answer : Answer) (old new : Snapshot S) : Type 0 where
   pub told : TellsStep session answer old new
   pub caused : CallIsCaused g session least_room (is_full_vacuum (slot_of old.slots session)) answer old new
   pub counts : (what : Followed) → CountsThrough what old.sets (g.state old.store) (g.state new.store) (slot_of old.slots session) (slot_of new.slots session) answer
   pub fewer : TakesFewer (g.state old.store) (g.state new.store) (slot_of old.slots session) (slot_of new.slots session) answer
+  pub numbers : answer ≡ Going → (g.state new.store).running ≡ (g.state old.store).running
   pub stats : FinishTells g session answer old new
 
--- the session's call has gone on so far, and has counted on
+-- the session's call has gone on so far, and has counted on; each running call has its start number still
 pub record HasGoneTo {S : Type 0} (g : Ghosts S) (session : ℕ) (old new : Snapshot S) : Type 0 where
   pub lasts : Lasts g session old new
   pub sets_are : new.sets ≡ old.sets
   pub limits_are : (g.state new.store).limits ≡ (g.state old.store).limits
+  pub numbers : (g.state new.store).running ≡ (g.state old.store).running
   pub far : HasGoneFar session old new
   pub counted : (what : Followed) → IsCountedAs what old.sets (g.state old.store) (slot_of old.slots session) → IsCountedAs what old.sets (g.state new.store) (slot_of new.slots session)
 
@@ -67,9 +69,11 @@ pub record FinishGoes {S : Type 0} (g : Ghosts S) (session least_room : ℕ) (an
   pub lasts : Lasts g session last new
   pub step : StepGoes g session least_room answer last new
 
--- a call is begun, or nothing is told; and what a vacuum follows that has begun
+-- a call is begun, or nothing is told; what has begun has the count of calls begun before it for its start number; and what a vacuum
+-- follows that has begun
 pub record BeginGoes {S : Type 0} (g : Ghosts S) (session : ℕ) (request : Request) (result : Result (Unit {0}) Fault) (old new : Snapshot S) : Type 0 where
   pub told : BeginTold session request result old new
+  pub number : result ≡ Ok tt → start_number (g.state new.store) session ≡ Some (g.state old.store).begun
   pub counts : (what : Followed) → FollowsFrom what request (g.state old.store) session → BeginsToCount what new.sets (g.state new.store) (slot_of new.slots session) result
 
 -- the call was not begun
@@ -89,7 +93,7 @@ pub record HasRun {S : Type 0} (g : Ghosts S) (session least_room : ℕ) (reques
   pub told : NextTold session request answer old here
   pub add_is : slot_add (slot_of here.slots session) ≡ added
   pub end : TellsEnd session here new
-  pub caused : IsCaused (where_asked g session least_room false (asked_by old.sets request) (here_at old) new.store) answer
+  pub caused : IsCaused (where_asked g session least_room (Some (g.state old.store).begun) false (asked_by old.sets request) (here_at old) new.store) answer
   pub counts : (what : Followed) (stats : VacuumStats) → FollowsFrom what request (g.state old.store) session → answer ≡ Finished stats → TellsAs what (g.state new.store) (Ok stats)
   pub stats : (stats : VacuumStats) → answer ≡ Finished stats → TellsFor (asked_by old.sets request) (g.state new.store) stats
 

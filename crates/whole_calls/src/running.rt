@@ -8,7 +8,7 @@ ghost use Rattle.page_action.specs.Causes.{where_forced};
 ghost use Rattle.page_action.specs.States.{Continues};
 ghost use Rattle.session_calls.specs.TheoremCalls.{DeadSets, asked_by};
 ghost use Rattle.session_calls.specs.Ops.{op_before, RunsOn};
-ghost use Rattle.session_calls.specs.Sessions.{AnswersStep, LeavesLess, OnlyWritersAct};
+ghost use Rattle.session_calls.specs.Sessions.{AnswersStep, LeavesLess, OnlyWritersAct, after_slot};
 ghost use Rattle.session_calls.specs.declared.op.Op.{Op};
 ghost use Rattle.schedule.specs.Sessions.{here, op_of, KeepsOthers};
 ghost use Rattle.session_calls.specs.Slots.{one_vacuums};
@@ -268,6 +268,9 @@ pub fn give_up<S: PageStore, T: DeadRows>(
     ensures acts { (S.state store.new).acts ≡ (S.state store.old).acts }
     ensures limits { (S.state store.new).limits ≡ (S.state store.old).limits }
     ensures frames { (S.state store.new).frames ≡ (S.state store.old).frames }
+    // What the call held is let go, if it has one.
+    ensures state { S.state store.new
+        ≡ after_slot (op_of calls.old session) (S.state store.old) }
     ensures goes { CallGoes S.PageStore session (TellsEnd session) None
         (here T.DeadRows store.old calls.old sets.now)
         (here T.DeadRows store.new calls.new sets.now) }

@@ -88,8 +88,8 @@ impl<S: PageStore, T: DeadRows + Drop> World<S, T> {
     }
 
     /// Does one event and answers what it gave, a refusal among the answers. Where several refusals apply, the first of
-    /// `Stopped`, `NoSession`, `SessionBusy`, `VacuumRunning` is answered; a counter at its end, which is refused with
-    /// `Stopped` too, is tested last.
+    /// `Stopped`, `NoSession`, `SessionBusy`, `VacuumRunning` is answered; a count of calls at its end is refused with
+    /// `Stopped` too.
     pub fn one(&mut self, event: Event) -> Answer
         ensures steps { Continues S.follows self.old.store self.new.store }
         ensures same { KeepsSessions self.old self.new }

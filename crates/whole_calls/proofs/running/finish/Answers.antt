@@ -20,7 +20,7 @@ loop-left-init g c = record {
   others = λ o ne. refl;
   limits = refl;
   goes = goes_nowhere g.S.PageStore g.met.S.PageStore.laws c.args.session (HasGoneTo g.S.PageStore c.args.session) (here_with c.args.store.now c.args.calls.now.slots.items (map g.T.DeadRows.is_in c.args.sets.now))
-      (λ x. record { lasts = lasts_here g.S.PageStore c.args.session x; sets_are = refl; limits_are = refl; far = far_nowhere c.args.session x; counted = λ what so. so });
+      (λ x. record { lasts = lasts_here g.S.PageStore c.args.session x; sets_are = refl; limits_are = refl; far = far_nowhere c.args.session x; counted = λ what so. so; numbers = refl });
   runs_on = runs_on_same (slot_of c.args.calls.now.slots.items c.args.session);
   made = made_nowhere g.S.PageStore c.args.session c.args.least_room _ (here_with c.args.store.now c.args.calls.now.slots.items (map g.T.DeadRows.is_in c.args.sets.now)) (omega arith);
   budget = λ low honest start history calls fits. omega arith;

@@ -1,10 +1,11 @@
 use Rattle.std.proofs.Common.{map, Option, Some, None, Ok, Err, refl, sym, subst, inl, inr, ◌∙◌}
 use Rattle.index_model.specs.Limits.{AreLimits}
-use Rattle.whole_calls.proofs.Words.{Limits, Ask, asked_by, Op, Begun, Refused, snapshot_of, here_with}
+use Rattle.whole_calls.proofs.Words.{Limits, Ask, asked_by, Op, Begun, Refused, snapshot_of, here_with, slot_of}
 use Rattle.whole_calls.specs.Going.{CameBy}
 use Rattle.whole_calls.specs.Made.{Answered, ComesTo}
 use Rattle.whole_calls.specs.Stepping.{BeginGoes, FinishGoes, RunGoes}
 use Rattle.whole_calls.specs.Telling.{MayAnswer, MayComeTo, TellsEnd, begin_came}
+use Rattle.whole_calls.proofs.Blocks.{given_up_counted, given_up_numbers}
 use Rattle.whole_calls.proofs.Composing.{joined, to_first, to_second, goes_told}
 use Rattle.whole_calls.proofs.Whole.{RunsOut, has_run}
 use Rattle.whole_calls.proofs.Made.{made_then, made_told, answered_left, answered_right}
@@ -34,7 +35,15 @@ returns-clause-goes g c =
       finish = one;
       add = c.added-added.ensures;
       end = two;
-      leaves = record { backing = end.backing; acts = end.acts; frames = end.frames; limits = end.limits; pages = end.pages };
+      leaves = record {
+        backing = end.backing;
+        acts = end.acts;
+        frames = end.frames;
+        limits = end.limits;
+        pages = end.pages;
+        counted = given_up_counted (slot_of c.finish-answer.new.calls.slots.items session) (g.S.PageStore.state c.finish-answer.new.store) (g.S.PageStore.state c.give_up.new.store) end.state;
+        numbers = given_up_numbers g.S.PageStore start session (snapshot_of here k kc) (g.S.PageStore.state c.give_up.new.store) fy end.state;
+      };
     }) c.finish-answer.ensures.goes end.goes in
     joined g.S.PageStore laws session (λ s. BeginGoes g.S.PageStore session request (Ok tt)) (RunsOut g.S.PageStore session least answer added) (RunGoes g.S.PageStore session least request answer added) (Some Begun) (Some answer) (Some answer) old begun there
     c.begin.ensures.steps (λ f h. end.steps f (c.finish-answer.ensures.steps f h)) (to_second (Some Begun) (Some answer))

@@ -12,7 +12,7 @@ returns-in-Ok-clause-changes g c begins =
     let slots = c.args.self.now.slots.items in
     let session = c.args.session in
     let request = c.args.request in
-    let at = found c.is_stopped.result c.is_of_sets.result _ session c.in-Ok.known (sym c.in-Ok.is ∙ c.find.ensures) in
+    let at = found _ _ _ session c.in-Ok.known (sym c.in-Ok.is ∙ c.find.ensures) in
     let free : slice_get slots session ≡ Some None = ap (λ (l : List (Option Op)). slice_get l session) (sym c.deref.ensures.value) ∙ at.2 in
     let excluded : c.is_excluded-excluded.result ≡ (asks_vacuum request && one_vacuums slots) =
     c.is_excluded-excluded.ensures ∙ ap (λ (l : List (Option Op)). asks_vacuum request && one_vacuums l) c.deref-in-Ok.ensures.value in
