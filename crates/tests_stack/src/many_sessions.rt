@@ -1,7 +1,9 @@
 //! Each call of a world: of many sessions over pages in memory and on a device.
 
 use crate::dead::Blocks;
-use crate::plain::{self, device_of, finish, give, left_by, one, open_world, page_in, put, run};
+use crate::plain::{
+    self, device_of, finish, give, left_by, one, open_world, page_in, put, run, stop_at, take_step,
+};
 use crate::small::{ALL, LEN, LIMITS, entry, made, pages};
 use device::{CrashImage, Device, MemDevice};
 use index_model::{Entry, Fault};
@@ -336,5 +338,56 @@ fn calls_run_to_their_ends(rt: HostRuntime) -> Result<(), Fail> {
     assert!(rt; scanned(&mut world) == Ok((Some(entry(0x61, 1)), true)));
     let over = finish(&mut world, 1, 0);
     assert!(rt; matches!(over, Ok(Answer::Refused(Fault::NoSession))));
+    Ok(())
+}
+
+// Whether a step of the session's call, with the checkpoint that may go before it, answers this.
+fn takes(
+    world: &mut World<Store<MemDevice>, Blocks>,
+    session: u32,
+    least_room: u32,
+    word: &str,
+    number: u64,
+) -> bool {
+    let said = told(&take_step(world, session, least_room));
+    said.0 == word && said.1 == number
+}
+
+#[test]
+fn steps_are_taken_in_turns(rt: HostRuntime) -> Result<(), Fail> {
+    let mut world = opened(rt.alloc(), made(rt.alloc())?)?;
+    let rows = [
+        (Event::Insert(0, entry(0x61, 1)), "begun", 0),
+        (Event::Insert(1, entry(0x62, 2)), "begun", 0),
+    ];
+    assert_eq!(rt; wrong(rt.alloc(), &mut world, &rows), 0);
+    // The metapage, the latch on the leaf, the entry. Who is blocked tries the latch again.
+    let turns = [
+        (0, "going", 0),
+        (0, "going", 0),
+        (1, "going", 0),
+        (1, "refused", 1_004),
+        (0, "added", 1),
+        (1, "going", 0),
+        (1, "added", 2),
+        (1, "refused", 12),
+    ];
+    for (session, word, number) in turns {
+        assert!(rt; takes(&mut world, session, 5, word, number));
+    }
+    Ok(())
+}
+
+#[test]
+fn call_is_given_up_for_its_checkpoint(rt: HostRuntime) -> Result<(), Fail> {
+    let mut world = opened(rt.alloc(), made(rt.alloc())?)?;
+    assert!(rt; is_put(&mut world));
+    let begun = one(&mut world, Event::Insert(0, entry(0x62, 2)));
+    assert!(rt; matches!(begun, Answer::Begun));
+    // No log has so much room, and the first action isn't durable.
+    stop_at(&mut world, 1);
+    assert!(rt; takes(&mut world, 0, u32::MAX, "refused", 2));
+    assert!(rt; !world.is_running(0));
+    assert!(rt; takes(&mut world, 0, u32::MAX, "refused", 3));
     Ok(())
 }

@@ -156,6 +156,15 @@ fn step<S: PageStore, T: DeadRows + Drop>(
     Ok(world.one(Event::Step(session)))
 }
 
+/// A step of a session's call, with the checkpoint that may go before it.
+pub fn take_step<S: PageStore, T: DeadRows + Drop>(
+    world: &mut World<S, T>,
+    session: u32,
+    least_room: u32,
+) -> Answer {
+    world.take_step(session, least_room)
+}
+
 /// Steps of a session's call until one doesn't answer `Going`, and that answer.
 pub fn finish<S: PageStore, T: DeadRows + Drop>(
     world: &mut World<S, T>,

@@ -16,3 +16,4 @@ pub mod Removing
 pub mod Filling
 pub mod Lasting
 pub mod Whole
+pub mod OneSteps

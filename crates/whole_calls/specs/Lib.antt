@@ -7,3 +7,4 @@ pub mod Inserting
 pub mod Refusing
 pub mod Stepping
 pub mod Made
+pub mod OneStep

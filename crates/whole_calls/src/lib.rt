@@ -1,12 +1,14 @@
-//! Calls of one session that are run to their ends, as runs of events.
+//! Calls of one session that are run to their ends, and one step of one, as runs of events.
 #![tactic(auto)]
 
 mod giving;
 mod inserted;
+mod one_step;
 mod running;
 mod sweeping;
 
 pub use giving::{give, open};
 pub use inserted::Inserted;
+pub use one_step::take_step;
 pub use running::{give_up, insert};
 pub use sweeping::{bulk_delete, clean_up};

@@ -31,7 +31,7 @@ use session_calls::{Answer, Calls, Request};
 use vacuum::nothing_is_counted;
 
 // Room for one more act: where there is less, a checkpoint is made.
-fn make_room<S: PageStore>(store: &mut S, least_room: u32) -> Result<(), Fault>
+pub(crate) fn make_room<S: PageStore>(store: &mut S, least_room: u32) -> Result<(), Fault>
     ensures steps { Continues S.follows store.old store.new }
     ensures goes { (session : ℕ) (slots : List (Option Op)) (sets : DeadSets)
         → CallGoes S.PageStore session (RoomTold S.PageStore) (room_came result)

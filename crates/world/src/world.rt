@@ -37,7 +37,7 @@ pub struct NotMade<S, T> {
 }
 
 impl<S: PageStore, T: DeadRows + Drop> World<S, T> {
-    ghost use Rattle.std.specs.Prelude.{◌≡◌, ◌⊎◌, ◌<◌, ◌≤◌, ◌∷◌, [], true, IfOk, IfErr, OnOk, OnErr, length, slice_get, Some, ◌+◌, drop, take, IsOk, vec_len, vec_capacity};
+    ghost use Rattle.std.specs.Prelude.{◌≡◌, ◌⊎◌, ◌<◌, ◌≤◌, ◌∷◌, [], true, IfOk, IfErr, OnOk, OnErr, length, slice_get, Some, None, ◌+◌, drop, take, IsOk, vec_len, vec_capacity};
     ghost use Rattle.index_model.specs.Faults.{HasCause};
     ghost use Rattle.page_action.specs.Causes.{where_read};
     ghost use Rattle.page_action.specs.Contents.{entry_on_live_leaf};
@@ -48,6 +48,9 @@ impl<S: PageStore, T: DeadRows + Drop> World<S, T> {
     ghost use Rattle.schedule.specs.TheoremRuns.{Carries, Runs};
     ghost use Rattle.session_calls.specs.Slots.{has_call};
     ghost use Rattle.schedule.specs.Snapshots.{IsUnused};
+    ghost use Rattle.whole_calls.specs.Going.{CallGoes};
+    ghost use Rattle.whole_calls.specs.Made.{IsMadeOf};
+    ghost use Rattle.whole_calls.specs.OneStep.{OneStepAlways, OneStepComesTo, OneStepGoes};
     ghost use Rattle.world.specs.Worlds.{WorldFits, WorldKeeps, WorldIsSafe, WorldGoes, WorldCarries, KeepsSessions, inside};
 
     /// A world over the store with so many sessions, none of which has a call, and the sets of dead rows that its events
@@ -99,6 +102,30 @@ impl<S: PageStore, T: DeadRows + Drop> World<S, T> {
             (inside T.DeadRows self.old) (inside T.DeadRows self.new) }
     {
         schedule::one(&mut self.store, &mut self.calls, &self.sets, event)
+    }
+
+    /// Makes one step of the session's call, as the event `Step` does, and answers what it gave. Where the log has room for
+    /// fewer than `least_room` images, a checkpoint is made before. Where that is refused, with `Io` or `Stopped`, the call is
+    /// given up and answers this fault: an insert whose entry is added leaves it unfinished, any other call is refused with it.
+    /// With 5 it never answers `LogFull`.
+    pub fn take_step(&mut self, session: u32, least_room: u32) -> Answer
+        ensures steps { Continues S.follows self.old.store self.new.store }
+        ensures same { KeepsSessions self.old self.new }
+        ensures goes { CallGoes S.PageStore session
+            (OneStepGoes S.PageStore session least_room result) None
+            (inside T.DeadRows self.old) (inside T.DeadRows self.new) }
+        ensures made { IsMadeOf S.PageStore session least_room (OneStepComesTo result)
+            (inside T.DeadRows self.old) (inside T.DeadRows self.new) }
+        ensures always { OneStepAlways S.PageStore session result
+            (inside T.DeadRows self.old) (inside T.DeadRows self.new) }
+    {
+        whole_calls::take_step(
+            &mut self.store,
+            &mut self.calls,
+            &self.sets,
+            session,
+            least_room,
+        )
     }
 
     /// Does these events one after the other, and puts an answer for each behind the answers that are there. Refused

@@ -1,0 +1,234 @@
+-- One step of a session's call behind the making of room for it, and a call that is given up since the room can't be made.
+use Rattle.std.proofs.Common.{◌≡◌, ℕ, ◌≤◌, zero, suc, Bool, true, false, not, Option, Some, None, List, [], ◌∷◌, ◌++◌, length, slice_get, slice_set, refl, sym, ap, subst, arith, inl, inr, ◌∙◌, unwrap_or}
+use Rattle.index_model.specs.declared.fault.Fault.TheVariants.{Blocked, NoSession}
+use Rattle.index_model.specs.declared.stats.VacuumStats.{VacuumStats}
+use Rattle.page_action.specs.Causes.{where_forced}
+use Rattle.session_calls.specs.Ops.{ends_call, is_last}
+use Rattle.session_calls.specs.Sessions.{RefusalChangesNothing, RunsUntilLast}
+use Rattle.session_calls.specs.declared.op.Op.TheVariants.{Insert as Inserts, Scan as Scans, Bulk as Bulks, Cleanup as Cleanups}
+use Rattle.session_calls.proofs.RunningOn.{runs_over}
+use Rattle.schedule.specs.Events.{DoesOneAct}
+use Rattle.schedule.proofs.Lists.{same_some}
+use Rattle.whole_calls.proofs.Words.{Effect, contents_after, Ask, Call, Entry, Fault, HasCause, State, Backing, IsLater, Ghosts, DeadSets, acts_of, IsCaused, IsAsked, Told, slot_add, AnswersStep, Answer, Going, Finished, Refused, Op, Snapshot, IsRunningCall, Fits, EventDoes, Makes, here_at, here_with, slot_of, has_call, MovesCall, Steps, CallMoves, MovesOn, OthersStay}
+use Rattle.whole_calls.specs.Going.{IsAmong}
+use Rattle.whole_calls.specs.OneStep.{cut_short, HasStepped, IsGivenUpFor, OneStepGoes, OneStepAlways, OneStepComesTo}
+use Rattle.whole_calls.specs.Refusing.{is_full_vacuum, where_asked}
+use Rattle.whole_calls.specs.Stepping.{RoomTold, StepGoes}
+use Rattle.whole_calls.specs.Telling.{IsOwnEffect, IsSilent, HasNone, TellsEnd}
+use Rattle.whole_calls.proofs.Lasting.{step_goes, room_then}
+use Rattle.whole_calls.proofs.Refusing.{cause_wider, forced_cause, asked_behind}
+use Rattle.whole_calls.proofs.Tellings.{moves_tells, one_runs, runs_has_call, runs_in_slot, true_false}
+use Rattle.whole_calls.proofs.Whole.{LeavesAll}
+
+-- what a step tells, by its event
+pub record StepsOnce {S : Type 0} (g : Ghosts S) (session least_room : ℕ) (answer : Answer) (old new : Snapshot S) : Type 0 where
+  pub once : (number : ℕ) (call : Call) → IsRunningCall old.calls session number call → HasStepped number call answer old new
+  pub idle : HasNone session old → IsSilent old new
+  pub goes : StepGoes g session least_room answer old new
+
+own_of : (was_there : Entry → Bool) (call : Call) (effect : Option Effect) → IsAsked was_there call.ask call.added effect → IsOwnEffect call effect
+own_of was_there call None h = tt
+own_of was_there call (Some e) h = h.0
+
+module _ {S : Type 0} (g : Ghosts S) (start : Entry → Bool) (session least_room : ℕ) (answer : Answer) (x y : Snapshot S) (fits : Fits g start x) (does : EventDoes g start (MovesCall session Steps) answer x y) where
+  has_stepped : (number : ℕ) (call : Call) → IsRunningCall x.calls session number call → HasStepped number call answer x y
+  has_stepped number call is =
+      let goes : CallMoves g start session answer x y = subst (λ (b : Bool). MovesOn g start b session answer x y) (runs_has_call g start x fits session number call is) does.also.happens in
+      let same = one_runs g start x fits session number goes.number call goes.call is goes.is in
+      record {
+        effect = goes.effect;
+        after = goes.after;
+        may = (moves_tells g start x y session Steps answer tt fits does number call is).may;
+        own = subst (λ (c : Call). IsOwnEffect c goes.effect) same.1 (own_of (contents_after start x.history) goes.call goes.effect goes.asked);
+        told = subst (λ (c : Call). Told answer (length x.history) goes.effect c goes.after) same.1 goes.told;
+        history_is = subst (λ (n : ℕ). y.history ≡ x.history ++ acts_of n goes.effect) same.0 goes.history_is;
+        calls_is = subst (λ (n : ℕ). y.calls ≡ slice_set x.calls n goes.after) same.0 goes.calls_is;
+      }
+
+  -- without a running call it is refused
+  has_waited : HasNone session x → (b : Bool) → MovesOn g start b session answer x y → IsSilent x y
+  has_waited none true goes = absurd (none goes.number goes.call goes.is)
+  has_waited none false stays = record { history_is = stays.still.history_is; calls_is = stays.still.calls_is }
+
+  pub steps_once : (g.backing y.store).honest ≡ true → (5 ≤ least_room → 5 ≤ (g.backing x.store).promised) → StepsOnce g session least_room answer x y
+  steps_once honest room = record {
+    once = has_stepped;
+    idle = λ none. has_waited none (has_call x.slots session) does.also.happens;
+    goes = step_goes g start session least_room answer x y honest fits room does;
+  }
+
+-- behind the making of room
+module _ {S : Type 0} (g : Ghosts S) (session least_room : ℕ) (x y : Snapshot S) (room : RoomTold g x y) where
+  runs_then : (number : ℕ) (call : Call) → IsRunningCall x.calls session number call → IsRunningCall y.calls session number call
+  runs_then number call is = subst (λ (cs : List Call). IsRunningCall cs session number call) (sym room.silent.calls_is) is
+
+  none_then : HasNone session x → HasNone session y
+  none_then none number call is = none number call (subst (λ (cs : List Call). IsRunningCall cs session number call) room.silent.calls_is is)
+
+  -- a step
+  pub steps_behind : (answer : Answer) (z : Snapshot S) → IsLater (g.backing x.store) (g.backing y.store) → IsLater (g.backing y.store) (g.backing z.store) → StepsOnce g session least_room answer y z → OneStepGoes g session least_room answer x z
+  steps_behind answer z first later step =
+      let goes = room_then g session least_room answer x y z first later room step.goes in
+      record {
+        told = λ number call is. inl (stepped number call (step.once number call (runs_then number call is)));
+        idle = λ none. (
+            let silent = step.idle (none_then none) in
+            record { history_is = silent.history_is ∙ room.silent.history_is; calls_is = silent.calls_is ∙ room.silent.calls_is });
+        caused = goes.caused;
+        fewer = goes.fewer;
+        stats = goes.stats;
+      }
+    where
+      stepped : (number : ℕ) (call : Call) → HasStepped number call answer y z → HasStepped number call answer x z
+      stepped number call h = record {
+        effect = h.effect;
+        after = h.after;
+        may = h.may;
+        own = h.own;
+        told = rw (sym room.silent.history_is) h.told;
+        history_is = rw (sym room.silent.history_is) h.history_is;
+        calls_is = rw (sym room.silent.calls_is) h.calls_is;
+      }
+
+  -- a call that is given up, since the room couldn't be made
+  pub given_up_goes : (start : Entry → Bool) (fault : Fault) (added : Option ℕ) (z : Snapshot S) → Fits g start y → HasCause (where_forced (g.backing x.store) (g.backing y.store)) fault → added ≡ slot_add (slot_of y.slots session)
+      → LeavesAll g y.store z.store → TellsEnd session y z → OneStepGoes g session least_room (cut_short added fault) x z
+  given_up_goes start fault added z fits cause is leaves end = record {
+    told = λ number call runs. inr (given_up number call (runs_then number call runs));
+    idle = λ none. record { history_is = end.history_is ∙ room.silent.history_is; calls_is = end.calls_is (none_then none) ∙ room.silent.calls_is };
+    caused = λ number call runs. caused call.ask;
+    fewer = λ low going. absurd (not_going added going);
+    stats = λ number call runs stats finished. absurd (not_finished added finished);
+  }
+    where
+      -- the Add of the session's call is that of its slot
+      added_is : (number : ℕ) (call : Call) → IsRunningCall y.calls session number call → call.added ≡ added
+      added_is number call runs =
+          let r = runs_in_slot g start y fits session number call runs in
+          let same : r.2.call ≡ call = (one_runs g start y fits session number r.2.number call r.2.call runs r.2.is).1 in
+          let slot : slot_of y.slots session ≡ Some r.0 = ap (λ (o : Option (Option Op)). unwrap_or o None) r.1 in
+          ap (λ (c : Call). c.added) (sym same) ∙ r.2.runs.added ∙ sym (is ∙ ap slot_add slot)
+
+      given_up : (number : ℕ) (call : Call) → IsRunningCall y.calls session number call → IsGivenUpFor g number call (cut_short added fault) x z
+      given_up number call runs = record {
+        fault = fault;
+        cause = subst (λ (b : Backing). HasCause (where_forced (g.backing x.store) b) fault) (sym leaves.backing) cause;
+        answer_is = ap (λ (a : Option ℕ). cut_short a fault) (sym (added_is number call runs));
+        history_is = end.history_is ∙ room.silent.history_is;
+        calls_is = rw (sym room.silent.history_is, sym room.silent.calls_is) (end.ended_is number call runs);
+      }
+
+      forced : (a : Option ℕ) (f : Fault) → HasCause (where_forced (g.backing x.store) (g.backing y.store)) f → IsCaused (where_forced (g.backing x.store) (g.backing y.store)) (cut_short a f)
+      forced None f h = h
+      forced (Some action) f h = h
+
+      caused : (ask : Ask) → IsCaused (where_asked g session least_room (is_full_vacuum (slot_of x.slots session)) ask (here_at x) z.store) (cut_short added fault)
+      caused ask =
+          let full = is_full_vacuum (slot_of x.slots session) in
+          rw (asked_behind g session least_room full ask (here_at x) y.store z.store leaves.backing leaves.acts leaves.frames leaves.limits leaves.pages)
+          (cause_wider _ _ (forced_cause g session least_room full ask (here_at x) y.store) (cut_short added fault) (forced added fault cause))
+
+      not_going : (a : Option ℕ) → cut_short a fault ≡ Going → ⊥
+      not_going None e = cc
+      not_going (Some action) e = cc
+
+      not_finished : {stats : VacuumStats} (a : Option ℕ) → cut_short a fault ≡ Finished stats → ⊥
+      not_finished None e = cc
+      not_finished (Some action) e = cc
+
+-- a fault of a checkpoint ends a call
+forced_ends : (old new : Backing) (fault : Fault) → HasCause (where_forced old new) fault → ends_call fault ≡ true
+forced_ends old new (Blocked block) h = absurd (true_false (sym h))
+forced_ends old new NoSession h = absurd (true_false (sym h))
+forced_ends old new fault h = refl
+
+short_ends : (old new : Backing) (added : Option ℕ) (fault : Fault) → HasCause (where_forced old new) fault → is_last (cut_short added fault) ≡ true
+short_ends old new None fault h = forced_ends old new fault h
+short_ends old new (Some action) fault h = refl
+
+-- and its call may be told so
+step_refused : (before after : Option Op) (fault : Fault) → AnswersStep before after (Refused fault)
+step_refused None after fault = tt
+step_refused (Some (Inserts op)) after fault = tt
+step_refused (Some (Scans op)) after fault = tt
+step_refused (Some (Bulks set op)) after fault = tt
+step_refused (Some (Cleanups op)) after fault = tt
+
+short_answers : (before after : Option Op) (fault : Fault) (added : Option ℕ) → added ≡ slot_add before → AnswersStep before after (cut_short added fault)
+short_answers before after fault None is = step_refused before after fault
+short_answers None after fault (Some action) is = absurd cc
+short_answers (Some (Inserts op)) after fault (Some action) is = tt
+short_answers (Some (Scans op)) after fault (Some action) is = absurd cc
+short_answers (Some (Bulks set op)) after fault (Some action) is = absurd cc
+short_answers (Some (Cleanups op)) after fault (Some action) is = absurd cc
+
+-- a session that runs nothing behind the last answer of its call
+over_at_last : (before after : Option Op) (answer : Answer) → after ≡ None → is_last answer ≡ true → RunsUntilLast before after answer
+over_at_last before after answer over last = rw over (by before)
+  where
+    by : (o : Option Op) → RunsUntilLast o None answer
+    by None = refl
+    by (Some op) = sym (ap not last)
+
+-- a step that is blocked
+blocked_keeps : (old new : State) (before after : Option Op) (block : ℕ) → RefusalChangesNothing old new before after (Refused (Blocked block)) → (new ≡ old) × (after ≡ before)
+blocked_keeps old new None after block h = h
+blocked_keeps old new (Some op) after block h = (h.state, h.slot_is)
+
+-- lists with the same elements
+same_list : (xs ys : List (Option Op)) → length xs ≡ length ys → ((i : ℕ) → slice_get xs i ≡ slice_get ys i) → xs ≡ ys
+same_list [] [] long at = refl
+same_list [] (y ∷ ys) long at = absurd (omega (arith, long))
+same_list (x ∷ xs) [] long at = absurd (omega (arith, long))
+same_list (x ∷ xs) (y ∷ ys) long at = ap (λ (o : Option Op). o ∷ xs) (same_some (Some x) x y refl (at 0)) ∙ ap (λ (l : List (Option Op)). y ∷ l) (same_list xs ys (omega (arith, long)) (λ i. at (suc i)))
+
+-- the slots are the same where one session's is, and all others
+same_slots : (xs ys : List (Option Op)) (session : ℕ) → length xs ≡ length ys → OthersStay session ys xs → slot_of xs session ≡ slot_of ys session → xs ≡ ys
+same_slots [] [] session long others own = refl
+same_slots [] (y ∷ ys) session long others own = absurd (omega (arith, long))
+same_slots (x ∷ xs) [] session long others own = absurd (omega (arith, long))
+same_slots (x ∷ xs) (y ∷ ys) zero long others own =
+    ap (λ (o : Option Op). o ∷ xs) own ∙ ap (λ (l : List (Option Op)). y ∷ l) (same_list xs ys (omega (arith, long)) (λ i. others (suc i) (λ e. omega (arith, e))))
+same_slots (x ∷ xs) (y ∷ ys) (suc session) long others own =
+    ap (λ (o : Option Op). o ∷ xs) (same_some (Some x) x y refl (others 0 (λ e. omega (arith, e))))
+    ∙ ap (λ (l : List (Option Op)). y ∷ l) (same_slots xs ys session (omega (arith, long)) (λ i ne. others (suc i) (λ e. ne (omega (arith, e)))) own)
+
+module _ {S : Type 0} (g : Ghosts S) (session : ℕ) (store mid : S) (slots : List (Option Op)) (sets : DeadSets) (same : g.state mid ≡ g.state store) where
+  -- what always holds of a step behind the making of room
+  pub always_steps : (answer : Answer) (new : S) (then_slots : List (Option Op)) → Makes g (MovesCall session Steps) answer (here_with mid slots sets) (here_with new then_slots sets)
+      → OneStepAlways g session answer (here_with store slots sets) (here_with new then_slots sets)
+  always_steps answer new then_slots makes = record {
+    answers = makes.always.answers;
+    until_last = makes.always.until_last;
+    runs_on = makes.always.runs_on;
+    others = makes.always.others session refl;
+    kept = subst (λ (st : State). DoesOneAct st (g.state new)) same makes.always.kept;
+    blocked = λ block is. (
+        let b = blocked_keeps (g.state mid) (g.state new) (slot_of slots session) (slot_of then_slots session) block
+        (subst (λ (a : Answer). RefusalChangesNothing (g.state mid) (g.state new) (slot_of slots session) (slot_of then_slots session) a) is makes.always.refused) in
+        record { state_is = b.0 ∙ same; slots_is = same_slots then_slots slots session makes.sessions (makes.always.others session refl) b.1 });
+  }
+
+  -- ... and of a call that is given up for a fault
+  pub always_given_up : (fault : Fault) (added : Option ℕ) (new : S) (then_slots : List (Option Op)) → HasCause (where_forced (g.backing store) (g.backing mid)) fault → added ≡ slot_add (slot_of slots session)
+      → LeavesAll g mid new → OthersStay session slots then_slots → slot_of then_slots session ≡ None → OneStepAlways g session (cut_short added fault) (here_with store slots sets) (here_with new then_slots sets)
+  always_given_up fault added new then_slots cause is leaves others over =
+      let last = short_ends (g.backing store) (g.backing mid) added fault cause in
+      record {
+        answers = short_answers (slot_of slots session) (slot_of then_slots session) fault added is;
+        until_last = over_at_last (slot_of slots session) (slot_of then_slots session) (cut_short added fault) over last;
+        runs_on = runs_over (slot_of slots session) (slot_of then_slots session) over;
+        others = others;
+        kept = record {
+          acts = inl (leaves.acts ∙ ap (λ (st : State). st.acts) same);
+          quiet = λ e. leaves.pages ∙ ap (λ (st : State). st.pages) same;
+          limits = leaves.limits ∙ ap (λ (st : State). st.limits) same;
+          frames = leaves.frames ∙ ap (λ (st : State). st.frames) same;
+        };
+        blocked = λ block e. absurd (true_false (sym last ∙ ap is_last e));
+      }
+
+-- by which answers a call was given up
+pub short_comes : (added : Option ℕ) (fault : Fault) (answers : List Answer) → IsAmong answers (Refused fault) → OneStepComesTo (cut_short added fault) answers
+short_comes None fault answers h = inl h
+short_comes (Some action) fault answers h = inr (action, fault, refl, h)

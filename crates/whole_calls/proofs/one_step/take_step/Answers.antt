@@ -1,0 +1,93 @@
+use Rattle.std.proofs.Common.{map, Some, None, ◌++◌, refl, sym, subst, inl}
+use Rattle.schedule.specs.declared.event.Event.TheVariants.{Step}
+use Rattle.schedule.proofs.Running.{makes_runs}
+use Rattle.whole_calls.proofs.Words.{State, MovesCall, Steps, snapshot_of, here_with, Refused}
+use Rattle.whole_calls.specs.Going.{IsAmong, CameBy}
+use Rattle.whole_calls.specs.Made.{ComesTo}
+use Rattle.whole_calls.specs.OneStep.{OneStepGoes, OneStepComesTo, cut_short}
+use Rattle.whole_calls.specs.Stepping.{RoomTold}
+use Rattle.whole_calls.specs.Telling.{TellsEnd, room_came, RoomIsMade}
+use Rattle.whole_calls.proofs.Composing.{joined, goes_once, among_left, among_right}
+use Rattle.whole_calls.proofs.Made.{made_then, made_once}
+use Rattle.whole_calls.proofs.OneSteps.{StepsOnce, steps_once, steps_behind, given_up_goes, always_steps, always_given_up, short_comes}
+use Rattle.whole_calls.proofs.one_step.take_step.Goals as goal
+
+pub returns-in-Ok-clause-goes : goal.returns-in-Ok-clause-goes
+returns-in-Ok-clause-goes g c =
+    let laws = g.met.S.PageStore.laws in
+    let session = c.args.session in
+    let least = c.args.least_room in
+    let answer = c.one.result in
+    let sets = map g.T.DeadRows.is_in c.args.sets.now in
+    let old = here_with c.args.store.now c.args.calls.now.slots.items sets in
+    let here = here_with c.make_room.new.store c.args.calls.now.slots.items sets in
+    let there = here_with c.one.new.store c.one.new.calls.slots.items sets in
+    let first = laws.follows_later c.args.store.now c.make_room.new.store (c.make_room.ensures.steps _ (laws.follows_same _)) in
+    let later = laws.follows_later c.make_room.new.store c.one.new.store (c.one.ensures.steps _ (laws.follows_same _)) in
+    joined g.S.PageStore laws session (λ s. RoomTold g.S.PageStore) (λ s. StepsOnce g.S.PageStore session least answer) (λ s. OneStepGoes g.S.PageStore session least answer)
+    (room_came c.make_room.result) (Some answer) None old here there c.make_room.ensures.steps c.one.ensures.steps (λ xs ys one two. tt)
+    (λ start h hc k kc l lc fx fy fz one two. steps_behind g.S.PageStore session least (snapshot_of old h hc) (snapshot_of here k kc) one answer (snapshot_of there l lc) first later two)
+    (c.make_room.ensures.goes session c.args.calls.now.slots.items sets)
+    (goes_once g.S.PageStore laws session (StepsOnce g.S.PageStore session least answer) (Step session) answer here there refl (makes_runs g.S.PageStore laws (Step session) answer here there c.one.ensures.makes)
+    (λ start h hc k kc honest fits does. steps_once g.S.PageStore start session least answer (snapshot_of here h hc) (snapshot_of there k kc) fits does honest c.in-Ok.ensures.promise))
+
+pub returns-in-Err-clause-goes : goal.returns-in-Err-clause-goes
+returns-in-Err-clause-goes g c =
+    let laws = g.met.S.PageStore.laws in
+    let session = c.args.session in
+    let least = c.args.least_room in
+    let fault = c.in-Err.fault in
+    let added = c.added-added.result in
+    let end = c.give_up.ensures in
+    let sets = map g.T.DeadRows.is_in c.args.sets.now in
+    let old = here_with c.args.store.now c.args.calls.now.slots.items sets in
+    let here = here_with c.make_room.new.store c.args.calls.now.slots.items sets in
+    let there = here_with c.give_up.new.store c.give_up.new.calls.slots.items sets in
+    rw c.cut_short.ensures
+    (joined g.S.PageStore laws session (λ s. RoomTold g.S.PageStore) (λ s. TellsEnd session) (λ s. OneStepGoes g.S.PageStore session least (cut_short added fault))
+    (room_came c.make_room.result) None None old here there c.make_room.ensures.steps end.steps (λ xs ys one two. tt)
+    (λ start h hc k kc l lc fx fy fz one two. given_up_goes g.S.PageStore session least (snapshot_of old h hc) (snapshot_of here k kc) one start fault added (snapshot_of there l lc) fy c.in-Err.ensures.cause c.added-added.ensures
+    (record { backing = end.backing; acts = end.acts; frames = end.frames; limits = end.limits; pages = end.pages }) two)
+    (c.make_room.ensures.goes session c.args.calls.now.slots.items sets) end.goes)
+
+pub returns-in-Ok-clause-made : goal.returns-in-Ok-clause-made
+returns-in-Ok-clause-made g c =
+    let session = c.args.session in
+    let least = c.args.least_room in
+    let answer = c.one.result in
+    let sets = map g.T.DeadRows.is_in c.args.sets.now in
+    let old = here_with c.args.store.now c.args.calls.now.slots.items sets in
+    let here = here_with c.make_room.new.store c.args.calls.now.slots.items sets in
+    let there = here_with c.one.new.store c.one.new.calls.slots.items sets in
+    made_then g.S.PageStore session least (λ answers. CameBy answers (room_came c.make_room.result)) (λ answers. IsAmong answers answer) (OneStepComesTo answer) old here there (λ xs ys none so. inl (among_right xs ys answer so))
+    (c.make_room.ensures.made session c.args.calls.now.slots.items sets)
+    (made_once g.S.PageStore session least (λ answers. IsAmong answers answer) (Step session) (MovesCall session Steps) answer here there refl refl
+    (subst (λ (st : State). RoomIsMade least st.limits (g.S.PageStore.backing c.make_room.new.store)) (sym c.make_room.ensures.state) c.in-Ok.ensures.room) c.one.ensures.makes (inl refl))
+
+pub returns-in-Err-clause-made : goal.returns-in-Err-clause-made
+returns-in-Err-clause-made g c =
+    let session = c.args.session in
+    let least = c.args.least_room in
+    let fault = c.in-Err.fault in
+    let added = c.added-added.result in
+    let sets = map g.T.DeadRows.is_in c.args.sets.now in
+    let old = here_with c.args.store.now c.args.calls.now.slots.items sets in
+    let here = here_with c.make_room.new.store c.args.calls.now.slots.items sets in
+    let there = here_with c.give_up.new.store c.give_up.new.calls.slots.items sets in
+    rw c.cut_short.ensures
+    (made_then g.S.PageStore session least (λ answers. CameBy answers (Some (Refused fault))) (ComesTo None) (OneStepComesTo (cut_short added fault)) old here there
+    (λ xs ys came none. short_comes added fault (xs ++ ys) (among_left xs ys (Refused fault) came))
+    (rw c.in-Err.is at (c.make_room.ensures.made session c.args.calls.now.slots.items sets)) (c.give_up.ensures.made least))
+
+pub returns-in-Ok-clause-always : goal.returns-in-Ok-clause-always
+returns-in-Ok-clause-always g c =
+    always_steps g.S.PageStore c.args.session c.args.store.now c.make_room.new.store c.args.calls.now.slots.items (map g.T.DeadRows.is_in c.args.sets.now) c.make_room.ensures.state
+    c.one.result c.one.new.store c.one.new.calls.slots.items c.one.ensures.makes
+
+pub returns-in-Err-clause-always : goal.returns-in-Err-clause-always
+returns-in-Err-clause-always g c =
+    let end = c.give_up.ensures in
+    rw c.cut_short.ensures
+    (always_given_up g.S.PageStore c.args.session c.args.store.now c.make_room.new.store c.args.calls.now.slots.items (map g.T.DeadRows.is_in c.args.sets.now) c.make_room.ensures.state
+    c.in-Err.fault c.added-added.result c.give_up.new.store c.give_up.new.calls.slots.items c.in-Err.ensures.cause c.added-added.ensures
+    (record { backing = end.backing; acts = end.acts; frames = end.frames; limits = end.limits; pages = end.pages }) end.others.others end.over)

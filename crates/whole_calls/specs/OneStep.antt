@@ -1,0 +1,85 @@
+-- One step of a call that goes on beside others, with the checkpoint that may go before it.
+use Rattle.std.specs.Prelude.{◌≡◌, ◌⊎◌, ℕ, Option, Some, None, List, ◌++◌, length, slice_set}
+use Rattle.index_model.specs.Actions.{Effect}
+use Rattle.index_model.specs.Calls.{GivenUp, Call}
+use Rattle.index_model.specs.Faults.{HasCause}
+use Rattle.index_model.specs.declared.fault.Fault.{Fault}
+use Rattle.index_model.specs.declared.fault.Fault.TheVariants.{Blocked}
+use Rattle.page_action.specs.Causes.{where_forced}
+use Rattle.page_action.specs.declared.page_store.PageStore.{Ghosts}
+use Rattle.session_calls.specs.Ops.{RunsOn}
+use Rattle.session_calls.specs.Sessions.{Told, AnswersStep, RunsUntilLast, ended}
+use Rattle.session_calls.specs.Slots.{slot_of}
+use Rattle.session_calls.specs.TheoremCalls.{acts_of}
+use Rattle.session_calls.specs.declared.answer.Answer.{Answer}
+use Rattle.session_calls.specs.declared.answer.Answer.TheVariants.{Added, Refused}
+use Rattle.schedule.specs.Events.{OthersStay, IsUnchanged, DoesOneAct}
+use Rattle.schedule.specs.TheoremMoments.{StoreAndSlots, Snapshot, IsRunningCall}
+use Rattle.whole_calls.specs.Going.{IsAmong}
+use Rattle.whole_calls.specs.Refusing.{is_full_vacuum, CallIsCaused}
+use Rattle.whole_calls.specs.Spending.{TakesFewer}
+use Rattle.whole_calls.specs.Stepping.{FinishTells}
+use Rattle.whole_calls.specs.Telling.{MayAnswer, IsOwnEffect, IsSilent, HasNone}
+
+-- what a call answers that is given up for a fault: an insert whose entry is added leaves it unfinished
+abbrev pub cut_short : Option ℕ → Fault → Answer
+cut_short None fault = Refused fault
+cut_short (Some action) fault = Added action (Some fault)
+
+-- the call of this number has made one step, with an action of this effect or none, which it was asked for; what is told of it; no other
+-- call is changed
+pub record HasStepped {S : Type 0} (number : ℕ) (call : Call) (answer : Answer) (old new : Snapshot S) : Type 0 where
+  pub effect : Option Effect
+  pub after : Call
+  pub may : MayAnswer call.ask answer
+  pub own : IsOwnEffect call effect
+  pub told : Told answer (length old.history) effect call after
+  pub history_is : new.history ≡ old.history ++ acts_of number effect
+  pub calls_is : new.calls ≡ slice_set old.calls number after
+
+-- the checkpoint before a step was refused with this fault, and the call of this number is given up for it: no action is appended, and no
+-- other call is changed
+pub record IsGivenUpFor {S : Type 0} (g : Ghosts S) (number : ℕ) (call : Call) (answer : Answer) (old new : Snapshot S) : Type 0 where
+  pub fault : Fault
+  pub cause : HasCause (where_forced (g.backing old.store) (g.backing new.store)) fault
+  pub answer_is : answer ≡ cut_short call.added fault
+  pub history_is : new.history ≡ old.history
+  pub calls_is : new.calls ≡ slice_set old.calls number (ended call GivenUp (length old.history))
+
+-- the one or the other, of the session's running call
+abbrev pub TellsOneStep : {S : Type 0} → Ghosts S → ℕ → Answer → Snapshot S → Snapshot S → Type 0
+TellsOneStep g session answer old new =
+    (number : ℕ) (call : Call) → IsRunningCall old.calls session number call → HasStepped number call answer old new ⊎ IsGivenUpFor g number call answer old new
+
+-- what one step of a session's call does to whatever fitted before
+pub record OneStepGoes {S : Type 0} (g : Ghosts S) (session least_room : ℕ) (answer : Answer) (old new : Snapshot S) : Type 0 where
+  -- the session's call has made a step, or is given up
+  pub told : TellsOneStep g session answer old new
+  -- where it has none, nothing is told
+  pub idle : HasNone session old → IsSilent old new
+  -- why it is refused
+  pub caused : CallIsCaused g session least_room (is_full_vacuum (slot_of old.slots session)) answer old new
+  -- where it goes on, fewer steps are left
+  pub fewer : TakesFewer (g.state old.store) (g.state new.store) (slot_of old.slots session) (slot_of new.slots session) answer
+  -- where it finishes, it tells how many pages there are
+  pub stats : FinishTells g session answer old new
+
+-- what holds of one step of a session's call whatever the pages are
+pub record OneStepAlways {S : Type 0} (g : Ghosts S) (session : ℕ) (answer : Answer) (old new : StoreAndSlots S) : Type 0 where
+  -- it answers what a step may
+  pub answers : AnswersStep (slot_of old.slots session) (slot_of new.slots session) answer
+  -- behind it the session runs a call exactly if it ran one, and the answer isn't the last of it
+  pub until_last : RunsUntilLast (slot_of old.slots session) (slot_of new.slots session) answer
+  -- ... and that is of the same kind
+  pub runs_on : RunsOn (slot_of old.slots session) (slot_of new.slots session)
+  -- no other session's slot is changed
+  pub others : OthersStay session old.slots new.slots
+  -- it does one act at most
+  pub kept : DoesOneAct (g.state old.store) (g.state new.store)
+  -- one that is blocked changes neither pages, calls and holdings nor a slot
+  pub blocked : (block : ℕ) → answer ≡ Refused (Blocked block) → IsUnchanged g old new
+
+-- one of these answers was this; or the entry is added, and one was the refusal that it leaves unfinished
+abbrev pub OneStepComesTo : Answer → List Answer → Type 0
+OneStepComesTo answer answers =
+    IsAmong answers answer ⊎ ((action : ℕ) × (fault : Fault) × (answer ≡ Added action (Some fault)) × IsAmong answers (Refused fault))

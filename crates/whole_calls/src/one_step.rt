@@ -1,0 +1,63 @@
+//! One step of a call that goes on beside others.
+
+ghost use Rattle.std.specs.Prelude.{◌≡◌, None, length};
+ghost use Rattle.page_action.specs.States.{Continues};
+ghost use Rattle.schedule.specs.Sessions.{here};
+ghost use Rattle.whole_calls.specs.Going.{CallGoes};
+ghost use Rattle.whole_calls.specs.Made.{IsMadeOf};
+ghost use Rattle.whole_calls.specs.OneStep.{OneStepAlways, OneStepComesTo, OneStepGoes, cut_short};
+
+use crate::running::{give_up, make_room};
+use index_model::{DeadRows, Fault};
+use page_action::PageStore;
+use schedule::{Event, one};
+use session_calls::{Answer, Calls};
+
+// What a call answers that is given up for this fault.
+fn cut_short(added: Option<u64>, fault: Fault) -> Answer
+    ensures { result ≡ cut_short added fault }
+{
+    match added {
+        Some(action) => Answer::Added {
+            action,
+            unfinished: Some(fault),
+        },
+        None => Answer::Refused(fault),
+    }
+}
+
+/// One step of the session's call, as the event `Step` makes it, and what it answers. Where the log
+/// has room for fewer than `least_room` images, a checkpoint is made before. Where that is refused,
+/// with `Io` (2) or `Stopped` (3), the call is given up and answers this fault: an insert whose
+/// entry is added leaves it unfinished, any other call is refused with it.
+pub fn take_step<S: PageStore, T: DeadRows>(
+    store: &mut S,
+    calls: &mut Calls,
+    sets: &[T],
+    session: u32,
+    least_room: u32,
+) -> Answer
+    ensures steps { Continues S.follows store.old store.new }
+    ensures sessions { length calls.new.slots.items ≡ length calls.old.slots.items }
+    // With `least_room` 5 or more it never answers `LogFull`.
+    ensures goes { CallGoes S.PageStore session
+        (OneStepGoes S.PageStore session least_room result) None
+        (here T.DeadRows store.old calls.old sets.now)
+        (here T.DeadRows store.new calls.new sets.now) }
+    // Whatever the pages are.
+    ensures made { IsMadeOf S.PageStore session least_room (OneStepComesTo result)
+        (here T.DeadRows store.old calls.old sets.now)
+        (here T.DeadRows store.new calls.new sets.now) }
+    ensures always { OneStepAlways S.PageStore session result
+        (here T.DeadRows store.old calls.old sets.now)
+        (here T.DeadRows store.new calls.new sets.now) }
+{
+    match make_room(store, least_room) {
+        Ok(()) => one(store, calls, sets, Event::Step(session)),
+        Err(fault) => {
+            let added = calls.added(session);
+            give_up(store, calls, sets, session);
+            cut_short(added, fault)
+        }
+    }
+}

@@ -1,0 +1,4 @@
+pub mod Counting
+pub mod Fitting
+pub mod Queueing
+pub mod Rows

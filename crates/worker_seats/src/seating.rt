@@ -1,0 +1,93 @@
+//! The cell that ties what the workers know to what lies under the lock.
+
+use atomic_table::{Join, Split};
+use crossbeam_utils::atomic::seq_cell::{Pass, RuledSeqCell};
+use crossbeam_utils::rule::{Outcome, Protocol};
+use std::collections::LinkedList;
+
+/// What a pass of the cell knows. A keeper: the log of all notes, and which job each session runs. A seat: its session, which
+/// job that runs, and the places and jobs of its notes. No value of it is made.
+pub struct SeatView {
+    pub keeps: bool,
+    pub log: LinkedList<(u64, u64)>,
+    pub running: LinkedList<Option<u64>>,
+    pub sits: bool,
+    pub worker: u64,
+    pub job: Option<u64>,
+    pub notes: LinkedList<(u64, u64)>,
+}
+
+/// The rule of the seats: all views fit one log. The first word of the cell is the job of the last exchange.
+pub struct SeatRule;
+
+impl Protocol<[u64; 2], SeatView> for SeatRule {
+    ghost use Rattle.std.specs.Prelude.{[]};
+    ghost use Rattle.worker_seats.specs.Seats.{keeper_of, SeatsFit};
+
+    ghost holds = { SeatsFit };
+
+    ghost first = { keeper_of [] [] };
+}
+
+/// A call begins.
+pub struct Starts;
+
+impl Outcome<[u64; 2], SeatView> for Starts {
+    ghost use Rattle.worker_seats.specs.Seats.{HasStarted};
+
+    ghost then = { HasStarted };
+}
+
+/// A call ends, with its note.
+pub struct Notes;
+
+impl Outcome<[u64; 2], SeatView> for Notes {
+    ghost use Rattle.worker_seats.specs.Seats.{HasNoted};
+
+    ghost then = { HasNoted };
+}
+
+/// The cell is looked at.
+pub struct Checks;
+
+impl Outcome<[u64; 2], SeatView> for Checks {
+    ghost use Rattle.worker_seats.specs.Seats.{HasChecked};
+
+    ghost then = { HasChecked };
+}
+
+/// A seat comes beside the keeper, and leaves it.
+pub struct Sitting;
+
+impl Split<SeatView> for Sitting {
+    ghost use Rattle.worker_seats.specs.Seats.{keeper_in, seat_in};
+
+    ghost left = { keeper_in };
+
+    ghost right = { seat_in };
+}
+
+impl Join<SeatView> for Sitting {
+    ghost use Rattle.worker_seats.specs.Seats.{beside, nobody};
+
+    ghost both = { beside };
+
+    ghost spent = { nobody };
+}
+
+/// There is a seat for one session more.
+pub struct Opening;
+
+impl Split<SeatView> for Opening {
+    ghost use Rattle.worker_seats.specs.Seats.{keeper_of_one_more, seat_of_one_more};
+
+    ghost left = { keeper_of_one_more };
+
+    ghost right = { seat_of_one_more };
+}
+
+/// The cell of the seats.
+pub type SeatCell = RuledSeqCell<[u64; 2], SeatView, SeatRule, 2>;
+
+/// A pass of the cell: a worker's, or the keeper's.
+pub type SeatPass = Pass<[u64; 2], SeatView>;

@@ -1,0 +1,60 @@
+//! What all workers have noted together.
+
+ghost use Rattle.std.specs.Prelude.{◌≡◌, ◌<◌, ◌+◌, ℕ, [], length, Some, None, IfSome, slice_get, vec_len};
+ghost use Rattle.crossbeam_queue.specs.Passes.{view};
+ghost use Rattle.worker_seats.specs.Queue.{jobs_in, sum_below, sum_over, times, weigh, KnowsAll};
+ghost use Rattle.worker_seats.specs.Seats.{keeper_of, known_by, notes_by};
+
+use crate::job_queue::QueuePass;
+use crate::run::Run;
+use crate::seat::{Seat, check};
+use crate::seating::{SeatCell, SeatPass};
+use std::sync::Wait;
+use std::sync::ledger::{Book, Share};
+
+/// With all seats, and every part of the ledger and of the queue: the workers' notes are all that there are, no session runs a
+/// call, and each job that was handed out stands in the log once.
+pub fn tally_up<J: Run, T, R: Wait>(
+    rt: &R,
+    cell: &SeatCell,
+    keeper: &mut SeatPass,
+    book: &mut Book<J>,
+    seats: Vec<Seat<J>>,
+    mut all: Share<J>,
+    pass: &QueuePass<T>,
+)
+    requires cell { cell.now.table.shared.table_id ≡ J.seats }
+    requires of { keeper.old.table_id ≡ J.seats }
+    requires keeper { known_by keeper.old
+        ≡ keeper_of (known_by keeper.old).log (known_by keeper.old).running }
+    requires counted { book.old.total ≡ length (known_by keeper.old).log }
+    requires ranked { (k : ℕ) → IfSome (slice_get seats.items k) (λ s. s.worker ≡ k) }
+    requires rests { (k : ℕ) → IfSome (slice_get seats.items k)
+        (λ s. (known_by s.pass).job ≡ None) }
+    requires parts { all.parts + vec_len seats ≡ J.parts }
+    requires amount { all.amount ≡ 0 }
+    requires whole { (view pass.now).parts ≡ 1024 }
+    requires empty { KnowsAll (view pass.now) [] }
+    requires popped { (h : ℕ → ℕ) → weigh h (view pass.now).popped
+        ≡ sum_over (λ s. weigh h (jobs_in (known_by s.pass).notes)) seats.items }
+    ensures keeper { known_by keeper.new ≡ known_by keeper.old }
+    ensures sum { sum_below (vec_len seats)
+        (λ w. length (notes_by w (known_by keeper.old).log))
+        ≡ length (known_by keeper.old).log }
+    ensures idle { (k : ℕ) → k < vec_len seats
+        → slice_get (known_by keeper.old).running k ≡ Some None }
+    ensures once { (job : ℕ) → job < (view pass.now).pushed
+        → times job (jobs_in (known_by keeper.old).log) ≡ 1 }
+{
+    for seat in seats {
+        let seat = check(rt, cell, keeper, seat);
+        let Seat {
+            worker: _,
+            share,
+            pass: _,
+            of: _,
+        } = seat;
+        all.merge(share);
+    }
+    book.audit(&mut all);
+}
