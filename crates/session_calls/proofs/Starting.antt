@@ -43,14 +43,14 @@ tree_begun st session within has = record {
   counted = has.counted;
   within = λ block. (let few = has.within block in omega arith);
   lead = λ start is. elim (cases_eq is.session session) [
-    | inl e ↦ (λ b r kept right.
+    | inl e ↦ (
         let now : slice_get (slice_set st.running session (Some st.begun)) session ≡ Some (Some start) =
         subst (λ (s : ℕ). slice_get (slice_set st.running session (Some st.begun)) s ≡ Some (Some start)) e is.is in
         let own : Some (Some st.begun) ≡ Some (Some start) = sym (get_set_same {A = Option ℕ} st.running session (Some st.begun) within) ∙ now in
-        let same : st.begun ≡ start = cc in
-        let few = has.within b in
-        let late = kept.late in
-        absurd (omega arith))
+        let same : st.begun ≡ start = cc in (
+          (λ b r kept right. let few = has.within b in let late = kept.late in absurd (omega arith)),
+          (λ b r kept right. let few = has.within b in let late = kept.late in absurd (omega arith)),
+        ))
     | inr n ↦ has.lead start (record { session = is.session; is = sym (get_set_other {A = Option ℕ} st.running session is.session (Some st.begun) n) ∙ is.is })
   ];
 }
