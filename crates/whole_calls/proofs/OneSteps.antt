@@ -4,7 +4,7 @@ use Rattle.index_model.specs.declared.fault.Fault.TheVariants.{Blocked, NoSessio
 use Rattle.index_model.specs.declared.stats.VacuumStats.{VacuumStats}
 use Rattle.page_action.specs.Causes.{where_forced}
 use Rattle.session_calls.specs.Ops.{ends_call, is_last}
-use Rattle.session_calls.specs.Sessions.{RefusalChangesNothing, RunsUntilLast}
+use Rattle.session_calls.specs.Sessions.{start_number, RefusalChangesNothing, RunsUntilLast}
 use Rattle.session_calls.specs.declared.op.Op.TheVariants.{Insert as Inserts, Scan as Scans, Bulk as Bulks, Cleanup as Cleanups}
 use Rattle.session_calls.proofs.RunningOn.{runs_over}
 use Rattle.schedule.specs.Events.{DoesOneAct}
@@ -92,7 +92,7 @@ module _ {S : Type 0} (g : Ghosts S) (session least_room : ℕ) (x y : Snapshot 
 
   -- a call that is given up, since the room couldn't be made
   pub given_up_goes : (start : Entry → Bool) (fault : Fault) (added : Option ℕ) (z : Snapshot S) → Fits g start y → HasCause (where_forced (g.backing x.store) (g.backing y.store)) fault → added ≡ slot_add (slot_of y.slots session)
-      → LeavesAll g y.store z.store → TellsEnd session y z → OneStepGoes g session least_room (cut_short added fault) x z
+      → LeavesAll g session y.store z.store → TellsEnd session y z → OneStepGoes g session least_room (cut_short added fault) x z
   given_up_goes start fault added z fits cause is leaves end = record {
     told = λ number call runs. inr (given_up number call (runs_then number call runs));
     idle = λ none. record { history_is = end.history_is ∙ room.silent.history_is; calls_is = end.calls_is (none_then none) ∙ room.silent.calls_is };
@@ -122,11 +122,12 @@ module _ {S : Type 0} (g : Ghosts S) (session least_room : ℕ) (x y : Snapshot 
       forced None f h = h
       forced (Some action) f h = h
 
-      caused : (ask : Ask) → IsCaused (where_asked g session least_room (is_full_vacuum (slot_of x.slots session)) ask (here_at x) z.store) (cut_short added fault)
+      caused : (ask : Ask) → IsCaused (where_asked g session least_room (start_number (g.state x.store) session) (is_full_vacuum (slot_of x.slots session)) ask (here_at x) z.store) (cut_short added fault)
       caused ask =
           let full = is_full_vacuum (slot_of x.slots session) in
-          rw (asked_behind g session least_room full ask (here_at x) y.store z.store leaves.backing leaves.acts leaves.frames leaves.limits leaves.pages)
-          (cause_wider _ _ (forced_cause g session least_room full ask (here_at x) y.store) (cut_short added fault) (forced added fault cause))
+          let number = start_number (g.state x.store) session in
+          rw (asked_behind g session least_room number full ask (here_at x) y.store z.store leaves.backing leaves.acts leaves.frames leaves.limits leaves.pages leaves.counted (leaves.numbers number))
+          (cause_wider _ _ (forced_cause g session least_room number full ask (here_at x) y.store) (cut_short added fault) (forced added fault cause))
 
       not_going : (a : Option ℕ) → cut_short a fault ≡ Going → ⊥
       not_going None e = cc
@@ -211,8 +212,9 @@ module _ {S : Type 0} (g : Ghosts S) (session : ℕ) (store mid : S) (slots : Li
 
   -- ... and of a call that is given up for a fault
   pub always_given_up : (fault : Fault) (added : Option ℕ) (new : S) (then_slots : List (Option Op)) → HasCause (where_forced (g.backing store) (g.backing mid)) fault → added ≡ slot_add (slot_of slots session)
-      → LeavesAll g mid new → OthersStay session slots then_slots → slot_of then_slots session ≡ None → OneStepAlways g session (cut_short added fault) (here_with store slots sets) (here_with new then_slots sets)
-  always_given_up fault added new then_slots cause is leaves others over =
+      → (g.state new).acts ≡ (g.state mid).acts → (g.state new).pages ≡ (g.state mid).pages → (g.state new).limits ≡ (g.state mid).limits → (g.state new).frames ≡ (g.state mid).frames
+      → OthersStay session slots then_slots → slot_of then_slots session ≡ None → OneStepAlways g session (cut_short added fault) (here_with store slots sets) (here_with new then_slots sets)
+  always_given_up fault added new then_slots cause is acts pages limits frames others over =
       let last = short_ends (g.backing store) (g.backing mid) added fault cause in
       record {
         answers = short_answers (slot_of slots session) (slot_of then_slots session) fault added is;
@@ -220,10 +222,10 @@ module _ {S : Type 0} (g : Ghosts S) (session : ℕ) (store mid : S) (slots : Li
         runs_on = runs_over (slot_of slots session) (slot_of then_slots session) over;
         others = others;
         kept = record {
-          acts = inl (leaves.acts ∙ ap (λ (st : State). st.acts) same);
-          quiet = λ e. leaves.pages ∙ ap (λ (st : State). st.pages) same;
-          limits = leaves.limits ∙ ap (λ (st : State). st.limits) same;
-          frames = leaves.frames ∙ ap (λ (st : State). st.frames) same;
+          acts = inl (acts ∙ ap (λ (st : State). st.acts) same);
+          quiet = λ e. pages ∙ ap (λ (st : State). st.pages) same;
+          limits = limits ∙ ap (λ (st : State). st.limits) same;
+          frames = frames ∙ ap (λ (st : State). st.frames) same;
         };
         blocked = λ block e. absurd (true_false (sym last ∙ ap is_last e));
       }

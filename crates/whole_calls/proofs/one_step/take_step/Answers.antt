@@ -1,12 +1,13 @@
 use Rattle.std.proofs.Common.{map, Some, None, ◌++◌, refl, sym, subst, inl}
 use Rattle.schedule.specs.declared.event.Event.TheVariants.{Step}
 use Rattle.schedule.proofs.Running.{makes_runs}
-use Rattle.whole_calls.proofs.Words.{State, MovesCall, Steps, snapshot_of, here_with, Refused}
+use Rattle.whole_calls.proofs.Words.{State, MovesCall, Steps, slot_of, snapshot_of, here_with, Refused}
 use Rattle.whole_calls.specs.Going.{IsAmong, CameBy}
 use Rattle.whole_calls.specs.Made.{ComesTo}
 use Rattle.whole_calls.specs.OneStep.{OneStepGoes, OneStepComesTo, cut_short}
 use Rattle.whole_calls.specs.Stepping.{RoomTold}
 use Rattle.whole_calls.specs.Telling.{TellsEnd, room_came, RoomIsMade}
+use Rattle.whole_calls.proofs.Blocks.{given_up_counted, given_up_numbers}
 use Rattle.whole_calls.proofs.Composing.{joined, goes_once, among_left, among_right}
 use Rattle.whole_calls.proofs.Made.{made_then, made_once}
 use Rattle.whole_calls.proofs.OneSteps.{StepsOnce, steps_once, steps_behind, given_up_goes, always_steps, always_given_up, short_comes}
@@ -47,7 +48,15 @@ returns-in-Err-clause-goes g c =
     (joined g.S.PageStore laws session (λ s. RoomTold g.S.PageStore) (λ s. TellsEnd session) (λ s. OneStepGoes g.S.PageStore session least (cut_short added fault))
     (room_came c.make_room.result) None None old here there c.make_room.ensures.steps end.steps (λ xs ys one two. tt)
     (λ start h hc k kc l lc fx fy fz one two. given_up_goes g.S.PageStore session least (snapshot_of old h hc) (snapshot_of here k kc) one start fault added (snapshot_of there l lc) fy c.in-Err.ensures.cause c.added-added.ensures
-    (record { backing = end.backing; acts = end.acts; frames = end.frames; limits = end.limits; pages = end.pages }) two)
+    (record {
+      backing = end.backing;
+      acts = end.acts;
+      frames = end.frames;
+      limits = end.limits;
+      pages = end.pages;
+      counted = given_up_counted (slot_of c.args.calls.now.slots.items session) (g.S.PageStore.state c.make_room.new.store) (g.S.PageStore.state c.give_up.new.store) end.state;
+      numbers = given_up_numbers g.S.PageStore start session (snapshot_of here k kc) (g.S.PageStore.state c.give_up.new.store) fy end.state;
+    }) two)
     (c.make_room.ensures.goes session c.args.calls.now.slots.items sets) end.goes)
 
 pub returns-in-Ok-clause-made : goal.returns-in-Ok-clause-made
@@ -90,4 +99,4 @@ returns-in-Err-clause-always g c =
     rw c.cut_short.ensures
     (always_given_up g.S.PageStore c.args.session c.args.store.now c.make_room.new.store c.args.calls.now.slots.items (map g.T.DeadRows.is_in c.args.sets.now) c.make_room.ensures.state
     c.in-Err.fault c.added-added.result c.give_up.new.store c.give_up.new.calls.slots.items c.in-Err.ensures.cause c.added-added.ensures
-    (record { backing = end.backing; acts = end.acts; frames = end.frames; limits = end.limits; pages = end.pages }) end.others.others end.over)
+    end.acts end.pages end.limits end.frames end.others.others end.over)
