@@ -1,0 +1,107 @@
+-- What asking a call for its next entry, and giving it up, leave of what is kept under the lock.
+use Rattle.std.proofs.Common.{◌≡◌, ◌≤◌, ◌&&◌, not, Bool, true, false, ℕ, List, [], ◌∷◌, ◌++◌, Option, Some, None, slice_get, slice_set, vec_len, vec_capacity, refl, sym, ap, ◌∙◌, subst, arith}
+use Rattle.index_model.specs.Actions.{Action}
+use Rattle.index_model.specs.Calls.{Call}
+use Rattle.index_model.specs.declared.entry.Entry.{Entry}
+use Rattle.page_action.specs.States.{Continues, IsLater}
+use Rattle.page_action.specs.declared.page_store.PageStore.{Ghosts}
+use Rattle.session_calls.specs.Ops.{is_last}
+use Rattle.session_calls.specs.Sessions.{AnswersEnd, GivesLess, RunsUntilLast, is_busy}
+use Rattle.session_calls.specs.Slots.{has_call, slot_of}
+use Rattle.session_calls.specs.declared.answer.Answer.{Answer}
+use Rattle.session_calls.specs.declared.answer.Answer.TheVariants.{Gave, Ended}
+use Rattle.session_calls.specs.declared.op.Op.{Op}
+use Rattle.schedule.specs.CallLists.{OneCallRuns}
+use Rattle.schedule.specs.TheoremKinds.{Takes, GivesUp}
+use Rattle.schedule.specs.TheoremMoments.{StoreAndSlots, snapshot_of}
+use Rattle.schedule.specs.declared.event.Event.TheVariants.{Next, End}
+use Rattle.schedule.proofs.Fitting.{goes_does}
+use Rattle.schedule.proofs.Keeping.{Laws}
+use Rattle.sessions.specs.declared.job.Job.{Job}
+use Rattle.sessions.specs.declared.job.Job.TheVariants.{Scan}
+use Rattle.sessions.specs.declared.record.Record.{Record}
+use Rattle.sessions.specs.declared.record.Pending.{Pending}
+use Rattle.sessions.specs.Doing.{IsDone, MayBeDone, HasTaken, IsFullScan, given_behind}
+use Rattle.sessions.specs.Jobs.{IsRoomOf, IsFull}
+use Rattle.sessions.specs.Kept.{KeepsAll, record_of}
+use Rattle.sessions.proofs.Happening.{keeps_going, keeps_ended}
+use Rattle.sessions.proofs.Keeping.{some_same}
+use Rattle.sessions.proofs.Noting.{set_same, busy_is, last_of, OthersRunOn, others_run_on}
+use Rattle.sessions.proofs.Telling.{MovesOnTo, moved, moved_on, moved_last}
+
+not_last : (b a l : Bool) → a ≡ (b && not l) → a ≡ b → b ≡ true → l ≡ false
+not_last true a true until same busy = sym same ∙ until
+not_last true a false until same busy = refl
+not_last false a l until same busy = absurd cc
+
+not_not : (b : Bool) → not b ≡ false → b ≡ true
+not_not true h = refl
+not_not false h = sym h
+
+-- the answer to asking for the next entry is never the last of a call
+next_on : (answer : Answer) (before after : Option Op) → GivesLess before after answer → RunsUntilLast before after answer → is_busy before ≡ true → is_last answer ≡ false
+next_on (Gave entry) before after less until busy = refl
+next_on answer before after less until busy = not_last (is_busy before) (is_busy after) (is_last answer) until (ap is_busy less.0) busy
+
+-- a running call that is given up answers that it has ended
+ended_of : (slot : Option Op) (answer : Answer) → is_busy slot ≡ true → AnswersEnd slot answer → answer ≡ Ended
+ended_of None answer busy h = absurd cc
+ended_of (Some op) answer busy h = h
+
+-- the room of a full scan is full
+full_is : (asked job : Job) (p : Pending) → job ≡ asked → IsRoomOf job (vec_capacity p.given) → IsFullScan asked (Some p) → IsFull job p.given.items
+full_is asked job p same room full = subst (λ (j : Job). IsFull j p.given.items) (sym same) (of asked (subst (λ (j : Job). IsRoomOf j (vec_capacity p.given)) same room) full)
+  where
+    of : (j : Job) → IsRoomOf j (vec_capacity p.given) → IsFullScan j (Some p) → IsFull j p.given.items
+    of (Scan range room) is full = (let cap : vec_capacity p.given ≡ room = is in let over : vec_capacity p.given ≤ vec_len p.given = full in let long = p.given.ok.0 in let fits = p.given.ok.1 in omega (arith, cap, over, long, fits))
+    of j is full = absurd full
+
+module _ {S : Type 0} (g : Ghosts S) (laws : Laws g) (one : OneCallRuns g) (jobs : List Job) (stood kept_then : (Entry → Bool) → List Action → List Call → Type 0) (w v : StoreAndSlots S) (steps : Continues g.follows w.store v.store) (sets : v.sets ≡ w.sets)
+    (start : ℕ) (pending : List (Option Pending)) (records : List Record) (s : ℕ) (p : Pending) (at : slice_get pending s ≡ Some (Some p)) (runs : has_call w.slots s ≡ true) where
+  later : IsLater (g.backing w.store) (g.backing v.store)
+  later = laws.follows_later w.store v.store (steps w.store (laws.follows_same w.store))
+
+  goes_on : (answer : Answer) → IsDone g (Next s) answer w v → is_last answer ≡ false
+  goes_on answer did = next_on answer (slot_of w.slots s) (slot_of v.slots s) did.always.less did.always.until_last (busy_is w.slots s ∙ runs)
+
+  -- asking for the next entry
+  pub next_keeps : (q : Pending) (o : Option Answer) → MayBeDone g (Next s) o w v → HasTaken o p q → KeepsAll g stood kept_then jobs w start pending records
+      → KeepsAll g stood kept_then jobs v start (slice_set pending s (Some q)) records
+  next_keeps q None is took all =
+      let same : slice_set pending s (Some q) ≡ pending = ap (λ (x : Pending). slice_set pending s (Some x)) (took.still refl) ∙ set_same pending s (Some p) at in
+      subst (λ (x : StoreAndSlots S × List (Option Pending)). KeepsAll g stood kept_then jobs x.0 start x.1 records) (λ i. (sym is i, sym same i)) all
+  next_keeps q (Some answer) did took all = λ honest contents acts calls so. (
+      let k = all (later.honest honest) contents acts calls so in
+      let y = k.runs s p at in
+      let r = did.goes honest contents k.history k.calls k.fit in
+      let was = snapshot_of w k.history k.calls in
+      let new = snapshot_of v r.then_history r.then_calls in
+      let given : given_behind answer y.call.given ≡ q.given.items = ap (given_behind answer) y.given_is ∙ sym took.items in
+      keeps_going g jobs contents acts calls (kept_then contents acts calls) w v sets start pending records k later.durable s p one q at new
+      (subst (λ l. MovesOnTo y.number y.call l was new) given
+      (moved_on y.number y.call answer was new (goes_on answer did) (moved g contents s Takes answer was new k.fit (goes_does r.goes) y.number y.call y.is)))
+      refl r.fits (λ h. (r.goes.crash h).keeps) took.job took.from took.seen took.room)
+
+  pub next_runs : (o : Option Answer) → MayBeDone g (Next s) o w v → (has_call v.slots s ≡ true) × OthersRunOn w.slots v.slots s
+  next_runs None is = (ap (λ (x : StoreAndSlots S). has_call x.slots s) is ∙ runs, (λ t n. ap (λ (x : StoreAndSlots S). has_call x.slots t) is))
+  next_runs (Some answer) did =
+      (not_not (has_call v.slots s) (sym (last_of w.slots v.slots s answer did.always.until_last runs) ∙ goes_on answer did), others_run_on w.slots v.slots s (did.always.others s refl))
+
+  -- giving the call up
+  pub end_answers : (answer : Answer) → IsDone g (End s) answer w v → answer ≡ Ended
+  end_answers answer did = ended_of (slot_of w.slots s) answer (busy_is w.slots s ∙ runs) did.always.answers
+
+  pub end_runs : (answer : Answer) → IsDone g (End s) answer w v → (has_call v.slots s ≡ false) × OthersRunOn w.slots v.slots s
+  end_runs answer did = (sym (busy_is v.slots s) ∙ ap is_busy did.always.left.over, others_run_on w.slots v.slots s (did.always.others s refl))
+
+  pub end_keeps : (answer : Answer) → IsDone g (End s) answer w v → (asked : Job) → slice_get jobs p.job ≡ Some asked → IsFullScan asked (Some p) → (to : ℕ) → to ≡ (g.state v.store).acts
+      → KeepsAll g stood kept_then jobs w start pending records → KeepsAll g stood kept_then jobs v start (slice_set pending s None) (records ++ record_of s p answer to ∷ [])
+  end_keeps answer did asked is full to to_is all honest contents acts calls so =
+      let k = all (later.honest honest) contents acts calls so in
+      let y = k.runs s p at in
+      let r = did.goes honest contents k.history k.calls k.fit in
+      let was = snapshot_of w k.history k.calls in
+      let new = snapshot_of v r.then_history r.then_calls in
+      keeps_ended g jobs contents acts calls (kept_then contents acts calls) w v sets start pending records k later.durable s p one at answer to new
+      (moved_last y.number y.call answer was new (ap is_last (end_answers answer did)) (moved g contents s GivesUp answer was new k.fit (goes_does r.goes) y.number y.call y.is))
+      refl r.fits (λ h. (r.goes.crash h).keeps) (to_is ∙ r.fits.explains.count) (λ e. full_is asked y.job p (some_same (sym y.job_is ∙ is)) y.room full)

@@ -1,0 +1,167 @@
+-- What the beginning of a job under the lock leaves of what is kept.
+use Rattle.std.proofs.Common.{◌≡◌, ◌⊎◌, Bool, true, ℕ, suc, ◌<◌, ◌≤◌, List, [], ◌∷◌, ◌++◌, length, Option, Some, None, slice_get, slice_set, vec_capacity, refl, sym, ap, ◌∙◌, subst, inl, inr, arith}
+use Rattle.index_model.specs.Actions.{Action}
+use Rattle.index_model.specs.Calls.{Call}
+use Rattle.index_model.specs.declared.entry.Entry.{Entry}
+use Rattle.index_model.specs.declared.fault.Fault.{Fault}
+use Rattle.page_action.specs.States.{Continues, IsLater}
+use Rattle.page_action.specs.declared.page_store.PageStore.{Ghosts}
+use Rattle.session_calls.specs.TheoremCalls.{asked_by}
+use Rattle.session_calls.specs.Slots.{has_call, slot_has_call}
+use Rattle.session_calls.specs.declared.answer.Answer.{Answer}
+use Rattle.session_calls.specs.declared.answer.Answer.TheVariants.{Begun, Forced, Checkpointed, Refused}
+use Rattle.session_calls.specs.declared.op.Op.{Op}
+use Rattle.session_calls.specs.declared.request.Request.{Request}
+use Rattle.session_calls.specs.declared.request.Request.TheVariants.{Insert as ToInsert, Scan as ToScan, Bulk as ToBulk, Cleanup as ToCleanup}
+use Rattle.schedule.specs.CallLists.{RefusedCallsFit}
+use Rattle.schedule.specs.Events.{AnswersEvent, AnswersBeginning, EventAlways, UpkeepIsDone, Stays, kept_answer}
+use Rattle.schedule.specs.Making.{EventDoes}
+use Rattle.schedule.specs.TheoremCrashes.{KeepsHistory}
+use Rattle.schedule.specs.TheoremKinds.{Upkeep, Forces, Flushes, Checkpoints, Kind, BeginsCall, KeepsStore, kind_of}
+use Rattle.schedule.specs.TheoremMoments.{StoreAndSlots, Snapshot, snapshot_of}
+use Rattle.schedule.specs.TheoremRuns.{Carries, EventFollows, Fits}
+use Rattle.schedule.specs.declared.event.Event.{Event}
+use Rattle.schedule.proofs.Fitting.{goes_does}
+use Rattle.schedule.proofs.Keeping.{Laws}
+use Rattle.whole_calls.specs.Telling.{IsSilent, HasBegun, NothingTold, BeginTold, begun_of}
+use Rattle.whole_calls.proofs.Tellings.{begins_told, keeps_silent}
+use Rattle.sessions.specs.declared.job.Job.{Job}
+use Rattle.sessions.specs.declared.job.Job.TheVariants.{Insert, Scan, Bulk, Cleanup, Commit, Checkpoint}
+use Rattle.sessions.specs.declared.record.Record.{Record}
+use Rattle.sessions.specs.declared.record.Pending.{Pending}
+use Rattle.sessions.specs.Jobs.{request_of, upkeep_of, begins, IsRoomOf}
+use Rattle.sessions.specs.Kept.{Keeps, KeepsAll, record_of}
+use Rattle.sessions.proofs.Noting.{set_same, busy_is, OthersRunOn}
+use Rattle.sessions.proofs.Happening.{keeps_begun, keeps_refused, keeps_upkept}
+
+-- a job that asks for a call
+pub record AsksCall (s : ℕ) (job : Job) : Type 0 where
+  pub request : Request
+  pub asks : request_of job ≡ Some request
+  pub kind : begins s job ≡ BeginsCall s request
+
+-- one that asks the store
+pub record AsksStore (s : ℕ) (job : Job) : Type 0 where
+  pub upkeep : Upkeep
+  pub asks : upkeep_of job ≡ Some upkeep
+  pub kind : begins s job ≡ KeepsStore upkeep
+
+pub asks_one : (s : ℕ) (job : Job) → AsksCall s job ⊎ AsksStore s job
+asks_one s (Insert entry) = inl (record { request = ToInsert entry; asks = refl; kind = refl })
+asks_one s (Scan range room) = inl (record { request = ToScan range; asks = refl; kind = refl })
+asks_one s (Bulk set) = inl (record { request = ToBulk set; asks = refl; kind = refl })
+asks_one s Cleanup = inl (record { request = ToCleanup; asks = refl; kind = refl })
+asks_one s Commit = inr (record { upkeep = Forces; asks = refl; kind = refl })
+asks_one s Checkpoint = inr (record { upkeep = Checkpoints; asks = refl; kind = refl })
+
+refused_of : (a : Answer) → AnswersBeginning a → (a ≡ Begun → ⊥) → (fault : Fault) × (a ≡ Refused fault)
+refused_of Begun h n = absurd (n refl)
+refused_of (Refused fault) h n = (fault, refl)
+refused_of a h n = absurd h
+
+upkeep_not_begun : (upkeep : Upkeep) (old new : List (Option Op)) → AnswersEvent (KeepsStore upkeep) Begun old new → ⊥
+upkeep_not_begun Forces old new h = h
+upkeep_not_begun Flushes old new h = h
+upkeep_not_begun Checkpoints old new h = h
+
+forced_same : (m n : ℕ) → Some (Forced m) ≡ Some (Forced n) → m ≡ n
+forced_same m n e = cc
+
+checkpointed_same : (m n : ℕ) → Some (Checkpointed m) ≡ Some (Checkpointed n) → m ≡ n
+checkpointed_same m n e = cc
+
+forced_not : (n : ℕ) (fault : Fault) → Some (Forced n) ≡ Some (Refused fault) → ⊥
+forced_not n fault e = absurd cc
+
+checkpointed_not : (n : ℕ) (fault : Fault) → Some (Checkpointed n) ≡ Some (Refused fault) → ⊥
+checkpointed_not n fault e = absurd cc
+
+-- the number that a commit or a checkpoint tells
+kept_of : {S : Type 0} (g : Ghosts S) (upkeep : Upkeep) (answer : Answer) (x y : Snapshot S) → UpkeepIsDone g upkeep answer x y ⊎ Stays g answer x y
+    → (count : ℕ) → kept_answer upkeep count ≡ Some answer → (count ≡ length x.history) × (count ≤ (g.backing y.store).durable)
+kept_of g Forces answer x y (inl d) count e = (let n = forced_same count (length x.history) (e ∙ sym d.tells.told) in let durable = d.tells.durable in (n, omega (arith, n, durable)))
+kept_of g Checkpoints answer x y (inl d) count e = (let n = checkpointed_same count (length x.history) (e ∙ sym d.tells.told) in let durable = d.tells.durable in (n, omega (arith, n, durable)))
+kept_of g Forces answer x y (inr h) count e = absurd (forced_not count h.fault (e ∙ ap Some h.refused))
+kept_of g Checkpoints answer x y (inr h) count e = absurd (checkpointed_not count h.fault (e ∙ ap Some h.refused))
+kept_of g Flushes answer x y h count e = absurd cc
+
+module _ {S : Type 0} (g : Ghosts S) (laws : Laws g) (jobs : List Job) (stood kept_then : (Entry → Bool) → List Action → List Call → Type 0) (w v : StoreAndSlots S) (steps : Continues g.follows w.store v.store) (sets : v.sets ≡ w.sets)
+    (start : ℕ) (pending : List (Option Pending)) (records : List Record) (s : ℕ) (p : Pending) (idle : slice_get pending s ≡ Some None) (job : Job) (is : slice_get jobs p.job ≡ Some job) (event : Event) (kind : kind_of event ≡ begins s job) (answer : Answer)
+    (goes : Carries g w v (EventFollows g w v event answer)) (always : EventAlways g (begins s job) answer w v) (from : p.from ≡ (g.state w.store).acts) (seen : p.seen ≡ length records) (given : p.given.items ≡ [])
+    (room : IsRoomOf job (vec_capacity p.given)) where
+  later : IsLater (g.backing w.store) (g.backing v.store)
+  later = laws.follows_later w.store v.store (steps w.store (laws.follows_same w.store))
+
+  -- its call has begun
+  pub begin_keeps_begun : answer ≡ Begun → KeepsAll g stood kept_then jobs w start pending records → KeepsAll g stood kept_then jobs v start (slice_set pending s (Some p)) records
+  begin_keeps_begun told all honest contents acts calls so = by (asks_one s job)
+    where
+      by : AsksCall s job ⊎ AsksStore s job → Keeps g jobs contents acts calls (kept_then contents acts calls) v start (slice_set pending s (Some p)) records
+      by (inl a) =
+          let k = all (later.honest honest) contents acts calls so in
+          let r = goes honest contents k.history k.calls k.fit in
+          let was = snapshot_of w k.history k.calls in
+          let new = snapshot_of v r.then_history r.then_calls in
+          let does = subst (λ (kd : Kind). EventDoes g contents kd answer was new) (kind ∙ a.kind) (goes_does r.goes) in
+          let b : HasBegun s a.request was new = subst (λ (x : Answer). BeginTold s a.request (begun_of x) was new) told (begins_told g contents s a.request answer was new does) in
+          keeps_begun g jobs contents acts calls (kept_then contents acts calls) w v sets start pending records k later.durable s p job a.request idle is a.asks (from ∙ k.fit.explains.count) seen given room
+          (subst (λ (m : Snapshot S). Fits g contents m) (λ i. snapshot_of v (b.history_is i) (b.calls_is i)) r.fits)
+          (λ h. subst (λ (m : Snapshot S). KeepsHistory g contents m) (λ i. snapshot_of v (b.history_is i) (b.calls_is i)) (r.goes.crash h).keeps)
+      by (inr a) = absurd (upkeep_not_begun a.upkeep w.slots v.slots (subst (λ (x : Answer). AnswersEvent (KeepsStore a.upkeep) x w.slots v.slots) told (subst (λ (kd : Kind). AnswersEvent kd answer w.slots v.slots) a.kind always.answers)))
+
+  -- it is refused as it begins, or is done whole
+  pub begin_keeps_done : RefusedCallsFit g → (answer ≡ Begun → ⊥) → s < length v.slots → KeepsAll g stood kept_then jobs w start pending records
+      → KeepsAll g stood kept_then jobs v start pending (records ++ record_of s p answer p.from ∷ [])
+  begin_keeps_done law never within all honest contents acts calls so = subst (λ l. Keeps g jobs contents acts calls (kept_then contents acts calls) v start l (records ++ record_of s p answer p.from ∷ [])) (set_same pending s None idle) (by (asks_one s job))
+    where
+      by : AsksCall s job ⊎ AsksStore s job → Keeps g jobs contents acts calls (kept_then contents acts calls) v start (slice_set pending s None) (records ++ record_of s p answer p.from ∷ [])
+      by (inl a) =
+          let k = all (later.honest honest) contents acts calls so in
+          let r = goes honest contents k.history k.calls k.fit in
+          let was = snapshot_of w k.history k.calls in
+          let new = snapshot_of v r.then_history r.then_calls in
+          let does = subst (λ (kd : Kind). EventDoes g contents kd answer was new) (kind ∙ a.kind) (goes_does r.goes) in
+          let f = refused_of answer (subst (λ (kd : Kind). AnswersEvent kd answer w.slots v.slots) a.kind always.answers) never in
+          let t : NothingTold f.0 was new = subst (λ (x : Answer). BeginTold s a.request (begun_of x) was new) f.1 (begins_told g contents s a.request answer was new does) in
+          let fits = subst (λ (m : Snapshot S). Fits g contents m) (λ i. snapshot_of v (t.silent.history_is i) (t.silent.calls_is i)) r.fits in
+          let keeps = λ (h : KeepsHistory g contents was). subst (λ (m : Snapshot S). KeepsHistory g contents m) (λ i. snapshot_of v (t.silent.history_is i) (t.silent.calls_is i)) (r.goes.crash h).keeps in
+          subst (λ (x : Answer). Keeps g jobs contents acts calls (kept_then contents acts calls) v start (slice_set pending s None) (records ++ record_of s p x p.from ∷ [])) (sym f.1)
+          (keeps_refused g jobs contents acts calls (kept_then contents acts calls) w v sets start pending records k later.durable s p job a.request f.0 idle is a.asks (from ∙ k.fit.explains.count) seen given
+          (law contents (snapshot_of v k.history k.calls) s (asked_by w.sets a.request) f.0 fits within t.not_exists)
+          (λ h. (let kept = keeps h in record { own = kept.own; parts = kept.parts; durable = kept.durable })))
+      by (inr a) =
+          let k = all (later.honest honest) contents acts calls so in
+          let r = goes honest contents k.history k.calls k.fit in
+          let was = snapshot_of w k.history k.calls in
+          let new = snapshot_of v r.then_history r.then_calls in
+          let does = subst (λ (kd : Kind). EventDoes g contents kd answer was new) (kind ∙ a.kind) (goes_does r.goes) in
+          let silent : IsSilent was new = keeps_silent g contents a.upkeep answer was new does in
+          let since : p.from ≡ length k.history = from ∙ k.fit.explains.count in
+          keeps_upkept g jobs contents acts calls (kept_then contents acts calls) w v sets start pending records k later.durable s p job a.upkeep answer idle is a.asks since seen (ap (λ (l : List Entry). length l) given)
+          (subst (λ (kd : Kind). AnswersEvent kd answer w.slots v.slots) a.kind always.answers)
+          (λ count e. (let n = kept_of g a.upkeep answer was new does.also.happens count e in (n.0 ∙ sym since, n.1)))
+          (subst (λ (m : Snapshot S). Fits g contents m) (λ i. snapshot_of v (silent.history_is i) (silent.calls_is i)) r.fits)
+          (λ h. subst (λ (m : Snapshot S). KeepsHistory g contents m) (λ i. snapshot_of v (silent.history_is i) (silent.calls_is i)) (r.goes.crash h).keeps)
+
+  -- what the sessions run: its own has begun a call
+  pub begin_runs : answer ≡ Begun → (has_call v.slots s ≡ true) × OthersRunOn w.slots v.slots s
+  begin_runs told = by (asks_one s job)
+    where
+      by : AsksCall s job ⊎ AsksStore s job → (has_call v.slots s ≡ true) × OthersRunOn w.slots v.slots s
+      by (inl a) =
+          let m = subst (λ (kd : Kind). EventAlways g kd answer w v) a.kind always in
+          (sym (busy_is v.slots s) ∙ rw (m.fresh told) refl, (λ t n. ap slot_has_call (m.others s refl t n)))
+      by (inr a) = absurd (upkeep_not_begun a.upkeep w.slots v.slots (subst (λ (x : Answer). AnswersEvent (KeepsStore a.upkeep) x w.slots v.slots) told (subst (λ (kd : Kind). AnswersEvent kd answer w.slots v.slots) a.kind always.answers)))
+
+  -- ... or all as before
+  pub done_runs : (answer ≡ Begun → ⊥) → (t : ℕ) → has_call v.slots t ≡ has_call w.slots t
+  done_runs never t = by (asks_one s job)
+    where
+      by : AsksCall s job ⊎ AsksStore s job → has_call v.slots t ≡ has_call w.slots t
+      by (inl a) =
+          let m = subst (λ (kd : Kind). EventAlways g kd answer w v) a.kind always in
+          let f = refused_of answer m.answers never in
+          ap (λ l. has_call l t) (m.refused f.0 f.1).slots_is
+      by (inr a) =
+          let m = subst (λ (kd : Kind). EventAlways g kd answer w v) a.kind always in
+          ap slot_has_call (m.others (suc t) tt t (λ e. omega (arith, e)))

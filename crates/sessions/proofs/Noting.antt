@@ -1,0 +1,154 @@
+-- What the keeper's view has of the records and of the calls that run.
+use Rattle.std.proofs.Common.{◌≡◌, ◌≢◌, ℕ, zero, suc, ◌<◌, ◌&&◌, not, Bool, true, false, unwrap_or, List, [], ◌∷◌, ◌++◌, length, Option, Some, None, slice_get, slice_set, refl, sym, ap, ◌∙◌, subst, ⊎_elim, arith}
+use mathlib.Core.Logic.{∥∥₁_elim}
+use Rattle.session_calls.specs.Ops.{is_last}
+use Rattle.session_calls.specs.Sessions.{RunsUntilLast, is_busy}
+use Rattle.session_calls.specs.Slots.{has_call, slot_has_call, slot_of}
+use Rattle.session_calls.specs.declared.answer.Answer.{Answer}
+use Rattle.schedule.specs.Events.{OthersStay}
+use Rattle.worker_seats.specs.declared.seating.SeatView.{SeatView}
+use Rattle.worker_seats.specs.Seats.{keeper_of}
+use Rattle.session_calls.specs.declared.answer.Answer.TheVariants.{Begun}
+use Rattle.session_calls.specs.declared.op.Op.{Op}
+use Rattle.sessions.specs.Turns.{is_begun}
+use Rattle.sessions.specs.declared.record.Record.{Record}
+use Rattle.sessions.specs.declared.record.Pending.{Pending}
+use Rattle.sessions.specs.Kept.{Matches}
+use Rattle.sessions.specs.Notes.{note_of, notes_of, job_of, jobs_of}
+use Rattle.worker_seats.proofs.Rows.{set_cases}
+
+pub none_there : (pending : List (Option Pending)) (s : ℕ) → slice_get (jobs_of pending) s ≡ Some None → slice_get pending s ≡ Some None
+none_there [] s e = absurd cc
+none_there (None ∷ ps) zero e = refl
+none_there (Some p ∷ ps) zero e = absurd cc
+none_there (p ∷ ps) (suc s) e = none_there ps s e
+
+pub some_there : (pending : List (Option Pending)) (s job : ℕ) → slice_get (jobs_of pending) s ≡ Some (Some job) → (p : Pending) × (slice_get pending s ≡ Some (Some p)) × (p.job ≡ job)
+some_there [] s job e = absurd cc
+some_there (None ∷ ps) zero job e = absurd cc
+some_there (Some p ∷ ps) zero job e = (p, refl, cc)
+some_there (p ∷ ps) (suc s) job e = some_there ps s job e
+
+pub within : (pending : List (Option Pending)) (s : ℕ) (o : Option ℕ) → slice_get (jobs_of pending) s ≡ Some o → s < length pending
+within [] s o e = absurd cc
+within (p ∷ ps) zero o e = omega arith
+within (p ∷ ps) (suc s) o e = omega (arith, within ps s o e)
+
+pub jobs_of_set : (pending : List (Option Pending)) (s : ℕ) (o : Option Pending) → jobs_of (slice_set pending s o) ≡ slice_set (jobs_of pending) s (job_of o)
+jobs_of_set [] s o = refl
+jobs_of_set (p ∷ ps) zero o = refl
+jobs_of_set (p ∷ ps) (suc s) o = ap (λ l. job_of p ∷ l) (jobs_of_set ps s o)
+
+pub notes_of_snoc : (records : List Record) (r : Record) → notes_of (records ++ r ∷ []) ≡ notes_of records ++ note_of r ∷ []
+notes_of_snoc [] r = refl
+notes_of_snoc (x ∷ xs) r = ap (λ l. note_of x ∷ l) (notes_of_snoc xs r)
+
+pub length_notes : (records : List Record) → length (notes_of records) ≡ length records
+length_notes [] = refl
+length_notes (x ∷ xs) = ap suc (length_notes xs)
+
+pub set_same : (xs : List (Option Pending)) (i : ℕ) (v : Option Pending) → slice_get xs i ≡ Some v → slice_set xs i v ≡ xs
+set_same [] i v e = refl
+set_same (x ∷ xs) zero v e = cc
+set_same (x ∷ xs) (suc i) v e = ap (λ l. x ∷ l) (set_same xs i v e)
+
+pub set_twice : (xs : List (Option Pending)) (i : ℕ) (u v : Option Pending) → slice_set (slice_set xs i u) i v ≡ slice_set xs i v
+set_twice [] i u v = refl
+set_twice (x ∷ xs) zero u v = refl
+set_twice (x ∷ xs) (suc i) u v = ap (λ l. x ∷ l) (set_twice xs i u v)
+
+pub same_there : (xs : List (Option Pending)) (i : ℕ) (p q : Pending) → slice_get xs i ≡ Some (Some p) → slice_get xs i ≡ Some (Some q) → p ≡ q
+same_there xs i p q e f = cc
+
+pub jobs_same : (xs : List (Option ℕ)) (i : ℕ) (o : Option ℕ) → slice_get xs i ≡ Some o → slice_set xs i o ≡ xs
+jobs_same [] i o e = refl
+jobs_same (x ∷ xs) zero o e = cc
+jobs_same (x ∷ xs) (suc i) o e = ap (λ l. x ∷ l) (jobs_same xs i o e)
+
+pub busy_is : (slots : List (Option Op)) (s : ℕ) → is_busy (slot_of slots s) ≡ has_call slots s
+busy_is slots s = of (slice_get slots s)
+  where
+    of : (o : Option (Option Op)) → is_busy (unwrap_or o None) ≡ slot_has_call o
+    of None = refl
+    of (Some slot) = refl
+
+last_is : (b a l : Bool) → a ≡ (b && not l) → b ≡ true → l ≡ not a
+last_is true a true e h = sym (ap not e)
+last_is true a false e h = sym (ap not e)
+last_is false a l e h = absurd cc
+
+-- the answer to a move of a running call is the last exactly if the session runs nothing then
+pub last_of : (old new : List (Option Op)) (s : ℕ) (answer : Answer) → RunsUntilLast (slot_of old s) (slot_of new s) answer → has_call old s ≡ true → is_last answer ≡ not (has_call new s)
+last_of old new s answer until was =
+    last_is (has_call old s) (has_call new s) (is_last answer) (sym (busy_is new s) ∙ until ∙ ap (λ b. b && not (is_last answer)) (busy_is old s)) was
+
+-- what a seat knows of its session
+pub seat_runs : (v : SeatView) (s : ℕ) (log : List (ℕ × ℕ)) (pending : List (Option Pending)) (o t : Option ℕ) → v ≡ keeper_of log (jobs_of pending) → slice_get v.running s ≡ Some o → o ≡ t → slice_get (jobs_of pending) s ≡ Some t
+seat_runs v s log pending o t knows at is = ap (λ (x : SeatView). slice_get x.running s) (sym knows) ∙ at ∙ ap Some is
+
+-- which sessions run a call
+abbrev pub OthersRunOn : List (Option Op) → List (Option Op) → ℕ → Type 0
+OthersRunOn old new s = (t : ℕ) → t ≢ s → has_call new t ≡ has_call old t
+
+pub others_run_on : (old new : List (Option Op)) (s : ℕ) → OthersStay s old new → OthersRunOn old new s
+others_run_on old new s others t n = ap slot_has_call (others t n)
+
+pub runs_there : (slots : List (Option Op)) (pending : List (Option Pending)) (s : ℕ) (p : Pending) → ∥ Matches slots pending ∥₁ → slice_get pending s ≡ Some (Some p) → has_call slots s ≡ true
+runs_there slots pending s p m e = yes (has_call slots s) (λ no. ∥∥₁_elim m (λ x y. absurd x) (λ k. clash (has_call slots s) (k.runs s p e) no))
+  where
+    clash : (b : Bool) → b ≡ true → b ≡ false → ⊥
+    clash b h k = absurd cc
+
+    yes : (b : Bool) → (b ≡ false → ⊥) → b ≡ true
+    yes true f = refl
+    yes false f = absurd (f refl)
+
+pub idle_there : (slots : List (Option Op)) (pending : List (Option Pending)) (s : ℕ) → ∥ Matches slots pending ∥₁ → slice_get pending s ≡ Some None → has_call slots s ≡ false
+idle_there slots pending s m e = no (has_call slots s) (λ yes. ∥∥₁_elim m (λ x y. absurd x) (λ k. clash (has_call slots s) yes (k.rests s e)))
+  where
+    clash : (b : Bool) → b ≡ true → b ≡ false → ⊥
+    clash b h k = absurd cc
+
+    no : (b : Bool) → (b ≡ true → ⊥) → b ≡ false
+    no true f = absurd (f refl)
+    no false f = refl
+
+pub matches_runs : (old new : List (Option Op)) (pending : List (Option Pending)) (s : ℕ) (p : Pending) → has_call new s ≡ true → OthersRunOn old new s → Matches old pending → Matches new (slice_set pending s (Some p))
+matches_runs old new pending s p now others m = record {
+  runs = λ t q h. ⊎_elim
+      (λ (x : (t ≡ s) × (Some p ≡ Some q)). ap (λ n. has_call new n) x.0 ∙ now)
+      (λ (x : (t ≢ s) × (slice_get pending t ≡ Some (Some q))). others t x.0 ∙ m.runs t q x.1)
+      (set_cases pending s t (Some p) (Some q) h);
+  rests = λ t h. ⊎_elim
+      (λ (x : (t ≡ s) × (Some p ≡ None)). absurd (let e = x.1 in cc))
+      (λ (x : (t ≢ s) × (slice_get pending t ≡ Some None)). others t x.0 ∙ m.rests t x.1)
+      (set_cases pending s t (Some p) None h);
+}
+
+pub matches_ends : (old new : List (Option Op)) (pending : List (Option Pending)) (s : ℕ) → has_call new s ≡ false → OthersRunOn old new s → Matches old pending → Matches new (slice_set pending s None)
+matches_ends old new pending s now others m = record {
+  runs = λ t q h. ⊎_elim
+      (λ (x : (t ≡ s) × (None ≡ Some q)). absurd (let e = x.1 in cc))
+      (λ (x : (t ≢ s) × (slice_get pending t ≡ Some (Some q))). others t x.0 ∙ m.runs t q x.1)
+      (set_cases pending s t None (Some q) h);
+  rests = λ t h. ⊎_elim
+      (λ (x : (t ≡ s) × (None ≡ None)). ap (λ n. has_call new n) x.0 ∙ now)
+      (λ (x : (t ≢ s) × (slice_get pending t ≡ Some None)). others t x.0 ∙ m.rests t x.1)
+      (set_cases pending s t None None h);
+}
+
+pub matches_goes : (old new : List (Option Op)) (pending : List (Option Pending)) (s : ℕ) (p : Pending) → slice_get pending s ≡ Some (Some p) → has_call new s ≡ true → OthersRunOn old new s → Matches old pending → Matches new pending
+matches_goes old new pending s p e now others m = subst (Matches new) (set_same pending s (Some p) e) (matches_runs old new pending s p now others m)
+
+pub begun_is : (a : Answer) → is_begun a ≡ true → a ≡ Begun
+begun_is Begun h = refl
+begun_is a h = absurd cc
+
+pub not_begun : (a : Answer) → is_begun a ≡ false → a ≡ Begun → ⊥
+not_begun a h e = clash (is_begun a) h (ap is_begun e)
+  where
+    clash : (b : Bool) → b ≡ false → b ≡ true → ⊥
+    clash b x y = absurd cc
+
+pub matches_stays : (old new : List (Option Op)) (pending : List (Option Pending)) → ((t : ℕ) → has_call new t ≡ has_call old t) → Matches old pending → Matches new pending
+matches_stays old new pending same m = record { runs = λ t q h. same t ∙ m.runs t q h; rests = λ t h. same t ∙ m.rests t h }

@@ -1,0 +1,51 @@
+-- What a job asks for.
+use Rattle.std.specs.Prelude.{◌≡◌, ◌≤◌, ℕ, Option, Some, None, List, length}
+use Rattle.index_model.specs.declared.entry.Entry.{Entry}
+use Rattle.session_calls.specs.declared.request.Request.{Request}
+use Rattle.session_calls.specs.declared.request.Request.TheVariants.{Insert as ToInsert, Scan as ToScan, Bulk as ToBulk, Cleanup as ToCleanup}
+use Rattle.schedule.specs.TheoremKinds.{Upkeep, Forces, Checkpoints, Kind, BeginsCall, KeepsStore}
+use Rattle.sessions.specs.declared.job.Job.{Job}
+use Rattle.sessions.specs.declared.job.Job.TheVariants.{Insert, Scan, Bulk, Cleanup, Commit, Checkpoint}
+
+-- what it asks of a call, if it asks for one
+abbrev pub request_of : Job → Option Request
+request_of (Insert entry) = Some (ToInsert entry)
+request_of (Scan range room) = Some (ToScan range)
+request_of (Bulk set) = Some (ToBulk set)
+request_of Cleanup = Some ToCleanup
+request_of Commit = None
+request_of Checkpoint = None
+
+-- what it asks of the store, if it asks for that
+abbrev pub upkeep_of : Job → Option Upkeep
+upkeep_of Commit = Some Forces
+upkeep_of Checkpoint = Some Checkpoints
+upkeep_of job = None
+
+-- the event that begins it in this session, or does it whole
+abbrev pub begins : ℕ → Job → Kind
+begins session (Insert entry) = BeginsCall session (ToInsert entry)
+begins session (Scan range room) = BeginsCall session (ToScan range)
+begins session (Bulk set) = BeginsCall session (ToBulk set)
+begins session Cleanup = BeginsCall session ToCleanup
+begins session Commit = KeepsStore Forces
+begins session Checkpoint = KeepsStore Checkpoints
+
+-- how many entries it may give
+abbrev pub room_of : Job → ℕ
+room_of (Scan range room) = room
+room_of job = 0
+
+-- a room holds as many as the job may give
+abbrev pub IsRoomOf : Job → ℕ → Type 0
+IsRoomOf job capacity = capacity ≡ room_of job
+
+-- a scan gives so many entries at most
+abbrev pub IsWithin : Job → List Entry → Type 0
+IsWithin (Scan range room) given = length given ≤ room
+IsWithin job given = Unit {0}
+
+-- a scan's room is full
+abbrev pub IsFull : Job → List Entry → Type 0
+IsFull (Scan range room) given = length given ≡ room
+IsFull job given = ⊥

@@ -1,0 +1,7 @@
+pub mod Doing
+pub mod Jobs
+pub mod Kept
+pub mod Notes
+pub mod Ready
+pub mod Standing
+pub mod Turns

@@ -1,0 +1,14 @@
+-- When a worker may do an event.
+use Rattle.std.specs.Prelude.{Bool, false, nat_lt, vec_len, vec_capacity}
+use Rattle.index_model.specs.declared.dead_rows.DeadRows.{Ghosts as SetGhosts}
+use Rattle.page_action.specs.declared.page_store.PageStore.{Ghosts as StoreGhosts}
+use Rattle.worker_seats.specs.declared.run.Run.{Ghosts as RunGhosts}
+use Rattle.sessions.specs.declared.jobs.Jobs.{Ghosts as JobGhosts}
+use Rattle.sessions.specs.declared.slot.Slot.{Slot}
+use Rattle.sessions.specs.declared.slot.Slot.TheVariants.{Waiting, Open, Closed}
+
+-- the lock was opened, and there is room for one record more
+abbrev pub is_ready : {S T J : Type 0} {s : StoreGhosts S} {t : SetGhosts T} {j : JobGhosts J} {r : RunGhosts J} → Slot S T J s t j r → Bool
+is_ready Waiting = false
+is_ready (Open shared) = nat_lt (vec_len shared.history) (vec_capacity shared.history)
+is_ready Closed = false

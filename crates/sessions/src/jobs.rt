@@ -1,0 +1,32 @@
+//! What all that is under a lock agrees on.
+
+use std::marker::Brand;
+use worker_seats::Run;
+
+/// The jobs of a run, and what fitted the world as it was handed in. Each run picks them.
+pub trait Jobs: Run {
+    ghost use Rattle.std.specs.Prelude.{Bool, List};
+    ghost use Rattle.index_model.specs.Actions.{Action};
+    ghost use Rattle.index_model.specs.Calls.{Call};
+    ghost use Rattle.index_model.specs.declared.entry.Entry.{Entry};
+    ghost use Rattle.sessions.specs.declared.job.Job.{Job};
+
+    /// The jobs, by their numbers.
+    ghost jobs: { List Job };
+
+    /// These contents at the start, this history and these calls fitted the world.
+    ghost stood: { (Entry → Bool) → List Action → List Call → Type 0 };
+
+    /// ... and each crash left a first part of the history.
+    ghost kept_then: { (Entry → Bool) → List Action → List Call → Type 0 };
+}
+
+impl Jobs for Brand {
+    ghost use Rattle.std.specs.Prelude.{[]};
+
+    ghost jobs = { [] };
+
+    ghost stood = { λ contents history calls. ⊥ };
+
+    ghost kept_then = { λ contents history calls. ⊥ };
+}

@@ -1,0 +1,22 @@
+//! Workers that run a list of jobs on one world, whose events are done under one lock.
+#![tactic(auto)]
+
+mod job;
+mod jobs;
+mod opening;
+mod ready;
+mod record;
+mod shared;
+mod slot;
+mod ticket;
+mod worker;
+
+pub use job::Job;
+pub use jobs::Jobs;
+pub use opening::{ended, first};
+pub use ready::is_ready;
+pub use record::{Pending, Record};
+pub use shared::{Shared, Turn};
+pub use slot::Slot;
+pub use ticket::{JobList, JobTicket, all_tickets};
+pub use worker::{Gate, NoGate, work};

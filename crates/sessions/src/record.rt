@@ -1,0 +1,29 @@
+//! What is under the lock of a call.
+
+use index_model::Entry;
+use session_calls::Answer;
+
+/// A job that is done.
+#[derive(Drop)]
+pub struct Record {
+    pub worker: u32,
+    pub job: u32,
+    /// The answer of its last event. A scan that was ended since its room was full has `Ended`.
+    pub answer: Answer,
+    /// What a scan gave.
+    pub given: Vec<Entry>,
+    /// How many actions there were as it began, and as it ended.
+    pub from: u64,
+    pub to: u64,
+    /// How many records there were as it began.
+    pub seen: u64,
+}
+
+/// A job whose call runs.
+#[derive(Drop)]
+pub struct Pending {
+    pub job: u32,
+    pub given: Vec<Entry>,
+    pub from: u64,
+    pub seen: u64,
+}
