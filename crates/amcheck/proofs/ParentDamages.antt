@@ -1,7 +1,6 @@
 -- The damages of parents and children, and what is wrong at the stops of all chains.
-use Rattle.std.proofs.Common.{◌≡◌, ◌≢◌, ◌⊎◌, ℕ, zero, suc, ◌+◌, ◌<◌, ◌≤◌, inl, inr, Bool, true, false, Option, Some, None, List, [], ◌∷◌, length, replicate, slice_get, get_or, refl, sym, ap, subst, ◌∙◌, arith}
+use Rattle.std.proofs.Common.{◌≡◌, ◌≢◌, ◌⊎◌, ℕ, zero, suc, ◌+◌, ◌<◌, ◌≤◌, inl, inr, Bool, true, false, Some, None, List, [], ◌∷◌, length, replicate, slice_get, get_or, refl, sym, ap, subst, ◌∙◌, arith}
 use Rattle.std.proofs.lemmas.Bool.{cases_eq, cases_lt}
-use Rattle.index_model.specs.declared.bound.Bound.{Bound}
 use Rattle.page_codec.specs.declared.page.Downlink.{Downlink}
 use Rattle.page_codec.specs.declared.page.Page.{Page}
 use Rattle.page_codec.specs.declared.page.PageState.TheVariants.{HalfDead}
@@ -12,9 +11,9 @@ use Rattle.damages.specs.Damages.{Index, index_of, Place, place_at, Here, Item, 
 use Rattle.damages.specs.Damages.Site.{on_way, on_chain, at_child, at_page, nowhere}
 use Rattle.damages.proofs.Decided.{no_link, some_is, bool_so, on_level_so}
 use Rattle.amcheck.specs.AllStops.{AreAllStops, IsAt, HaveBlocksOnce, IsStopOf, HasNoStop}
-use Rattle.amcheck.specs.Downlinks.{IsOff, AreBelow, HasOtherLow, HasWrongBound, IsSkipped, LacksLink, IsSkippedStop, LeadsBefore, IsExtra, HasExtra, AreNoted, IsWrongAmong}
+use Rattle.amcheck.specs.Downlinks.{IsOff, AreBelow, HasWrongBound, IsSkipped, LacksLink, IsSkippedStop, LeadsBefore, IsExtra, HasExtra, AreNoted, IsWrongAmong}
 use Rattle.amcheck.specs.Levels.{IsStray}
-use Rattle.amcheck.specs.ParentDamages.{AreChildrenBelow, IsClearAt, IsFirstChild, IsFirstOfPage, IsFirstAt, IsLedTo, AreMarked}
+use Rattle.amcheck.specs.ParentDamages.{AreChildrenBelow, IsClearAt, IsFirstChild, IsFirstOfPage, IsFirstAt, AreMarked}
 use Rattle.amcheck.specs.Stops.{high_at, spot_at, blocks_of, IsStop, IsLeastNumber, AreInUse}
 use Rattle.amcheck.specs.declared.stops.Stop.{Stop}
 use Rattle.amcheck.proofs.AllStops.{HasIndex, Indexed, indexed, stop_moved}
@@ -108,11 +107,14 @@ module _ (pages : List Page) (stops : List Stop) (all : AreAllStops (index_of pa
       omega (arith, l, m, one)
 
   never_twice : (h g : Here ix) → h.block ≡ g.block → h.place < g.place → ⊥
-  never_twice h g same lt = sound (on_chain g) 3 (inr (inr (inl (refl, record {
-    earlier = h.place;
-    before = lt;
-    same = subst (λ (d : ℕ). (place_at ix d h.place).block ≡ Some g.block) (same_depth h g same) (h.is ∙ ap Some same);
-  }))))
+  never_twice h g same lt = sound (on_chain g) 3 (inr (inr (inl (
+    refl,
+    record {
+      earlier = h.place;
+      before = lt;
+      same = subst (λ (d : ℕ). (place_at ix d h.place).block ≡ Some g.block) (same_depth h g same) (h.is ∙ ap Some same);
+    },
+  ))))
 
   same_place : (h g : Here ix) → h.block ≡ g.block → h.place ≡ g.place
   same_place h g same = elim (cases_lt h.place g.place) [
@@ -272,9 +274,12 @@ module _ (pages : List Page) (stops : List Stop) (all : AreAllStops (index_of pa
     -- bounds
     bound_wrong : (h : Here ix) → IsAt stops k h → HasWrongBound at stops links → (i : Item h) × (child : Here ix) × (i.link.child ≡ child.block) × (i.link.bound ≢ (spot child).low)
     bound_wrong h a w =
-        let f = w.wrong.is in
-        (item_make h a w.item w.link w.there, here_at f.place w.wrong.stop f.there, sym f.is,
-        λ same. w.wrong.differs (same ∙ ap (λ (p : Place). p.spot.low) (idx.is f.place w.wrong.stop f.there)))
+        let f = w.wrong.is in (
+          item_make h a w.item w.link w.there,
+          here_at f.place w.wrong.stop f.there,
+          sym f.is,
+          λ same. w.wrong.differs (same ∙ ap (λ (p : Place). p.spot.low) (idx.is f.place w.wrong.stop f.there)),
+        )
 
     wrong_bound : (h : Here ix) → IsAt stops k h → (i : Item h) (child : Here ix) → i.link.child ≡ child.block → i.link.bound ≢ (spot child).low → HasWrongBound at stops links
     wrong_bound h a i child leads differs = record {

@@ -1,5 +1,5 @@
 -- The first damage of parents and children, stop by stop.
-use Rattle.std.specs.Prelude.{◌≡◌, ◌⊎◌, ℕ, suc, ◌<◌, Bool, true, false, List, length, get_or}
+use Rattle.std.specs.Prelude.{◌≡◌, ◌⊎◌, ℕ, suc, ◌<◌, Bool, true, false, List, get_or}
 use Rattle.damages.specs.Damages.{Index, Here, Item, IsOnLevel, IsOfParents}
 use Rattle.amcheck.specs.AllStops.{IsAt}
 use Rattle.amcheck.specs.declared.stops.Stop.{Stop}

@@ -1,13 +1,13 @@
 //! What is judged of the downlinks of a page of a chain, where all chains are right.
 
-ghost use Rattle.std.specs.Prelude.{◌≡◌, ◌+◌, ◌<◌, ◌≤◌, ◌↔◌, ℕ, suc, true, false, Some, IsTrue, IfNone, IfSome, length, slice_get, get_or};
+ghost use Rattle.std.specs.Prelude.{◌≡◌, ◌+◌, ◌<◌, ◌≤◌, ◌↔◌, ℕ, suc, true, false, Some, IsTrue, IfNone, IfSome, length, slice_get};
 ghost use Rattle.page_codec.specs.declared.page.Downlink.{Downlink};
 ghost use Rattle.tree_shape.specs.Chains.{from_low};
-ghost use Rattle.tree_shape.specs.Nodes.{node_of, nodes_of, links_of};
+ghost use Rattle.tree_shape.specs.Nodes.{node_of, nodes_of};
 ghost use Rattle.damages.specs.Damages.{index_of, IsOnLevel};
 ghost use Rattle.amcheck.specs.AllStops.{ArePlaces, HaveBlocksOnce};
 ghost use Rattle.amcheck.specs.Downlinks.{IsOff, AreBelow, HasOtherLow, HasWrongBound, IsSkipped, LacksLink, IsExtra, HasExtra, AreNoted, IsWrongAmong};
-ghost use Rattle.amcheck.specs.Stops.{AreInUse, IsLeastNumber};
+ghost use Rattle.amcheck.specs.Stops.{IsLeastNumber};
 
 use crate::chain_places::find_stop;
 use crate::places::is_on_level;

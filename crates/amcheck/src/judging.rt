@@ -164,7 +164,9 @@ pub(crate) fn judge(
         Ok(root) => root,
         Err(damage) => return Err(damage),
     };
-    if let Some(damage) = find_chain_damage(pages, seen, met, stops, chains, root.block, root.level) {
+    if let Some(damage) = find_chain_damage(
+        pages, seen, met, stops, chains, root.block, root.level,
+    ) {
         return Err(damage);
     }
     if let Some(damage) = judge_parents(pages, met, chains, places, linked, root.level) {

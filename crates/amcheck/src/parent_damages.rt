@@ -1,10 +1,9 @@
 //! The first damage of parents and children, where all chains are right.
 
-ghost use Rattle.std.specs.Prelude.{◌≡◌, ◌<◌, ◌≤◌, ℕ, suc, true, false, IfNone, IfSome, length, get_or};
+ghost use Rattle.std.specs.Prelude.{◌≡◌, ◌<◌, ◌≤◌, ℕ, suc, true, false, IfNone, IfSome, length};
 ghost use Rattle.damages.specs.Damages.{index_of, IsSound, IsFirstDamage};
 ghost use Rattle.amcheck.specs.AllStops.{AreAllStops, ArePlaces};
 ghost use Rattle.amcheck.specs.ParentDamages.{IsClearAt, IsFirstAt, AreMarked};
-ghost use Rattle.amcheck.specs.Places.{StandAtTheirBlocks};
 
 use crate::downlinks::{find_off, find_parent_number};
 use crate::report::Damage;

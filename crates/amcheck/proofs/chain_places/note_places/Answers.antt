@@ -1,4 +1,4 @@
-use Rattle.std.proofs.Common.{◌≡◌, ◌+◌, slice_get, get_or, Some, length, refl, arith, ◌∙◌, sym, subst, List, Option, ℕ}
+use Rattle.std.proofs.Common.{◌≡◌, ◌+◌, slice_get, get_or, Some, refl, arith, ◌∙◌}
 use Rattle.std.proofs.lemmas.List.{length-set}
 use Rattle.std.proofs.lemmas.Option.{slice_get-get_or}
 use Rattle.amcheck.proofs.ChainPlaces.{no_places, all_places, places_more}

@@ -1,4 +1,4 @@
-use Rattle.std.proofs.Common.{◌≡◌, ℕ, true, false, List, Some, get_or, slice_get, length, refl, sym, ap, subst, ◌∙◌}
+use Rattle.std.proofs.Common.{◌≡◌, true, false, List, Some, get_or, slice_get, length, refl, sym, ap, subst, ◌∙◌}
 use Rattle.page_codec.specs.declared.page.Downlink.{Downlink}
 use Rattle.tree_shape.specs.Chains.{from_low}
 use Rattle.tree_shape.specs.Nodes.{Node, nodes_of, node_of}

@@ -1,4 +1,3 @@
-use Rattle.std.proofs.Common.{false}
 use Rattle.amcheck.proofs.FirstDamages.{no_pages, top_low, tree_back}
 use Rattle.amcheck.proofs.ParentDamages.{with_parents}
 use Rattle.amcheck.proofs.judging.judge.Goals as goal

@@ -1,11 +1,7 @@
-use Rattle.std.proofs.Common.{◌≡◌, ◌≤◌, ◌<◌, ℕ, false, None, Option, List, Bool, length, replicate, get_or, refl, ap, subst, sym, ◌∙◌, arith}
+use Rattle.std.proofs.Common.{◌≡◌, ◌≤◌, None, length, ap, ◌∙◌, arith}
 use Rattle.std.proofs.lemmas.List.{length-replicate}
-use Rattle.damages.specs.Damages.{index_of}
-use Rattle.amcheck.specs.ParentDamages.{AreMarked}
-use Rattle.amcheck.specs.Stops.{AreInUse}
 use Rattle.amcheck.proofs.Blocks.{few_blocks}
-use Rattle.amcheck.proofs.ChainPlaces.{none_of_replicate}
-use Rattle.amcheck.proofs.ParentDamages.{stops_in_use, nothing_marked, none_marked, all_sound, first_stray}
+use Rattle.amcheck.proofs.ParentDamages.{stops_in_use, all_sound, first_stray}
 use Rattle.amcheck.proofs.Walked.{blocks_length}
 use Rattle.amcheck.proofs.judging.judge_parents.Goals.{Start}
 use Rattle.amcheck.proofs.judging.judge_parents.Goals as goal
