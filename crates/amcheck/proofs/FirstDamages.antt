@@ -1,5 +1,5 @@
 -- What the search for the first damage of the chains comes to.
-use Rattle.std.proofs.Common.{◌≡◌, ℕ, ◌<◌, ◌≤◌, inl, inr, true, false, Option, Some, None, List, [], ◌∷◌, length, slice_get, refl, sym, ap, subst, ◌∙◌, arith}
+use Rattle.std.proofs.Common.{◌≡◌, ℕ, ◌<◌, ◌≤◌, inl, inr, Bool, true, false, Option, Some, None, List, [], ◌∷◌, length, slice_get, refl, sym, ap, subst, ◌∙◌, arith}
 use Rattle.std.proofs.lemmas.Option.{slice_get_within}
 use Rattle.std.specs.Prelude.{IsSome, ◌≢◌, Result, Ok, Err, IfOk, IfErr, OnOk}
 use Rattle.page_codec.specs.Grammar.{IsBlock, IsPage, IsOfKind}
@@ -102,8 +102,12 @@ never_rootless pages page stand found none = by page.right none (first_is_meta p
 pub tree_there : (pages : List Page) → IsTree pages → levels.HasTree pages
 tree_there pages t = record { meta = t.meta; meta_at = t.meta_at; root = t.root; names_root = t.names_root; chain = t.chain; is = t.is }
 
--- what is told of the judgement of the chains
-pub answer_told : (pages : List Page) (judged : Result Report Damage) (result : Result Report CheckFault) → OnOk judged (IsSound false pages) → IfOk judged (IsReport pages) → IfErr judged (λ d. IsFirstDamage false pages d.number d.block)
-    → IfOk judged (λ report. result ≡ Ok report) → IfErr judged (λ d. result ≡ Err (Damaged d.number d.block)) → IsAnswer false pages result
-answer_told pages (Ok report) result sound is first ok err = subst (IsAnswer false pages) (sym ok) (sound, is)
-answer_told pages (Err d) result sound is first ok err = subst (IsAnswer false pages) (sym err) first
+pub tree_back : (pages : List Page) → levels.HasTree pages → IsTree pages
+tree_back pages t = record { meta = t.meta; meta_at = t.meta_at; root = t.root; names_root = t.names_root; chain = t.chain; is = t.is }
+
+-- what is told of the judgement
+pub answer_told : (parents : Bool) (pages : List Page) (judged : Result Report Damage) (result : Result Report CheckFault) → OnOk judged (IsSound parents pages) → IfOk judged (IsReport pages)
+    → IfErr judged (λ d. IsFirstDamage parents pages d.number d.block)
+    → IfOk judged (λ report. result ≡ Ok report) → IfErr judged (λ d. result ≡ Err (Damaged d.number d.block)) → IsAnswer parents pages result
+answer_told parents pages (Ok report) result sound is first ok err = subst (IsAnswer parents pages) (sym ok) (sound, is)
+answer_told parents pages (Err d) result sound is first ok err = subst (IsAnswer parents pages) (sym err) first

@@ -1,19 +1,12 @@
 -- What the format says of the items of a page, and what is left to be judged of them.
-use Rattle.std.proofs.Common.{◌≡◌, ℕ, zero, suc, ◌<◌, List, [], ◌∷◌, Option, Some, None, refl, sym, subst, arith}
+use Rattle.std.proofs.Common.{◌≡◌, ℕ, List, [], ◌∷◌, Option, Some, None, refl, sym, subst}
 use Rattle.std.specs.List.{AllByRecursion}
 use Rattle.index_model.specs.Order.{bound_of, IsUpTo, AscendsPast}
 use Rattle.index_model.specs.declared.bound.Bound.{Bound}
 use Rattle.index_model.specs.declared.entry.Entry.{Entry}
-use Rattle.page_codec.specs.Edits.{entries_of}
-use Rattle.page_codec.specs.Grammar.{IsPage, IsOfKind, Ascends, StartsLow, FollowedBy, LinkBefore, Below, IsLeafIn}
+use Rattle.page_codec.specs.Grammar.{FollowedBy, LinkBefore, Below}
 use Rattle.page_codec.specs.declared.page.Downlink.{Downlink}
-use Rattle.page_codec.specs.declared.page.Items.{Items}
-use Rattle.page_codec.specs.declared.page.Items.TheVariants.{Meta, Entries, Downlinks}
-use Rattle.page_codec.specs.declared.page.Page.{Page}
-use Rattle.page_codec.specs.declared.page.PageState.{PageState}
-use Rattle.page_codec.specs.declared.page.PageState.TheVariants.{Live}
-use Rattle.tree_shape.specs.Nodes.{links_of, node_of}
-use Rattle.tree_shape.specs.Chains.{AscendWithin, BoundsWithin, LinksWithin, IsBoundWithin, HasItems}
+use Rattle.tree_shape.specs.Chains.{AscendWithin, BoundsWithin, LinksWithin, IsBoundWithin}
 use Rattle.amcheck.specs.Places.{IsFirstBeyond, IsSecondBeyond, IsBoundBeyond}
 
 ascend_more : (b : Bound) (es : List Entry) (high : Option Bound) → AscendsPast (Some b) es → AllByRecursion (IsUpTo high) es → AscendWithin (Some b) es high
@@ -26,10 +19,6 @@ pub entries_within : (low : Option Bound) (es : List Entry) (high : Option Bound
 entries_within low [] high up within first = tt
 entries_within low (e ∷ es) (Some h) up within first = (first, within.0, ascend_more (bound_of e) es (Some h) up.1 within.1)
 entries_within low (e ∷ es) None up within first = (first, tt, ascend_more (bound_of e) es None up.1 within.1)
-
-pub first_within : (low : Option Bound) (es : List Entry) (high : Option Bound) → AscendWithin low es high → IsFirstBeyond low es
-first_within low [] high h = tt
-first_within low (e ∷ es) high h = h.0
 
 bound_within : (low bound before high : Option Bound) (child child' : ℕ) → IsBoundBeyond low bound → Below high (record { bound = bound; child = child }) → IsBoundWithin low bound high
 bound_within low None before high child child' beyond below = absurd beyond
@@ -66,43 +55,3 @@ links_within low d (j ∷ js) high first up below second = (first, go j.bound re
       bound_within low j.bound None high j.child 0 second below.0,
       subst (λ (o : Option Bound). BoundsWithin o js high) (sym e) (bounds_more j t js high e up.1 below.1),
     )
-
-pub second_within : (low : Option Bound) (ds : List Downlink) (high : Option Bound) → LinksWithin low ds high → IsSecondBeyond low ds
-second_within low [] high h = tt
-second_within low (d ∷ []) high h = tt
-second_within low (d ∷ j ∷ js) high h = go j.bound h.1.0
-  where
-    go : (o : Option Bound) → IsBoundWithin low o high → IsBoundBeyond low o
-    go None w = absurd w
-    go (Some s) w = w.0
-
--- what a live page of the format that isn't the metapage holds
-pub items_are : (page : Page) (low : Option Bound) → IsPage page → 0 < page.block → page.state ≡ Live → IsFirstBeyond low (entries_of page.items) → IsSecondBeyond low (links_of page.items) → HasItems page.level low (node_of page)
-items_are page low admitted after_meta alive first second = by page.items refl admitted.kind
-  where
-    by : (items : Items) → page.items ≡ items → IsOfKind page items → HasItems page.level low (node_of page)
-    by Meta is k = absurd (let b = k.block in omega arith)
-    by (Entries v) is k =
-        let rest = subst (λ (s : PageState). IsLeafIn s page v.items) alive k.rest in
-        subst (λ (n : ℕ). HasItems n low (node_of page)) (sym k.level)
-        (subst (λ (i : Items). AscendWithin low (entries_of i) page.high) (sym is)
-        (entries_within low v.items page.high rest.entries.ascends rest.entries.within (subst (λ (i : Items). IsFirstBeyond low (entries_of i)) is first)))
-    by (Downlinks v) is k = tall page.level refl k.level.0
-      where
-        links : (ds : List Downlink) → v.items ≡ ds → LinksWithin low v.items page.high
-        links [] e = absurd (go v.items e k.first)
-          where
-            go : (ds : List Downlink) → ds ≡ [] → StartsLow ds → ⊥
-            go [] e h = h
-            go (x ∷ xs) e h = cc
-        links (d ∷ ds) e =
-            let below = subst (AllByRecursion (Below page.high)) e k.links.within in
-            let second' = subst (λ (i : Items). IsSecondBeyond low (links_of i)) is second in
-            subst (λ (l : List Downlink). LinksWithin low l page.high) (sym e)
-            (links_within low d ds page.high (subst StartsLow e k.first) (subst (Ascends LinkBefore) e k.links.ascends) below.1 (subst (IsSecondBeyond low) e second'))
-
-        tall : (n : ℕ) → page.level ≡ n → 0 < n → HasItems page.level low (node_of page)
-        tall zero e pos = absurd (omega arith)
-        tall (suc n) e pos =
-            subst (λ (n : ℕ). HasItems n low (node_of page)) (sym e)
-            (subst (λ (i : Items). LinksWithin low (links_of i) page.high) (sym is) (links v.items refl))

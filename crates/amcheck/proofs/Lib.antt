@@ -1,10 +1,6 @@
 pub mod Blocks
 pub mod ItemsWithin
 pub mod Pages
-pub mod Walking
-pub mod Leftward
-pub mod Compared
-pub mod Levelling
 pub mod ReadOn
 pub mod Judged
 pub mod WaysLeft
@@ -12,5 +8,9 @@ pub mod Beyond
 pub mod Walked
 pub mod Found
 pub mod Chained
+pub mod AllStops
+pub mod ChainPlaces
+pub mod ItemsNoted
+pub mod ParentDamages
 pub mod ChainDamages
 pub mod FirstDamages

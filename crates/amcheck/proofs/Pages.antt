@@ -1,5 +1,5 @@
 -- A page that is read out of the list of all pages.
-use Rattle.std.proofs.Common.{◌≡◌, ℕ, ◌<◌, List, length, Option, Some, None, IfNone, IfSome, get_or, slice_get, ap}
+use Rattle.std.proofs.Common.{◌≡◌, ℕ, ◌<◌, List, length, Some, get_or, slice_get, ap}
 use Rattle.page_codec.specs.declared.page.Page.{Page}
 use Rattle.page_action.proofs.StoredPages.{slice_get_at}
 use Rattle.tree_shape.specs.Nodes.{node_of, node_from, nodes_of}
@@ -9,11 +9,3 @@ found_at pages block page lt is = slice_get_at pages block page lt is
 
 pub node_at : (pages : List Page) (block : ℕ) (page : Page) → block < length pages → page ≡ get_or pages block page → nodes_of pages block ≡ node_of page
 node_at pages block page lt is = ap node_from (found_at pages block page lt is)
-
-pub none_map : {A B : Type 0} (o : Option ℕ) → (A → B) → IfNone o A → IfNone o B
-none_map None f a = f a
-none_map (Some n) f a = tt
-
-pub some_map : {A B : Type 0} (o : Option ℕ) → (A → B) → IfSome o (λ n. A) → IfSome o (λ n. B)
-some_map None f a = tt
-some_map (Some n) f a = f a

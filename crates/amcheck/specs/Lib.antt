@@ -1,6 +1,5 @@
 pub mod Places
 pub mod Marks
-pub mod Parents
 pub mod Levels
 pub mod Reports
 pub mod Reading
@@ -10,4 +9,7 @@ pub mod Stops
 pub mod Ends
 pub mod Chains
 pub mod LevelDamages
+pub mod AllStops
+pub mod Downlinks
+pub mod ParentDamages
 pub mod Answers

@@ -1,5 +1,5 @@
 -- The pages of a store as a check has read them.
-use Rattle.std.specs.Prelude.{◌≡◌, ℕ, ◌≤◌, true, false, List, [], length, replicate, vec_capacity}
+use Rattle.std.specs.Prelude.{◌≡◌, ℕ, ◌≤◌, true, false, None, List, [], length, replicate, vec_capacity}
 use Rattle.page_codec.specs.declared.page.Page.{Page}
 use Rattle.page_action.specs.States.{State, Backing}
 use Rattle.page_action.specs.Stored.{AreStored}
@@ -13,7 +13,10 @@ pub record HasRoom (room : Room) (used : ℕ) : Type 0 where
   pub none : room.met.blocks.items ≡ []
   pub seen : room.seen.items ≡ replicate used false
   pub stops : used ≤ vec_capacity room.stops
-  pub due : used ≤ vec_capacity room.due
+  pub chains : used ≤ vec_capacity room.chains
+  pub no_stops : room.chains.items ≡ []
+  pub places : room.places.items ≡ replicate used None
+  pub linked : room.linked.items ≡ replicate used false
 
 -- these were read, one for each block in use: pages as the format demands, and where the device kept its
 -- model those of the store

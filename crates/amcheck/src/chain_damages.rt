@@ -1,12 +1,13 @@
 //! The first damage of the chains of all levels.
 
-ghost use Rattle.std.specs.Prelude.{◌≡◌, ◌+◌, ◌<◌, ◌≤◌, [], suc, false, IfNone, IfSome, IfOk, OnOk, IfErr, length, replicate, vec_capacity};
+ghost use Rattle.std.specs.Prelude.{◌≡◌, ◌+◌, ◌++◌, ◌<◌, ◌≤◌, [], suc, false, IfNone, IfSome, IfOk, OnOk, IfErr, length, replicate, vec_capacity};
 ghost use Rattle.tree_shape.specs.Nodes.{nodes_of};
 ghost use Rattle.damages.specs.Damages.{index_of, head, start, first_child, IsSound, IsFirstDamage};
+ghost use Rattle.amcheck.specs.AllStops.{AreWhole, AreAllStops};
 ghost use Rattle.amcheck.specs.LevelDamages.{IsClearLevel, IsFirstOfLevel, AreOfUpper};
 ghost use Rattle.amcheck.specs.Marks.{IsMet};
 ghost use Rattle.amcheck.specs.Places.{StandAtTheirBlocks};
-ghost use Rattle.amcheck.specs.Stops.{IsRootAt};
+ghost use Rattle.amcheck.specs.Stops.{blocks_of, IsRootAt};
 
 use crate::bad_places::first_in_chain;
 use crate::marks::Met;
@@ -65,6 +66,9 @@ fn judge_level(
     ensures upper { AreOfUpper (index_of pages.now) (suc depth) seen.new met.new }
     ensures head { IfOk result (λ found. found ≡ head (index_of pages.now) depth) }
     ensures clear { OnOk result (IsClearLevel (index_of pages.now) depth) }
+    ensures whole { OnOk result (AreWhole (index_of pages.now) depth stops.new.items) }
+    ensures added { OnOk result (met.new.blocks.items
+        ≡ met.old.blocks.items ++ blocks_of stops.new.items) }
     ensures first { IfErr result
         (λ d. IsFirstOfLevel (index_of pages.now) depth d.number d.block) }
 {
@@ -79,13 +83,25 @@ fn judge_level(
     }
 }
 
-/// The first damage of the chains of all levels, from the root's to the leaves. No block was seen or met before; `stops` has
-/// room for a stop at each page in use.
+/// Puts the stops of a level behind those of the levels above.
+fn keep(chains: &mut Vec<Stop>, stops: &[Stop])
+    requires { length chains.old.items + length stops.now ≤ vec_capacity chains.old }
+    ensures kept { chains.new.items ≡ chains.old.items ++ stops.now }
+    ensures room { vec_capacity chains.new ≡ vec_capacity chains.old }
+{
+    for stop in stops {
+        chains.push_reserved(*stop);
+    }
+}
+
+/// The first damage of the chains of all levels, from the root's to the leaves. No block was seen or met before; `stops` and
+/// `chains` have room for a stop at each page in use. Where there is no damage `chains` has the stops of all levels.
 pub(crate) fn find_chain_damage(
     pages: &[Page],
     seen: &mut [bool],
     met: &mut Met,
     stops: &mut Vec<Stop>,
+    chains: &mut Vec<Stop>,
     root: u32,
     top: u8,
 ) -> Option<Damage>
@@ -95,17 +111,26 @@ pub(crate) fn find_chain_damage(
     requires seen { seen.old ≡ replicate (length pages.now) false }
     requires met { IsMet met.old (length pages.now) }
     requires none { met.old.blocks.items ≡ [] }
+    requires no_stops { chains.old.items ≡ [] }
     requires room { length pages.now ≤ vec_capacity stops.old }
+    requires more_room { length pages.now ≤ vec_capacity chains.old }
     requires root { root ≡ (index_of pages.now).root }
     requires top { top ≡ (index_of pages.now).top }
     requires low { top ≤ 31 }
+    ensures met { IsMet met.new (length pages.now) }
     ensures none { IfNone result (IsSound false pages.now) }
+    ensures chains { IfNone result
+        (AreAllStops (index_of pages.now) (suc (index_of pages.now).top) chains.new.items) }
+    ensures added { IfNone result (met.new.blocks.items ≡ blocks_of chains.new.items) }
     ensures some { IfSome result (λ d. IsFirstDamage false pages.now d.number d.block) }
 {
     let mut begin = root;
     for depth in 0..top + 1 {
         match judge_level(pages, seen, met, stops, root, depth, top - depth, begin) {
-            Ok(head) => begin = next_begin(pages, head),
+            Ok(head) => {
+                keep(chains, stops);
+                begin = next_begin(pages, head);
+            }
             Err(damage) => return Some(damage),
         }
     }

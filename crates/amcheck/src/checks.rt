@@ -58,7 +58,13 @@ pub fn check<S: PageStore>(alloc: Global, store: &mut S) -> Result<Report, Check
         Ok(()) => {}
         Err(fault) => return Err(CheckFault::Refused(fault)),
     }
-    told(judge_chains(&room.pages, &mut room.seen, &mut room.met, &mut room.stops))
+    told(judge_chains(
+        &room.pages,
+        &mut room.seen,
+        &mut room.met,
+        &mut room.stops,
+        &mut room.chains,
+    ))
 }
 
 /// Judges the levels of an index, their links, and its parents and children: a report, or the first damage. It reads each
@@ -74,6 +80,9 @@ pub fn check_parents<S: PageStore>(alloc: Global, store: &mut S) -> Result<Repor
         → OnOk result (IsTree (S.state store.old).pages) }
     ensures report { (S.backing store.new).honest ≡ true
         → IfOk result (IsReport (S.state store.old).pages) }
+    // It answers the first damage that there is, if there is one.
+    ensures answer { (S.backing store.new).honest ≡ true
+        → IsAnswer true (S.state store.old).pages result }
     ensures fault { IfErr result (IsCheckFault (S.state store.old) (S.backing store.old)
         (S.backing store.new) (IsTree (S.state store.old).pages)) }
 {
@@ -85,5 +94,13 @@ pub fn check_parents<S: PageStore>(alloc: Global, store: &mut S) -> Result<Repor
         Ok(()) => {}
         Err(fault) => return Err(CheckFault::Refused(fault)),
     }
-    told(judge(&room.pages, &mut room.met, &mut room.due, &mut room.linked))
+    told(judge(
+        &room.pages,
+        &mut room.seen,
+        &mut room.met,
+        &mut room.stops,
+        &mut room.chains,
+        &mut room.places,
+        &mut room.linked,
+    ))
 }

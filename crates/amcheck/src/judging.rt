@@ -1,25 +1,27 @@
 //! All pages of an index are judged: the chains of its levels, with its parents and children or without.
 
-ghost use Rattle.std.specs.Prelude.{◌≡◌, ◌≢◌, ◌≤◌, ◌<◌, ℕ, true, false, [], IfOk, IfErr, OnOk, OnErr, length, replicate, vec_capacity};
+ghost use Rattle.std.specs.Prelude.{◌≡◌, ◌≢◌, ◌≤◌, ◌<◌, suc, true, false, None, [], IfNone, IfSome, IfOk, IfErr, OnOk, OnErr, length, replicate, vec_capacity};
 ghost use Rattle.page_codec.specs.declared.page.Items.TheVariants.{Meta};
-ghost use Rattle.damages.specs.Damages.{IsSound, IsFirstDamage};
+ghost use Rattle.damages.specs.Damages.{index_of, IsSound, IsFirstDamage};
 ghost use Rattle.damages.specs.Levels.{HasLevels};
 ghost use Rattle.tree_acts.specs.TheoremTree.{IsTree};
-ghost use Rattle.amcheck.specs.Levels.{NamesRoot, AreWalked};
+ghost use Rattle.amcheck.specs.AllStops.{AreAllStops};
+ghost use Rattle.amcheck.specs.Levels.{NamesRoot};
 ghost use Rattle.amcheck.specs.Marks.{IsMet};
 ghost use Rattle.amcheck.specs.Places.{StandAtTheirBlocks};
 ghost use Rattle.amcheck.specs.Reports.{IsReport};
+ghost use Rattle.amcheck.specs.Stops.{blocks_of};
 
 use crate::chain_damages::find_chain_damage;
+use crate::chain_places::note_places;
 use crate::counts::count_up;
-use crate::first_damage::find_parent_damage;
-use crate::levels::{Way, walk_levels};
 use crate::marks::Met;
+use crate::parent_damages::find_parent_damage;
 use crate::report::{Damage, Report};
 use crate::stops::Stop;
 use crate::strays::find_stray;
 use damages::{first_damage_is_one, sound_pages_are_a_tree, trees_are_sound};
-use page_codec::{Downlink, Items, Page};
+use page_codec::{Items, Page};
 
 /// The root's block, and its level.
 #[derive(Clone, Copy)]
@@ -62,26 +64,35 @@ fn find_root(pages: &[Page]) -> Result<Root, Damage>
     }
 }
 
-/// Judges parents and children, where the chains of all levels are right: the first damage, if there is one.
+/// Judges parents and children, where the chains of all levels are right, and at last the pages on no chain: the first
+/// damage, if there is one. No block was noted or marked before.
 fn judge_parents(
     pages: &[Page],
     met: &Met,
+    chains: &[Stop],
+    places: &mut [Option<u32>],
     linked: &mut [bool],
-    root: Root,
-    way: Way,
-) -> Result<(), Damage>
+    top: u8,
+) -> Option<Damage>
+    requires some { 0 < length pages.now }
     requires few { length pages.now ≤ 65536 }
-    requires named { NamesRoot pages.now root.block root.level }
-    requires walked { AreWalked pages.now root.block root.level 0 met.now way }
-    ensures tree { OnOk result (IsTree pages.now) }
-    ensures damaged { OnErr result (IsTree pages.now → ⊥) }
+    requires top { top ≡ (index_of pages.now).top }
+    requires met { IsMet met.now (length pages.now) }
+    requires chains { AreAllStops (index_of pages.now) (suc (index_of pages.now).top) chains.now }
+    requires added { met.now.blocks.items ≡ blocks_of chains.now }
+    requires sound { IsSound false pages.now }
+    requires places { places.old ≡ replicate (length pages.now) None }
+    requires linked { linked.old ≡ replicate (length pages.now) false }
+    ensures none { IfNone result (IsSound true pages.now) }
+    ensures some { IfSome result (λ d. IsFirstDamage true pages.now d.number d.block) }
 {
-    if !way.agree {
-        return Err(find_parent_damage(pages, met, linked, root.block, root.level));
+    note_places(chains, places);
+    if let Some(damage) = find_parent_damage(pages, chains, places, linked, top) {
+        return Some(damage);
     }
     match find_stray(pages, met) {
-        None => Ok(()),
-        Some(_) => Err(find_parent_damage(pages, met, linked, root.block, root.level)),
+        None => None,
+        Some(block) => Some(Damage { number: 11, block }),
     }
 }
 
@@ -91,13 +102,16 @@ pub(crate) fn judge_chains(
     seen: &mut [bool],
     met: &mut Met,
     stops: &mut Vec<Stop>,
+    chains: &mut Vec<Stop>,
 ) -> Result<Report, Damage>
     requires stand { StandAtTheirBlocks pages.now }
     requires few { length pages.now ≤ 65536 }
     requires seen { seen.old ≡ replicate (length pages.now) false }
     requires met { IsMet met.old (length pages.now) }
     requires none { met.old.blocks.items ≡ [] }
+    requires no_stops { chains.old.items ≡ [] }
     requires room { length pages.now ≤ vec_capacity stops.old }
+    requires more_room { length pages.now ≤ vec_capacity chains.old }
     ensures sound { OnOk result (IsSound false pages.now) }
     ensures levels { OnOk result (HasLevels pages.now) }
     ensures report { IfOk result (IsReport pages.now) }
@@ -111,38 +125,53 @@ pub(crate) fn judge_chains(
         Ok(root) => root,
         Err(damage) => return Err(damage),
     };
-    match find_chain_damage(pages, seen, met, stops, root.block, root.level) {
+    match find_chain_damage(pages, seen, met, stops, chains, root.block, root.level) {
         Some(damage) => Err(damage),
         None => Ok(count_up(pages, root.level as u32 + 1)),
     }
 }
 
-/// Judges all pages, with parents and children: a report, or the first damage.
+/// Judges all pages, with parents and children: a report, or the first damage. No block was seen, met, noted or marked before.
 pub(crate) fn judge(
     pages: &[Page],
+    seen: &mut [bool],
     met: &mut Met,
-    due: &mut Vec<Downlink>,
+    stops: &mut Vec<Stop>,
+    chains: &mut Vec<Stop>,
+    places: &mut [Option<u32>],
     linked: &mut [bool],
 ) -> Result<Report, Damage>
     requires stand { StandAtTheirBlocks pages.now }
     requires few { length pages.now ≤ 65536 }
+    requires seen { seen.old ≡ replicate (length pages.now) false }
     requires met { IsMet met.old (length pages.now) }
     requires none { met.old.blocks.items ≡ [] }
-    requires room { length pages.now ≤ vec_capacity due.old }
+    requires no_stops { chains.old.items ≡ [] }
+    requires room { length pages.now ≤ vec_capacity stops.old }
+    requires more_room { length pages.now ≤ vec_capacity chains.old }
+    requires places { places.old ≡ replicate (length pages.now) None }
+    requires linked { linked.old ≡ replicate (length pages.now) false }
+    ensures sound { OnOk result (IsSound true pages.now) }
     ensures tree { OnOk result (IsTree pages.now) }
     ensures report { IfOk result (IsReport pages.now) }
+    ensures first { IfErr result (λ d. IsFirstDamage true pages.now d.number d.block) }
     ensures damaged { OnErr result (IsTree pages.now → ⊥) }
 {
+    first_damage_is_one();
+    sound_pages_are_a_tree();
+    trees_are_sound();
     let root = match find_root(pages) {
         Ok(root) => root,
         Err(damage) => return Err(damage),
     };
-    let way = match walk_levels(pages, met, due, root.block, root.level) {
-        Ok(way) => way,
-        Err(damage) => return Err(damage),
-    };
-    match judge_parents(pages, met, linked, root, way) {
-        Ok(()) => Ok(count_up(pages, root.level as u32 + 1)),
-        Err(damage) => Err(damage),
+    if let Some(damage) = find_chain_damage(
+        pages, seen, met, stops, chains, root.block, root.level,
+    ) {
+        return Err(damage);
     }
+    if let Some(damage) = judge_parents(pages, met, chains, places, linked, root.level) {
+        return Err(damage);
+    }
+    let report = count_up(pages, root.level as u32 + 1);
+    Ok(report)
 }

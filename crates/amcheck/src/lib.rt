@@ -3,14 +3,13 @@
 
 mod bad_places;
 mod chain_damages;
-mod chains;
+mod chain_places;
 mod checks;
 mod counts;
-mod first_damage;
+mod downlinks;
 mod judging;
-mod levels;
 mod marks;
-mod parents;
+mod parent_damages;
 mod places;
 mod reading;
 mod report;

@@ -40,14 +40,6 @@ impl Met {
         self.marks[block as usize]
     }
 
-    /// Whether the block is in use, and was met.
-    pub(crate) fn is_marked(&self, block: u32) -> bool {
-        match self.marks.get(block as usize) {
-            None => false,
-            Some(mark) => *mark,
-        }
-    }
-
     /// Meets a block in use that wasn't met.
     pub(crate) fn add(&mut self, used: u32, block: u32)
         requires met { IsMet self.old used }

@@ -12,7 +12,7 @@ use crate::marks::Met;
 use crate::stops::Stop;
 use index_model::Fault;
 use page_action::PageStore;
-use page_codec::{Downlink, Page};
+use page_codec::Page;
 use std::alloc::Global;
 
 /// All that a check takes of memory.
@@ -25,8 +25,10 @@ pub(crate) struct Room {
     pub(crate) seen: Vec<bool>,
     /// The places of the chain of one level.
     pub(crate) stops: Vec<Stop>,
-    /// The downlinks that the pages of one level are to have.
-    pub(crate) due: Vec<Downlink>,
+    /// Those of the chains of all levels.
+    pub(crate) chains: Vec<Stop>,
+    /// For each page in use its place among those, if it is on a chain.
+    pub(crate) places: Vec<Option<u32>>,
     /// For each page in use whether a downlink to it was found.
     pub(crate) linked: Vec<bool>,
 }
@@ -41,7 +43,7 @@ impl Room {
         let Ok(pages) = Vec::with_capacity(alloc, used as usize) else {
             return Err(Fault::NoMemory);
         };
-        let Ok(due) = Vec::with_capacity(alloc, used as usize) else {
+        let Ok(places) = vec![in alloc; None; used as usize] else {
             return Err(Fault::NoMemory);
         };
         let Ok(linked) = vec![in alloc; false; used as usize] else {
@@ -53,13 +55,17 @@ impl Room {
         let Ok(stops) = Vec::with_capacity(alloc, used as usize) else {
             return Err(Fault::NoMemory);
         };
+        let Ok(chains) = Vec::with_capacity(alloc, used as usize) else {
+            return Err(Fault::NoMemory);
+        };
         let met = Met::new(alloc, used)?;
         Ok(Room {
             pages,
             met,
             seen,
             stops,
-            due,
+            chains,
+            places,
             linked,
         })
     }

@@ -29,6 +29,8 @@ pub(crate) fn find_stray(pages: &[Page], met: &Met) -> Option<u32>
     ensures none { IfNone result ((block : ℕ)
         → IsStray pages.now met.now.blocks.items block → ⊥) }
     ensures some { IfSome result (IsStray pages.now met.now.blocks.items) }
+    ensures least { IfSome result (λ found. (block : ℕ) → block < found
+        → IsStray pages.now met.now.blocks.items block → ⊥) }
 {
     for block in 1..pages.len() as u32 {
         if is_stray(pages, met, block) {

@@ -1,10 +1,54 @@
-use Rattle.std.proofs.Common.{◌≡◌, ℕ, suc, ◌+◌, inl, inr, ap, subst, ◌∙◌, arith}
+use Rattle.std.proofs.Common.{◌≡◌, ◌++◌, ℕ, suc, ◌+◌, List, false, length, length-append, inl, inr, refl, sym, ap, subst, ◌∙◌, arith}
 use Rattle.std.proofs.lemmas.Bool.{cases_lt}
+use Rattle.std.proofs.lemmas.List.{length-replicate}
 use Rattle.tree_shape.specs.Nodes.{nodes_of}
 use Rattle.damages.specs.Damages.{index_of, start, first_child}
+use Rattle.amcheck.specs.AllStops.{AreAllStops}
 use Rattle.amcheck.specs.LevelDamages.{IsClearLevel, AreOfUpper}
-use Rattle.amcheck.proofs.ChainDamages.{first_level, sound_levels}
+use Rattle.amcheck.specs.Stops.{blocks_of}
+use Rattle.amcheck.specs.declared.stops.Stop.{Stop}
+use Rattle.amcheck.proofs.AllStops.{blocks_append}
+use Rattle.amcheck.proofs.Blocks.{few_blocks}
+use Rattle.amcheck.proofs.Walked.{blocks_length}
+use Rattle.amcheck.proofs.ChainDamages.{first_level, sound_levels, none_of_upper}
+use Rattle.amcheck.proofs.chain_damages.find_chain_damage.Goals.{In-Ok}
 use Rattle.amcheck.proofs.chain_damages.find_chain_damage.Goals as goal
+
+pub loop-depth-init : goal.loop-depth-init
+loop-depth-init c = record {
+  size = ap length c.requires.seen ∙ length-replicate (length c.args.pages.now) false;
+  met = c.requires.met;
+  room = refl;
+  upper = none_of_upper (index_of c.args.pages.now) (length c.args.pages.now) c.args.seen.now c.args.met.now c.requires.seen c.requires.none;
+  more_room = refl;
+  far = omega arith;
+  chains = c.requires.no_stops;
+  added = c.requires.none ∙ ap blocks_of (sym c.requires.no_stops);
+  clear = λ d lt. absurd (omega arith);
+  begin = c.requires.root;
+}
+
+-- the blocks that were met are those of the stops of all levels so far
+added_level : (c : In-Ok) → c.judge_level.new.met.blocks.items ≡ blocks_of (c.loop-depth.chains.items ++ c.judge_level.new.stops.items)
+added_level c =
+    c.in-Ok.ensures.added ∙ ap (λ (l : List ℕ). l ++ blocks_of c.judge_level.new.stops.items) c.loop-depth.invariant.added
+    ∙ sym (blocks_append c.loop-depth.chains.items c.judge_level.new.stops.items)
+
+pub keep-requires : goal.keep-requires
+keep-requires c =
+    let added = added_level (goal.at.keep-requires c).In-Ok in
+    let all = c.loop-depth.chains.items ++ c.judge_level.new.stops.items in
+    let few = few_blocks (length c.args.pages.now) c.judge_level.new.met.blocks.items c.requires.some c.judge_level.ensures.met.distinct c.judge_level.ensures.met.in_use in
+    omega (
+      arith,
+      few,
+      ap length added,
+      blocks_length all,
+      length-append c.loop-depth.chains.items c.judge_level.new.stops.items,
+      ap length c.deref.ensures.value,
+      c.requires.more_room,
+      c.loop-depth.invariant.more_room,
+    )
 
 pub returns-in-Err-clause-some : goal.returns-in-Err-clause-some
 returns-in-Err-clause-some c =
@@ -14,10 +58,17 @@ pub loop-depth-preserved : goal.loop-depth-preserved
 loop-depth-preserved c =
     let depth = c.loop-depth.depth in
     let next : suc depth ≡ depth + 1 = omega arith in
+    let kept : c.keep.new.chains.items ≡ c.loop-depth.chains.items ++ c.judge_level.new.stops.items =
+    c.keep.ensures.kept ∙ ap (λ (l : List Stop). c.loop-depth.chains.items ++ l) c.deref.ensures.value in
     record {
       size = c.judge_level.ensures.size;
       met = c.judge_level.ensures.met;
       room = c.judge_level.ensures.room ∙ c.loop-depth.invariant.room;
+      more_room = c.keep.ensures.room ∙ c.loop-depth.invariant.more_room;
+      far = omega (arith, c.loop-depth-test.true);
+      chains = subst (λ (d : ℕ). AreAllStops (index_of c.args.pages.now) d c.keep.new.chains.items) next
+          (let all : AreAllStops (index_of c.args.pages.now) (suc depth) c.keep.new.chains.items = (c.loop-depth.chains.items, c.judge_level.new.stops.items, kept, c.loop-depth.invariant.chains, c.in-Ok.ensures.whole) in all);
+      added = added_level (goal.at.loop-depth-preserved c).In-Ok ∙ ap blocks_of (sym kept);
       upper = subst (λ (d : ℕ). AreOfUpper (index_of c.args.pages.now) d c.judge_level.new.seen c.judge_level.new.met) next c.judge_level.ensures.upper;
       clear = λ d lt. elim (cases_lt d depth) [
         | inl before ↦ c.loop-depth.invariant.clear d before
@@ -30,3 +81,8 @@ loop-depth-preserved c =
 pub returns-clause-none : goal.returns-clause-none
 returns-clause-none c =
     sound_levels c.args.pages.now (λ d deep. c.loop-depth.invariant.clear d (omega (arith, deep, c.loop-depth-test.false, c.requires.top)))
+
+pub returns-clause-chains : goal.returns-clause-chains
+returns-clause-chains c =
+    subst (λ (d : ℕ). AreAllStops (index_of c.args.pages.now) d c.loop-depth.chains.items)
+    (let e : c.loop-depth.depth ≡ suc (index_of c.args.pages.now).top = omega (arith, c.loop-depth.invariant.far, c.loop-depth-test.false, c.requires.top) in e) c.loop-depth.invariant.chains

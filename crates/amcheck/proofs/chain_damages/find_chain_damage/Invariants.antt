@@ -1,7 +1,9 @@
-use Rattle.std.proofs.Common.{◌≡◌, ◌<◌, ℕ, length, vec_capacity}
+use Rattle.std.proofs.Common.{◌≡◌, ◌<◌, ◌≤◌, suc, ℕ, length, vec_capacity}
 use Rattle.damages.specs.Damages.{index_of, start}
 use Rattle.amcheck.specs.LevelDamages.{IsClearLevel, AreOfUpper}
+use Rattle.amcheck.specs.AllStops.{AreAllStops}
 use Rattle.amcheck.specs.Marks.{IsMet}
+use Rattle.amcheck.specs.Stops.{blocks_of}
 use Rattle.amcheck.proofs.chain_damages.find_chain_damage.Given as goal
 
 abbrev pub invariant-loop-depth : goal.invariant-loop-depth
@@ -10,6 +12,10 @@ invariant-loop-depth l = record {
   met : IsMet l.met (length l.pages);
   room : vec_capacity l.stops ≡ vec_capacity l.fn.stops;
   upper : AreOfUpper (index_of l.pages) l.depth l.seen l.met;
+  more_room : vec_capacity l.chains ≡ vec_capacity l.fn.chains;
+  far : l.depth ≤ suc l.top;
+  chains : AreAllStops (index_of l.pages) l.depth l.chains.items;
+  added : l.met.blocks.items ≡ blocks_of l.chains.items;
   clear : (d : ℕ) → d < l.depth → IsClearLevel (index_of l.pages) d;
   begin : l.begin ≡ start (index_of l.pages) l.depth;
 }

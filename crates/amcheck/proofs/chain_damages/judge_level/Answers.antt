@@ -2,6 +2,7 @@ use Rattle.std.proofs.Common.{suc, ◌≤◌, List, length, inl, sym, subst, ari
 use Rattle.damages.specs.Damages.{index_of}
 use Rattle.amcheck.specs.LevelDamages.{AreOfUpper}
 use Rattle.amcheck.specs.declared.stops.Stop.{Stop}
+use Rattle.amcheck.proofs.AllStops.{ends_clear}
 use Rattle.amcheck.proofs.ChainDamages.{seen_upper, met_on, stops_below}
 use Rattle.amcheck.proofs.chain_damages.judge_level.Goals.{After-walk-end}
 use Rattle.amcheck.proofs.chain_damages.judge_level.Goals as goal
@@ -26,3 +27,9 @@ returns-in-None-clause-upper c = upper (goal.at.returns-in-None-clause-upper c).
 
 pub returns-in-Some-clause-upper : goal.returns-in-Some-clause-upper
 returns-in-Some-clause-upper c = upper (goal.at.returns-in-Some-clause-upper c).After-walk-end
+
+pub returns-in-None-clause-whole : goal.returns-in-None-clause-whole
+returns-in-None-clause-whole c = record {
+  are = c.walk-end.ensures.stops;
+  ends = ends_clear (index_of c.args.pages.now) c.args.depth (length c.walk-end.new.stops.items) c.walk-end.result (omega (arith, c.requires.level)) c.in-None.ensures.none c.walk-end.ensures.end;
+}

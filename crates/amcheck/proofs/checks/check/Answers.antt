@@ -20,4 +20,4 @@ judge_chains-requires-clause-few g c = they_are_few c.deref.result.now (stand g 
 pub returns-clause-answer : goal.returns-clause-answer
 returns-clause-answer g c honest =
     subst (λ (ps : List Page). IsAnswer false ps c.told.result) (c.deref.ensures.value ∙ c.in-Ok-read_pages.ensures.read.same honest)
-    (answer_told c.deref.result.now c.judge_chains.result c.told.result c.judge_chains.ensures.sound c.judge_chains.ensures.report c.judge_chains.ensures.first c.told.ensures.ok c.told.ensures.err)
+    (answer_told false c.deref.result.now c.judge_chains.result c.told.result c.judge_chains.ensures.sound c.judge_chains.ensures.report c.judge_chains.ensures.first c.told.ensures.ok c.told.ensures.err)

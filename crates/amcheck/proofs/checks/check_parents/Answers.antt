@@ -1,4 +1,7 @@
-use Rattle.std.proofs.Common.{sym, subst}
+use Rattle.std.proofs.Common.{true, List, sym, subst, ◌∙◌}
+use Rattle.page_codec.specs.declared.page.Page.{Page}
+use Rattle.amcheck.specs.Answers.{IsAnswer}
+use Rattle.amcheck.proofs.FirstDamages.{answer_told}
 use Rattle.amcheck.specs.Places.{StandAtTheirBlocks}
 use Rattle.amcheck.proofs.Judged.{they_stand, they_are_few}
 use Rattle.amcheck.proofs.checks.check_parents.Given.{Over}
@@ -13,3 +16,8 @@ judge-requires-clause-stand g c = stand g (goal.at.judge-requires-clause-stand g
 
 pub judge-requires-clause-few : goal.judge-requires-clause-few
 judge-requires-clause-few g c = they_are_few c.deref.result.now (stand g (goal.at.judge-requires-clause-few g c).After-deref)
+
+pub returns-clause-answer : goal.returns-clause-answer
+returns-clause-answer g c honest =
+    subst (λ (ps : List Page). IsAnswer true ps c.told.result) (c.deref.ensures.value ∙ c.in-Ok-read_pages.ensures.read.same honest)
+    (answer_told true c.deref.result.now c.judge.result c.told.result c.judge.ensures.sound c.judge.ensures.report c.judge.ensures.first c.told.ensures.ok c.told.ensures.err)

@@ -1,0 +1,81 @@
+//! The first damage of parents and children, where all chains are right.
+
+ghost use Rattle.std.specs.Prelude.{◌≡◌, ◌<◌, ◌≤◌, ℕ, suc, true, false, IfNone, IfSome, length};
+ghost use Rattle.damages.specs.Damages.{index_of, IsSound, IsFirstDamage};
+ghost use Rattle.amcheck.specs.AllStops.{AreAllStops, ArePlaces};
+ghost use Rattle.amcheck.specs.ParentDamages.{IsClearAt, IsFirstAt, AreMarked};
+
+use crate::downlinks::{find_off, find_parent_number};
+use crate::report::Damage;
+use crate::stops::{Stop, low};
+use page_codec::Page;
+use tree_shape::links_on;
+
+/// The first damage at the stop at this place, with its parents and children; none at an earlier one. The blocks are marked
+/// to which those lead.
+fn damage_at(
+    pages: &[Page],
+    stops: &[Stop],
+    places: &[Option<u32>],
+    linked: &mut [bool],
+    top: u8,
+    place: usize,
+) -> Option<Damage>
+    requires few { length stops.now ≤ 65536 }
+    requires top { top ≡ (index_of pages.now).top }
+    requires stops { AreAllStops (index_of pages.now) (suc (index_of pages.now).top) stops.now }
+    requires sound { IsSound false pages.now }
+    requires places { ArePlaces stops.now places.now }
+    requires size { length linked.old ≡ length pages.now }
+    requires inside { place < length stops.now }
+    requires clear { (k : ℕ) → k < place → IsClearAt (index_of pages.now) stops.now k }
+    requires marked { AreMarked (index_of pages.now) stops.now place linked.old }
+    ensures size { length linked.new ≡ length linked.old }
+    ensures clear { IfNone result (IsClearAt (index_of pages.now) stops.now place) }
+    ensures marked { IfNone result (AreMarked (index_of pages.now) stops.now (suc place) linked.new) }
+    ensures first { IfSome result
+        (λ d. IsFirstAt (index_of pages.now) stops.now place d.number d.block) }
+{
+    let stop = &stops[place];
+    let page = &pages[stop.block as usize];
+    let low = low(pages, stop.low_at);
+    if let Some(child) = find_off(pages, top - page.level, page.level, &low, links_on(page)) {
+        return Some(Damage {
+            number: 1,
+            block: child,
+        });
+    }
+    match find_parent_number(pages, stops, places, linked, top, &low, stop) {
+        None => None,
+        Some(number) => Some(Damage {
+            number,
+            block: stop.block,
+        }),
+    }
+}
+
+/// The first damage of parents and children, stop by stop. No block was marked before.
+pub(crate) fn find_parent_damage(
+    pages: &[Page],
+    stops: &[Stop],
+    places: &[Option<u32>],
+    linked: &mut [bool],
+    top: u8,
+) -> Option<Damage>
+    requires few { length stops.now ≤ 65536 }
+    requires top { top ≡ (index_of pages.now).top }
+    requires stops { AreAllStops (index_of pages.now) (suc (index_of pages.now).top) stops.now }
+    requires sound { IsSound false pages.now }
+    requires places { ArePlaces stops.now places.now }
+    requires size { length linked.old ≡ length pages.now }
+    requires marked { AreMarked (index_of pages.now) stops.now 0 linked.old }
+    ensures none { IfNone result ((k : ℕ) → k < length stops.now → IsClearAt (index_of pages.now) stops.now k) }
+    ensures some { IfSome result (λ d. IsFirstDamage true pages.now d.number d.block) }
+{
+    for place in 0..stops.len() {
+        if let Some(damage) = damage_at(pages, stops, places, linked, top, place) {
+            return Some(damage);
+        }
+    }
+    None
+}
