@@ -12,19 +12,3 @@ pub enum Slot<S: PageStore, T: DeadRows + Drop, J: Jobs> {
     Open(Shared<S, T, J>),
     Closed,
 }
-
-impl<S: PageStore, T: DeadRows + Drop, J: Jobs> Slot<S, T, J> {
-    pub fn is_waiting(&self) -> bool {
-        match self {
-            Slot::Waiting => true,
-            _ => false,
-        }
-    }
-
-    pub fn is_open(&self) -> bool {
-        match self {
-            Slot::Open(_) => true,
-            _ => false,
-        }
-    }
-}
