@@ -4,6 +4,9 @@ pub mod Commas
 pub mod RowText
 pub mod Keys
 pub mod Scripts
+pub mod Newlines
+pub mod Workers
+pub mod JobsRead
 pub mod Fresh
 pub mod Opened
 pub mod Printed

@@ -34,7 +34,7 @@ words_of-one (byte ∷ line) past =
       | false ↦ λ none. ap (with_first byte) (words_of-one line (omega (arith, none)))
     ]) past
 
-chosen_none : {X : Type 0} (test : Bool) (x : X) → cond test (Some x) None ≡ None → test ≡ false
+pub chosen_none : {X : Type 0} (test : Bool) (x : X) → cond test (Some x) None ≡ None → test ≡ false
 chosen_none true x none = absurd cc
 chosen_none false x none = refl
 

@@ -3,6 +3,9 @@ pub mod Left
 pub mod Printing
 pub mod Script
 pub mod Events
+pub mod JobFiles
+pub mod Receipts
+pub mod Running
 pub mod Settings
 pub mod Files
 pub mod Reporting

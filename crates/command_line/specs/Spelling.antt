@@ -19,6 +19,11 @@ abbrev pub words_of : List ℕ → List (List ℕ)
 words_of [] = [] ∷ []
 words_of (byte ∷ line) = if byte == 32 then [] ∷ words_of line else with_first byte (words_of line)
 
+-- a text's lines, each without the newline that ends it; behind the last newline none begins where nothing is
+abbrev pub lines_of : List ℕ → List (List ℕ)
+lines_of [] = []
+lines_of (byte ∷ text) = if byte == 10 then [] ∷ lines_of text else with_first byte (lines_of text)
+
 -- lower-case hex, `-` for no byte
 abbrev pub key_text : List ℕ → List ℕ
 key_text [] = 45 ∷ []

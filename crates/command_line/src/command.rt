@@ -5,7 +5,8 @@ ghost use Rattle.clap.specs.Matches.{found_of, first_value};
 ghost use Rattle.command_line.specs.CommandLine.{HasFlag};
 
 use crate::engine::Setting;
-use crate::help::{FAULTS, REPORT, SCRIPT};
+use crate::help::{FAULTS, JOBS, REPORT, SCRIPT};
+use crate::running::RunSetting;
 use clap::{Arg, ArgAction, ArgMatches, Command, value_parser};
 use index_model::Limits;
 use std::alloc::{AllocError, Global};
@@ -17,6 +18,8 @@ const PAGES: &str = "Blocks of the index: 8 to 65536";
 
 const LOG: &str = "Bytes of the log: 65536 to 16777216, a multiple of 4096";
 
+const FRAMES: &str = "Pages that are held in memory: 16 to 1024";
+
 /// The whole command line.
 pub fn program<'a>(alloc: Global) -> Result<Command<'a>, AllocError> {
     let command = Command::new(alloc, "btidx")
@@ -25,7 +28,8 @@ pub fn program<'a>(alloc: Global) -> Result<Command<'a>, AllocError> {
         .arg_required_else_help(true)
         .disable_help_subcommand(true)
         .after_help(FAULTS)
-        .subcommand(play(alloc)?)?;
+        .subcommand(play(alloc)?)?
+        .subcommand(run(alloc)?)?;
     with_file_commands(alloc, command)
 }
 
@@ -42,12 +46,7 @@ fn play<'a>(alloc: Global) -> Result<Command<'a>, AllocError> {
         .about("Run a script from standard input over an index in memory")
         .after_help(SCRIPT);
     with_limits(alloc, command)?
-        .arg(size(
-            alloc,
-            "frames",
-            "16",
-            "Pages that are held in memory: 16 to 1024",
-        ))?
+        .arg(size(alloc, "frames", "16", FRAMES))?
         .arg(size(alloc, "sessions", "8", "Sessions: 1 to 64"))
 }
 
@@ -79,6 +78,26 @@ fn check<'a>(alloc: Global) -> Result<Command<'a>, AllocError> {
                 .action(ArgAction::SetTrue)
                 .help("Compare parents and children too"),
         )
+}
+
+fn run<'a>(alloc: Global) -> Result<Command<'a>, AllocError> {
+    Command::new(alloc, "run")
+        .about("Run the jobs of a file over the index in a file, with threads")
+        .after_help(JOBS)
+        .arg(file(alloc))?
+        .arg(
+            Arg::new(alloc, "jobs")
+                .value_name("JOBS")
+                .required(true)
+                .help("The file of the jobs"),
+        )?
+        .arg(size(
+            alloc,
+            "workers",
+            "1",
+            "Threads, each with a session: 1 to 64",
+        ))?
+        .arg(size(alloc, "frames", "64", FRAMES))
 }
 
 fn dump<'a>(alloc: Global) -> Result<Command<'a>, AllocError> {
@@ -130,7 +149,17 @@ pub fn limits(matches: &ArgMatches<'_>) -> Limits {
     }
 }
 
-/// The file on a command line of `create`, `check` or `dump`.
+/// What a command line of `run` asks for.
+pub fn run_setting<'a>(matches: &ArgMatches<'a>) -> RunSetting<'a> {
+    RunSetting {
+        path: path(matches),
+        jobs: matches.get_str("jobs").unwrap_or(""),
+        workers: number(matches, "workers"),
+        frames: number(matches, "frames"),
+    }
+}
+
+/// The file of the index on a command line of `create`, `check`, `dump` or `run`.
 pub fn path<'a>(matches: &ArgMatches<'a>) -> &'a str
     ensures { result.now ≡ unwrap_or (first_value (found_of matches.now) (codes "path")) [] }
 {

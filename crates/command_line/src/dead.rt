@@ -1,4 +1,4 @@
-//! The sets of dead rows that a script's `bulk` lines name.
+//! The sets of dead rows that `bulk` lines name.
 
 use crate::line::{Line, Rows};
 use index_model::{DeadRows, RowAddr};
@@ -24,17 +24,16 @@ impl DeadRows for DeadList {
 /// The set of a line, if it is a `bulk` line.
 pub fn dead_of(alloc: Global, line: Line<'_>) -> Result<Option<DeadList>, AllocError> {
     match line {
-        Line::Bulk(_, rows) => Ok(Some(DeadList {
-            rows: listed(alloc, rows)?,
-        })),
+        Line::Bulk(_, rows) => Ok(Some(listed(alloc, rows)?)),
         _ => Ok(None),
     }
 }
 
-fn listed(alloc: Global, mut words: Rows<'_>) -> Result<Vec<RowAddr>, AllocError> {
+/// The set of these rows.
+pub fn listed(alloc: Global, mut words: Rows<'_>) -> Result<DeadList, AllocError> {
     let mut rows = Vec::new(alloc);
     while let Some(row) = words.next() {
         rows.push(row)?;
     }
-    Ok(rows)
+    Ok(DeadList { rows })
 }

@@ -143,7 +143,7 @@ fn print_links<W: Write>(out: &mut W, page: &Page) -> io::Result<()>
     write!(out, " left={left} right={right} high={high} split={split}")
 }
 
-fn print_entries<W: Write>(out: &mut W, entries: &[Entry]) -> io::Result<()>
+pub fn print_entries<W: Write>(out: &mut W, entries: &[Entry]) -> io::Result<()>
     ensures { OnOk result (Appends (W.contents out.old) (W.contents out.new)
         (flat_map entry_line entries.now)) }
 {

@@ -98,3 +98,25 @@ pub const REPORT: &str = "Prints, with status 0, where no damage is found:
 L: levels.  P: blocks in use.  E: entries.  H: half-dead pages.  D: deleted ones.  U: ones whose split is unfinished.
 Else the first damage, with status 1:
   damage N block B";
+
+/// The lines of a job file, and what is printed of a run.
+pub const JOBS: &str = "Lines of a job file:     What they do:                                     Ends:
+  insert KEY ROW         insert the entry                                  added N, added N unfinished M
+  scan FROM BELOW ROOM   give the entries of the range, ROOM at most       scanned N finished, scanned N cut
+  bulk ROW ..            remove the entries of these rows                  finished ..
+  cleanup                delete empty leaves                               finished ..
+  commit                 make each action so far durable                   committed N
+  checkpoint             that, and write changed pages to their places     checkpointed N
+
+ROOM: 1 to 1048576.  The other words, and the ends, are those of `btidx play --help`; each job may end refused too.
+The jobs are counted from 0; each worker takes the next one that is left, as soon as it has done one.
+
+Prints, by the jobs' numbers, the worker that did it, how many actions there were as it began and as it ended, and
+its end; behind a scan the entries that it gave. A scan is cut where more waits than it has room for.
+  job J worker W from I to K END
+Then how many jobs each worker did, how many were done, and the checkpoint behind them:
+  worker W calls N
+  history N
+  checkpointed N
+A job that is refused doesn't change the status. A line that is no job is told by `btidx: line N: not a job`,
+lines counted from 1, and nothing is run.";

@@ -129,7 +129,8 @@ fn one_session<'a>(
     with_values(name, session, words)
 }
 
-fn is(name: &[u8], word: &[u8]) -> bool
+/// Whether a word is this one.
+pub fn is(name: &[u8], word: &[u8]) -> bool
     ensures { IsTrue result ↔ (name.now ≡ word.now) }
 {
     name == word
@@ -243,7 +244,7 @@ fn with_range<'a>(
 }
 
 /// A key and a row. The key's fault comes before the row's.
-fn entry(words: &mut Words<'_>) -> Option<Result<Entry, Fault>>
+pub fn entry(words: &mut Words<'_>) -> Option<Result<Entry, Fault>>
     ensures { IfSome result (λ read. IfOk read
         (λ entry. words.old ≡ entry_words entry ++ words.new)) }
 {
@@ -264,7 +265,7 @@ fn entry_of(key: Result<Key, Fault>, row: Result<RowAddr, Fault>) -> Result<Entr
 }
 
 /// Two ends of a range.
-fn range(words: &mut Words<'_>) -> Option<Result<Range, Fault>>
+pub fn range(words: &mut Words<'_>) -> Option<Result<Range, Fault>>
     ensures { IfSome result (λ read. IfOk read
         (λ range. words.old ≡ range_words range ++ words.new)) }
 {
@@ -301,7 +302,7 @@ fn end(text: &[u8]) -> Option<Result<Option<Key>, Fault>>
 }
 
 /// All words that are left, each a row.
-fn bulk_rows<'a>(words: &mut Words<'a>) -> Option<Result<Rows<'a>, Fault>>
+pub fn bulk_rows<'a>(words: &mut Words<'a>) -> Option<Result<Rows<'a>, Fault>>
     ensures { IfSome result (λ read. IfOk read (λ rows. words.old ≡ rows.words ++ words.new)) }
 {
     let all = words.copy();

@@ -1,6 +1,6 @@
 //! Scripts.
 
-ghost use Rattle.std.specs.Prelude.{◌≡◌, ◌≤◌, ◌+◌, length, drop};
+ghost use Rattle.std.specs.Prelude.{◌≡◌};
 ghost use Rattle.command_line.specs.Events.{event_of};
 
 use crate::answer::{print_answer, print_entry, print_refused};
@@ -9,6 +9,7 @@ use crate::dump::print_page;
 use crate::end::End;
 use crate::engine::{Engine, Setting, Sink};
 use crate::line::{Crash, Line, LineError, parse};
+use crate::lines::first_line;
 use crate::refusal::print_no_event;
 use device::CrashImage;
 use index_model::{Entry, Fault, Range};
@@ -65,9 +66,8 @@ fn run<W: Write, E: Write>(
     let mut rest = text;
     while !rest.is_empty() {
         number = number.saturating_add(1);
-        let end = line_end(rest);
-        let line = &rest[..end];
-        rest = behind(rest, end);
+        let (line, behind) = first_line(rest);
+        rest = behind;
         match play_line(alloc, engine, line, rest, &mut set, out)? {
             Played::Answered => {}
             Played::NoEvent => {
@@ -86,8 +86,9 @@ fn sets_of(alloc: Global, script: &[u8]) -> Result<Vec<DeadList>, AllocError> {
     let mut sets = Vec::new(alloc);
     let mut rest = script;
     while !rest.is_empty() {
-        let end = line_end(rest);
-        match parse(&rest[..end]) {
+        let (line, behind) = first_line(rest);
+        rest = behind;
+        match parse(line) {
             Ok(Line::Crash(_)) => return Ok(sets),
             Ok(line) => {
                 if let Some(dead) = dead_of(alloc, line)? {
@@ -96,31 +97,8 @@ fn sets_of(alloc: Global, script: &[u8]) -> Result<Vec<DeadList>, AllocError> {
             }
             Err(_) => {}
         }
-        rest = behind(rest, end);
     }
     Ok(sets)
-}
-
-/// Where the first line ends.
-fn line_end(script: &[u8]) -> usize
-    ensures { result ≤ length script.now }
-{
-    script
-        .iter()
-        .position(|byte| *byte == b'\n')
-        .unwrap_or(script.len())
-}
-
-/// What is behind the line that ends there, and behind its newline.
-fn behind(script: &[u8], end: usize) -> &[u8]
-    requires { end ≤ length script.now }
-    ensures { result.now ≡ drop (end + 1) script.now }
-{
-    if end == script.len() {
-        &script[end..]
-    } else {
-        &script[end + 1..]
-    }
 }
 
 /// What a line did.

@@ -1,6 +1,6 @@
 //! What a command that fails prints.
 
-ghost use Rattle.command_line.specs.Printing.{PrintsLine, no_event_text};
+ghost use Rattle.command_line.specs.Printing.{PrintsLine, no_event_text, no_job_text};
 
 use index_model::Fault;
 use std::io::{self, Write};
@@ -19,4 +19,11 @@ pub fn print_no_event<W: Write>(err: &mut W, line: u64) -> io::Result<()>
     ensures { PrintsLine (W.contents err.old) (W.contents err.new) result (no_event_text line) }
 {
     writeln!(err, "btidx: line {line}: not an event")
+}
+
+/// Prints that this line of a job file, counted from 1, is no job.
+pub fn print_no_job<W: Write>(err: &mut W, line: u64) -> io::Result<()>
+    ensures { PrintsLine (W.contents err.old) (W.contents err.new) result (no_job_text line) }
+{
+    writeln!(err, "btidx: line {line}: not a job")
 }

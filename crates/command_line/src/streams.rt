@@ -3,11 +3,12 @@
 ghost use Rattle.std.specs.Prelude.{◌≡◌, ◌≤◌, IfOk, OnErr};
 ghost use Rattle.command_line.specs.Ends.{status_of};
 
-use crate::command::{has_parents, limits, path, program, setting};
+use crate::command::{has_parents, limits, path, program, run_setting, setting};
 use crate::end::End;
 use crate::file_commands::{check, create, dump};
 use crate::play::play;
 use crate::refusal::print_refusal;
+use crate::running;
 use clap::{ArgMatches, Error};
 use index_model::Fault;
 use std::alloc::Global;
@@ -15,10 +16,12 @@ use std::convert::AsStr;
 use std::fs::File;
 use std::io::{self, BufWriter, Read, Write};
 use std::rt::Files;
+use std::sync::Wait;
+use std::thread::Threads;
 
 /// Runs the command of these words, the program's own name first, and answers its status: 0 where all was done, 1 where
 /// a check found damage, 2 where it was refused. `input` is read by `play`. A refusal is printed on `err`.
-pub fn execute<'a, F: Files<File = File>, S: AsStr, R: Read, W: Write, E: Write>(
+pub fn execute<'a, F: Files<File = File> + Threads + Wait + Sync, S: AsStr, R: Read, W: Write, E: Write>(
     rt: &F,
     alloc: Global,
     words: &'a [S],
@@ -47,7 +50,7 @@ fn status<E: Write>(ended: io::Result<End>, err: &mut E) -> u8
 }
 
 /// The command, with what it prints on `out` gathered in a buffer, which is handed on at its end at the latest.
-fn buffered<'a, F: Files<File = File>, S: AsStr, R: Read, W: Write, E: Write>(
+fn buffered<'a, F: Files<File = File> + Threads + Wait + Sync, S: AsStr, R: Read, W: Write, E: Write>(
     rt: &F,
     alloc: Global,
     words: &'a [S],
@@ -76,7 +79,7 @@ fn fault_of(error: &io::Error) -> Fault {
     }
 }
 
-fn command<'a, F: Files<File = File>, S: AsStr, R: Read, W: Write, E: Write>(
+fn command<'a, F: Files<File = File> + Threads + Wait + Sync, S: AsStr, R: Read, W: Write, E: Write>(
     rt: &F,
     alloc: Global,
     words: &'a [S],
@@ -103,7 +106,7 @@ fn print_usage<W: Write, E: Write>(error: &Error, out: &mut W, err: &mut E) -> i
     Ok(End::Done)
 }
 
-fn run<F: Files<File = File>, R: Read, W: Write, E: Write>(
+fn run<F: Files<File = File> + Threads + Wait + Sync, R: Read, W: Write, E: Write>(
     rt: &F,
     alloc: Global,
     matches: &ArgMatches<'_>,
@@ -113,6 +116,7 @@ fn run<F: Files<File = File>, R: Read, W: Write, E: Write>(
 ) -> io::Result<End> {
     match matches.subcommand() {
         Some(("play", matches)) => play(alloc, &setting(matches), input, out, err),
+        Some(("run", matches)) => running::run(rt, alloc, &run_setting(matches), out, err),
         Some(("create", matches)) => create(rt, path(matches), &limits(matches), out),
         Some(("check", matches)) => check(rt, alloc, path(matches), has_parents(matches), out),
         Some(("dump", matches)) => dump(rt, alloc, path(matches), out),

@@ -10,6 +10,7 @@ mod files;
 mod help;
 mod in_a_file;
 mod inserts;
+mod jobs;
 mod lines;
 mod plain;
 mod rows;
@@ -21,7 +22,9 @@ use std::fs::File;
 use std::process::Abort;
 use std::rt::Files;
 use std::str;
+use std::sync::Wait;
 use std::test::*;
+use std::thread::Threads;
 
 /// What the program printed, and the status that it ended with.
 #[derive(Drop)]
@@ -32,7 +35,7 @@ struct Printed {
 }
 
 /// Runs the program on a script.
-fn played(rt: &(impl AllocGlobal + Files<File = File>), words: &[&str], script: &str) -> Printed {
+fn played(rt: &(impl AllocGlobal + Files<File = File> + Threads + Wait + Sync), words: &[&str], script: &str) -> Printed {
     let mut input = script.as_bytes();
     let mut out = Vec::new(rt.alloc());
     let mut err = Vec::new(rt.alloc());
@@ -47,7 +50,7 @@ fn text(bytes: &[u8]) -> &str {
 
 /// Runs the program on a script, and compares all that it prints.
 fn runs(
-    rt: &(impl Abort + AllocGlobal + Print + Eprint + Files<File = File>),
+    rt: &(impl Abort + AllocGlobal + Print + Eprint + Files<File = File> + Threads + Wait + Sync),
     words: &[&str],
     script: &str,
     printed: &str,
@@ -64,7 +67,7 @@ fn runs(
 /// Runs the parts of a script one behind the other, and compares all that it prints. The script's lines stand behind `> `, or
 /// are comments; what a line prints stands below it.
 fn plays(
-    rt: &(impl Abort + AllocGlobal + Print + Eprint + Files<File = File>),
+    rt: &(impl Abort + AllocGlobal + Print + Eprint + Files<File = File> + Threads + Wait + Sync),
     parts: &[&str],
 ) -> Result<(), Fail> {
     let mut script = String::new(rt.alloc());

@@ -5,7 +5,9 @@ use command_line::execute;
 use std::fs::File;
 use std::io::{self, Write};
 use std::rt::Files;
+use std::sync::Wait;
 use std::test::*;
+use std::thread::Threads;
 
 #[test]
 fn command_lines(rt: HostRuntime) -> Result<(), Fail> {
@@ -42,7 +44,7 @@ impl Write for Narrow {
 }
 
 /// What the program prints where the output takes 12 bytes.
-fn into_narrow(rt: &(impl AllocGlobal + Files<File = File>), script: &str) -> Printed {
+fn into_narrow(rt: &(impl AllocGlobal + Files<File = File> + Threads + Wait + Sync), script: &str) -> Printed {
     let mut input = script.as_bytes();
     let taken = Vec::new(rt.alloc());
     let mut out = Narrow { taken, most: 12 };

@@ -6,11 +6,13 @@ use std::fs::{self, File, OpenFile, OpenOptions};
 use std::os::unix::fs::FileExt;
 use std::process::Abort;
 use std::rt::Files;
+use std::sync::Wait;
 use std::test::*;
+use std::thread::Threads;
 
 /// Makes an empty index of 64 blocks with a log of 65,536 bytes in a new file.
 fn create(
-    rt: &(impl Abort + AllocGlobal + Print + Eprint + Files<File = File>),
+    rt: &(impl Abort + AllocGlobal + Print + Eprint + Files<File = File> + Threads + Wait + Sync),
     path: &str,
 ) -> Result<(), Fail> {
     let _ = fs::remove_file(rt, path);
@@ -36,7 +38,7 @@ fn entry(key: u8) -> Entry {
 
 /// Inserts entries into the index in a file, with keys of one byte, and makes a checkpoint. Answers the number of actions.
 fn fill(
-    rt: &(impl AllocGlobal + Files<File = File>),
+    rt: &(impl AllocGlobal + Files<File = File> + Threads + Wait + Sync),
     path: &str,
     keys: &[u8],
 ) -> Result<u64, Fault> {
@@ -49,7 +51,7 @@ fn fill(
 
 /// A check of the file, with parents or without, prints this line and ends with this status.
 fn check_ends(
-    rt: &(impl Abort + AllocGlobal + Print + Eprint + Files<File = File>),
+    rt: &(impl Abort + AllocGlobal + Print + Eprint + Files<File = File> + Threads + Wait + Sync),
     path: &str,
     parents: bool,
     printed: &str,
@@ -62,7 +64,7 @@ fn check_ends(
 
 /// So does a check with parents and one without.
 fn checks(
-    rt: &(impl Abort + AllocGlobal + Print + Eprint + Files<File = File>),
+    rt: &(impl Abort + AllocGlobal + Print + Eprint + Files<File = File> + Threads + Wait + Sync),
     path: &str,
     printed: &str,
     status: u8,

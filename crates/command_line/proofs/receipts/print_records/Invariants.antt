@@ -1,0 +1,7 @@
+use Rattle.std.specs.Prelude.{take}
+use Rattle.std.specs.Io.KnownBytes.{Appends}
+use Rattle.command_line.specs.Receipts.{records_text}
+use Rattle.command_line.proofs.receipts.print_records.Given as goal
+
+abbrev pub invariant-loop-receipt : goal.invariant-loop-receipt
+invariant-loop-receipt g l = Appends (g.W.Write.contents l.initial.out) (g.W.Write.contents l.out) (records_text l.history (take l.receipt-index l.receipts))

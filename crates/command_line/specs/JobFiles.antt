@@ -1,0 +1,56 @@
+-- The lines of a job file, as they are spelled.
+use Rattle.std.specs.Prelude.{◌≡◌, ◌≤◌, ◌+◌, ℕ, List, [], ◌∷◌, ◌++◌, codes, ⊤}
+use Rattle.std.specs.Fmt.{decimal}
+use Rattle.command_line.specs.Script.{entry_words, range_words}
+use Rattle.command_line.specs.Spelling.{words_of}
+use Rattle.command_line.specs.declared.job_line.JobLine.{JobLine}
+use Rattle.command_line.specs.declared.job_line.JobLine.TheVariants.{Insert, Scan, Bulk, Cleanup, Commit, Checkpoint}
+use Rattle.sessions.specs.declared.job.Job.{Job}
+use Rattle.sessions.specs.declared.job.Job.TheVariants.{Insert as InsertJob, Scan as ScanJob, Bulk as BulkJob, Cleanup as CleanupJob, Commit as CommitJob, Checkpoint as CheckpointJob}
+
+-- the words of a line
+abbrev pub job_words : JobLine → List (List ℕ)
+job_words (Insert entry) = codes "insert" ∷ entry_words entry
+job_words (Scan range room) = codes "scan" ∷ (range_words range ++ decimal room ∷ [])
+job_words (Bulk rows) = codes "bulk" ∷ rows.words
+job_words Cleanup = codes "cleanup" ∷ []
+job_words Commit = codes "commit" ∷ []
+job_words Checkpoint = codes "checkpoint" ∷ []
+
+-- a scan gives 1 to 1,048,576 entries at most
+abbrev pub HasRoom : JobLine → Type 0
+HasRoom (Scan range room) = (1 ≤ room) × (room ≤ 1048576)
+HasRoom line = ⊤
+
+-- the job that a line is; a bulk delete's set has this place among the sets
+abbrev pub job_of : ℕ → JobLine → Job
+job_of set (Insert entry) = InsertJob entry
+job_of set (Scan range room) = ScanJob range room
+job_of set (Bulk rows) = BulkJob set
+job_of set Cleanup = CleanupJob
+job_of set Commit = CommitJob
+job_of set Checkpoint = CheckpointJob
+
+-- the sets up to a job, with its own
+abbrev pub sets_with : ℕ → Job → ℕ
+sets_with set (BulkJob at) = set + 1
+sets_with set job = set
+
+-- a line spells this job
+pub record SpellsJob (set : ℕ) (text : List ℕ) (job : Job) : Type 0 where
+  pub line : JobLine
+  pub words : words_of text ≡ job_words line
+  pub room : HasRoom line
+  pub is : job ≡ job_of set line
+
+-- lines spell jobs, each its own; so many bulk deletes are before them
+abbrev pub SpellJobs : ℕ → List (List ℕ) → List Job → Type 0
+SpellJobs set [] [] = ⊤
+SpellJobs set [] (job ∷ jobs) = ⊥
+SpellJobs set (line ∷ lines) [] = ⊥
+SpellJobs set (line ∷ lines) (job ∷ jobs) = SpellsJob set line job × SpellJobs (sets_with set job) lines jobs
+
+-- how many sets there are up to the end of these jobs
+abbrev pub sets_behind : ℕ → List Job → ℕ
+sets_behind set [] = set
+sets_behind set (job ∷ jobs) = sets_behind (sets_with set job) jobs

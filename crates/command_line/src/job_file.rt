@@ -1,0 +1,111 @@
+//! Job files.
+
+ghost use Rattle.std.specs.Prelude.{◌≡◌, ◌+◌, IfOk, vec_len};
+ghost use Rattle.command_line.specs.JobFiles.{SpellJobs, job_of, sets_with, sets_behind};
+ghost use Rattle.command_line.specs.Spelling.{lines_of};
+
+use crate::dead::{DeadList, listed};
+use crate::job_line::{JobLine, parse_job};
+use crate::line::Rows;
+use crate::lines::first_line;
+use sessions::Job;
+use std::alloc::Global;
+
+/// The jobs of a job file, in their order, and the sets of dead rows that its bulk deletes name by their places.
+#[derive(Drop)]
+pub struct JobFile {
+    pub jobs: Vec<Job>,
+    pub sets: Vec<DeadList>,
+}
+
+/// Why a job file couldn't be read.
+#[derive(Clone, Copy, Debug, PartialEq, Eq)]
+pub enum JobFileError {
+    /// The line of this number, counted from 1, is the first that is no job.
+    NotAJob(u64),
+    /// Memory was refused, or there are more than 2^32 - 1 bulk deletes.
+    NoMemory,
+}
+
+/// Reads the lines of a job file, each of which is a job. Refused with `NotAJob` at the first that isn't, with `NoMemory` where
+/// memory is refused.
+pub fn read_jobs(alloc: Global, text: &[u8]) -> Result<JobFile, JobFileError>
+    ensures jobs { IfOk result (λ file. SpellJobs 0 (lines_of text.now) file.jobs.items) }
+    ensures sets { IfOk result (λ file. vec_len file.sets ≡ sets_behind 0 file.jobs.items) }
+{
+    let mut jobs = Vec::new(alloc);
+    let mut sets = Vec::new(alloc);
+    let mut set = 0u32;
+    let mut rest = text;
+    while !rest.is_empty() {
+        let (line, behind) = first_line(rest);
+        rest = behind;
+        let Some(line) = parse_job(line) else {
+            return Err(JobFileError::NotAJob(jobs.len() as u64 + 1));
+        };
+        let job = job_of(&line, set);
+        let Ok(()) = jobs.push(job) else {
+            return Err(JobFileError::NoMemory);
+        };
+        set = add_set(alloc, &mut sets, line, set)?;
+    }
+    Ok(JobFile { jobs, sets })
+}
+
+// Puts the set of a bulk delete behind the others, of which there are so many, and answers how many there are now. Other lines
+// have none.
+fn add_set(
+    alloc: Global,
+    sets: &mut Vec<DeadList>,
+    line: JobLine<'_>,
+    count: u32,
+) -> Result<u32, JobFileError>
+    ensures count { IfOk result (λ now. now ≡ sets_with count (job_of count line.entry)) }
+    ensures sets { vec_len sets.old ≡ count → IfOk result (λ now. vec_len sets.new ≡ now) }
+{
+    match line {
+        JobLine::Bulk(rows) => push_set(alloc, sets, rows, count),
+        JobLine::Insert(_) => Ok(count),
+        JobLine::Scan(_, _) => Ok(count),
+        JobLine::Cleanup => Ok(count),
+        JobLine::Commit => Ok(count),
+        JobLine::Checkpoint => Ok(count),
+    }
+}
+
+fn push_set(
+    alloc: Global,
+    sets: &mut Vec<DeadList>,
+    rows: Rows<'_>,
+    count: u32,
+) -> Result<u32, JobFileError>
+    ensures { IfOk result (λ now. (now ≡ count + 1) × (vec_len sets.new ≡ vec_len sets.old + 1)) }
+{
+    let Ok(set) = listed(alloc, rows) else {
+        return Err(JobFileError::NoMemory);
+    };
+    let Some(now) = count.checked_add(1) else {
+        return Err(JobFileError::NoMemory);
+    };
+    if sets.push(set).is_err() {
+        return Err(JobFileError::NoMemory);
+    }
+    Ok(now)
+}
+
+// The job that a line is; a bulk delete's set has this place among the sets.
+fn job_of(line: &JobLine<'_>, set: u32) -> Job
+    ensures { result ≡ job_of set line.now }
+{
+    match line {
+        JobLine::Insert(entry) => Job::Insert(*entry),
+        JobLine::Scan(range, room) => Job::Scan {
+            range: *range,
+            room: *room,
+        },
+        JobLine::Bulk(_) => Job::Bulk(set),
+        JobLine::Cleanup => Job::Cleanup,
+        JobLine::Commit => Job::Commit,
+        JobLine::Checkpoint => Job::Checkpoint,
+    }
+}

@@ -1,0 +1,121 @@
+//! The command that runs the jobs of a file over the index in another.
+
+ghost use Rattle.std.specs.Prelude.{◌≡◌, Ok, IfOk};
+ghost use Rattle.command_line.specs.Listing.{IsDoneOrRefused};
+ghost use Rattle.command_line.specs.Running.{IsRunEnd, PrintsRun};
+
+use crate::answer::print_answer;
+use crate::dead::DeadList;
+use crate::end::End;
+use crate::job_file::{JobFile, JobFileError, read_jobs};
+use crate::receipts::print_run;
+use crate::refusal::print_no_job;
+use device::{FileDevice, Unknown};
+use index_model::Fault;
+use page_store::Store;
+use schedule::Event;
+use session_calls::Answer;
+use sessions::{Finished, NoGate, run_jobs};
+use std::alloc::Global;
+use std::fs::File;
+use std::io::{self, Read, Write};
+use std::rt::Files;
+use std::sync::Wait;
+use std::thread::Threads;
+use world::World;
+
+/// What a run is asked for.
+#[derive(Clone, Copy)]
+pub struct RunSetting<'a> {
+    /// The file of the index, and that of the jobs.
+    pub path: &'a str,
+    pub jobs: &'a str,
+    /// Threads, each with a session: 1 to 64.
+    pub workers: u32,
+    /// Pages that are held in memory: 16 to 1,024.
+    pub frames: u32,
+}
+
+/// Runs the jobs of a file: reads them, opens the index with a session for each worker, runs them, makes a checkpoint, and prints
+/// the record of each job, what each worker did, and the checkpoint's answer.
+///
+/// A line that is no job is said on `err`, and nothing is run. Refused with `Io` (2) where a file isn't there or a call of it fails;
+/// as `World::open` is; with `BadLimits` (18) for more than 65,536 jobs, or for more than 1,048,576 entries that scans may give
+/// in all; with `NoMemory` (1). A refusal of the checkpoint comes behind what is printed of the jobs.
+pub fn run<R: Files<File = File> + Threads + Wait + Sync, W: Write, E: Write>(
+    rt: &R,
+    alloc: Global,
+    asked: &RunSetting<'_>,
+    out: &mut W,
+    err: &mut E,
+) -> io::Result<End>
+    ensures ends { IfOk result IsRunEnd }
+{
+    let text = read_file(rt, alloc, asked.jobs)?;
+    match read_jobs(alloc, text.as_slice()) {
+        Ok(file) => run_file(rt, alloc, asked, file, out),
+        Err(JobFileError::NotAJob(line)) => {
+            print_no_job(err, line)?;
+            Ok(End::Said)
+        }
+        Err(JobFileError::NoMemory) => Ok(End::Refused(Fault::NoMemory)),
+    }
+}
+
+// All bytes of a file.
+fn read_file<R: Files<File = File>>(rt: &R, alloc: Global, path: &str) -> io::Result<Vec<u8>> {
+    let mut file = File::open(rt, path)?;
+    let mut text = Vec::new(alloc);
+    file.read_to_end(&mut text)?;
+    Ok(text)
+}
+
+// Runs the jobs of a file that was read.
+fn run_file<R: Files<File = File> + Threads + Wait + Sync, W: Write>(
+    rt: &R,
+    alloc: Global,
+    asked: &RunSetting<'_>,
+    file: JobFile,
+    out: &mut W,
+) -> io::Result<End>
+    ensures ends { IfOk result IsDoneOrRefused }
+    ensures printed { result ≡ Ok End.Done
+        → PrintsRun file.jobs.items (W.contents out.old) (W.contents out.new) }
+{
+    let device = match FileDevice::<Unknown>::open(rt, asked.path) {
+        Ok(device) => device,
+        Err(fault) => return Ok(End::Refused(fault)),
+    };
+    let JobFile { jobs, sets } = file;
+    let world = match World::open(alloc, device, asked.frames, asked.workers, sets) {
+        Ok(world) => world,
+        Err(not_opened) => return Ok(End::Refused(not_opened.fault)),
+    };
+    match run_jobs(rt, alloc, world, jobs.as_slice(), asked.workers, &NoGate) {
+        Ok(finished) => finish(finished, out),
+        Err(not_run) => Ok(End::Refused(not_run.fault)),
+    }
+}
+
+// Makes a checkpoint, and prints what was done.
+fn finish<W: Write>(
+    finished: Finished<Store<FileDevice<Unknown>>, DeadList>,
+    out: &mut W,
+) -> io::Result<End> {
+    let Finished {
+        mut world,
+        start: _,
+        history,
+        receipts,
+        calls,
+    } = finished;
+    let answer = world.one(Event::Checkpoint);
+    print_run(out, history.as_slice(), receipts.as_slice(), calls.as_slice())?;
+    match answer {
+        Answer::Refused(fault) => Ok(End::Refused(fault)),
+        _ => {
+            print_answer(out, &answer)?;
+            Ok(End::Done)
+        }
+    }
+}

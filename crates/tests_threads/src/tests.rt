@@ -1,0 +1,234 @@
+use crate::indexes::{InMemory, all_entries, made, opened};
+use crate::judge::{Addition, additions, are_right, are_those_added, has_each_once};
+use crate::lists::{Dice, entry, mixed, range, shuffled};
+use amcheck::check_parents;
+use device::CrashImage;
+use index_model::{Fault, Limits, RowAddr};
+use page_store::Store;
+use device::MemDevice;
+use schedule::Event;
+use session_calls::Answer;
+use sessions::{Finished, Gate, Job, NoGate, run_jobs};
+use std::process::Abort;
+use std::sync::Wait;
+use std::sync::atomic::{AtomicBool, Ordering};
+use std::test::{Fail, *};
+use std::thread::Threads;
+
+/// What a run leaves of an index in memory.
+type Done = Finished<Store<MemDevice>, crate::indexes::OfBlock>;
+
+/// Runs these jobs, and looks at all that they told. Answers what was added, too.
+fn ran<G: Gate + Sync>(
+    rt: &(impl Abort + AllocGlobal + Print + Eprint + Threads + Wait + Sync),
+    world: InMemory,
+    jobs: &[Job],
+    workers: u32,
+    gate: &G,
+) -> Result<(Done, Vec<Addition>), Fail> {
+    let start = world.actions();
+    let done = match run_jobs(rt, rt.alloc(), world, jobs, workers, gate) {
+        Ok(done) => done,
+        Err(not_run) => return Err(Fail::from(not_run.fault)),
+    };
+    assert_eq!(rt; done.start, start);
+    let once = has_each_once(
+        rt.alloc(),
+        jobs.len(),
+        done.history.as_slice(),
+        done.receipts.as_slice(),
+        done.calls.as_slice(),
+    )?;
+    assert!(rt; once);
+    assert_eq!(rt; done.calls.len(), workers as usize);
+    let added = additions(rt.alloc(), jobs, done.history.as_slice())?;
+    assert!(rt; are_right(jobs, done.history.as_slice(), added.as_slice(), start));
+    for session in 0..workers {
+        assert!(rt; !done.world.is_running(session));
+    }
+    Ok((done, added))
+}
+
+const LIMITS: Limits = Limits {
+    items: 4,
+    pages: 4_096,
+    log_bytes: 1_048_576,
+};
+
+fn is_dead(row: RowAddr) -> bool {
+    row.block() != 0
+}
+
+/// Four thousand jobs of eight workers: inserts, scans, two bulk deletes and a cleanup.
+#[test]
+fn thousands_of_jobs(rt: HostRuntime) -> Result<(), Fail> {
+    let jobs = mixed(rt.alloc(), 3_598, false, &mut Dice::new(1))?;
+    assert_eq!(rt; jobs.len(), 4_000);
+    let world = made(rt.alloc(), &LIMITS, 8)?;
+    let (done, added) = ran(&rt, world, jobs.as_slice(), 8, &NoGate)?;
+    assert_eq!(rt; done.start, 0);
+    let mut world = done.world;
+    let entries = all_entries(rt.alloc(), &mut world)?;
+    assert!(rt; are_those_added(entries.as_slice(), added.as_slice(), is_dead));
+    let mut store = world.into_store();
+    assert!(rt; check_parents(rt.alloc(), &mut store).is_ok());
+    Ok(())
+}
+
+/// What two workers meet with: each sets the flag of its job, and then looks for the other's.
+struct Meeting {
+    taken: [AtomicBool; 2],
+    met: [AtomicBool; 2],
+}
+
+impl Gate for Meeting {
+    fn taken(&self, _worker: u32, job: u32) {
+        let own = (job % 2) as usize;
+        self.taken[own].store(true, Ordering::SeqCst);
+        for _ in 0..100_000_000 {
+            if self.taken[1 - own].load(Ordering::SeqCst) {
+                self.met[own].store(true, Ordering::SeqCst);
+                return;
+            }
+        }
+    }
+}
+
+/// Two workers run beside each other: that no contract says.
+#[test]
+fn two_workers_meet(rt: HostRuntime) -> Result<(), Fail> {
+    let jobs = [Job::Insert(entry(1, 0)), Job::Insert(entry(2, 0))];
+    let world = made(rt.alloc(), &LIMITS, 2)?;
+    let gate = Meeting {
+        taken: [AtomicBool::new(false), AtomicBool::new(false)],
+        met: [AtomicBool::new(false), AtomicBool::new(false)],
+    };
+    let (_, added) = ran(&rt, world, &jobs, 2, &gate)?;
+    assert_eq!(rt; added.len(), 2);
+    for met in &gate.met {
+        assert!(rt; met.load(Ordering::SeqCst));
+    }
+    Ok(())
+}
+
+/// Eight workers that insert into one leaf wait for each other's latches, and each job is done once.
+#[test]
+fn one_leaf(rt: HostRuntime) -> Result<(), Fail> {
+    let limits = Limits {
+        items: 50,
+        pages: 8,
+        log_bytes: 65_536,
+    };
+    for seed in 0..20u64 {
+        let numbers = shuffled(rt.alloc(), 48, &mut Dice::new(seed))?;
+        let mut jobs = Vec::new(rt.alloc());
+        for number in numbers.as_slice() {
+            jobs.push(Job::Insert(entry(*number, 0)))?;
+        }
+        let world = made(rt.alloc(), &limits, 8)?;
+        let (done, added) = ran(&rt, world, jobs.as_slice(), 8, &NoGate)?;
+        assert_eq!(rt; added.len(), 48);
+        assert_eq!(rt; done.world.actions(), 48);
+    }
+    Ok(())
+}
+
+/// A scan with room for exactly what there is has finished; one with room for less is cut.
+#[test]
+fn rooms_of_scans(rt: HostRuntime) -> Result<(), Fail> {
+    let mut jobs = Vec::new(rt.alloc());
+    for number in 0..9 {
+        jobs.push(Job::Insert(entry(number, 0)))?;
+    }
+    for room in [9, 8, 1, 10] {
+        jobs.push(Job::Scan {
+            range: range(0, 100),
+            room,
+        })?;
+    }
+    let world = made(rt.alloc(), &LIMITS, 1)?;
+    let (done, _) = ran(&rt, world, jobs.as_slice(), 1, &NoGate)?;
+    let answers = [
+        (Answer::Done, 9),
+        (Answer::Ended, 8),
+        (Answer::Ended, 1),
+        (Answer::Done, 9),
+    ];
+    for (place, (answer, count)) in answers.iter().enumerate() {
+        let record = &done.history[9 + place];
+        assert!(rt; record.answer == *answer && record.given.len() == *count);
+    }
+    Ok(())
+}
+
+/// The nth device call fails under threads: whatever was acknowledged is there behind the crash that follows.
+#[test]
+fn a_device_call_fails(rt: HostRuntime) -> Result<(), Fail> {
+    let limits = Limits {
+        items: 4,
+        pages: 128,
+        log_bytes: 65_536,
+    };
+    let mut jobs = Vec::new(rt.alloc());
+    for number in 0..60 {
+        jobs.push(Job::Insert(entry(number, 0)))?;
+        if number % 3 == 2 {
+            jobs.push(Job::Commit)?;
+        }
+    }
+    let mut failed = 0u32;
+    for n in 1..80u64 {
+        let mut world = made(rt.alloc(), &limits, 4)?;
+        world.fail_at(n);
+        let (done, added) = ran(&rt, world, jobs.as_slice(), 4, &NoGate)?;
+        let mut durable = 0;
+        for record in done.history.as_slice() {
+            match &record.answer {
+                Answer::Forced(action) => durable = durable.max(*action),
+                Answer::Refused(Fault::Io) => failed += 1,
+                _ => {}
+            }
+        }
+        for image in [CrashImage::Keep, CrashImage::Drop, CrashImage::Tear] {
+            let device = done.world.crash(rt.alloc(), image)?;
+            let mut world = opened(rt.alloc(), device, 1)?;
+            let entries = all_entries(rt.alloc(), &mut world)?;
+            for one in added.as_slice() {
+                assert!(rt; one.action > durable || entries.as_slice().contains(&one.entry), "{n}");
+            }
+            assert!(rt; entries.len() <= 60);
+        }
+    }
+    assert!(rt; failed >= 20, "{failed}");
+    Ok(())
+}
+
+/// What isn't run: too many workers before a call that runs, and the world comes back as it was.
+#[test]
+fn not_run(rt: HostRuntime) -> Result<(), Fail> {
+    let jobs = [Job::Insert(entry(1, 0))];
+    let mut world = made(rt.alloc(), &LIMITS, 4)?;
+    for workers in [0, 5, 65] {
+        match run_jobs(&rt, rt.alloc(), world, &jobs, workers, &NoGate) {
+            Ok(_) => return Err(Fail::from(Fault::Exists)),
+            Err(not_run) => {
+                assert!(rt; not_run.fault == Fault::BadLimits);
+                world = not_run.world;
+            }
+        }
+    }
+    assert!(rt; world.one(Event::Insert(3, entry(2, 0))) == Answer::Begun);
+    for (workers, fault) in [(5, Fault::BadLimits), (1, Fault::SessionBusy)] {
+        match run_jobs(&rt, rt.alloc(), world, &jobs, workers, &NoGate) {
+            Ok(_) => return Err(Fail::from(Fault::Exists)),
+            Err(not_run) => {
+                assert!(rt; not_run.fault == fault);
+                world = not_run.world;
+            }
+        }
+    }
+    assert!(rt; world.abandon(3) == Answer::Ended);
+    let (done, _) = ran(&rt, world, &jobs, 4, &NoGate)?;
+    assert_eq!(rt; done.history.len(), 1);
+    Ok(())
+}
