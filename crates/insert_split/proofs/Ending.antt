@@ -39,20 +39,20 @@ notes_nothing effect acts e added (inr shape) = subst (λ (x : Option Effect). I
 
 -- the causes of a finishing step are those of an insert there
 pub finishing_cause : (st : State) (old new : Backing) (op : InsertOp) (splits : FinishOp) (fault : Fault) → op.at ≡ Finishing splits → splits.session ≡ op.session
-    → HasCause (where_finishing st old new splits.session splits.at) fault → HasCause (where_inserting st old new op.session op.entry op.at) fault
+    → HasCause (where_finishing st old new splits.session splits.target splits.at) fault → HasCause (where_inserting st old new op.session op.entry op.at) fault
 finishing_cause st old new op splits fault at_is session h =
     subst (λ (a : InsertAt). HasCause (where_inserting st old new op.session op.entry a) fault) (sym at_is)
-    (as_inserting st old new op.session op.entry (Finishing splits) (images_of st splits.at) (frames_of st splits.at) (takes_block_of st splits.at) (splits_root_of splits.at) fault refl
-    (subst (λ (s : ℕ). HasCause (where_finishing st old new s splits.at) fault) session h))
+    (as_inserting st old new op.session op.entry (Finishing splits) (images_of st splits.target splits.at) (frames_of st splits.target splits.at) (takes_block_of st splits.target splits.at) (splits_root_of st splits.target splits.at) fault refl
+    (subst (λ (s : ℕ). HasCause (where_finishing st old new s splits.target splits.at) fault) session h))
 
 -- ... and, but for a page that is blocked, once the entry is logged
 finishing_left : (st : State) (old new : Backing) (op : InsertOp) (splits : FinishOp) (fault : Fault) → op.at ≡ Finishing splits → splits.session ≡ op.session → is_blocked fault ≡ false
-    → HasCause (where_finishing st old new splits.session splits.at) fault → HasCause (where_left st old new op.session op.entry op.at) fault
+    → HasCause (where_finishing st old new splits.session splits.target splits.at) fault → HasCause (where_left st old new op.session op.entry op.at) fault
 finishing_left st old new op splits fault at_is session free h =
     subst (λ (a : InsertAt). HasCause (where_left st old new op.session op.entry a) fault) (sym at_is)
-    (by fault free (subst (λ (s : ℕ). HasCause (where_finishing st old new s splits.at) fault) session h))
+    (by fault free (subst (λ (s : ℕ). HasCause (where_finishing st old new s splits.target splits.at) fault) session h))
   where
-    by : (f : Fault) → is_blocked f ≡ false → HasCause (where_finishing st old new op.session splits.at) f → HasCause (where_left st old new op.session op.entry (Finishing splits)) f
+    by : (f : Fault) → is_blocked f ≡ false → HasCause (where_finishing st old new op.session splits.target splits.at) f → HasCause (where_left st old new op.session op.entry (Finishing splits)) f
     by (Blocked b) free h = absurd cc
     by f free h = h
 

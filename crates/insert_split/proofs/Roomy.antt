@@ -12,10 +12,10 @@ use Rattle.insert_split.proofs.Adding.{leaf_there, covers_there, roomy_is}
 
 -- no step of it takes a block, or splits the root
 pub straight_takes_none : (st : State) (op : InsertOp) → IsInOrder st → InsertFits st op → IsStraight st op.entry op.at → HasRoomFor st op.entry
-    → (takes_block_at st op.at ≡ false) × (splits_root_at op.at ≡ false)
+    → (takes_block_at st op.at ≡ false) × (splits_root_at st op.at ≡ false)
 straight_takes_none st op order fits way room = by op.at refl way
   where
-    by : (at : InsertAt) → op.at ≡ at → IsStraight st op.entry at → (takes_block_at st at ≡ false) × (splits_root_at at ≡ false)
+    by : (at : InsertAt) → op.at ≡ at → IsStraight st op.entry at → (takes_block_at st at ≡ false) × (splits_root_at st at ≡ false)
     by Start is way = (refl, refl)
     by (At on) is way = (refl, refl)
     by (Holds block) is way =

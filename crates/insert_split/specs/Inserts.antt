@@ -100,39 +100,39 @@ count_put items None = 0
 count_put items (Some page) =
     if nat_le items (length (entries_of page.items)) then count_halved page.right else 0
 
--- how many images the act of a step has, at most
+-- how many images the act of a step has
 abbrev pub images_at : State → InsertAt → ℕ
 images_at st Start = 0
 images_at st (At way) = 0
 images_at st (Holds block) = suc (count_put st.limits.items (slice_get st.pages block))
-images_at st (Finishing op) = images_of st op.at
+images_at st (Finishing op) = images_of st op.target op.at
 
 -- ... and how many frames it needs, beside that of the leaf that it has pinned
 abbrev pub frames_at : State → InsertAt → ℕ
 frames_at st Start = 1
 frames_at st (At way) = 1
 frames_at st (Holds block) = count_put st.limits.items (slice_get st.pages block)
-frames_at st (Finishing op) = frames_of st op.at
+frames_at st (Finishing op) = frames_of st op.target op.at
 
--- ... whether it may take a block: to split a full leaf, or what the finishing of a split takes
+-- ... whether it takes a block: to split a full leaf, or to finish a split
 abbrev pub takes_block_at : State → InsertAt → Bool
 takes_block_at st Start = false
 takes_block_at st (At way) = false
 takes_block_at st (Holds block) = is_full_page st.limits.items (slice_get st.pages block)
-takes_block_at st (Finishing op) = takes_block_of st op.at
+takes_block_at st (Finishing op) = takes_block_of st op.target op.at
 
--- ... and whether it may split the root: only to finish a split
-abbrev pub splits_root_at : InsertAt → Bool
-splits_root_at Start = false
-splits_root_at (At way) = false
-splits_root_at (Holds block) = false
-splits_root_at (Finishing op) = splits_root_of op.at
+-- ... and whether it is to split the root: only to finish a split
+abbrev pub splits_root_at : State → InsertAt → Bool
+splits_root_at st Start = false
+splits_root_at st (At way) = false
+splits_root_at st (Holds block) = false
+splits_root_at st (Finishing op) = splits_root_of st op.target op.at
 
 -- why a step of an insert is refused, on pages that are a tree and a device that keeps its model
 abbrev pub where_inserting : State → Backing → Backing → ℕ → Entry → InsertAt → Circumstances
 where_inserting st old new session e at =
     record (where_working st old new session (images_at st at) (frames_at st at)
-    (takes_block_at st at) (splits_root_at at)) {
+    (takes_block_at st at) (splits_root_at st at)) {
       entry_was_there = entry_on_live_leaf st.pages e;
     }
 

@@ -24,9 +24,10 @@ use Rattle.tree_shape.specs.Chains.{IsIn}
 use Rattle.tree_shape.specs.Nodes.{node_from, nodes_of, links_of}
 use Rattle.descent.specs.Shared.{any_is_reusable, is_out_of_blocks}
 use Rattle.descent.specs.Ways.{level_with, level_of, root_level}
-use Rattle.split_finish.specs.Finishes.{count_linked, count_parted, images_of, frames_of}
+use Rattle.split_finish.specs.Finishes.{count_linked, count_parted, images_of, frames_of, is_to_link, is_to_grow}
 use Rattle.split_finish.specs.declared.finish.FinishAt.{FinishAt}
 use Rattle.split_finish.specs.declared.finish.FinishAt.TheVariants.{Start as FinishStart, Down, Link, Root}
+use Rattle.split_finish.specs.declared.finish.Target.{Target}
 use Rattle.insert_split.specs.Inserts.{count_halved, count_put, images_at, frames_at, takes_block_at, splits_root_at}
 use Rattle.insert_split.specs.declared.insert.InsertAt.{InsertAt}
 use Rattle.insert_split.specs.declared.insert.InsertAt.TheVariants.{Start, At, Holding as Holds, Finishing}
@@ -214,17 +215,23 @@ linked_few items (Some page) = by (nat_le items (length (links_of page.items)))
     by true = parted_few page.right
     by false = omega arith
 
-images_few : (st : State) (at : FinishAt) → images_of st at ≤ 4
-images_few st FinishStart = omega arith
-images_few st (Down way) = omega arith
-images_few st (Link way) = linked_few st.limits.items (slice_get st.pages way.block)
-images_few st Root = omega arith
+one_or_other : (c : Bool) (n m : ℕ) → n ≤ 4 → m ≤ 4 → (if c then n else m) ≤ 4
+one_or_other true n m few other = few
+one_or_other false n m few other = other
 
-pub frames_few : (st : State) (at : FinishAt) → frames_of st at ≤ 4
-frames_few st FinishStart = omega arith
-frames_few st (Down way) = omega arith
-frames_few st (Link way) = linked_few st.limits.items (slice_get st.pages way.block)
-frames_few st Root = omega arith
+images_few : (st : State) (target : Target) (at : FinishAt) → images_of st target at ≤ 4
+images_few st target FinishStart = omega arith
+images_few st target (Down way) = omega arith
+images_few st target (Link way) =
+    one_or_other (is_to_link st target way) (count_linked st.limits.items (slice_get st.pages way.block)) 0 (linked_few st.limits.items (slice_get st.pages way.block)) (omega arith)
+images_few st target Root = one_or_other (is_to_grow st target) 3 0 (omega arith) (omega arith)
+
+pub frames_few : (st : State) (target : Target) (at : FinishAt) → frames_of st target at ≤ 4
+frames_few st target FinishStart = omega arith
+frames_few st target (Down way) = omega arith
+frames_few st target (Link way) =
+    one_or_other (is_to_link st target way) (count_linked st.limits.items (slice_get st.pages way.block)) 1 (linked_few st.limits.items (slice_get st.pages way.block)) (omega arith)
+frames_few st target Root = one_or_other (is_to_grow st target) 3 1 (omega arith) (omega arith)
 
 between_few : (left : Option ℕ) → count_between left ≤ 3
 between_few None = omega arith
@@ -266,13 +273,13 @@ pub insert_images_few : (st : State) (at : InsertAt) → images_at st at ≤ 4
 insert_images_few st Start = omega arith
 insert_images_few st (At way) = omega arith
 insert_images_few st (Holds block) = (let k = put_few st.limits.items (slice_get st.pages block) in omega (arith, k))
-insert_images_few st (Finishing op) = images_few st op.at
+insert_images_few st (Finishing op) = images_few st op.target op.at
 
 insert_frames_few : (st : State) (at : InsertAt) → frames_at st at ≤ 4
 insert_frames_few st Start = omega arith
 insert_frames_few st (At way) = omega arith
 insert_frames_few st (Holds block) = (let k = put_few st.limits.items (slice_get st.pages block) in omega (arith, k))
-insert_frames_few st (Finishing op) = frames_few st op.at
+insert_frames_few st (Finishing op) = frames_few st op.target op.at
 
 module _ {S : Type 0} (g : Ghosts S) (old : Snapshot S) (new : S) where
   -- these circumstances, where each is so, are a reason for a step of a call that was asked this
@@ -355,7 +362,7 @@ module _ {S : Type 0} (g : Ghosts S) (old : Snapshot S) (new : S) where
     session_is = false≢true;
     busy = false≢true;
     damaged = λ b. false≢true;
-    root = λ k. tall (g.state old.store).pages (leb-true 31 (root_level (g.state old.store).pages) (and_parts (splits_root_at op.at) (nat_le 31 (root_level (g.state old.store).pages)) k).1);
+    root = λ k. tall (g.state old.store).pages (leb-true 31 (root_level (g.state old.store).pages) (and_parts (splits_root_at (g.state old.store) op.at) (nat_le 31 (root_level (g.state old.store).pages)) k).1);
   }) fault h
   step_fails sets (Scan op) fault h = fails_by (where_stepped sets (Scan op) (g.state old.store) (g.backing old.store) (g.backing new)) op.session (AskScan op.range) (Scan op) (record {
     growth = false≢true;

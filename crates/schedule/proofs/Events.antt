@@ -203,6 +203,7 @@ module _ {S : Type 0} (g : Ghosts S) (start : Entry → Bool) (old : Snapshot S)
     waits = tt;
     entries = tt;
     deletes = tt;
+    frees = tt;
     spares = tt;
   })
   follows_on (MovesCall session Takes) before idle = λ steps due. due_still (g.state old.store) (g.state store) before steps (ap (λ (st : State). st.limits) same) (ap (λ (st : State). st.pages) same) due

@@ -20,3 +20,4 @@ pub mod CallLists
 pub mod Spans
 pub mod Flags
 pub mod Spent
+pub mod Numbers

@@ -12,3 +12,4 @@ pub mod Stands
 pub mod Bounds
 pub mod CallLists
 pub mod Spans
+pub mod Numbers

@@ -2,6 +2,7 @@
 
 ghost use Rattle.schedule.specs.Bounds.{WorkIsBounded};
 ghost use Rattle.schedule.specs.CallLists.{OneCallRuns, RefusedCallsFit};
+ghost use Rattle.schedule.specs.Numbers.{NumbersLeadOn};
 ghost use Rattle.schedule.specs.Spans.{LowsStay, CallsComeInTime, SplitsAreFinished, WorkIsSpent};
 ghost use Rattle.schedule.specs.Stands.{ScansStandOnLeaves, BulkDeletesWait, BegunBulkDeletesWait};
 
@@ -33,6 +34,12 @@ pub fn one_call_runs<S: PageStore>()
 /// Does nothing: its clause says that what fits a moment fits with a call more that was refused as it began.
 pub fn refused_calls_fit<S: PageStore>()
     ensures { RefusedCallsFit S.PageStore }
+{}
+
+/// Does nothing: its clause says that at each moment that fits, each page number that a running call keeps leads by right
+/// links to the page that it is kept for, past none that `fresh` may name.
+pub fn numbers_lead_on<S: PageStore>()
+    ensures { NumbersLeadOn S.PageStore }
 {}
 
 /// Does nothing: its clause says that the low of a page doesn't rise over a run in which the page isn't deleted.

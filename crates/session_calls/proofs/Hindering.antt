@@ -26,7 +26,7 @@ pub insert_hindered : (old new : State) (first second : Backing) (before after :
     → IsHindered old new (slot_after (Refused fault) (Insert after)) (suc left) fault
 insert_hindered old new first second before after left fault order fits due stays cause = by fault cause
   where
-    none : (takes_block_at old before.at ≡ false) × (splits_root_at before.at ≡ false)
+    none : (takes_block_at old before.at ≡ false) × (splits_root_at old before.at ≡ false)
     none = straight_takes_none old before order fits due.way due.room
 
     still : InsertIsDue new after (suc left)
@@ -39,7 +39,7 @@ insert_hindered old new first second before after left fault order fits due stay
     by LogFull h = tt
     by NoFrame h = tt
     by IndexFull h = absurd (not_so none.0 (and_parts (takes_block_at old before.at) (is_out_of_blocks old) h).0)
-    by TooTall h = absurd (not_so none.1 (and_parts (splits_root_at before.at) (nat_le 31 (root_level old.pages)) h).0)
+    by TooTall h = absurd (not_so none.1 (and_parts (splits_root_at old before.at) (nat_le 31 (root_level old.pages)) h).0)
     by Exists h = absurd (not_so due.absent h)
     by NoMemory h = absurd cc
     by VacuumRunning h = absurd cc

@@ -17,3 +17,4 @@ pub mod Counting
 pub mod Hindering
 pub mod RunningOn
 mod Refusing
+mod Freeing

@@ -8,7 +8,7 @@ use Rattle.page_action.specs.declared.page_store.PageStore.{Ghosts}
 use Rattle.session_calls.specs.TheoremCalls.{DeadSets}
 use Rattle.session_calls.specs.Due.{IsDueIn, CountsDown}
 use Rattle.session_calls.specs.Ops.{where_slot_stepped_any, RunsOn, IsCaused, AnswersStopped, AnswersLogged, is_last}
-use Rattle.session_calls.specs.Sessions.{SlotFits, KeepsPages, OnlyWritersAct, OnlyOwnAreFlagged, LeavesOwnFlagged, KeepsBeforePins, CountsEntries, CountsPages, SparesLeaves, LeavesLess, LeavesNoMore, AnswersStep, RefusalChangesNothing, RunsUntilLast, UnfinishedChangesNothing, TellsStats, WaitsToGive, StandsByAnswer, no_call, slot_add}
+use Rattle.session_calls.specs.Sessions.{SlotFits, KeepsPages, OnlyWritersAct, OnlyOwnAreFlagged, LeavesOwnFlagged, KeepsBeforePins, CountsEntries, CountsPages, TellsFree, SparesLeaves, LeavesLess, LeavesNoMore, AnswersStep, RefusalChangesNothing, RunsUntilLast, UnfinishedChangesNothing, TellsStats, WaitsToGive, StandsByAnswer, no_call, slot_add}
 use Rattle.session_calls.specs.declared.answer.Answer.{Answer}
 use Rattle.session_calls.specs.declared.op.Op.{Op}
 
@@ -71,5 +71,7 @@ pub record StepFollows (sets : DeadSets) (old new : State) (before after : Optio
   pub entries : CountsEntries sets old new before after answer
   -- the pages that a cleanup deletes
   pub deletes : CountsPages old new before after answer
+  -- how many deleted pages may be used again behind a bulk delete or a cleanup
+  pub frees : IsFitted old sets before → TellsFree new before answer
   -- the empty leaves that a cleanup leaves, where nobody else holds a page
   pub spares : SparesLeaves old new before after answer

@@ -1,5 +1,5 @@
 -- One session's call over the history of all actions: what stands between its events, and what an event does.
-use Rattle.std.specs.Prelude.{◌≡◌, ◌≢◌, ◌⊎◌, ℕ, suc, ◌+◌, ◌<◌, ◌≤◌, ◌&&◌, not, Bool, true, false, if◌then◌else◌, Option, Some, None, List, [], ◌∷◌, ◌++◌, length, slice_get, unwrap_or}
+use Rattle.std.specs.Prelude.{◌≡◌, ◌≢◌, ◌⊎◌, ℕ, zero, suc, ◌+◌, ◌<◌, ◌≤◌, ◌&&◌, not, Bool, true, false, if◌then◌else◌, Option, Some, None, List, [], ◌∷◌, ◌++◌, length, slice_get, unwrap_or}
 use Rattle.index_model.specs.Actions.{Effect, Add, Remove, Shape, Action, contents_after}
 use Rattle.index_model.specs.Calls.{Ask, AskInsert, AskScan, AskBulkDelete, AskCleanup, Ending, Running, Added as EndsAdded, Finished as EndsFinished, Vacuumed, GivenUp, Failed, Call, Meets}
 use Rattle.index_model.specs.Faults.{Circumstances, HasCause}
@@ -9,6 +9,7 @@ use Rattle.index_model.specs.declared.fault.Fault.{Fault}
 use Rattle.index_model.specs.declared.fault.Fault.TheVariants.{Stopped, NoSession}
 use Rattle.latch_table.specs.Holdings.{has_pin, holding_of, nothing_held}
 use Rattle.page_action.specs.Contents.{entry_on_live_leaf}
+use Rattle.page_action.specs.Reuse.{is_reusable}
 use Rattle.page_action.specs.States.{State, Backing, Continues, after_begin, after_end, after_start_cycle, after_stop_cycle}
 use Rattle.page_action.specs.declared.page_store.PageStore.{Ghosts}
 use Rattle.page_codec.specs.Edits.{entries_of}
@@ -425,6 +426,21 @@ abbrev pub TellsStats : State → Option Op → Answer → Type 0
 TellsStats st (Some (Bulk set op)) (Finished stats) = stats ≡ stats_of st op
 TellsStats st (Some (Cleanup op)) (Finished stats) = stats ≡ cleanup_stats st op
 TellsStats st before answer = Unit {0}
+
+-- how many of the first so many blocks may be used again
+abbrev pub reusable_count : State → ℕ → ℕ
+reusable_count st zero = 0
+reusable_count st (suc block) = (if is_reusable st block then 1 else 0) + reusable_count st block
+
+-- ... of those in use
+abbrev pub reusable_in : State → ℕ
+reusable_in st = reusable_count st (length st.pages)
+
+-- a bulk delete or a cleanup that has finished, and runs no more, tells how many deleted pages may be used again now
+abbrev pub TellsFree : State → Option Op → Answer → Type 0
+TellsFree st (Some (Bulk set op)) (Finished stats) = stats.pages_free ≡ reusable_in st
+TellsFree st (Some (Cleanup op)) (Finished stats) = stats.pages_free ≡ reusable_in st
+TellsFree st before answer = Unit {0}
 
 -- as many more pages are deleted behind a step of a cleanup as it has counted more, where it runs on
 abbrev pub CountsPagesOn : State → State → CleanupOp → Option Op → Type 0

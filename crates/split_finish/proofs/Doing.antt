@@ -91,13 +91,13 @@ clears old new old_backing new_backing op after Done fits does table running las
 
 -- the act is refused
 pub act_refused : {S : Type 0} (g : Ghosts S) (op : FinishOp) (old new : S) (fault : Fault) (changed : List Page) (most : ℕ) → Continues g.follows old new → g.state new ≡ g.state old
-    → 1 ≤ length changed → length changed ≤ most → ((g.backing new).honest ≡ true → (images_of (g.state old) op.at ≡ most) × (frames_of (g.state old) op.at ≡ most))
+    → 1 ≤ length changed → length changed ≤ most → ((g.backing new).honest ≡ true → (images_of (g.state old) op.target op.at ≡ most) × (frames_of (g.state old) op.target op.at ≡ most))
     → ((g.backing new).honest ≡ true → IsInOrder (g.state old) → FinishFits (g.state old) op → HasCause (where_acted (g.state old) (g.backing old) (g.backing new) changed) fault)
     → FinishActs g op op old new (Err fault)
 act_refused g op old new fault changed most steps same some few needs cause =
     acts_not g op old new fault steps same (λ honest order fits.
     let need = needs honest in
-    rw (need.0, need.1) (act_cause_of (g.state old) (g.backing old) (g.backing old) (g.backing new) op.session most (takes_block_of (g.state old) op.at) (splits_root_of op.at) changed fault (omega arith) (λ h. h) refl some few (cause honest order fits)))
+    rw (need.0, need.1) (act_cause_of (g.state old) (g.backing old) (g.backing old) (g.backing new) op.session most (takes_block_of (g.state old) op.target op.at) (splits_root_of (g.state old) op.target op.at) changed fault (omega arith) (λ h. h) refl some few (cause honest order fits)))
 
 pub popped_session : (op after : FinishOp) (step : FinishStep) → Popped op after step → after.session ≡ op.session
 popped_session op after Going popped = popped.session

@@ -19,12 +19,13 @@ use Rattle.split_finish.specs.declared.finish.FinishAt.{FinishAt}
 use Rattle.split_finish.specs.declared.finish.FinishOp.{FinishOp}
 use Rattle.split_finish.specs.declared.finish.FinishStep.{FinishStep}
 use Rattle.split_finish.specs.declared.finish.FinishStep.TheVariants.{Going, Done}
+use Rattle.split_finish.specs.declared.finish.Target.{Target}
 
 -- a step that is refused before anything is changed
 pub refuses : {S : Type 0} (g : Ghosts S) (op : FinishOp) (old new : S) (fault : Fault) → Continues g.follows old new → g.state new ≡ g.state old
     → ((g.backing old).stopped ≡ true → fault ≡ Stopped)
     → ((g.backing new).honest ≡ true → IsInOrder (g.state old) → FinishFits (g.state old) op
-    → HasCause (where_finishing (g.state old) (g.backing old) (g.backing new) op.session op.at) fault)
+    → HasCause (where_finishing (g.state old) (g.backing old) (g.backing new) op.session op.target op.at) fault)
     → FinishSteps g op op old new (Err fault)
 refuses g op old new fault steps same stops cause = record {
   steps = steps;
@@ -39,27 +40,28 @@ refuses g op old new fault steps same stops cause = record {
 }
 
 -- why a turn is refused, a step is
-pub turn_cause : (st : State) (first third : Backing) (session : ℕ) (at : FinishAt) (fault : Fault) → HasCause (where_turned st at) fault → HasCause (where_finishing st first third session at) fault
-turn_cause st first third session at TooTall h = h
-turn_cause st first third session at NoMemory h = h
-turn_cause st first third session at Io h = absurd cc
-turn_cause st first third session at Stopped h = absurd cc
-turn_cause st first third session at (Blocked b) h = absurd cc
-turn_cause st first third session at Exists h = h
-turn_cause st first third session at KeyTooLong h = h
-turn_cause st first third session at BadRow h = h
-turn_cause st first third session at IndexFull h = absurd cc
-turn_cause st first third session at LogFull h = absurd cc
-turn_cause st first third session at NoFrame h = absurd cc
-turn_cause st first third session at VacuumRunning h = h
-turn_cause st first third session at NoSession h = h
-turn_cause st first third session at SessionBusy h = h
-turn_cause st first third session at BadSuper h = h
-turn_cause st first third session at BadVersion h = h
-turn_cause st first third session at LogDamaged h = h
-turn_cause st first third session at (PageDamaged b) h = h
-turn_cause st first third session at BadLimits h = h
-turn_cause st first third session at DeviceTooSmall h = h
+pub turn_cause : (st : State) (first third : Backing) (session : ℕ) (target : Target) (at : FinishAt) (fault : Fault) → HasCause (where_turned st target at) fault
+    → HasCause (where_finishing st first third session target at) fault
+turn_cause st first third session target at TooTall h = h
+turn_cause st first third session target at NoMemory h = h
+turn_cause st first third session target at Io h = absurd cc
+turn_cause st first third session target at Stopped h = absurd cc
+turn_cause st first third session target at (Blocked b) h = absurd cc
+turn_cause st first third session target at Exists h = h
+turn_cause st first third session target at KeyTooLong h = h
+turn_cause st first third session target at BadRow h = h
+turn_cause st first third session target at IndexFull h = absurd cc
+turn_cause st first third session target at LogFull h = absurd cc
+turn_cause st first third session target at NoFrame h = absurd cc
+turn_cause st first third session target at VacuumRunning h = h
+turn_cause st first third session target at NoSession h = h
+turn_cause st first third session target at SessionBusy h = h
+turn_cause st first third session target at BadSuper h = h
+turn_cause st first third session target at BadVersion h = h
+turn_cause st first third session target at LogDamaged h = h
+turn_cause st first third session target at (PageDamaged b) h = h
+turn_cause st first third session target at BadLimits h = h
+turn_cause st first third session target at DeviceTooSmall h = h
 
 going_done : Going ≡ Done → ⊥
 going_done e = cc
@@ -113,7 +115,7 @@ turns g before after old new (Err fault) steps same session kept runs turned = r
   stopped = λ h. absurd (runs h);
   less = λ honest is. absurd cc;
   over = λ honest is. absurd cc;
-  stepped = λ honest order fits. turn_cause (g.state old) (g.backing old) (g.backing new) before.session before.at fault (turned honest order.tree fits);
+  stepped = λ honest order fits. turn_cause (g.state old) (g.backing old) (g.backing new) before.session before.target before.at fault (turned honest order.tree fits);
 }
 
 or_first : (a b c : Bool) → (a ≡ true → c ≡ true) → (a || b) ≡ true → (c || b) ≡ true
@@ -122,30 +124,30 @@ or_first false b true f h = refl
 or_first false b false f h = h
 
 -- a cause behind the readings is one from the start
-pub earlier_cause : (st : State) (first second third : Backing) (session : ℕ) (at : FinishAt) (fault : Fault)
+pub earlier_cause : (st : State) (first second third : Backing) (session : ℕ) (target : Target) (at : FinishAt) (fault : Fault)
     → first.failures ≤ second.failures → (second.stopped ≡ true → first.stopped ≡ true) → second.promised ≡ first.promised
-    → HasCause (where_finishing st second third session at) fault → HasCause (where_finishing st first third session at) fault
-earlier_cause st first second third session at Io le alive promised h =
+    → HasCause (where_finishing st second third session target at) fault → HasCause (where_finishing st first third session target at) fault
+earlier_cause st first second third session target at Io le alive promised h =
     (let k : second.failures < third.failures = ltb-true second.failures third.failures h in lt-ltb first.failures third.failures (omega arith))
-earlier_cause st first second third session at Stopped le alive promised h = or_first second.stopped (is_at_end st.acts) first.stopped alive h
-earlier_cause st first second third session at LogFull le alive promised h = subst (λ (n : ℕ). (nat_lt 0 (images_of st at) && nat_le n (images_of st at)) ≡ true) promised h
-earlier_cause st first second third session at NoFrame le alive promised h = h
-earlier_cause st first second third session at TooTall le alive promised h = h
-earlier_cause st first second third session at IndexFull le alive promised h = h
-earlier_cause st first second third session at (Blocked b) le alive promised h = h
-earlier_cause st first second third session at (PageDamaged b) le alive promised h = h
-earlier_cause st first second third session at NoMemory le alive promised h = h
-earlier_cause st first second third session at Exists le alive promised h = h
-earlier_cause st first second third session at KeyTooLong le alive promised h = h
-earlier_cause st first second third session at BadRow le alive promised h = h
-earlier_cause st first second third session at VacuumRunning le alive promised h = h
-earlier_cause st first second third session at NoSession le alive promised h = h
-earlier_cause st first second third session at SessionBusy le alive promised h = h
-earlier_cause st first second third session at BadSuper le alive promised h = h
-earlier_cause st first second third session at BadVersion le alive promised h = h
-earlier_cause st first second third session at LogDamaged le alive promised h = h
-earlier_cause st first second third session at BadLimits le alive promised h = h
-earlier_cause st first second third session at DeviceTooSmall le alive promised h = h
+earlier_cause st first second third session target at Stopped le alive promised h = or_first second.stopped (is_at_end st.acts) first.stopped alive h
+earlier_cause st first second third session target at LogFull le alive promised h = subst (λ (n : ℕ). (nat_lt 0 (images_of st target at) && nat_le n (images_of st target at)) ≡ true) promised h
+earlier_cause st first second third session target at NoFrame le alive promised h = h
+earlier_cause st first second third session target at TooTall le alive promised h = h
+earlier_cause st first second third session target at IndexFull le alive promised h = h
+earlier_cause st first second third session target at (Blocked b) le alive promised h = h
+earlier_cause st first second third session target at (PageDamaged b) le alive promised h = h
+earlier_cause st first second third session target at NoMemory le alive promised h = h
+earlier_cause st first second third session target at Exists le alive promised h = h
+earlier_cause st first second third session target at KeyTooLong le alive promised h = h
+earlier_cause st first second third session target at BadRow le alive promised h = h
+earlier_cause st first second third session target at VacuumRunning le alive promised h = h
+earlier_cause st first second third session target at NoSession le alive promised h = h
+earlier_cause st first second third session target at SessionBusy le alive promised h = h
+earlier_cause st first second third session target at BadSuper le alive promised h = h
+earlier_cause st first second third session target at BadVersion le alive promised h = h
+earlier_cause st first second third session target at LogDamaged le alive promised h = h
+earlier_cause st first second third session target at BadLimits le alive promised h = h
+earlier_cause st first second third session target at DeviceTooSmall le alive promised h = h
 
 -- what a step did behind its readings, it did from the start
 earlier_stepped : (old new : State) (first second third : Backing) (before after : FinishOp) (result : Result FinishStep Fault)
@@ -154,7 +156,7 @@ earlier_stepped : (old new : State) (first second third : Backing) (before after
 earlier_stepped old new first second third before after (Ok Going) le alive promised h = h
 earlier_stepped old new first second third before after (Ok Done) le alive promised h = h
 earlier_stepped old new first second third before after (Err fault) le alive promised h =
-    earlier_cause old first second third before.session before.at fault le alive promised h
+    earlier_cause old first second third before.session before.target before.at fault le alive promised h
 
 -- the readings before
 pub record HasRead {S : Type 0} (g : Ghosts S) (old mid : S) : Type 0 where
@@ -202,7 +204,7 @@ behind g before after old mid new result read runs acts =
 -- a step behind its readings that is refused, with nothing changed
 pub acts_not : {S : Type 0} (g : Ghosts S) (op : FinishOp) (old new : S) (fault : Fault) → Continues g.follows old new → g.state new ≡ g.state old
     → ((g.backing new).honest ≡ true → IsInOrder (g.state old) → FinishFits (g.state old) op
-    → HasCause (where_finishing (g.state old) (g.backing old) (g.backing new) op.session op.at) fault)
+    → HasCause (where_finishing (g.state old) (g.backing old) (g.backing new) op.session op.target op.at) fault)
     → FinishActs g op op old new (Err fault)
 acts_not g op old new fault steps same cause = record {
   steps = steps;
@@ -261,7 +263,7 @@ turns_behind g before after old (Err fault) session kept turned = record {
   refused = record { state = refl; op = kept };
   less = λ honest is. absurd cc;
   over = λ honest is. absurd cc;
-  stepped = λ honest order fits. turn_cause (g.state old) (g.backing old) (g.backing old) before.session before.at fault (turned honest order.tree fits);
+  stepped = λ honest order fits. turn_cause (g.state old) (g.backing old) (g.backing old) before.session before.target before.at fault (turned honest order.tree fits);
 }
 
 -- a page as it was read, after a further reading

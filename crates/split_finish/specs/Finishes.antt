@@ -1,5 +1,5 @@
 -- What a step does by which splits are finished.
-use Rattle.std.specs.Prelude.{◌≡◌, ◌⊎◌, ℕ, suc, ◌*◌, ◌<◌, ◌≤◌, nat_le, if◌then◌else◌, Bool, true, false, Option, Some, None, Result, Ok, Err, OnErr, length, slice_get}
+use Rattle.std.specs.Prelude.{◌≡◌, ◌⊎◌, ℕ, suc, ◌*◌, ◌<◌, ◌≤◌, ◌&&◌, ◌==◌, nat_lt, nat_le, if◌then◌else◌, Bool, true, false, Option, Some, None, Result, Ok, Err, OnErr, length, slice_get}
 use Rattle.index_model.specs.Actions.{Effect, Shape}
 use Rattle.index_model.specs.Faults.{Circumstances, HasCause}
 use Rattle.index_model.specs.declared.fault.Fault.{Fault}
@@ -7,15 +7,18 @@ use Rattle.index_model.specs.declared.fault.Fault.TheVariants.{Stopped}
 use Rattle.page_codec.specs.declared.page.Page.{Page}
 use Rattle.page_action.specs.States.{State, Backing, Continues}
 use Rattle.page_action.specs.declared.page_store.PageStore.{Ghosts}
-use Rattle.tree_shape.specs.Nodes.{links_of}
+use Rattle.tree_shape.specs.Nodes.{links_of, nodes_of}
 use Rattle.descent.specs.Shared.{IsInOrder, Does, IsOneStep, is_flagged, where_working}
-use Rattle.split_finish.specs.Targets.{targets_of, OnlyTargetsAreFlagged, FinishFits, finish_left, walk_length}
+use Rattle.descent.specs.Ways.{root_level}
+use Rattle.descent.specs.declared.way.Way.{Way}
+use Rattle.split_finish.specs.Targets.{targets_of, OnlyTargetsAreFlagged, FinishFits, is_as_read, is_ready, finish_left, walk_length}
 use Rattle.split_finish.specs.Turns.{splits_root_of}
 use Rattle.split_finish.specs.declared.finish.FinishAt.{FinishAt}
 use Rattle.split_finish.specs.declared.finish.FinishAt.TheVariants.{Start, Down, Link, Root}
 use Rattle.split_finish.specs.declared.finish.FinishOp.{FinishOp}
 use Rattle.split_finish.specs.declared.finish.FinishStep.{FinishStep}
 use Rattle.split_finish.specs.declared.finish.FinishStep.TheVariants.{Going, Done}
+use Rattle.split_finish.specs.declared.finish.Target.{Target}
 
 -- a step has no effect, or one on the shape of the pages
 abbrev pub OnlyShapes : Option Effect → Type 0
@@ -57,32 +60,46 @@ count_linked items None = 2
 count_linked items (Some page) =
     if nat_le items (length (links_of page.items)) then count_parted page.right else 2
 
--- how many images the act of a step has, at most
-abbrev pub images_of : State → FinishAt → ℕ
-images_of st Start = 0
-images_of st (Down way) = 0
-images_of st (Link way) = count_linked st.limits.items (slice_get st.pages way.block)
-images_of st Root = 3
+-- a step puts the target's downlink on the page of this way: the target is as its page says, and the page is ready for it
+abbrev pub is_to_link : State → Target → Way → Bool
+is_to_link st target way = is_as_read (nodes_of st.pages) target
+    && is_ready (nodes_of st.pages way.block) (suc target.level) target.separator
 
--- ... and how many frames it needs
-abbrev pub frames_of : State → FinishAt → ℕ
-frames_of st Start = 1
-frames_of st (Down way) = 1
-frames_of st (Link way) = count_linked st.limits.items (slice_get st.pages way.block)
-frames_of st Root = 3
+-- a step makes a new root over the target: that is as its page says, and on the root's level still, below the highest
+abbrev pub is_to_grow : State → Target → Bool
+is_to_grow st target = is_as_read (nodes_of st.pages) target
+    && (root_level st.pages == target.level) && nat_lt target.level 31
 
--- ... and whether it may take a block: to split a full parent, or the root
-abbrev pub takes_block_of : State → FinishAt → Bool
-takes_block_of st Start = false
-takes_block_of st (Down way) = false
-takes_block_of st (Link way) = is_full_parent st.limits.items (slice_get st.pages way.block)
-takes_block_of st Root = true
+-- how many images the act of a step has, that stands there with this newest target
+abbrev pub images_of : State → Target → FinishAt → ℕ
+images_of st target Start = 0
+images_of st target (Down way) = 0
+images_of st target (Link way) = if is_to_link st target way
+    then count_linked st.limits.items (slice_get st.pages way.block) else 0
+images_of st target Root = if is_to_grow st target then 3 else 0
 
--- why a step of a call that stands there is refused, on pages that are a tree and a device that keeps its model
-abbrev pub where_finishing : State → Backing → Backing → ℕ → FinishAt → Circumstances
-where_finishing st old new session at =
-    where_working st old new session (images_of st at) (frames_of st at) (takes_block_of st at)
-    (splits_root_of at)
+-- ... and how many frames it needs: one where it only reads
+abbrev pub frames_of : State → Target → FinishAt → ℕ
+frames_of st target Start = 1
+frames_of st target (Down way) = 1
+frames_of st target (Link way) = if is_to_link st target way
+    then count_linked st.limits.items (slice_get st.pages way.block) else 1
+frames_of st target Root = if is_to_grow st target then 3 else 1
+
+-- ... and whether it takes a block: to split a full parent, or the root
+abbrev pub takes_block_of : State → Target → FinishAt → Bool
+takes_block_of st target Start = false
+takes_block_of st target (Down way) = false
+takes_block_of st target (Link way) = is_to_link st target way
+    && is_full_parent st.limits.items (slice_get st.pages way.block)
+takes_block_of st target Root = is_to_grow st target
+
+-- why a step is refused of a call that stands there with this newest target, on pages that are a tree and a device that keeps
+-- its model
+abbrev pub where_finishing : State → Backing → Backing → ℕ → Target → FinishAt → Circumstances
+where_finishing st old new session target at =
+    where_working st old new session (images_of st target at) (frames_of st target at)
+    (takes_block_of st target at) (splits_root_of st target at)
 
 -- what a step does, by what it answers
 abbrev pub FinishStepped : State → Backing → State → Backing → FinishOp → FinishOp
@@ -91,7 +108,8 @@ FinishStepped old old_backing new new_backing before after (Ok Going) =
     FinishGoesOn old new before after
 FinishStepped old old_backing new new_backing before after (Ok Done) = FinishIsDone old new before
 FinishStepped old old_backing new new_backing before after (Err fault) =
-    HasCause (where_finishing old old_backing new_backing before.session before.at) fault
+    HasCause (where_finishing old old_backing new_backing before.session before.target before.at)
+    fault
 
 -- a refused step changes neither the pages, nor who holds what, nor the call
 pub record FinishStays (old new : State) (before after : FinishOp) : Type 0 where

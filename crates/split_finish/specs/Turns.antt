@@ -1,5 +1,5 @@
 -- Turns: what a step does that reads pages and changes nothing but the call itself.
-use Rattle.std.specs.Prelude.{◌≡◌, ℕ, suc, ◌*◌, ◌<◌, ◌≤◌, ◌&&◌, nat_le, Bool, true, false, Option, Some, None, Result, Ok, Err, [], length}
+use Rattle.std.specs.Prelude.{◌≡◌, ℕ, suc, ◌*◌, ◌<◌, ◌≤◌, ◌&&◌, ◌==◌, nat_le, Bool, true, false, Option, Some, None, Result, Ok, Err, [], length}
 use Rattle.index_model.specs.Faults.{Circumstances, HasCause}
 use Rattle.index_model.specs.declared.bound.Bound.{Bound}
 use Rattle.index_model.specs.declared.fault.Fault.{Fault}
@@ -57,24 +57,27 @@ pub record TurnIsOver (st : State) (before : FinishOp) : Type 0 where
   pub over : 34 * suc (walk_length st.limits.pages) ≤ finish_left st.limits.pages st.pages before
   pub flags : OnlyTargetsAreFlagged st (targets_of before) → (block : ℕ) → is_flagged st block ≡ false
 
--- whether a step of a call that stands there may split the root
-abbrev pub splits_root_of : FinishAt → Bool
-splits_root_of Start = false
-splits_root_of (Down way) = false
-splits_root_of (Link way) = false
-splits_root_of Root = true
+-- whether a step that stands there with this newest target is to split the root: the target is flagged still, and on the
+-- root's level
+abbrev pub splits_root_of : State → Target → FinishAt → Bool
+splits_root_of st target Start = false
+splits_root_of st target (Down way) = false
+splits_root_of st target (Link way) = false
+splits_root_of st target Root =
+    is_flagged st target.block && (root_level st.pages == target.level)
 
--- why a turn of a call that stands there is refused, in a tree: only a root on the highest level is a reason
-abbrev pub where_turned : State → FinishAt → Circumstances
-where_turned st at =
-    record nothing_wrong { root_is_at_31 = splits_root_of at && nat_le 31 (root_level st.pages) }
+-- why a turn there is refused, in a tree: only a root on the highest level is a reason
+abbrev pub where_turned : State → Target → FinishAt → Circumstances
+where_turned st target at = record nothing_wrong {
+  root_is_at_31 = splits_root_of st target at && nat_le 31 (root_level st.pages);
+}
 
 -- what a turn does, by what it answers
 abbrev pub Turned : State → FinishOp → FinishOp → Result FinishStep Fault → Type 0
 Turned st before after (Ok Going) = TurnGoesOn st before after
 Turned st before after (Ok Done) = TurnIsOver st before
 Turned st before after (Err fault) =
-    HasTree st → FinishFits st before → HasCause (where_turned st before.at) fault
+    HasTree st → FinishFits st before → HasCause (where_turned st before.target before.at) fault
 
 -- ... where it may also answer that an act is to be done
 abbrev pub TurnedOrReady : State → FinishOp → FinishOp → Result (Option FinishStep) Fault → Type 0

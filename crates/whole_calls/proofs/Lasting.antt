@@ -16,7 +16,7 @@ use Rattle.whole_calls.proofs.Given.{give_comes, end_given, scan_told, scan_then
 use Rattle.whole_calls.proofs.Gone.{far_then, gone_nowhere, silent_then}
 use Rattle.whole_calls.proofs.Refusing.{AsksToCount, cause_wider, gone_wider, asked_wider, forced_cause, next_caused, step_caused, others_before}
 use Rattle.whole_calls.proofs.Spending.{takes_fewer}
-use Rattle.whole_calls.proofs.Statistics.{finish_tells}
+use Rattle.whole_calls.proofs.Statistics.{finish_tells, finish_over}
 use Rattle.whole_calls.proofs.Tellings.{runs_in_slot, one_runs, moves_tells, kept_not_exists}
 
 module _ {S : Type 0} (g : Ghosts S) (session : ℕ) where
@@ -58,6 +58,7 @@ step_goes g start session least_room answer x y honest fits room does = record {
   fewer = takes_fewer g start session answer x y honest fits does;
   numbers = λ going. does.also.always.tells.starts (ap is_last going);
   stats = finish_tells g start session answer x y fits does;
+  over = finish_over g start session answer x y does;
 }
 
 -- behind the making of room
@@ -76,6 +77,7 @@ room_then g session least_room answer x y z first later room step = record {
   fewer = rw (room.state_is, room.slots_are) at step.fewer;
   numbers = λ going. step.numbers going ∙ ap (λ (st : State). st.running) room.state_is;
   stats = λ number call is. step.stats number call (subst (λ (cs : List Call). IsRunningCall cs session number call) (sym room.silent.calls_is) is);
+  over = step.over;
 }
 
 -- the room can't be made
@@ -93,6 +95,7 @@ held_goes g session least_room fault x y room cause = record {
   fewer = λ low going. absurd cc;
   numbers = λ going. absurd cc;
   stats = λ number call is stats finished. absurd cc;
+  over = λ stats finished. absurd cc;
 }
 
 -- a scan of which nothing is told goes on, or has its step

@@ -28,7 +28,7 @@ use Rattle.page_delete.specs.Ops.{is_counted_out as is_cleanup_full}
 use Rattle.page_delete.specs.declared.steps.CleanupOp.{CleanupOp}
 use Rattle.session_calls.specs.Sessions.{start_number, after_call, StepIsRefused, RefusalChangesNothing, UnfinishedChangesNothing}
 use Rattle.session_calls.specs.declared.op.Op.TheVariants.{Insert, Scan, Bulk, Cleanup}
-use Rattle.whole_calls.proofs.Words.{Effect, Ask, AskInsert, AskScan, AskBulkDelete, AskCleanup, Call, Circumstances, HasCause, Entry, Fault, Limits, State, Backing, IsLater, Ghosts, Page, DeadSets, acts_of, OpFits, IsCaused, once_added, where_stepped, set_at, asked_of, session_of, Told, is_busy, AnswersNext, Answer, Added, Gave, Refused, Op, Request, StoreAndSlots, Snapshot, IsRunningCall, EventDoes, Fits, here_at, slot_of, one_vacuums, MovesCall, Steps, CallMoves, MovesOn, where_moving, where_begun_at, is_of_sets, OthersStay, ends_call}
+use Rattle.whole_calls.proofs.Words.{Effect, Ask, AskInsert, AskScan, AskBulkDelete, AskCleanup, Call, Circumstances, HasCause, Entry, Fault, State, Backing, IsLater, Ghosts, Page, DeadSets, acts_of, OpFits, IsCaused, once_added, where_stepped, set_at, asked_of, session_of, Told, is_busy, AnswersNext, Answer, Added, Gave, Refused, Op, Request, StoreAndSlots, Snapshot, IsRunningCall, EventDoes, Fits, here_at, slot_of, one_vacuums, MovesCall, Steps, CallMoves, MovesOn, where_moving, where_begun_at, is_of_sets, OthersStay, ends_call}
 use Rattle.whole_calls.specs.Refusing.{others_run, another_runs, is_full_vacuum, where_gone, where_inserted, is_tall, where_asked, where_called, has_no_block}
 use Rattle.whole_calls.proofs.Blocks.{blocks_behind, blocks_same}
 use Rattle.whole_calls.proofs.Tellings.{runs_in_slot, runs_has_call, one_runs, true_false}
@@ -258,12 +258,12 @@ module _ {S : Type 0} (g : Ghosts S) (start : Entry → Bool) (session least_roo
   insert_frames of n e (Holds block) is stands h =
       pins_cause (frames_at st (Holds block)) 3 (leaf_held block) (subst (λ (s : ℕ). holding_of st.table s ≡ leaf_held block) is stands.0) (let k = put_few st.limits.items (slice_get st.pages block) in omega (arith, k)) (omega arith) h
   insert_frames of n e (Finishing op) is stands h =
-      pins_cause (frames_of st op.at) 4 nothing_held (subst (λ (s : ℕ). holding_of st.table s ≡ nothing_held) (stands.0 ∙ is) stands.1.free) few (omega arith) h
+      pins_cause (frames_of st op.target op.at) 4 nothing_held (subst (λ (s : ℕ). holding_of st.table s ≡ nothing_held) (stands.0 ∙ is) stands.1.free) few (omega arith) h
     where
-      few : frames_of st op.at + 0 ≤ 4
-      few = (let k = frames_few st op.at in omega (arith, k))
+      few : frames_of st op.target op.at + 0 ≤ 4
+      few = (let k = frames_few st op.target op.at in omega (arith, k))
 
-  inserting : (was_there used_up tall : Bool) (op : InsertOp) → op.session ≡ session → InsertFits st op → ((takes_block_at st op.at && is_out_of_blocks st) ≡ true → used_up ≡ true) → ((splits_root_at op.at && nat_le 31 (root_level st.pages)) ≡ true → tall ≡ true)
+  inserting : (was_there used_up tall : Bool) (op : InsertOp) → op.session ≡ session → InsertFits st op → ((takes_block_at st op.at && is_out_of_blocks st) ≡ true → used_up ≡ true) → ((splits_root_at st op.at && nat_le 31 (root_level st.pages)) ≡ true → tall ≡ true)
       → (fault : Fault) → HasCause (record (where_inserting st (g.backing x.store) (g.backing y.store) op.session op.entry op.at) { entry_was_there = was_there }) fault
       → HasCause (where_inserted g session least_room was_there used_up tall (here_at x) y.store) fault
   inserting was_there used_up tall op is f blocks root Stopped h = stopped_cause (g.backing x.store).stopped (has_failed (g.backing x.store) (g.backing y.store)) false h
@@ -337,12 +337,12 @@ module _ {S : Type 0} (g : Ghosts S) (start : Entry → Bool) (session least_roo
       → IsCaused (where_asked g session least_room (start_number st session) counts_full (AskInsert e) (here_at x) y.store) answer
   insert_came full e op is f (Refused fault) same c =
       any_was (entry_on_live_leaf st.pages op.entry) no_block (is_tall (g.state y.store)) fault
-      (inserting (entry_on_live_leaf st.pages op.entry) no_block (is_tall (g.state y.store)) op is f (used (takes_block_at st op.at) (blocks_behind session op st (g.state y.store) is (same fault refl).1)) (tall (splits_root_at op.at) (same fault refl).0) fault c)
+      (inserting (entry_on_live_leaf st.pages op.entry) no_block (is_tall (g.state y.store)) op is f (used (takes_block_at st op.at) (blocks_behind session op st (g.state y.store) is (same fault refl).1)) (tall (splits_root_at st op.at) (same fault refl).0) fault c)
   insert_came full e op is f (Added a None) same c = tt
   insert_came full e op is f (Added a (Some fault)) same c =
       narrower_once (where_inserting st (g.backing x.store) (g.backing y.store) op.session op.entry op.at) (where_inserted g session least_room true no_block (is_tall (g.state y.store)) (here_at x) y.store)
       (λ k h. any_was (entry_on_live_leaf st.pages op.entry) no_block (is_tall (g.state y.store)) k
-      (inserting (entry_on_live_leaf st.pages op.entry) no_block (is_tall (g.state y.store)) op is f (used (takes_block_at st op.at) (blocks_behind session op st (g.state y.store) is (same fault refl).1)) (tall (splits_root_at op.at) (same fault refl).0) k h)) fault c
+      (inserting (entry_on_live_leaf st.pages op.entry) no_block (is_tall (g.state y.store)) op is f (used (takes_block_at st op.at) (blocks_behind session op st (g.state y.store) is (same fault refl).1)) (tall (splits_root_at st op.at) (same fault refl).0) k h)) fault c
   insert_came full e op is f answer same c = tt
 
   op_came : (op : Op) → session_of op ≡ session → OpFits st op → (answer : Answer) → TellsNothing answer op → IsCaused (where_stepped x.sets op st (g.backing x.store) (g.backing y.store)) answer

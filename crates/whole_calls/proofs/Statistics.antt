@@ -3,9 +3,9 @@ use Rattle.std.proofs.Common.{◌≡◌, ℕ, zero, suc, ◌+◌, Bool, Option, 
 use Rattle.index_model.specs.declared.stats.VacuumStats.{VacuumStats}
 use Rattle.page_action.specs.Reuse.{is_deleted}
 use Rattle.vacuum.specs.Counts.{deleted_count}
-use Rattle.session_calls.specs.Sessions.{AnswersStep, TellsStats}
+use Rattle.session_calls.specs.Sessions.{AnswersStep, TellsStats, TellsFree, RunsUntilLast, reusable_in}
 use Rattle.session_calls.specs.declared.op.Op.TheVariants.{Insert, Scan, Bulk, Cleanup}
-use Rattle.whole_calls.proofs.Words.{Ask, AskInsert, AskScan, AskBulkDelete, AskCleanup, Call, Entry, State, Ghosts, Page, DeadSets, asked_of, Told, Answer, Finished, Op, Snapshot, EventDoes, Fits, slot_of, MovesCall, Steps, CallMoves, MovesOn}
+use Rattle.whole_calls.proofs.Words.{Ask, Call, Entry, State, Ghosts, Page, DeadSets, asked_of, Told, Answer, Finished, Op, Snapshot, EventDoes, Fits, slot_of, MovesCall, Steps, CallMoves, MovesOn}
 use Rattle.whole_calls.specs.Stepping.{FinishTells}
 use Rattle.whole_calls.specs.Sweeping.{TellsPages, TellsFor}
 use Rattle.whole_calls.proofs.Refusing.{quiet_pages}
@@ -17,29 +17,24 @@ deleted_on old new zero same = refl
 deleted_on old new (suc block) same =
     ap (λ (ps : List Page). (if is_deleted ps block then 1 else 0) + deleted_count new block) same ∙ ap (λ (k : ℕ). (if is_deleted old.pages block then 1 else 0) + k) (deleted_on old new block same)
 
-pages_on : (old new : State) (stats : VacuumStats) → new.pages ≡ old.pages → TellsPages old stats → TellsPages new stats
-pages_on old new stats same told = record {
-  in_use = told.in_use ∙ ap (λ (ps : List Page). length ps) (sym same);
-  deleted = told.deleted ∙ sym (deleted_on old new (length old.pages) same) ∙ ap (λ (ps : List Page). deleted_count new (length ps)) (sym same);
+pages_on : (old new : State) (stats : VacuumStats) → new.pages ≡ old.pages → stats.num_pages ≡ length old.pages → stats.pages_deleted ≡ deleted_count old (length old.pages) → stats.pages_free ≡ reusable_in new → TellsPages new stats
+pages_on old new stats same in_use deleted free = record {
+  in_use = in_use ∙ ap (λ (ps : List Page). length ps) (sym same);
+  deleted = deleted ∙ sym (deleted_on old new (length old.pages) same) ∙ ap (λ (ps : List Page). deleted_count new (length ps)) (sym same);
+  free = free;
 }
 
--- so is what is told of them
-pub tells_behind : (ask : Ask) (old new : State) (stats : VacuumStats) → new.pages ≡ old.pages → TellsFor ask old stats → TellsFor ask new stats
-tells_behind (AskInsert e) old new stats same h = h
-tells_behind (AskScan range) old new stats same h = h
-tells_behind (AskBulkDelete dead) old new stats same h = (pages_on old new stats same h.0, h.1)
-tells_behind AskCleanup old new stats same h = (pages_on old new stats same h.0, h.1)
-
--- what is told by what a session runs
-told_by : (sets : DeadSets) (st : State) (op : Op) (after : Option Op) (stats : VacuumStats) → AnswersStep (Some op) after (Finished stats) → TellsStats st (Some op) (Finished stats) → TellsFor (asked_of sets op) st stats
-told_by sets st (Insert op) after stats kind h = absurd kind
-told_by sets st (Scan op) after stats kind h = absurd kind
-told_by sets st (Bulk set op) after stats kind h = (
-  record { in_use = ap (λ (s : VacuumStats). s.num_pages) h; deleted = ap (λ (s : VacuumStats). s.pages_deleted) h },
+-- what is told behind the step, by what the session ran before it
+told_by : (sets : DeadSets) (old new : State) (op : Op) (after : Option Op) (stats : VacuumStats) → new.pages ≡ old.pages → AnswersStep (Some op) after (Finished stats) → TellsStats old (Some op) (Finished stats)
+    → TellsFree new (Some op) (Finished stats) → TellsFor (asked_of sets op) new stats
+told_by sets old new (Insert op) after stats same kind h free = absurd kind
+told_by sets old new (Scan op) after stats same kind h free = absurd kind
+told_by sets old new (Bulk set op) after stats same kind h free = (
+  pages_on old new stats same (ap (λ (s : VacuumStats). s.num_pages) h) (ap (λ (s : VacuumStats). s.pages_deleted) h) free,
   ap (λ (s : VacuumStats). s.pages_newly_deleted) h,
 )
-told_by sets st (Cleanup op) after stats kind h = (
-  record { in_use = ap (λ (s : VacuumStats). s.num_pages) h; deleted = ap (λ (s : VacuumStats). s.pages_deleted) h },
+told_by sets old new (Cleanup op) after stats same kind h free = (
+  pages_on old new stats same (ap (λ (s : VacuumStats). s.num_pages) h) (ap (λ (s : VacuumStats). s.pages_deleted) h) free,
   ap (λ (s : VacuumStats). s.tuples_removed) h,
 )
 
@@ -54,5 +49,17 @@ finish_tells g start session answer x y fits does number call is stats finished 
     let none : goes.effect ≡ None = (subst (λ (a : Answer). Told a (length x.history) goes.effect goes.call goes.after) finished goes.told).none in
     let kind = subst (λ (a : Answer). AnswersStep (Some r.0) (slot_of y.slots session) a) finished (subst (λ (o : Option Op). AnswersStep o (slot_of y.slots session) answer) slot does.also.always.answers) in
     let told = subst (λ (a : Answer). TellsStats (g.state x.store) (Some r.0) a) finished (subst (λ (o : Option Op). TellsStats (g.state x.store) o answer) slot does.also.always.tells.stats) in
-    tells_behind call.ask (g.state x.store) (g.state y.store) stats (quiet_pages g start session answer x y does goes none)
-    (subst (λ (a : Ask). TellsFor a (g.state x.store) stats) ask (told_by x.sets (g.state x.store) r.0 (slot_of y.slots session) stats kind told))
+    let free = subst (λ (a : Answer). TellsFree (g.state y.store) (Some r.0) a) finished (subst (λ (o : Option Op). TellsFree (g.state y.store) o answer) slot does.also.followed.frees) in
+    subst (λ (a : Ask). TellsFor a (g.state y.store) stats) ask
+    (told_by x.sets (g.state x.store) (g.state y.store) r.0 (slot_of y.slots session) stats (quiet_pages g start session answer x y does goes none) kind told free)
+
+finished_over : (before after : Option Op) (stats : VacuumStats) → RunsUntilLast before after (Finished stats) → after ≡ None
+finished_over before None stats h = refl
+finished_over None (Some op) stats h = absurd cc
+finished_over (Some was) (Some op) stats h = absurd cc
+
+-- ... runs nothing behind it
+pub finish_over : {S : Type 0} (g : Ghosts S) (start : Entry → Bool) (session : ℕ) (answer : Answer) (x y : Snapshot S) → EventDoes g start (MovesCall session Steps) answer x y → (stats : VacuumStats) → answer ≡ Finished stats
+    → slot_of y.slots session ≡ None
+finish_over g start session answer x y does stats finished =
+    finished_over (slot_of x.slots session) (slot_of y.slots session) stats (subst (λ (a : Answer). RunsUntilLast (slot_of x.slots session) (slot_of y.slots session) a) finished does.also.always.until_last)

@@ -2,9 +2,9 @@
 use Rattle.std.proofs.Common.{◌≡◌, ℕ, Bool, true, false, Option, Some, None, Ok, List, length, slice_get, slice_set, refl, sym, ap, subst, ◌∙◌, unwrap_or}
 use Rattle.index_model.specs.Limits.{AreLimits}
 use Rattle.index_model.specs.declared.stats.VacuumStats.{VacuumStats}
-use Rattle.session_calls.specs.Sessions.{start_number}
+use Rattle.session_calls.specs.Sessions.{start_number, after_slot}
 use Rattle.session_calls.specs.declared.request.Request.TheVariants.{Insert as ToInsert, Scan as ToScan, Bulk as ToBulk, Cleanup as ToCleanup}
-use Rattle.whole_calls.proofs.Words.{Action, Ask, Call, Entry, Ghosts, DeadSets, asked_by, IsCaused, set_at, slot_add, Answer, Finished, Request, Snapshot, IsRunningCall, Fits, here_at, slot_of, Laws}
+use Rattle.whole_calls.proofs.Words.{Action, Ask, Call, Entry, State, Ghosts, DeadSets, asked_by, IsCaused, set_at, slot_add, Answer, Finished, Op, Request, Snapshot, IsRunningCall, Fits, here_at, slot_of, Laws}
 use Rattle.whole_calls.specs.Refusing.{where_asked, is_full_vacuum}
 use Rattle.whole_calls.specs.Stepping.{Lasts, FinishGoes, BeginGoes, HasRun}
 use Rattle.whole_calls.specs.Sweeping.{Followed, of_sweep, of_cleanup, FollowsFrom, IsCountedAs, CountsThrough, TellsFor}
@@ -14,7 +14,6 @@ use Rattle.whole_calls.proofs.Filling.{bulk_fills, cleanup_fills}
 use Rattle.whole_calls.proofs.Gone.{gone_runs, same_ask, far_last}
 use Rattle.whole_calls.proofs.Lasting.{lasts_then, later_of, busier_of}
 use Rattle.whole_calls.proofs.Refusing.{AsksToCount, cause_wider, asked_wider, asked_behind}
-use Rattle.whole_calls.proofs.Statistics.{tells_behind}
 use Rattle.whole_calls.proofs.Tellings.{begun_next, begun_free, begun_runs}
 
 -- the one store's pages and log are the other's, and so are the start numbers of its calls, but for the session's
@@ -35,6 +34,7 @@ pub record RunsOut {S : Type 0} (g : Ghosts S) (session least_room : ℕ) (answe
   pub add : added ≡ slot_add (slot_of here.slots session)
   pub end : TellsEnd session here new
   pub leaves : LeavesAll g session here.store new.store
+  pub state : g.state new.store ≡ after_slot (slot_of here.slots session) (g.state here.store)
 
 -- the moments before the call, behind its beginning, behind its last step, and behind its end
 module _ {S : Type 0} (g : Ghosts S) (laws : Laws g) (start : Entry → Bool) (session least_room : ℕ) (request : Request) (answer : Answer) (added : Option ℕ) (x y w : Snapshot S)
@@ -95,7 +95,8 @@ module _ {S : Type 0} (g : Ghosts S) (laws : Laws g) (start : Entry → Bool) (s
       let then_call = noted_behind call (length y.history) far.0 in
       let then_runs = gone_runs number call far.0 y last last far.1 session runs in
       let asked : then_call.ask ≡ call.ask = same_ask call (length y.history) far.0 in
-      tells_behind (asked_by x.sets request) (g.state z.store) (g.state w.store) stats out.leaves.pages
+      let same : g.state w.store ≡ g.state z.store = out.state ∙ ap (λ (slot : Option Op). after_slot slot (g.state z.store)) (finish.step.over stats finished) in
+      subst (λ (st : State). TellsFor (asked_by x.sets request) st stats) (sym same)
       (subst (λ (a : Ask). TellsFor a (g.state z.store) stats) asked (finish.step.stats number then_call then_runs stats finished))
 
   pub has_run : AreLimits (g.state y.store).limits → HasRun g session least_room request answer added start x w

@@ -43,7 +43,8 @@ FinishTells g session answer old new =
     (number : ℕ) (call : Call) → IsRunningCall old.calls session number call → (stats : VacuumStats) → answer ≡ Finished stats → TellsFor call.ask (g.state new.store) stats
 
 -- What a step of the session's call tells, or the refusal of the room for it; why it is refused; what is counted on; that fewer steps are
--- left where it goes on, and each running call keeps its start number then; and the statistics where it finishes.
+-- left where it goes on, and each running call keeps its start number then; and the statistics where it finishes, behind which the session
+-- runs nothing.
 pub record StepGoes {S : Type 0} (g : Ghosts S) (session least_room : ℕ) (answer : Answer) (old new : Snapshot S) : Type 0 where
   pub told : TellsStep session answer old new
   pub caused : CallIsCaused g session least_room (is_full_vacuum (slot_of old.slots session)) answer old new
@@ -51,6 +52,7 @@ pub record StepGoes {S : Type 0} (g : Ghosts S) (session least_room : ℕ) (answ
   pub fewer : TakesFewer (g.state old.store) (g.state new.store) (slot_of old.slots session) (slot_of new.slots session) answer
   pub numbers : answer ≡ Going → (g.state new.store).running ≡ (g.state old.store).running
   pub stats : FinishTells g session answer old new
+  pub over : (stats : VacuumStats) → answer ≡ Finished stats → slot_of new.slots session ≡ None
 
 -- the session's call has gone on so far, and has counted on; each running call has its start number still
 pub record HasGoneTo {S : Type 0} (g : Ghosts S) (session : ℕ) (old new : Snapshot S) : Type 0 where

@@ -14,7 +14,7 @@ use Rattle.page_delete.specs.Counts.{IsCleaned, AllIsCleaned, deleted_in}
 use Rattle.page_delete.specs.Spares.{IsAlone, IsSparing, OnlyNeededStay}
 use Rattle.session_calls.specs.Ops.{set_at}
 use Rattle.session_calls.specs.TheoremCalls.{DeadSets}
-use Rattle.session_calls.specs.Sessions.{ended}
+use Rattle.session_calls.specs.Sessions.{ended, reusable_in}
 use Rattle.session_calls.specs.declared.answer.Answer.{Answer}
 use Rattle.session_calls.specs.declared.answer.Answer.TheVariants.{Going, Finished, Refused}
 use Rattle.session_calls.specs.declared.op.Op.{Op}
@@ -61,10 +61,11 @@ abbrev pub SweepTold : {S : Type 0} → ℕ → Request → Result VacuumStats F
 SweepTold session request (Ok stats) old new = IsSweptNow session request stats old new
 SweepTold session request (Err fault) old new = IsSweptSoFar session request old new
 
--- the statistics tell how many pages are in use, and how many of them are deleted
+-- the statistics tell how many pages are in use, how many of them are deleted, and how many of these may be used again
 pub record TellsPages (st : State) (stats : VacuumStats) : Type 0 where
   pub in_use : stats.num_pages ≡ length st.pages
   pub deleted : stats.pages_deleted ≡ deleted_count st (length st.pages)
+  pub free : stats.pages_free ≡ reusable_in st
 
 -- ... and that a bulk delete has deleted no page, and a cleanup removed no entry
 abbrev pub TellsFor : Ask → State → VacuumStats → Type 0

@@ -11,6 +11,7 @@ use Rattle.session_calls.specs.Sessions.{LeavesOwnFlagged, StandsByAnswer, Keeps
 use Rattle.session_calls.proofs.Counting.{flagged_on, counts_over}
 use Rattle.session_calls.proofs.Deleting.{tells_over, deletes_over, spares_over}
 use Rattle.session_calls.proofs.Effects.{go_pages}
+use Rattle.session_calls.proofs.Freeing.{frees_over, tells_no_more}
 use Rattle.session_calls.proofs.Scanning.{stands_over}
 use Rattle.session_calls.proofs.moves.step.Goals as goal
 
@@ -58,6 +59,8 @@ returns-then-is_last-clause-follows g c honest =
           (tells_over sets (is_sweep after) (session_of after) old mid (Some c.in-Some.op) _ c.step-answer.result (c.step-answer.ensures.entries model));
       deletes = subst (λ (st : State). CountsPages old st (Some c.in-Some.op) None c.step-answer.result) (sym c.let_go.ensures.state)
           (deletes_over (is_sweep after) (session_of after) old mid (Some c.in-Some.op) _ c.step-answer.result (c.step-answer.ensures.deletes model));
+      frees = λ fitted. frees_over (is_sweep after) (session_of after) old mid new after c.let_go.ensures.state c.in-Some.op c.step-answer.result c.step-answer.ensures.all.session
+          c.step-answer.ensures.all.stats (c.step-answer.ensures.goes model fitted.start fitted.history fitted.number fitted.call fitted.fits);
       spares = subst (λ (st : State). SparesLeaves old st (Some c.in-Some.op) None c.step-answer.result) (sym c.let_go.ensures.state)
           (spares_over (is_sweep after) (session_of after) old mid (Some c.in-Some.op) _ c.step-answer.result (c.step-answer.ensures.spares model));
     })
@@ -80,5 +83,6 @@ returns-else-is_last-clause-follows g c honest =
       waits = subst (λ (b : Bool). KeepsBeforePins old (Some c.in-Some.op) (if b then None else Some after) c.step-answer.result) on (c.step-answer.ensures.pins honest);
       entries = subst (λ (b : Bool). CountsEntries sets old new (Some c.in-Some.op) (if b then None else Some after) c.step-answer.result) on (c.step-answer.ensures.entries honest);
       deletes = subst (λ (b : Bool). CountsPages old new (Some c.in-Some.op) (if b then None else Some after) c.step-answer.result) on (c.step-answer.ensures.deletes honest);
+      frees = λ fitted. tells_no_more new (Some c.in-Some.op) c.step-answer.result on;
       spares = subst (λ (b : Bool). SparesLeaves old new (Some c.in-Some.op) (if b then None else Some after) c.step-answer.result) on (c.step-answer.ensures.spares honest);
     })

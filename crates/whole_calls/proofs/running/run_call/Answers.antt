@@ -44,6 +44,7 @@ returns-clause-goes g c =
         counted = given_up_counted (slot_of c.finish-answer.new.calls.slots.items session) (g.S.PageStore.state c.finish-answer.new.store) (g.S.PageStore.state c.give_up.new.store) end.state;
         numbers = given_up_numbers g.S.PageStore start session (snapshot_of here k kc) (g.S.PageStore.state c.give_up.new.store) fy end.state;
       };
+      state = end.state;
     }) c.finish-answer.ensures.goes end.goes in
     joined g.S.PageStore laws session (λ s. BeginGoes g.S.PageStore session request (Ok tt)) (RunsOut g.S.PageStore session least answer added) (RunGoes g.S.PageStore session least request answer added) (Some Begun) (Some answer) (Some answer) old begun there
     c.begin.ensures.steps (λ f h. end.steps f (c.finish-answer.ensures.steps f h)) (to_second (Some Begun) (Some answer))

@@ -1,6 +1,7 @@
-use Rattle.std.proofs.Common.{◌≡◌, ◌≤◌, length, ap, subst, arith}
+use Rattle.std.proofs.Common.{◌≡◌, ◌≤◌, length, ap, subst, ◌∙◌, arith}
 use Rattle.page_action.specs.States.{State, IsLater}
 use Rattle.split_finish.specs.Finishes.{images_of, frames_of}
+use Rattle.split_finish.proofs.Needs.{root_takes}
 use Rattle.split_finish.proofs.Doing.{acts_done, act_refused, popped_session}
 use Rattle.split_finish.proofs.Growing.{grows, may_grow_all}
 use Rattle.split_finish.proofs.finish.FinishOp.act_on_root.Goals as goal
@@ -27,7 +28,9 @@ returns-in-Err-clause-all g c =
     g.met.S.PageStore.laws.follows_later _ _ (c.act_on.ensures.steps _ (g.met.S.PageStore.laws.follows_same _)) in
     act_refused g.S.PageStore op c.args.store.now c.act_on.new.store c.in-Err.fault c.grown-pages.result 3 c.act_on.ensures.steps c.in-Err.ensures.refused
     (let k : length c.grown-pages.result ≡ 3 = ap length c.grown-pages.ensures.pages_are in omega arith) (let k : length c.grown-pages.result ≡ 3 = ap length c.grown-pages.ensures.pages_are in omega arith)
-    (λ honest. (ap (images_of st) c.requires.meets.at, ap (frames_of st) c.requires.meets.at))
+    (λ honest.
+    let need = root_takes st op c.args.meta c.args.page (c.requires.meets.read_meta.found (later.honest honest)) (c.requires.meets.read.found (later.honest honest)) c.requires.meets.ready in
+    (ap (images_of st op.target) c.requires.meets.at ∙ need.0, ap (frames_of st op.target) c.requires.meets.at ∙ need.1))
     (λ honest order fits. c.in-Err.ensures.cause (may_grow_all st op (g.S.PageStore.backing c.args.store.now).honest c.args.meta c.args.page c.args.new c.args.fresh c.grown-pages.result order fits (later.honest honest)
     c.requires.meets.read_meta c.requires.meets.read c.requires.meets.ready c.requires.right c.requires.fresh c.requires.block c.requires.free
     (g.met.S.PageStore.laws.few c.args.store.now)

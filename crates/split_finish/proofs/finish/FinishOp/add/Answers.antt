@@ -27,7 +27,7 @@ returns-in-Err-clause-all g c =
     act_refused g.S.PageStore op c.args.store.now c.act_on.new.store c.in-Err.fault c.linked-pages.result 2 c.act_on.ensures.steps c.in-Err.ensures.refused
     (let k : length c.linked-pages.result ≡ 2 = ap length c.linked-pages.ensures.pages_are in omega arith) (let k : length c.linked-pages.result ≡ 2 = ap length c.linked-pages.ensures.pages_are in omega arith)
     (λ honest.
-    let need = roomy_link st c.requires.meets.way c.args.parent (c.requires.meets.read_parent.found (later.honest honest)) c.requires.room in
-    (ap (images_of st) c.requires.meets.at ∙ need.0, ap (frames_of st) c.requires.meets.at ∙ need.1))
+    let need = roomy_link st op c.requires.meets.way c.args.page c.args.parent (c.requires.meets.read.found (later.honest honest)) (c.requires.meets.read_parent.found (later.honest honest)) c.requires.meets.ready c.requires.room in
+    (ap (images_of st op.target) c.requires.meets.at ∙ need.0, ap (frames_of st op.target) c.requires.meets.at ∙ need.1))
     (λ honest order fits. c.in-Err.ensures.cause (may_link_all st op (g.S.PageStore.backing c.args.store.now).honest c.requires.meets.way c.args.page c.args.parent c.args.new c.linked-pages.result order fits (later.honest honest)
     c.requires.meets.at c.requires.meets.read c.requires.meets.read_parent c.requires.meets.ready c.requires.right (g.met.S.PageStore.laws.few c.args.store.now) c.requires.room c.linked-pages.ensures))

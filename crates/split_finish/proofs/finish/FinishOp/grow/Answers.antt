@@ -1,8 +1,8 @@
-use Rattle.std.proofs.Common.{true, sym, subst, ◌∙◌, arith}
-use Rattle.index_model.specs.Faults.{HasCause}
+use Rattle.std.proofs.Common.{true, sym, ◌∙◌}
 use Rattle.page_action.specs.States.{IsLater}
-use Rattle.split_finish.specs.Finishes.{where_finishing}
-use Rattle.split_finish.specs.declared.finish.FinishAt.{FinishAt}
+use Rattle.split_finish.specs.Finishes.{images_of, frames_of, takes_block_of}
+use Rattle.split_finish.specs.Turns.{splits_root_of}
+use Rattle.split_finish.proofs.Needs.{needs_frame}
 use Rattle.split_finish.proofs.Standing.{place_inside, meta_inside, has_room}
 use Rattle.split_finish.proofs.Stepping.{refuses, behind}
 use Rattle.split_finish.proofs.finish.FinishOp.grow.Goals as goal
@@ -29,6 +29,6 @@ returns-in-Err-clause-all g c =
     refuses g.S.PageStore op c.args.store.now c.look_at_both.new.store c.in-Err.fault c.look_at_both.ensures.steps c.look_at_both.ensures.state
     (λ h. (let k = sym c.in-Err.is ∙ c.look_at_both.ensures.stopped h in cc))
     (λ honest order fits.
-    subst (λ (a : FinishAt). HasCause (where_finishing st (g.S.PageStore.backing c.args.store.now) (g.S.PageStore.backing c.look_at_both.new.store) op.session a) c.in-Err.fault) (sym c.requires)
-    (c.in-Err.ensures.cause honest (has_room st op fits) (meta_inside st order.tree)
-    (place_inside st fits.start op.target.level _ true op.target.block order.tree fits.newest.place) 3 3 true true (omega arith)))
+    c.in-Err.ensures.cause honest (has_room st op fits) (meta_inside st order.tree)
+    (place_inside st fits.start op.target.level _ true op.target.block order.tree fits.newest.place)
+    (images_of st op.target op.at) (frames_of st op.target op.at) (takes_block_of st op.target op.at) (splits_root_of st op.target op.at) (needs_frame st op.target op.at))

@@ -1,11 +1,9 @@
-use Rattle.std.proofs.Common.{true, false, sym, subst, ◌∙◌}
-use Rattle.index_model.specs.Faults.{HasCause}
+use Rattle.std.proofs.Common.{true, sym, subst, ◌∙◌}
 use Rattle.page_action.specs.States.{IsLater}
 use Rattle.split_finish.specs.Targets.{FinishStands}
-use Rattle.split_finish.specs.Finishes.{images_of, frames_of, takes_block_of, where_finishing}
-use Rattle.split_finish.specs.declared.finish.FinishAt.{FinishAt}
-use Rattle.split_finish.specs.declared.finish.FinishAt.TheVariants.{Link}
-use Rattle.split_finish.proofs.Needs.{link_some}
+use Rattle.split_finish.specs.Finishes.{images_of, frames_of, takes_block_of}
+use Rattle.split_finish.specs.Turns.{splits_root_of}
+use Rattle.split_finish.proofs.Needs.{needs_frame}
 use Rattle.split_finish.proofs.Standing.{place_inside, has_room}
 use Rattle.split_finish.proofs.Stepping.{refuses, behind}
 use Rattle.split_finish.proofs.finish.FinishOp.link.Goals as goal
@@ -33,6 +31,6 @@ returns-in-Err-clause-all g c =
     (λ h. (let k = sym c.in-Err.is ∙ c.look_at_both.ensures.stopped h in cc))
     (λ honest order fits.
     let stands = subst (FinishStands st fits.start op.target) c.requires fits.stands in
-    subst (λ (a : FinishAt). HasCause (where_finishing st (g.S.PageStore.backing c.args.store.now) (g.S.PageStore.backing c.look_at_both.new.store) op.session a) c.in-Err.fault) (sym c.requires)
-    (c.in-Err.ensures.cause honest (has_room st op fits) (place_inside st fits.start op.target.level _ true op.target.block order.tree fits.newest.place)
-    (place_inside st fits.start c.args.way.level _ true c.args.way.block order.tree stands.1.place) (images_of st (Link c.args.way)) (frames_of st (Link c.args.way)) (takes_block_of st (Link c.args.way)) false (link_some st c.args.way)))
+    c.in-Err.ensures.cause honest (has_room st op fits) (place_inside st fits.start op.target.level _ true op.target.block order.tree fits.newest.place)
+    (place_inside st fits.start c.args.way.level _ true c.args.way.block order.tree stands.1.place)
+    (images_of st op.target op.at) (frames_of st op.target op.at) (takes_block_of st op.target op.at) (splits_root_of st op.target op.at) (needs_frame st op.target op.at))

@@ -1,7 +1,10 @@
-use Rattle.std.proofs.Common.{true, sym, subst}
+use Rattle.std.proofs.Common.{◌≡◌, Bool, true, sym, ap, subst, ◌∙◌}
 use Rattle.index_model.specs.Faults.{HasCause}
-use Rattle.split_finish.specs.Finishes.{where_finishing}
-use Rattle.split_finish.specs.declared.finish.FinishAt.{FinishAt}
+use Rattle.page_action.specs.States.{Backing}
+use Rattle.descent.specs.Shared.{where_working}
+use Rattle.split_finish.specs.Finishes.{images_of, frames_of, takes_block_of}
+use Rattle.split_finish.specs.Turns.{splits_root_of}
+use Rattle.split_finish.proofs.Needs.{to_grow}
 use Rattle.split_finish.proofs.Standing.{has_room}
 use Rattle.split_finish.proofs.Stepping.{acts_not}
 use Rattle.split_finish.proofs.finish.FinishOp.put_root.Goals as goal
@@ -12,5 +15,10 @@ returns-in-Err-clause-all g c =
     (λ honest order fits.
     let op = c.args.self.now in
     let st = g.S.PageStore.state c.args.store.now in
-    subst (λ (a : FinishAt). HasCause (where_finishing st (g.S.PageStore.backing c.args.store.now) (g.S.PageStore.backing c.take_block.new.store) op.session a) c.in-Err.fault) (sym c.requires.meets.at)
-    (c.in-Err.ensures.cause (has_room st op fits) 3 3 true))
+    let first = g.S.PageStore.backing c.args.store.now in
+    let third = g.S.PageStore.backing c.take_block.new.store in
+    let sound = subst (λ (b : Backing). b.honest ≡ true) c.take_block.ensures.backing honest in
+    let grows = to_grow st op c.args.meta c.args.page (c.requires.meets.read_meta.found sound) (c.requires.meets.read.found sound) c.requires.meets.ready in
+    let takes : takes_block_of st op.target op.at ≡ true = ap (takes_block_of st op.target) c.requires.meets.at ∙ grows in
+    subst (λ (b : Bool). HasCause (where_working st first third op.session (images_of st op.target op.at) (frames_of st op.target op.at) b (splits_root_of st op.target op.at)) c.in-Err.fault) (sym takes)
+    (c.in-Err.ensures.cause (has_room st op fits) (images_of st op.target op.at) (frames_of st op.target op.at) (splits_root_of st op.target op.at)))

@@ -27,5 +27,5 @@ returns-in-Err-clause-all g c =
     (λ h. (let k = sym c.in-Err.is ∙ c.look.ensures.stopped h in cc))
     (λ honest order fits.
     let on = subst (FinishStands st fits.start op.target) c.requires fits.stands in
-    subst (λ (a : FinishAt). HasCause (where_finishing st (g.S.PageStore.backing c.args.store.now) (g.S.PageStore.backing c.look.new.store) op.session a) c.in-Err.fault) (sym c.requires)
+    subst (λ (a : FinishAt). HasCause (where_finishing st (g.S.PageStore.backing c.args.store.now) (g.S.PageStore.backing c.look.new.store) op.session op.target a) c.in-Err.fault) (sym c.requires)
     (c.in-Err.ensures.works honest (has_room st op fits) (place_inside st fits.start c.args.way.level _ true c.args.way.block order.tree on.place) 0 1 false false (omega arith)))

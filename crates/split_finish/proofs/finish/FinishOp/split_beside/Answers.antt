@@ -29,10 +29,11 @@ returns-in-Err-clause-all g c =
     let way = c.requires.meets.way in
     acts_not g.S.PageStore op c.args.store.now c.take_block.new.store c.in-Err.fault c.take_block.ensures.steps c.take_block.ensures.state
     (λ honest order fits.
-    subst (λ (a : FinishAt). HasCause (where_finishing st (g.S.PageStore.backing c.args.store.now) (g.S.PageStore.backing c.take_block.new.store) op.session a) c.in-Err.fault) (sym c.requires.meets.at)
-    (subst (λ (b : Bool). HasCause (where_working st (g.S.PageStore.backing c.args.store.now) (g.S.PageStore.backing c.take_block.new.store) op.session (images_of st (Link way)) (frames_of st (Link way)) b false) c.in-Err.fault)
-    (sym (full_link st way c.args.parent (c.requires.meets.read_parent.found (subst (λ (b : Backing). b.honest ≡ true) c.take_block.ensures.backing honest)) c.requires.no_room).2)
-    (c.in-Err.ensures.cause (has_room st op fits) (images_of st (Link way)) (frames_of st (Link way)) false)))
+    subst (λ (a : FinishAt). HasCause (where_finishing st (g.S.PageStore.backing c.args.store.now) (g.S.PageStore.backing c.take_block.new.store) op.session op.target a) c.in-Err.fault) (sym c.requires.meets.at)
+    (subst (λ (b : Bool). HasCause (where_working st (g.S.PageStore.backing c.args.store.now) (g.S.PageStore.backing c.take_block.new.store) op.session (images_of st op.target (Link way)) (frames_of st op.target (Link way)) b false) c.in-Err.fault)
+    (let sound = subst (λ (b : Backing). b.honest ≡ true) c.take_block.ensures.backing honest in
+    sym (full_link st op way c.args.page c.args.parent (c.requires.meets.read.found sound) (c.requires.meets.read_parent.found sound) c.requires.meets.ready c.requires.no_room).2)
+    (c.in-Err.ensures.cause (has_room st op fits) (images_of st op.target (Link way)) (frames_of st op.target (Link way)) false)))
 
 pub split_links-half-requires-clause-block : goal.split_links-half-requires-clause-block
 split_links-half-requires-clause-block g c = c.in-Ok.ensures.block c.requires.some
@@ -109,8 +110,8 @@ returns-in-Err-act_on_halves-clause-all g c =
     subst (λ (b : Backing). HasCause (where_acted st b third (halves_and left half c.args.right clear)) c.in-Err-act_on_halves.fault) c.take_block.ensures.backing
     (subst (λ (s : State). HasCause (where_acted s (g.S.PageStore.backing c.take_block.new.store) third (halves_and left half c.args.right clear)) c.in-Err-act_on_halves.fault) same
     (c.in-Err-act_on_halves.ensures.cause (subst (λ (s : State). AreActable s.limits (length s.pages) (halves_and left half c.args.right clear)) (sym same) may))) in
-    let need = full_link st c.requires.meets.way c.args.parent (c.requires.meets.read_parent.found (later.honest honest)) c.requires.no_room in
+    let need = full_link st op c.requires.meets.way c.args.page c.args.parent (c.requires.meets.read.found (later.honest honest)) (c.requires.meets.read_parent.found (later.honest honest)) c.requires.meets.ready c.requires.no_room in
     let count : length (halves_and left half c.args.right clear) ≡ count_parted c.args.parent.right = parted_count st op.session left half clear c.args.parent.right c.args.right c.requires.beside in
-    subst (λ (a : FinishAt). HasCause (where_finishing st first third op.session a) c.in-Err-act_on_halves.fault) (sym c.requires.meets.at)
-    (rw (need.0, need.2) (act_cause_of st first first third op.session (count_parted c.args.parent.right) true false (halves_and left half c.args.right clear) c.in-Err-act_on_halves.fault (omega arith) (λ h. h) refl
+    subst (λ (a : FinishAt). HasCause (where_finishing st first third op.session op.target a) c.in-Err-act_on_halves.fault) (sym c.requires.meets.at)
+    (rw (need.0, need.1, need.2) (act_cause_of st first first third op.session (count_parted c.args.parent.right) true false (halves_and left half c.args.right clear) c.in-Err-act_on_halves.fault (omega arith) (λ h. h) refl
     (omega arith) (omega (arith, count)) why)))

@@ -1,10 +1,7 @@
-use Rattle.std.proofs.Common.{false, sym, subst}
-use Rattle.index_model.specs.Faults.{HasCause}
 use Rattle.page_action.specs.States.{State, IsLater}
-use Rattle.split_finish.specs.Finishes.{images_of, frames_of, takes_block_of, where_finishing}
-use Rattle.split_finish.specs.declared.finish.FinishAt.{FinishAt}
-use Rattle.split_finish.specs.declared.finish.FinishAt.TheVariants.{Link}
-use Rattle.split_finish.proofs.Needs.{link_some}
+use Rattle.split_finish.specs.Finishes.{images_of, frames_of, takes_block_of}
+use Rattle.split_finish.specs.Turns.{splits_root_of}
+use Rattle.split_finish.proofs.Needs.{needs_frame}
 use Rattle.split_finish.proofs.Parting.{beside_parent}
 use Rattle.split_finish.proofs.Standing.{has_room}
 use Rattle.split_finish.proofs.Stepping.{acts_not, behind_more, still_meets}
@@ -37,5 +34,5 @@ returns-in-Err-clause-all g c =
     acts_not g.S.PageStore op c.args.store.now c.read_right.new.store c.in-Err.fault c.read_right.ensures.steps c.read_right.ensures.state
     (λ honest order fits.
     let beside = beside_parent st op.session (g.S.PageStore.backing c.args.store.now).honest op c.requires.meets.way c.args.page c.args.parent order fits c.requires.meets.at (later.honest honest) c.requires.meets.read c.requires.meets.read_parent c.requires.meets.ready in
-    subst (λ (a : FinishAt). HasCause (where_finishing st (g.S.PageStore.backing c.args.store.now) (g.S.PageStore.backing c.read_right.new.store) op.session a) c.in-Err.fault) (sym c.requires.meets.at)
-    (c.in-Err.ensures.cause honest (has_room st op fits) beside.mendable (images_of st (Link c.requires.meets.way)) (frames_of st (Link c.requires.meets.way)) (takes_block_of st (Link c.requires.meets.way)) false (link_some st c.requires.meets.way)))
+    c.in-Err.ensures.cause honest (has_room st op fits) beside.mendable
+    (images_of st op.target op.at) (frames_of st op.target op.at) (takes_block_of st op.target op.at) (splits_root_of st op.target op.at) (needs_frame st op.target op.at))

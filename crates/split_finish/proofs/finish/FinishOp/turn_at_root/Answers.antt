@@ -1,14 +1,22 @@
-use Rattle.std.proofs.Common.{◌≡◌, ◌==◌, ℕ, true, false, not, inl, inr, Bool, nat_eq, eq-eqb, Option, Some, refl, sym, ap, subst, ◌∙◌, arith}
+use Rattle.std.proofs.Common.{◌≡◌, ◌≤◌, ◌&&◌, ◌==◌, ℕ, true, false, not, inl, inr, Bool, nat_eq, nat_le, eq-eqb, Option, Some, refl, sym, ap, subst, ◌∙◌, arith}
+use Rattle.std.proofs.lemmas.Bool.{and_from, le-leb}
 use Rattle.std.proofs.lemmas.Bool.Decides.{eqb_tells}
 use Rattle.std.specs.Option.{option_eq}
+use Rattle.page_codec.specs.declared.page.Items.TheVariants.{Meta}
+use Rattle.page_codec.specs.declared.page.Page.{Page}
 use Rattle.page_action.proofs.StoredPages.{stored_page}
 use Rattle.tree_shape.specs.Walks.{bound_aim}
 use Rattle.tree_acts.specs.Acts.{IsUnfinished}
 use Rattle.tree_acts.proofs.Telling.{root_tells}
 use Rattle.tree_shape.specs.Nodes.{Node, nodes_of}
 use Rattle.tree_acts.proofs.Overlays.{node_there}
+use Rattle.descent.specs.Shared.{is_flagged}
+use Rattle.descent.specs.Ways.{root_level}
+use Rattle.split_finish.specs.Turns.{splits_root_of}
+use Rattle.split_finish.specs.declared.finish.FinishAt.{FinishAt}
 use Rattle.split_finish.specs.declared.finish.FinishAt.TheVariants.{Start, Root}
 use Rattle.split_finish.proofs.Counting.{less_again}
+use Rattle.split_finish.proofs.Needs.{level_is}
 use Rattle.split_finish.proofs.Standing.{live_level, flagged_in, to_finish}
 use Rattle.split_finish.proofs.Turning.{turn_moved, turn_popped, turn_retaken}
 use Rattle.split_finish.proofs.finish.FinishOp.turn_at_root.Goals as goal
@@ -47,6 +55,18 @@ returns-then-ne-clause-turn c = λ st there found h fits.
       | then-ne-via-else-ne+then-page-self w ↦ absurd (w.if-page-self.true (live_level st fits.start c.args.self.now.target.level _ true c.args.self.now.target.block c.args.page.now h fits.newest.place found
           (flagged_in st c.args.self.now.target.block c.args.page.now h found c.if-not-page.false).1))
     ]
+
+pub returns-then-self-ge31-clause-turn : goal.returns-then-self-ge31-clause-turn
+returns-then-self-ge31-clause-turn c = λ st there found h fits.
+    let op = c.args.self.now in
+    let meta : Page = c.args.meta.now in
+    let same : h.tree.meta ≡ meta = (let k : Some h.tree.meta ≡ Some meta = sym h.tree.meta_at ∙ there in cc) in
+    let level : root_level st.pages ≡ op.target.level = level_is st meta there (subst (λ (p : Page). p.items ≡ Meta) same h.tree.names_root.kind) ∙ c.if-meta-self.false in
+    subst (λ (a : FinishAt). (splits_root_of st op.target a && nat_le 31 (root_level st.pages)) ≡ true) (sym c.requires)
+    (and_from (is_flagged st op.target.block && (root_level st.pages == op.target.level)) (nat_le 31 (root_level st.pages))
+    (and_from (is_flagged st op.target.block) (root_level st.pages == op.target.level)
+    (ap (λ (n : Node). n.split) (node_there st.pages op.target.block c.args.page.now found) ∙ c.if-not-page.false) (eq-eqb (root_level st.pages) op.target.level level))
+    (le-leb 31 (root_level st.pages) (subst (λ (n : ℕ). 31 ≤ n) (sym level) c.if-self-ge31.true)))
 
 pub returns-in_default-high-clause-turn : goal.returns-in_default-high-clause-turn
 returns-in_default-high-clause-turn c = λ st there found h fits.
