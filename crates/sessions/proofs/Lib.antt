@@ -1,4 +1,5 @@
 pub mod Noting
+pub mod Handing
 pub mod Keeping
 pub mod Telling
 pub mod Happening
@@ -6,3 +7,7 @@ pub mod Stepping
 pub mod Asking
 pub mod Turning
 pub mod Beginning
+pub mod Ending
+pub mod Hiring
+pub mod Receipting
+pub mod Finishing

@@ -1,5 +1,5 @@
 -- What the keeper's view has of the records and of the calls that run.
-use Rattle.std.proofs.Common.{◌≡◌, ◌≢◌, ℕ, zero, suc, ◌<◌, ◌&&◌, not, Bool, true, false, unwrap_or, List, [], ◌∷◌, ◌++◌, length, Option, Some, None, slice_get, slice_set, refl, sym, ap, ◌∙◌, subst, ⊎_elim, arith}
+use Rattle.std.proofs.Common.{◌≡◌, ◌≢◌, ℕ, zero, suc, ◌<◌, ◌&&◌, not, Bool, true, false, unwrap_or, List, [], ◌∷◌, ◌++◌, length, Option, Some, None, slice_get, slice_set, refl, sym, ap, ◌∙◌, subst, ⊎_elim, arith, length-set}
 use mathlib.Core.Logic.{∥∥₁_elim}
 use Rattle.session_calls.specs.Ops.{is_last}
 use Rattle.session_calls.specs.Sessions.{RunsUntilLast, is_busy}
@@ -15,7 +15,8 @@ use Rattle.sessions.specs.declared.record.Record.{Record}
 use Rattle.sessions.specs.declared.record.Pending.{Pending}
 use Rattle.sessions.specs.Kept.{Matches}
 use Rattle.sessions.specs.Notes.{note_of, notes_of, job_of, jobs_of}
-use Rattle.worker_seats.proofs.Rows.{set_cases}
+use Rattle.worker_seats.proofs.Queueing.{nat_cases}
+use Rattle.worker_seats.proofs.Rows.{get_within, set_cases}
 
 pub none_there : (pending : List (Option Pending)) (s : ℕ) → slice_get (jobs_of pending) s ≡ Some None → slice_get pending s ≡ Some None
 none_there [] s e = absurd cc
@@ -113,8 +114,8 @@ idle_there slots pending s m e = no (has_call slots s) (λ yes. ∥∥₁_elim m
     no true f = absurd (f refl)
     no false f = refl
 
-pub matches_runs : (old new : List (Option Op)) (pending : List (Option Pending)) (s : ℕ) (p : Pending) → has_call new s ≡ true → OthersRunOn old new s → Matches old pending → Matches new (slice_set pending s (Some p))
-matches_runs old new pending s p now others m = record {
+pub matches_runs : (old new : List (Option Op)) (pending : List (Option Pending)) (s : ℕ) (p : Pending) → s < length pending → has_call new s ≡ true → OthersRunOn old new s → Matches old pending → Matches new (slice_set pending s (Some p))
+matches_runs old new pending s p inside now others m = record {
   runs = λ t q h. ⊎_elim
       (λ (x : (t ≡ s) × (Some p ≡ Some q)). ap (λ n. has_call new n) x.0 ∙ now)
       (λ (x : (t ≢ s) × (slice_get pending t ≡ Some (Some q))). others t x.0 ∙ m.runs t q x.1)
@@ -123,6 +124,7 @@ matches_runs old new pending s p now others m = record {
       (λ (x : (t ≡ s) × (Some p ≡ None)). absurd (let e = x.1 in cc))
       (λ (x : (t ≢ s) × (slice_get pending t ≡ Some None)). others t x.0 ∙ m.rests t x.1)
       (set_cases pending s t (Some p) None h);
+  beyond = λ t l. let long = length-set pending s (Some p) in others t (λ e. omega (arith, e, l, long, inside)) ∙ m.beyond t (omega (arith, l, long));
 }
 
 pub matches_ends : (old new : List (Option Op)) (pending : List (Option Pending)) (s : ℕ) → has_call new s ≡ false → OthersRunOn old new s → Matches old pending → Matches new (slice_set pending s None)
@@ -135,10 +137,14 @@ matches_ends old new pending s now others m = record {
       (λ (x : (t ≡ s) × (None ≡ None)). ap (λ n. has_call new n) x.0 ∙ now)
       (λ (x : (t ≢ s) × (slice_get pending t ≡ Some None)). others t x.0 ∙ m.rests t x.1)
       (set_cases pending s t None None h);
+  beyond = λ t l. ⊎_elim
+      (λ (e : t ≡ s). ap (λ n. has_call new n) e ∙ now)
+      (λ (n : t ≢ s). others t n ∙ m.beyond t (let long = length-set pending s None in omega (arith, l, long)))
+      (nat_cases t s);
 }
 
 pub matches_goes : (old new : List (Option Op)) (pending : List (Option Pending)) (s : ℕ) (p : Pending) → slice_get pending s ≡ Some (Some p) → has_call new s ≡ true → OthersRunOn old new s → Matches old pending → Matches new pending
-matches_goes old new pending s p e now others m = subst (Matches new) (set_same pending s (Some p) e) (matches_runs old new pending s p now others m)
+matches_goes old new pending s p e now others m = subst (Matches new) (set_same pending s (Some p) e) (matches_runs old new pending s p (get_within pending s (Some p) e) now others m)
 
 pub begun_is : (a : Answer) → is_begun a ≡ true → a ≡ Begun
 begun_is Begun h = refl
@@ -151,4 +157,4 @@ not_begun a h e = clash (is_begun a) h (ap is_begun e)
     clash b x y = absurd cc
 
 pub matches_stays : (old new : List (Option Op)) (pending : List (Option Pending)) → ((t : ℕ) → has_call new t ≡ has_call old t) → Matches old pending → Matches new pending
-matches_stays old new pending same m = record { runs = λ t q h. same t ∙ m.runs t q h; rests = λ t h. same t ∙ m.rests t h }
+matches_stays old new pending same m = record { runs = λ t q h. same t ∙ m.runs t q h; rests = λ t h. same t ∙ m.rests t h; beyond = λ t l. same t ∙ m.beyond t l }

@@ -163,7 +163,9 @@ KeepsAll g stood kept_then jobs now start pending records =
     (g.backing now.store).honest ≡ true → (contents : Entry → Bool) (history : List Action) (calls : List Call) → stood contents history calls
     → Keeps g jobs contents history calls (kept_then contents history calls) now start pending records
 
--- the sessions below the number of workers that have a call are those that are pending
+-- the sessions that have a call are those that are pending
 pub record Matches (slots : List (Option Op)) (pending : List (Option Pending)) : Type 0 where
   pub runs : (session : ℕ) (p : Pending) → slice_get pending session ≡ Some (Some p) → has_call slots session ≡ true
   pub rests : (session : ℕ) → slice_get pending session ≡ Some None → has_call slots session ≡ false
+  -- beyond the workers' there is none
+  pub beyond : (session : ℕ) → length pending ≤ session → has_call slots session ≡ false

@@ -1,4 +1,6 @@
 pub mod Doing
+pub mod Finishing
+pub mod Handed
 pub mod Jobs
 pub mod Kept
 pub mod Notes

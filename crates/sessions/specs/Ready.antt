@@ -1,5 +1,5 @@
--- When a worker may do an event.
-use Rattle.std.specs.Prelude.{Bool, false, nat_lt, vec_len, vec_capacity}
+-- When a worker may do an event, and whether the lock was opened.
+use Rattle.std.specs.Prelude.{Bool, true, false, nat_lt, vec_len, vec_capacity}
 use Rattle.index_model.specs.declared.dead_rows.DeadRows.{Ghosts as SetGhosts}
 use Rattle.page_action.specs.declared.page_store.PageStore.{Ghosts as StoreGhosts}
 use Rattle.worker_seats.specs.declared.run.Run.{Ghosts as RunGhosts}
@@ -12,3 +12,9 @@ abbrev pub is_ready : {S T J : Type 0} {s : StoreGhosts S} {t : SetGhosts T} {j 
 is_ready Waiting = false
 is_ready (Open shared) = nat_lt (vec_len shared.history) (vec_capacity shared.history)
 is_ready Closed = false
+
+-- the lock was opened
+abbrev pub is_open : {S T J : Type 0} {s : StoreGhosts S} {t : SetGhosts T} {j : JobGhosts J} {r : RunGhosts J} → Slot S T J s t j r → Bool
+is_open Waiting = false
+is_open (Open shared) = true
+is_open Closed = false

@@ -5,10 +5,11 @@ use worker_seats::Run;
 
 /// The jobs of a run, and what fitted the world as it was handed in. Each run picks them.
 pub trait Jobs: Run {
-    ghost use Rattle.std.specs.Prelude.{Bool, List};
+    ghost use Rattle.std.specs.Prelude.{Bool, List, ℕ};
     ghost use Rattle.index_model.specs.Actions.{Action};
     ghost use Rattle.index_model.specs.Calls.{Call};
     ghost use Rattle.index_model.specs.declared.entry.Entry.{Entry};
+    ghost use Rattle.sessions.specs.Handed.{Handed};
     ghost use Rattle.sessions.specs.declared.job.Job.{Job};
 
     /// The jobs, by their numbers.
@@ -19,14 +20,25 @@ pub trait Jobs: Run {
 
     /// ... and each crash left a first part of the history.
     ghost kept_then: { (Entry → Bool) → List Action → List Call → Type 0 };
+
+    /// How many workers there are.
+    ghost workers: { ℕ };
+
+    /// What else is known of the world as it was handed in.
+    ghost handed: { Handed };
 }
 
 impl Jobs for Brand {
     ghost use Rattle.std.specs.Prelude.{[]};
+    ghost use Rattle.sessions.specs.Handed.{nothing_handed};
 
     ghost jobs = { [] };
 
     ghost stood = { λ contents history calls. ⊥ };
 
     ghost kept_then = { λ contents history calls. ⊥ };
+
+    ghost workers = { 0 };
+
+    ghost handed = { nothing_handed };
 }

@@ -1,7 +1,7 @@
-//! When a worker may do an event.
+//! When a worker may do an event, and whether the lock was opened.
 
 ghost use Rattle.std.specs.Prelude.{◌≡◌};
-ghost use Rattle.sessions.specs.Ready.{is_ready};
+ghost use Rattle.sessions.specs.Ready.{is_open, is_ready};
 
 use crate::jobs::Jobs;
 use crate::slot::Slot;
@@ -14,6 +14,24 @@ pub fn is_ready<S: PageStore, T: DeadRows + Drop, J: Jobs>(slot: &Slot<S, T, J>)
 {
     match slot {
         Slot::Open(shared) => shared.history.len() < shared.history.capacity(),
+        _ => false,
+    }
+}
+
+/// Whether the lock was opened.
+pub fn is_open<S: PageStore, T: DeadRows + Drop, J: Jobs>(slot: &Slot<S, T, J>) -> bool
+    ensures { result ≡ is_open slot.now }
+{
+    match slot {
+        Slot::Open(_) => true,
+        _ => false,
+    }
+}
+
+/// Whether the workers wait for the lock to be opened, or closed.
+pub fn is_waiting<S: PageStore, T: DeadRows + Drop, J: Jobs>(slot: &Slot<S, T, J>) -> bool {
+    match slot {
+        Slot::Waiting => true,
         _ => false,
     }
 }

@@ -10,6 +10,7 @@ ghost use Rattle.sessions.specs.Kept.{KeepsAll, Matches, record_of};
 ghost use Rattle.schedule.specs.Events.{EventAlways};
 ghost use Rattle.schedule.specs.TheoremKinds.{kind_of};
 ghost use Rattle.sessions.specs.Doing.{HasTaken, IsFullScan, MayBeDone, ended_at, given_behind};
+ghost use Rattle.sessions.specs.Handed.{ComesOf};
 ghost use Rattle.sessions.specs.Jobs.{IsRoomOf, begins};
 ghost use Rattle.sessions.specs.Notes.{notes_of, jobs_of};
 ghost use Rattle.sessions.specs.Turns.{SeatTold, SitsOn, TurnTold, is_begun};
@@ -39,6 +40,8 @@ pub struct Shared<S: PageStore, T: DeadRows + Drop, J: Jobs> {
     pub ghost kept: { ∥ KeepsAll S.PageStore J.stood J.kept_then J.jobs (inside T.DeadRows world) start pending.items history.items ∥₁ },
     pub ghost matches: { ∥ Matches world.calls.slots.items pending.items ∥₁ },
     pub ghost seats: { vec_len pending ≤ length world.calls.slots.items },
+    pub ghost workers: { vec_len pending ≡ J.workers },
+    pub ghost handed: { ∥ ComesOf S.PageStore J.handed start (inside T.DeadRows world) ∥₁ },
     pub ghost counted: { book.total ≡ vec_len history },
     pub ghost room: { keeper.table_id ≡ J.seats },
     pub ghost knows: { known_by keeper ≡ keeper_of (notes_of history.items) (jobs_of pending.items) },

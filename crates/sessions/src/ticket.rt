@@ -40,12 +40,12 @@ impl<K: JobList> Ticket for JobTicket<K> {
     ghost job = { λ ticket. ticket.job };
 }
 
-// How many entries a job's room holds.
-fn room_of(job: &Job) -> usize
+/// How many entries a job's room holds.
+pub fn room_of(job: &Job) -> u32
     ensures { result ≡ room_of job.now }
 {
     match job {
-        Job::Scan { room, .. } => *room as usize,
+        Job::Scan { room, .. } => *room,
         _ => 0,
     }
 }
@@ -75,7 +75,7 @@ pub fn all_tickets<K: JobList>(alloc: Global, jobs: &[Job]) -> Option<Vec<JobTic
 {
     let mut tickets = Vec::with_capacity(alloc, jobs.len()).ok()?;
     for job in 0..jobs.len() {
-        let room = Vec::with_capacity(alloc, room_of(&jobs[job])).ok()?;
+        let room = Vec::with_capacity(alloc, room_of(&jobs[job]) as usize).ok()?;
         tickets.push_reserved(one_ticket(job as u32, &jobs[job], room));
     }
     Some(tickets)

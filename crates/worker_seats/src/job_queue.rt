@@ -1,11 +1,12 @@
 //! The queue of the jobs that are to be done.
 
-ghost use Rattle.std.specs.Prelude.{◌≡◌, ◌≤◌, [], ℕ, IfSome, slice_get, vec_len};
+ghost use Rattle.std.specs.Prelude.{◌≡◌, ◌<◌, ◌≤◌, [], ℕ, IfSome, slice_get, vec_len};
 ghost use Rattle.crossbeam_queue.specs.Passes.{view, IsPassOf, ruled_capacity};
 ghost use Rattle.worker_seats.specs.Queue.{queue_view};
 
 use crossbeam_queue::protocol::{Join, Lesson, Outcome, Protocol, Split};
 use crossbeam_queue::{Pass, RuledArrayQueue};
+use std::alloc::Global;
 use std::collections::LinkedList;
 use std::sync::Wait;
 
@@ -95,6 +96,16 @@ pub type JobQueue<T> = RuledArrayQueue<T, QueueView, QueueRule>;
 
 /// A pass of the queue.
 pub type QueuePass<T> = Pass<T, QueueView>;
+
+/// An empty queue for so many tickets, with the pass that has every part. None where there is no memory for it.
+pub fn make_queue<T: Ticket>(alloc: Global, room: usize) -> Option<(JobQueue<T>, QueuePass<T>)>
+    requires some { 0 < room }
+    ensures room { IfSome result (λ q. ruled_capacity q.0 ≡ room) }
+    ensures pass { IfSome result (λ q. IsPassOf q.0 q.1) }
+    ensures first { IfSome result (λ q. view q.1 ≡ queue_view 1024 0 []) }
+{
+    JobQueue::<T>::ruled(alloc, room).ok()
+}
 
 /// Pushes the tickets of the jobs from 0 on, in order, into a queue that has room for them.
 pub fn fill<T: Ticket + Drop, R: Wait>(

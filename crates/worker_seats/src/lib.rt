@@ -13,9 +13,11 @@ mod seating;
 mod tally;
 mod worker;
 
-pub use job_queue::{JobQueue, Parts, Pops, Pushes, QueuePass, QueueRule, QueueView, Ticket, fill};
+pub use job_queue::{
+    JobQueue, Parts, Pops, Pushes, QueuePass, QueueRule, QueueView, Ticket, fill, make_queue,
+};
 pub use run::Run;
 pub use seat::{Seat, check, end, open, start};
-pub use seating::{SeatCell, SeatPass, SeatRule, SeatView};
+pub use seating::{SeatCell, SeatPass, SeatRule, SeatView, make_cell};
 pub use tally::tally_up;
 pub use worker::{Worker, gather};

@@ -1,8 +1,12 @@
 //! The cell that ties what the workers know to what lies under the lock.
 
+ghost use Rattle.std.specs.Prelude.{◌≡◌, [], IfSome};
+ghost use Rattle.worker_seats.specs.Seats.{keeper_of, known_by};
+
 use atomic_table::{Join, Split};
 use crossbeam_utils::atomic::seq_cell::{Pass, RuledSeqCell};
 use crossbeam_utils::rule::{Outcome, Protocol};
+use std::alloc::Global;
 use std::collections::LinkedList;
 
 /// What a pass of the cell knows. A keeper: the log of all notes, and which job each session runs. A seat: its session, which
@@ -91,3 +95,11 @@ pub type SeatCell = RuledSeqCell<[u64; 2], SeatView, SeatRule, 2>;
 
 /// A pass of the cell: a worker's, or the keeper's.
 pub type SeatPass = Pass<[u64; 2], SeatView>;
+
+/// A cell of seats, with the keeper's pass, which knows of no note and no session. None where there is no memory for it.
+pub fn make_cell(alloc: Global) -> Option<(SeatCell, SeatPass)>
+    ensures cell { IfSome result (λ c. c.1.table_id ≡ c.0.table.shared.table_id) }
+    ensures keeper { IfSome result (λ c. known_by c.1 ≡ keeper_of [] []) }
+{
+    SeatCell::ruled(alloc, [0, 0]).ok()
+}

@@ -2,7 +2,7 @@
 
 ghost use Rattle.std.specs.Prelude.{◌≡◌, ◌<◌, ◌+◌, ℕ, [], length, Some, None, IfSome, slice_get, vec_len};
 ghost use Rattle.crossbeam_queue.specs.Passes.{view};
-ghost use Rattle.worker_seats.specs.Queue.{jobs_in, sum_below, sum_over, times, weigh, KnowsAll};
+ghost use Rattle.worker_seats.specs.Queue.{below, jobs_in, sum_below, sum_over, times, weigh, KnowsAll};
 ghost use Rattle.worker_seats.specs.Seats.{keeper_of, known_by, notes_by};
 
 use crate::job_queue::QueuePass;
@@ -13,7 +13,7 @@ use std::sync::Wait;
 use std::sync::ledger::{Book, Share};
 
 /// With all seats, and every part of the ledger and of the queue: the workers' notes are all that there are, no session runs a
-/// call, and each job that was handed out stands in the log once.
+/// call, and the log has the jobs that were handed out, each once.
 pub fn tally_up<J: Run, T, R: Wait>(
     rt: &R,
     cell: &SeatCell,
@@ -43,6 +43,8 @@ pub fn tally_up<J: Run, T, R: Wait>(
         ≡ length (known_by keeper.old).log }
     ensures idle { (k : ℕ) → k < vec_len seats
         → slice_get (known_by keeper.old).running k ≡ Some None }
+    ensures all { (h : ℕ → ℕ) → weigh h (below (view pass.now).pushed)
+        ≡ weigh h (jobs_in (known_by keeper.old).log) }
     ensures once { (job : ℕ) → job < (view pass.now).pushed
         → times job (jobs_in (known_by keeper.old).log) ≡ 1 }
 {

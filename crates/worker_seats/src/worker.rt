@@ -38,6 +38,7 @@ pub fn gather<J: Run, T: Ticket>(
     ensures popped { (h : ℕ → ℕ) → weigh h (view pass.new).popped
         ≡ weigh h (view pass.old).popped
         + sum_over (λ w. weigh h (jobs_in (known_by w.seat.pass).notes)) workers.items }
+    ensures capacity { vec_capacity seats.new ≡ vec_capacity seats.old }
     ensures seats { seats.new.items ≡ seats.old.items ++ map (λ w. w.seat) workers.items }
 {
     for worker in workers {

@@ -4,7 +4,7 @@ use Rattle.worker_seats.specs.Seats.{notes_by, known_by}
 use Rattle.worker_seats.proofs.Rows.{some_middle}
 use Rattle.crossbeam_queue.specs.Passes.{view}
 use Rattle.worker_seats.specs.Queue.{jobs_in, sum_below, sum_over, weigh}
-use Rattle.worker_seats.proofs.Counting.{sum_more, sum_over_snoc, noted_once, last_or}
+use Rattle.worker_seats.proofs.Counting.{sum_more, sum_over_snoc, noted_all, noted_once, last_or}
 use Rattle.worker_seats.proofs.tally.tally_up.Goals as goal
 
 -- the notes of a worker, told by two views that are the same
@@ -57,6 +57,21 @@ loop-seat-preserved g c =
 nothing : {A : Type 0} (l : List A) → length l ≡ 0 → l ≡ []
 nothing [] e = refl
 nothing (x ∷ l) e = absurd (omega (arith, e))
+
+pub returns-clause-all : goal.returns-clause-all
+returns-clause-all g c =
+    let i = c.loop-seat.invariant in
+    let yielded = c.loop-seat.yielded in
+    let log = (known_by c.args.keeper.now).log in
+    let rest = c.loop-seat.seat-iterator.rest in
+    let ended : rest.len ≡ 0 = c.in-None.ensures.steps.0 in
+    let none : rest.items ≡ [] = nothing rest.items (sym rest.ok.0 ∙ ended) in
+    let all : yielded ≡ c.args.seats.items = sym (append-nil yielded) ∙ ap (λ l. yielded ++ l) (sym none) ∙ i.9 in
+    let popped = (view c.args.pass.now).popped in
+    let own : (h : ℕ → ℕ) → weigh h popped ≡ sum_below (length yielded) (λ w. weigh h (jobs_in (notes_by w log))) =
+    λ h. c.requires.popped h ∙ ap (λ l. sum_over (λ s. weigh h (jobs_in (known_by s.pass).notes)) l) (sym all) ∙ i.8 h in
+    let whole : c.loop-seat.all.amount ≡ length log = c.audit.ensures.whole (omega (arith, i.4, ended)) ∙ c.requires.counted in
+    noted_all (view c.args.pass.now).pushed (length yielded) popped log (c.requires.empty c.requires.whole) own (sym i.6 ∙ whole)
 
 pub returns-clause-once : goal.returns-clause-once
 returns-clause-once g c =

@@ -8,6 +8,7 @@ use Rattle.sessions.specs.declared.record.Pending.{Pending}
 use Rattle.sessions.specs.declared.record.Record.{Record}
 use Rattle.sessions.specs.Kept.{KeepsAll, record_of}
 use Rattle.sessions.specs.Notes.{notes_of, jobs_of}
+use Rattle.sessions.proofs.Handing.{comes_on}
 use Rattle.sessions.proofs.Noting.{none_there, within, jobs_of_set, notes_of_snoc, set_same, seat_runs, begun_is, not_begun, matches_runs, matches_stays}
 use Rattle.sessions.proofs.Beginning.{begin_keeps_begun, begin_keeps_done, begin_runs, done_runs}
 use Rattle.sessions.proofs.shared.Shared.begin.Goals as goal
@@ -33,8 +34,10 @@ invariant_of-self g c =
     let runs = begin_runs g.S.PageStore laws g.J.Jobs.jobs g.J.Jobs.stood g.J.Jobs.kept_then old new one.steps sets self.start self.pending.items self.history.items w p idle c.args.asked c.requires.job c.beginning.result c.beginning.ensures answer one.goes always c.actions-from.ensures seen c.requires.given c.requires.holds told in
     record {
       kept = ∥∥₁_map self.kept (λ all. begin_keeps_begun g.S.PageStore laws g.J.Jobs.jobs g.J.Jobs.stood g.J.Jobs.kept_then old new one.steps sets self.start self.pending.items self.history.items w p idle c.args.asked c.requires.job c.beginning.result c.beginning.ensures answer one.goes always c.actions-from.ensures seen c.requires.given c.requires.holds told all);
-      matches = ∥∥₁_map self.matches (λ m. matches_runs old.slots new.slots self.pending.items w p runs.0 runs.1 m);
+      matches = ∥∥₁_map self.matches (λ m. matches_runs old.slots new.slots self.pending.items w p (within self.pending.items w None known) runs.0 runs.1 m);
       seats = omega (arith, self.seats, one.same.sessions);
+      workers = self.workers;
+      handed = ∥∥₁_map self.handed (λ h. comes_on g.S.PageStore g.met.S.PageStore.laws g.J.Jobs.handed self.start old new one.steps one.same.sessions sets h);
       counted = self.counted;
       room = c.start-seat.ensures.of;
       knows = c.start-seat.ensures.keeper ∙ (λ i. keeper_of (v i).log (slice_set (v i).running (c.check-seat.ensures.worker i) (Some c.args.job))) ∙ ap (λ l. keeper_of (notes_of self.history.items) l) (sym (jobs_of_set self.pending.items w (Some p)));
@@ -68,6 +71,8 @@ invariant_of-self-2 g c =
           (begin_keeps_done g.S.PageStore laws g.J.Jobs.jobs g.J.Jobs.stood g.J.Jobs.kept_then old new one.steps sets self.start self.pending.items self.history.items w p idle c.args.asked c.requires.job c.beginning.result c.beginning.ensures answer one.goes always c.actions-from.ensures seen c.requires.given c.requires.holds c.refused_calls_fit.ensures never sits all));
       matches = ∥∥₁_map self.matches (λ m. matches_stays old.slots new.slots self.pending.items same m);
       seats = omega (arith, self.seats, one.same.sessions);
+      workers = self.workers;
+      handed = ∥∥₁_map self.handed (λ h. comes_on g.S.PageStore g.met.S.PageStore.laws g.J.Jobs.handed self.start old new one.steps one.same.sessions sets h);
       counted = c.end-seat.ensures.book ∙ ap (λ n. n + 1) self.counted ∙ sym c.push_reserved.ensures.len;
       room = c.end-seat.ensures.of;
       knows = c.end-seat.ensures.keeper ∙ (λ i. keeper_of ((v i).log ++ (c.check-seat.ensures.worker i, c.args.job) ∷ []) (slice_set (v i).running (c.check-seat.ensures.worker i) None))

@@ -11,6 +11,7 @@ use Rattle.sessions.specs.declared.record.Record.{Record}
 use Rattle.sessions.specs.Doing.{IsDone, IsFullScan}
 use Rattle.sessions.specs.Kept.{KeepsAll, Matches, record_of}
 use Rattle.sessions.specs.Notes.{notes_of, jobs_of, job_of}
+use Rattle.sessions.proofs.Handing.{comes_on}
 use Rattle.sessions.proofs.Noting.{some_there, within, jobs_of_set, notes_of_snoc, length_notes, runs_there, same_there, seat_runs, matches_ends}
 use Rattle.sessions.proofs.Asking.{end_answers, end_keeps, end_runs}
 use Rattle.sessions.proofs.shared.Shared.end.Goals as goal
@@ -73,6 +74,8 @@ invariant_of-self g c =
           (end_keeps g.S.PageStore g.met.S.PageStore.laws c.one_call_runs.ensures g.J.Jobs.jobs g.J.Jobs.stood g.J.Jobs.kept_then old new one.steps sets self.start self.pending.items self.history.items w p is was answer did c.args.asked asked full c.actions-until.result c.actions-until.ensures all));
       matches = ∥∥₁_map self.matches (λ m. subst (λ o. Matches new.slots (slice_set self.pending.items w o)) (sym none) (matches_ends old.slots new.slots self.pending.items w runs.0 runs.1 m));
       seats = omega (arith, self.seats, one.same.sessions);
+      workers = self.workers;
+      handed = ∥∥₁_map self.handed (λ h. comes_on g.S.PageStore g.met.S.PageStore.laws g.J.Jobs.handed self.start old new one.steps one.same.sessions sets h);
       counted = c.end-seat.ensures.book ∙ ap (λ n. n + 1) self.counted ∙ sym c.push_reserved.ensures.len;
       room = c.end-seat.ensures.of;
       knows = c.end-seat.ensures.keeper ∙ (λ i. keeper_of ((v i).log ++ (c.check-seat.ensures.worker i, p.job) ∷ []) (slice_set (v i).running (c.check-seat.ensures.worker i) None))

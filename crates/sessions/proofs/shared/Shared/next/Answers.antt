@@ -6,6 +6,7 @@ use Rattle.world.specs.Worlds.{inside}
 use Rattle.sessions.specs.declared.record.Pending.{Pending}
 use Rattle.sessions.specs.Kept.{KeepsAll, Matches}
 use Rattle.sessions.specs.Notes.{notes_of, jobs_of}
+use Rattle.sessions.proofs.Handing.{comes_on}
 use Rattle.sessions.proofs.Noting.{some_there, within, jobs_of_set, jobs_same, runs_there, same_there, seat_runs, set_twice, matches_runs}
 use Rattle.sessions.proofs.Asking.{next_keeps, next_runs}
 use Rattle.sessions.proofs.shared.Shared.next.Goals as goal
@@ -60,8 +61,10 @@ invariant_of-self g c =
     record {
       kept = ∥∥₁_map self.kept (λ all. subst (λ (l : List (Option Pending)). KeepsAll g.S.PageStore g.J.Jobs.stood g.J.Jobs.kept_then g.J.Jobs.jobs new self.start l self.history.items) (sym twice)
           (next_keeps g.S.PageStore g.met.S.PageStore.laws c.one_call_runs.ensures g.J.Jobs.jobs g.J.Jobs.stood g.J.Jobs.kept_then old new did.steps sets self.start self.pending.items self.history.items w p is was q c.take_next-answer.result did.event did.taken all));
-      matches = ∥∥₁_map self.matches (λ m. subst (Matches new.slots) (sym twice) (matches_runs old.slots new.slots self.pending.items w q runs.0 runs.1 m));
+      matches = ∥∥₁_map self.matches (λ m. subst (Matches new.slots) (sym twice) (matches_runs old.slots new.slots self.pending.items w q inside_it runs.0 runs.1 m));
       seats = omega (arith, self.seats, did.same.sessions);
+      workers = self.workers;
+      handed = ∥∥₁_map self.handed (λ h. comes_on g.S.PageStore g.met.S.PageStore.laws g.J.Jobs.handed self.start old new did.steps did.same.sessions sets h);
       counted = self.counted;
       room = c.check-seat.ensures.of;
       knows = v ∙ ap (λ l. keeper_of (notes_of self.history.items) l)

@@ -8,6 +8,7 @@ use Rattle.sessions.specs.declared.record.Pending.{Pending}
 use Rattle.sessions.specs.declared.record.Record.{Record}
 use Rattle.sessions.specs.Kept.{KeepsAll, Matches, record_of}
 use Rattle.sessions.specs.Notes.{notes_of, jobs_of, job_of}
+use Rattle.sessions.proofs.Handing.{comes_on}
 use Rattle.sessions.proofs.Noting.{some_there, within, jobs_of_set, notes_of_snoc, length_notes, runs_there, seat_runs, last_of, others_run_on, matches_goes, matches_ends}
 use Rattle.sessions.proofs.Telling.{steps_no_gift}
 use Rattle.sessions.proofs.Stepping.{step_keeps_on, step_keeps_last, steps_no_end}
@@ -31,6 +32,8 @@ invariant_of-self g c =
           (ap (λ s. map rows.is_in s.items) step.same.sets) self.start self.pending.items self.history.items w at.0 at.1 answer step.goes all (steps_no_gift _ _ answer step.always.answers) on);
       matches = ∥∥₁_map self.matches (λ m. matches_goes self.world.calls.slots.items new.calls.slots.items self.pending.items w at.0 at.1 now (others_run_on self.world.calls.slots.items new.calls.slots.items w step.always.others) m);
       seats = omega (arith, self.seats, step.same.sessions);
+      workers = self.workers;
+      handed = ∥∥₁_map self.handed (λ h. comes_on g.S.PageStore g.met.S.PageStore.laws g.J.Jobs.handed self.start (inside rows self.world) (inside rows new) step.steps step.same.sessions (ap (λ s. map rows.is_in s.items) step.same.sets) h);
       counted = self.counted;
       room = c.check-seat.ensures.of;
       knows = c.check-seat.ensures.keeper ∙ self.knows;
@@ -82,6 +85,8 @@ invariant_of-self-2 g c =
       matches = ∥∥₁_map self.matches (λ m. subst (λ o. Matches new.calls.slots.items (slice_set self.pending.items w o)) (sym none)
           (matches_ends self.world.calls.slots.items new.calls.slots.items self.pending.items w now (others_run_on self.world.calls.slots.items new.calls.slots.items w step.always.others) m));
       seats = omega (arith, self.seats, step.same.sessions);
+      workers = self.workers;
+      handed = ∥∥₁_map self.handed (λ h. comes_on g.S.PageStore g.met.S.PageStore.laws g.J.Jobs.handed self.start (inside rows self.world) (inside rows new) step.steps step.same.sessions (ap (λ s. map rows.is_in s.items) step.same.sets) h);
       counted = c.end-seat.ensures.book ∙ ap (λ n. n + 1) self.counted ∙ sym c.push_reserved.ensures.len;
       room = c.end-seat.ensures.of;
       knows = c.end-seat.ensures.keeper ∙ (λ i. keeper_of ((v i).log ++ (c.check-seat.ensures.worker i, p.job) ∷ []) (slice_set (v i).running (c.check-seat.ensures.worker i) None))

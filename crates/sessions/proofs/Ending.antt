@@ -1,0 +1,88 @@
+-- What is known once all jobs are done.
+use Rattle.std.proofs.Common.{◌≡◌, ◌⊎◌, Bool, true, false, ℕ, zero, suc, ◌<◌, ◌≤◌, List, [], ◌∷◌, length, Option, Some, None, slice_get, refl, ap, inl, inr, ⊎_elim, arith}
+use mathlib.Core.Logic.{∥∥₁_elim}
+use Rattle.index_model.specs.Actions.{Action}
+use Rattle.index_model.specs.Calls.{Call}
+use Rattle.index_model.specs.declared.entry.Entry.{Entry}
+use Rattle.page_action.specs.declared.page_store.PageStore.{Ghosts}
+use Rattle.session_calls.specs.Slots.{has_call}
+use Rattle.session_calls.specs.declared.op.Op.{Op}
+use Rattle.schedule.specs.TheoremMoments.{StoreAndSlots}
+use Rattle.worker_seats.specs.Queue.{jobs_in}
+use Rattle.sessions.specs.declared.job.Job.{Job}
+use Rattle.sessions.specs.declared.record.Record.{Record}
+use Rattle.sessions.specs.declared.record.Pending.{Pending}
+use Rattle.sessions.specs.Finishing.{AreIdle, jobs_of_records}
+use Rattle.sessions.specs.Kept.{Keeps, KeepsAll, Matches}
+use Rattle.sessions.specs.Notes.{note_of, notes_of, jobs_of}
+use Rattle.sessions.proofs.Noting.{none_there}
+
+-- the jobs of the notes are those of the records
+pub jobs_noted : (records : List Record) → jobs_in (notes_of records) ≡ jobs_of_records records
+jobs_noted [] = refl
+jobs_noted (r ∷ records) = ap (λ l. r.job ∷ l) (jobs_noted records)
+
+pub get_note : (records : List Record) (place : ℕ) (r : Record) → slice_get records place ≡ Some r → slice_get (notes_of records) place ≡ Some (note_of r)
+get_note [] place r e = absurd cc
+get_note (x ∷ records) zero r e = (let s : x ≡ r = cc in ap (λ y. Some (note_of y)) s)
+get_note (x ∷ records) (suc place) r e = get_note records place r e
+
+pub within_list : {A : Type 0} (xs : List A) (k : ℕ) (x : A) → slice_get xs k ≡ Some x → k < length xs
+within_list [] k x e = absurd cc
+within_list (y ∷ xs) zero x e = omega arith
+within_list (y ∷ xs) (suc k) x e = omega (arith, within_list xs k x e)
+
+-- where no session of the workers runs a job, none is pending
+pub none_waits : (pending : List (Option Pending)) → ((k : ℕ) → k < length pending → slice_get (jobs_of pending) k ≡ Some None) → (session : ℕ) (p : Pending) → slice_get pending session ≡ Some (Some p) → ⊥
+none_waits pending idle session p at =
+    let none = none_there pending session (idle session (within_list pending session (Some p) at)) in
+    clash (slice_get pending session) at none
+  where
+    clash : (o : Option (Option Pending)) → o ≡ Some (Some p) → o ≡ Some None → ⊥
+    clash o a b = absurd cc
+
+-- ... and no session at all has a call
+pub all_idle : (slots : List (Option Op)) (pending : List (Option Pending)) → ∥ Matches slots pending ∥₁ → ((k : ℕ) → k < length pending → slice_get (jobs_of pending) k ≡ Some None) → AreIdle slots
+all_idle slots pending m idle session = no (has_call slots session) (λ yes. ∥∥₁_elim m (λ x y. absurd x) (λ k. clash (has_call slots session) yes (rests k)))
+  where
+    lt_or : (a b : ℕ) → (a < b) ⊎ (b ≤ a)
+    lt_or a zero = inr (omega arith)
+    lt_or zero (suc b) = inl (omega arith)
+    lt_or (suc a) (suc b) = ⊎_elim (λ l. inl (omega (arith, l))) (λ l. inr (omega (arith, l))) (lt_or a b)
+
+    rests : Matches slots pending → has_call slots session ≡ false
+    rests k = ⊎_elim (λ l. k.rests session (none_there pending session (idle session l))) (λ l. k.beyond session l) (lt_or session (length pending))
+
+    clash : (b : Bool) → b ≡ true → b ≡ false → ⊥
+    clash b h k = absurd cc
+
+    no : (b : Bool) → (b ≡ true → ⊥) → b ≡ false
+    no true f = absurd (f refl)
+    no false f = refl
+
+-- what is kept, where no job is pending
+pub keeps_nothing_pending : {S : Type 0} (g : Ghosts S) (stood kept_then : (Entry → Bool) → List Action → List Call → Type 0) (jobs : List Job) (now : StoreAndSlots S) (start : ℕ) (pending : List (Option Pending)) (records : List Record)
+    → ((session : ℕ) (p : Pending) → slice_get pending session ≡ Some (Some p) → ⊥)
+    → KeepsAll g stood kept_then jobs now start pending records → KeepsAll g stood kept_then jobs now start [] records
+keeps_nothing_pending g stood kept_then jobs now start pending records none all honest contents history calls so = done (all honest contents history calls so)
+  where
+    done : Keeps g jobs contents history calls (kept_then contents history calls) now start pending records → Keeps g jobs contents history calls (kept_then contents history calls) now start [] records
+    done k = record {
+      history = k.history;
+      calls = k.calls;
+      at = k.at;
+      start_is = k.start_is;
+      grows = k.grows;
+      fit = k.fit;
+      safe = k.safe;
+      same = k.same;
+      ours = λ i a b. ⊎_elim (λ x. inl x) (λ x. absurd (none x.call.session x.running x.waits)) (k.ours i a b);
+      owned = k.owned;
+      long = k.long;
+      listed = k.listed;
+      once = k.once;
+      runs = λ s p h. absurd cc;
+      since = λ s p h. absurd cc;
+      behind = k.behind;
+      in_time = k.in_time;
+    }

@@ -1,0 +1,45 @@
+use Rattle.std.proofs.Common.{◌≡◌, ◌+◌, ◌++◌, ◌∷◌, [], List, Option, None, slice_get, IfSome, sym, ap, ◌∙◌, subst, arith}
+use Rattle.worker_seats.specs.declared.job_queue.QueueView.{QueueView}
+use Rattle.worker_seats.specs.declared.seating.SeatView.{SeatView}
+use Rattle.worker_seats.specs.Seats.{keeper_of}
+use Rattle.worker_seats.proofs.Queueing.{forks_of}
+use Rattle.worker_seats.proofs.Rows.{some_snoc}
+use Rattle.sessions.specs.declared.record.Pending.{Pending}
+use Rattle.sessions.specs.Notes.{jobs_of}
+use Rattle.sessions.proofs.Hiring.{jobs_of_snoc, none_snoc}
+use Rattle.sessions.proofs.hire.start_all.Goals as goal
+
+pub another-mine-requires-clause-rule : goal.another-mine-requires-clause-rule
+another-mine-requires-clause-rule g c = forks_of (λ t. t.job) _ _ (omega (arith, c.loop-w.invariant.1.1, c.loop-w-test.true, c.requires.few))
+
+pub loop-w-preserved : goal.loop-w-preserved
+loop-w-preserved g c =
+    let i = c.loop-w.invariant in
+    let pending = c.loop-w.pending in
+    let v = c.another-mine.ensures.rule.0 in
+    let q = c.another-mine.ensures.queue in
+    let items = c.push_reserved.ensures.items in
+    let handles = c.loop-w.handles in (
+      (
+        c.open-seat.ensures.of,
+        c.open-seat.ensures.keeper ∙ ap (λ (x : SeatView). keeper_of [] (x.running ++ None ∷ [])) i.0.1 ∙ ap (keeper_of []) (sym (ap jobs_of items ∙ jobs_of_snoc pending.items None)),
+      ),
+      (
+        (q.0.0 ∙ i.1.0.0, q.0.2 ∙ i.1.0.1),
+        (let less = ap (λ (x : QueueView). x.parts) v in omega (arith, less, i.1.1, c.loop-w-test.true, c.requires.few)),
+        ap (λ (x : QueueView). x.pushed) v ∙ i.1.2,
+        ap (λ (x : QueueView). x.popped) v ∙ i.1.3,
+      ),
+      (omega (arith, c.split_off-share.ensures.parts_left, i.2.0), omega (arith, c.split_off-share.ensures.amount_left, i.2.1)),
+      (
+        c.push_reserved.ensures.len ∙ ap (λ n. n + 1) i.3.0,
+        c.push_reserved.ensures.capacity ∙ i.3.1,
+        (λ k p e. none_snoc pending.items i.3.2 k p (ap (λ (xs : List (Option Pending)). slice_get xs k) (sym items) ∙ e)),
+      ),
+      (
+        c.push_reserved-in-Ok.ensures.len ∙ ap (λ n. n + 1) i.4.0,
+        c.push_reserved-in-Ok.ensures.capacity ∙ i.4.1,
+        (λ k. subst (λ xs. IfSome (slice_get xs k) (λ h. h.promise.0 ≡ k)) (sym c.push_reserved-in-Ok.ensures.items)
+            (some_snoc (λ n h. h.promise.0 ≡ n) handles.items c.in-Ok.handle i.4.2 (ap (λ p. p.0) c.in-Ok.ensures.ok ∙ sym (sym handles.ok.0 ∙ i.4.0)) k)),
+      ),
+    )

@@ -1,0 +1,51 @@
+use Rattle.std.proofs.Common.{◌≡◌, ◌+◌, ◌++◌, ◌∷◌, [], map, length, None, slice_get, vec_len, IfSome, sym, ap, ◌∙◌, subst, arith}
+use Rattle.std.proofs.lemmas.List.{length-map}
+use Rattle.crossbeam_queue.specs.Passes.{view}
+use Rattle.worker_seats.specs.Queue.{jobs_in, sum_over, weigh}
+use Rattle.worker_seats.specs.Seats.{known_by}
+use Rattle.worker_seats.proofs.Counting.{sum_over_snoc}
+use Rattle.worker_seats.proofs.Queueing.{weigh-append}
+use Rattle.worker_seats.proofs.Rows.{some_snoc}
+use Rattle.sessions.proofs.Hiring.{mapped, each_mapped, sum_over_mapped, weigh_notes}
+use Rattle.sessions.proofs.hire.work_out.Goals as goal
+
+pub push_reserved-requires : goal.push_reserved-requires
+push_reserved-requires g c =
+    let seats = c.gather.new.seats in
+    let items = ap length (c.gather.ensures.seats ∙ ap (λ l. l ++ map (λ w. w.seat) c.joined-staff.result.items) c.requires.seats.0) in
+    omega (arith, seats.ok.0, items, length-map c.joined-staff.result.items (λ w. w.seat), c.joined-staff.result.ok.0, c.joined-staff.ensures.len, c.gather.ensures.capacity, c.requires.seats.1)
+
+pub returns-clause-ranked : goal.returns-clause-ranked
+returns-clause-ranked g c k =
+    let staff = c.joined-staff.result in
+    let own = c.work-own-2 in
+    let here = c.gather.ensures.seats ∙ ap (λ l. l ++ map (λ w. w.seat) staff.items) c.requires.seats.0 in
+    let long : length (map (λ w. w.seat) staff.items) ≡ vec_len staff = length-map staff.items (λ w. w.seat) ∙ sym staff.ok.0 in
+    subst (λ l. IfSome (slice_get l k) (λ s. s.worker ≡ k)) (sym (c.push_reserved.ensures.items ∙ ap (λ l. l ++ own.result.0 ∷ []) here))
+    (some_snoc (λ n s. s.worker ≡ n) (map (λ w. w.seat) staff.items) own.result.0 (mapped (λ w. w.seat) (λ n s. s.worker ≡ n) staff.items c.joined-staff.ensures.ranked)
+    (own.ensures.worker ∙ c.work-own.ensures.worker ∙ c.requires.own ∙ sym (long ∙ c.joined-staff.ensures.len)) k)
+
+pub returns-clause-rest : goal.returns-clause-rest
+returns-clause-rest g c k =
+    let staff = c.joined-staff.result in
+    let own = c.work-own-2 in
+    let here = c.gather.ensures.seats ∙ ap (λ l. l ++ map (λ w. w.seat) staff.items) c.requires.seats.0 in
+    subst (λ l. IfSome (slice_get l k) (λ s. (known_by s.pass).job ≡ None)) (sym (c.push_reserved.ensures.items ∙ ap (λ l. l ++ own.result.0 ∷ []) here))
+    (some_snoc (λ n s. (known_by s.pass).job ≡ None) (map (λ w. w.seat) staff.items) own.result.0 (each_mapped (λ w. w.seat) (λ s. (known_by s.pass).job ≡ None) (λ w. w.rests) staff.items) own.ensures.idle k)
+
+pub returns-clause-popped : goal.returns-clause-popped
+returns-clause-popped g c h =
+    let staff = c.joined-staff.result in
+    let own = c.work-own in
+    let again = c.work-own-2 in
+    let did = own.ensures.did in
+    let more = again.ensures.did in
+    let here = c.gather.ensures.seats ∙ ap (λ l. l ++ map (λ w. w.seat) staff.items) c.requires.seats.0 in
+    let items = c.push_reserved.ensures.items ∙ ap (λ l. l ++ again.result.0 ∷ []) here in
+    let all = ap (λ l. sum_over (λ s. weigh h (jobs_in (known_by s.pass).notes)) l) items ∙ sum_over_snoc (λ s. weigh h (jobs_in (known_by s.pass).notes)) (map (λ w. w.seat) staff.items) again.result.0 in
+    let others = sum_over_mapped (λ w. w.seat) (λ s. weigh h (jobs_in (known_by s.pass).notes)) staff.items in
+    let first : weigh h (view own.result.1).popped ≡ weigh h (jobs_in did.0) = ap (weigh h) (did.2 ∙ ap (λ l. l ++ jobs_in did.0) c.requires.popped) in
+    let notes : (known_by again.result.0.pass).notes ≡ did.0 ++ more.0 = more.1 ∙ ap (λ l. l ++ more.0) (did.1 ∙ ap (λ l. l ++ did.0) c.requires.fresh) in
+    let mine : weigh h (jobs_in (known_by again.result.0.pass).notes) ≡ weigh h (jobs_in did.0) + weigh h (jobs_in more.0) = ap (λ l. weigh h (jobs_in l)) notes ∙ weigh_notes h did.0 more.0 in
+    let last : weigh h (view again.result.1).popped ≡ weigh h (view c.gather.new.pass).popped + weigh h (jobs_in more.0) = ap (weigh h) more.2 ∙ weigh-append h (view c.gather.new.pass).popped (jobs_in more.0) in
+    omega (arith, all, others, first, mine, last, c.gather.ensures.popped h)

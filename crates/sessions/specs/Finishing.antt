@@ -1,0 +1,91 @@
+-- What a run may be asked for, and what it answers.
+use Rattle.std.specs.Prelude.{◌≡◌, ◌==◌, ℕ, ◌<◌, ◌≤◌, Bool, true, false, Option, Some, List, [], map, length, slice_get, IfSome}
+use Rattle.std.specs.List.{sum, sum_by, count_by}
+use Rattle.index_model.specs.Actions.{Action}
+use Rattle.index_model.specs.Calls.{Call}
+use Rattle.index_model.specs.declared.entry.Entry.{Entry}
+use Rattle.index_model.specs.declared.dead_rows.DeadRows.{Ghosts as SetGhosts}
+use Rattle.index_model.specs.declared.fault.Fault.{Fault}
+use Rattle.index_model.specs.declared.fault.Fault.TheVariants.{BadLimits, SessionBusy, NoMemory}
+use Rattle.page_action.specs.declared.page_store.PageStore.{Ghosts}
+use Rattle.session_calls.specs.Slots.{has_call}
+use Rattle.session_calls.specs.declared.op.Op.{Op}
+use Rattle.worker_seats.specs.Queue.{below, times, weigh}
+use Rattle.world.specs.Worlds.{WorldFits, WorldKeeps, inside}
+use Rattle.world.specs.declared.world.World.{World}
+use Rattle.sessions.specs.declared.job.Job.{Job}
+use Rattle.sessions.specs.declared.outcome.Finished.{Finished}
+use Rattle.sessions.specs.declared.outcome.Receipt.{Receipt}
+use Rattle.sessions.specs.declared.record.Record.{Record}
+use Rattle.sessions.specs.Handed.{Handed, ComesOf}
+use Rattle.sessions.specs.Jobs.{room_of}
+use Rattle.sessions.specs.Kept.{KeepsAll}
+
+-- 1 to 64 workers, no more than there are sessions; and 65,536 jobs at most, whose scans may give 1,048,576 entries at most in all
+pub record IsWithinLimits (sessions : ℕ) (jobs : List Job) (workers : ℕ) : Type 0 where
+  pub some_worker : 0 < workers
+  pub few_workers : workers ≤ 64
+  pub seated : workers ≤ sessions
+  pub few_jobs : length jobs ≤ 65536
+  pub little_room : sum_by room_of jobs ≤ 1048576
+
+-- no session has a call
+abbrev pub AreIdle : List (Option Op) → Type 0
+AreIdle slots = (session : ℕ) → has_call slots session ≡ false
+
+-- why a run is refused: a limit is passed; else a session has a call; else there is no memory for it, or no thread
+abbrev pub IsRefusedFor : Fault → List (Option Op) → List Job → ℕ → Type 0
+IsRefusedFor BadLimits slots jobs workers = IsWithinLimits (length slots) jobs workers → ⊥
+IsRefusedFor SessionBusy slots jobs workers = IsWithinLimits (length slots) jobs workers × ((session : ℕ) × (has_call slots session ≡ true))
+IsRefusedFor NoMemory slots jobs workers = IsWithinLimits (length slots) jobs workers × AreIdle slots
+IsRefusedFor fault slots jobs workers = ⊥
+
+-- the jobs of these records
+abbrev pub jobs_of_records : List Record → List ℕ
+jobs_of_records records = map (λ r. r.job) records
+
+-- how many of these records are of this worker
+abbrev pub records_of : ℕ → List Record → ℕ
+records_of worker records = count_by (λ r. r.worker == worker) records
+
+-- the receipt for a record at this place
+abbrev pub receipt_of : ℕ → Record → Receipt
+receipt_of place r = record { worker = r.worker; job = r.job; place = place }
+
+-- the receipt is that of a record of the job, which stands at its place
+pub record IsReceiptFor (records : List Record) (job : ℕ) (receipt : Receipt) : Type 0 where
+  pub record_of : Record
+  pub found : slice_get records receipt.place ≡ Some record_of
+  pub job_is : record_of.job ≡ job
+  pub told : receipt ≡ receipt_of receipt.place record_of
+
+-- what is known of a world that is handed in now
+abbrev pub handed_of : {S T : Type 0} → Ghosts S → SetGhosts T → World S T → Handed
+handed_of g rows world = record {
+  start = (g.state world.store).acts;
+  sessions = length world.calls.slots.items;
+  sets = (inside rows world).sets;
+  backing = g.backing world.store;
+}
+
+-- All jobs are done: what is kept under the lock is so with no job pending, no session has a call, the records are those of the jobs that were
+-- handed out, and each is of one of the workers.
+pub record HasRun {S T : Type 0} (g : Ghosts S) (rows : SetGhosts T) (stood kept_then : (Entry → Bool) → List Action → List Call → Type 0) (handed : Handed) (jobs : List Job) (workers : ℕ) (world : World S T) (start : ℕ) (records : List Record) : Type 0 where
+  pub kept : ∥ KeepsAll g stood kept_then jobs (inside rows world) start [] records ∥₁
+  pub comes : ∥ ComesOf g handed start (inside rows world) ∥₁
+  pub idle : AreIdle world.calls.slots.items
+  pub all : (h : ℕ → ℕ) → weigh h (below (length jobs)) ≡ weigh h (jobs_of_records records)
+  pub within : (place : ℕ) (r : Record) → slice_get records place ≡ Some r → r.worker < workers
+
+-- ... and each has its receipt
+pub record IsFinished {S T : Type 0} (g : Ghosts S) (rows : SetGhosts T) (jobs : List Job) (workers : ℕ) (world : World S T) (done : Finished S T) : Type 0 where
+  pub kept : ∥ KeepsAll g (WorldFits g rows world) (WorldKeeps g rows world) jobs (inside rows done.world) done.start [] done.history.items ∥₁
+  pub comes : ∥ ComesOf g (handed_of g rows world) done.start (inside rows done.world) ∥₁
+  pub idle : AreIdle done.world.calls.slots.items
+  pub all : length done.history.items ≡ length jobs
+  pub once : (job : ℕ) → job < length jobs → times job (jobs_of_records done.history.items) ≡ 1
+  pub receipts : length done.receipts.items ≡ length jobs
+  pub each : (job : ℕ) → IfSome (slice_get done.receipts.items job) (IsReceiptFor done.history.items job)
+  pub workers_are : length done.calls.items ≡ workers
+  pub calls : (worker : ℕ) → IfSome (slice_get done.calls.items worker) (λ n. n ≡ records_of worker done.history.items)
+  pub summed : sum done.calls.items ≡ length done.history.items

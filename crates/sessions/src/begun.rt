@@ -1,0 +1,89 @@
+//! A run in a scope of its own.
+
+ghost use Rattle.std.specs.Prelude.{◌≡◌, ◌≤◌, ◌<◌, ◌+◌, [], IfOk, IfErr, length, vec_capacity};
+ghost use Rattle.world.specs.Worlds.{inside};
+ghost use Rattle.sessions.specs.Finishing.{AreIdle, HasRun};
+ghost use Rattle.sessions.specs.Handed.{ComesOf};
+ghost use Rattle.sessions.specs.Standing.{Stands};
+
+use crate::crew::Number;
+use crate::hire::hire;
+use crate::jobs::Jobs;
+use crate::record::Record;
+use crate::room::Room;
+use crate::slot::Slot;
+use crate::ticket::{JobList, JobTicket};
+use crate::worker::Gate;
+use index_model::DeadRows;
+use page_action::PageStore;
+use std::sync::{Condvar, Mutex, Wait};
+use std::thread;
+use std::thread::{PromisedHandle, Threads};
+use worker_seats::{JobQueue, SeatCell, Worker};
+use world::World;
+
+/// Runs all jobs, by threads in a scope. Where a thread can't be started, the world is given back and nothing was run.
+pub fn run_all<
+    'x,
+    S: PageStore + Drop + Send + 'x,
+    T: DeadRows + Drop + Send + 'x,
+    J: Jobs + Send + Sync + 'x,
+    K: JobList + Send + Sync + 'x,
+    G: Gate + Sync + 'x,
+    R: Threads + Wait + Sync + 'x,
+>(
+    rt: &'x R,
+    queue: &'x JobQueue<JobTicket<K>>,
+    cell: &'x SeatCell,
+    gate: &'x G,
+    world: World<S, T>,
+    room: Room<J, K>,
+    handles: Vec<PromisedHandle<Worker<J, JobTicket<K>>, Number>>,
+    last: u32,
+) -> Result<(World<S, T>, u64, Vec<Record>), World<S, T>>
+    requires list { J.jobs ≡ K.list }
+    requires cell { cell.now.table.shared.table_id ≡ J.seats }
+    requires queue { queue.now.table.shared.table_id ≡ J.queue }
+    requires parts { J.parts ≡ 65 }
+    requires handles { (handles.items ≡ []) × (last < vec_capacity handles) }
+    requires workers { last + 1 ≡ J.workers }
+    requires few { J.workers ≤ 64 }
+    requires sessions { J.workers ≤ length world.calls.slots.items }
+    requires stood { Stands S.PageStore J.stood J.kept_then (inside T.DeadRows world) }
+    requires handed { ComesOf S.PageStore J.handed (S.state world.store).acts
+        (inside T.DeadRows world) }
+    requires rests { AreIdle world.calls.slots.items }
+    ensures err { IfErr result (λ w. w ≡ world) }
+    ensures done { IfOk result (λ r. HasRun S.PageStore T.DeadRows J.stood J.kept_then J.handed
+        J.jobs J.workers r.0 r.1 r.2.items) }
+{
+    let slot: Mutex<Slot<S, T, J>> = Mutex::new(Slot::Waiting);
+    let opened = Condvar::new();
+    let shared = &slot;
+    let signal = &opened;
+    thread::scope(
+        thread::scope_env(),
+        rt,
+        move |scope| -> Result<(World<S, T>, u64, Vec<Record>), World<S, T>>
+            requires list { J.jobs ≡ K.list }
+            requires cell { cell.now.table.shared.table_id ≡ J.seats }
+            requires queue { queue.now.table.shared.table_id ≡ J.queue }
+            requires parts { J.parts ≡ 65 }
+            requires handles { (handles.items ≡ []) × (last < vec_capacity handles) }
+            requires workers { last + 1 ≡ J.workers }
+            requires few { J.workers ≤ 64 }
+            requires sessions { J.workers ≤ length world.calls.slots.items }
+            requires stood { Stands S.PageStore J.stood J.kept_then (inside T.DeadRows world) }
+            requires handed { ComesOf S.PageStore J.handed (S.state world.store).acts
+                (inside T.DeadRows world) }
+            requires rests { AreIdle world.calls.slots.items }
+            ensures err { IfErr result (λ w. w ≡ world) }
+            ensures done { IfOk result (λ r. HasRun S.PageStore T.DeadRows J.stood J.kept_then
+                J.handed J.jobs J.workers r.0 r.1 r.2.items) }
+        {
+            hire(
+                scope, rt, queue, cell, shared, signal, gate, world, room, handles, last,
+            )
+        },
+    )
+}

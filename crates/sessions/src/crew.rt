@@ -1,0 +1,58 @@
+//! A worker's thread.
+
+ghost use Rattle.std.specs.Prelude.{◌≡◌, [], None};
+ghost use Rattle.crossbeam_queue.specs.Passes.{view, IsPassOf};
+ghost use Rattle.worker_seats.specs.Seats.{known_by};
+
+use crate::jobs::Jobs;
+use crate::ready::{is_open, is_waiting};
+use crate::slot::Slot;
+use crate::ticket::{JobList, JobTicket};
+use crate::worker::{Gate, work};
+use index_model::DeadRows;
+use page_action::PageStore;
+use std::sync::{Condvar, Mutex, Wait};
+use std::thread::Promise;
+use worker_seats::{JobQueue, QueuePass, Seat, SeatCell, Worker};
+
+/// Which worker it is.
+#[derive(Drop)]
+pub struct Number(pub u32);
+
+impl<J: Jobs, K: JobList> Promise<Worker<J, JobTicket<K>>> for Number {
+    ghost use Rattle.std.specs.Prelude.{◌≡◌};
+
+    ghost kept_by = { λ p r. r.seat.worker ≡ p.0 };
+}
+
+/// A worker's thread: it waits until all have started, and works where the lock was opened.
+pub fn crew<S: PageStore, T: DeadRows + Drop, J: Jobs, K: JobList, G: Gate, R: Wait>(
+    rt: &R,
+    queue: &JobQueue<JobTicket<K>>,
+    cell: &SeatCell,
+    slot: &Mutex<Slot<S, T, J>>,
+    opened: &Condvar,
+    gate: &G,
+    seat: Seat<J>,
+    pass: QueuePass<JobTicket<K>>,
+) -> Worker<J, JobTicket<K>>
+    requires list { J.jobs ≡ K.list }
+    requires cell { cell.now.table.shared.table_id ≡ J.seats }
+    requires queue { queue.now.table.shared.table_id ≡ J.queue }
+    requires rests { (known_by seat.pass).job ≡ None }
+    requires fresh { (known_by seat.pass).notes ≡ [] }
+    requires pass { IsPassOf queue.now pass }
+    requires part { (view pass).parts ≡ 1 }
+    requires popped { (view pass).popped ≡ [] }
+    ensures { result.seat.worker ≡ seat.worker }
+{
+    let open = {
+        let guard = opened.wait_while(rt, slot.lock(rt), |slot| is_waiting(slot));
+        is_open(&*guard)
+    };
+    if open {
+        let (seat, pass) = work(rt, queue, cell, slot, opened, gate, seat, pass);
+        return Worker { seat, pass };
+    }
+    Worker { seat, pass }
+}

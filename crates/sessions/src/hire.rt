@@ -1,0 +1,276 @@
+//! A run's threads: started, let go, and joined.
+
+ghost use Rattle.std.specs.Prelude.{◌≡◌, ◌≤◌, ◌<◌, ◌+◌, [], ℕ, true, false, None, Some, IfOk, IfErr, IfSome, length, slice_get, vec_len, vec_capacity};
+ghost use Rattle.crossbeam_queue.specs.Passes.{view, IsPassOf};
+ghost use Rattle.session_calls.specs.Slots.{has_call};
+ghost use Rattle.worker_seats.specs.Queue.{KnowsAll, jobs_in, sum_over, weigh};
+ghost use Rattle.worker_seats.specs.Seats.{keeper_of, known_by};
+ghost use Rattle.world.specs.Worlds.{inside};
+ghost use Rattle.sessions.specs.Finishing.{AreIdle, HasRun};
+ghost use Rattle.sessions.specs.Handed.{ComesOf};
+ghost use Rattle.sessions.specs.Notes.{jobs_of};
+ghost use Rattle.sessions.specs.Standing.{Stands};
+ghost use Rattle.sessions.specs.declared.record.Pending.{Pending as WaitingJob};
+
+use crate::crew::{Number, crew};
+use crate::jobs::Jobs;
+use crate::opening::{ended, first};
+use crate::ready::is_open;
+use crate::record::{Pending, Record};
+use crate::room::Room;
+use crate::shared::Shared;
+use crate::slot::Slot;
+use crate::ticket::{JobList, JobTicket};
+use crate::worker::{Gate, work};
+use index_model::DeadRows;
+use page_action::PageStore;
+use std::mem;
+use std::sync::ledger::Share;
+use std::sync::{Condvar, Mutex, Wait};
+use std::thread::{PromisedHandle, Scope, Threads};
+use worker_seats::{JobQueue, Parts, QueuePass, Seat, SeatCell, SeatPass, Worker, gather, open};
+use world::World;
+
+// Puts a value under the lock, and wakes all.
+fn put<S: PageStore + Drop, T: DeadRows + Drop, J: Jobs, R: Wait>(
+    rt: &R,
+    slot: &Mutex<Slot<S, T, J>>,
+    opened: &Condvar,
+    value: Slot<S, T, J>,
+) {
+    *slot.lock(rt) = value;
+    opened.notify_all();
+}
+
+// Takes what lies under the lock out of it.
+fn take_out<S: PageStore + Drop, T: DeadRows + Drop, J: Jobs, R: Wait>(
+    rt: &R,
+    slot: &Mutex<Slot<S, T, J>>,
+    opened: &Condvar,
+) -> Shared<S, T, J> {
+    let mut guard = opened.wait_while(rt, slot.lock(rt), |slot| !is_open(slot));
+    let Slot::Open(shared) = mem::replace(&mut *guard, Slot::Closed) else {
+        unreachable!()
+    };
+    shared
+}
+
+// Starts a thread for each worker but the last. False where one can't be started.
+fn start_all<
+    's,
+    E,
+    S: PageStore + Drop + Send + 's,
+    T: DeadRows + Drop + Send + 's,
+    J: Jobs + Send + Sync + 's,
+    K: JobList + Send + Sync + 's,
+    G: Gate + Sync + 's,
+    R: Threads + Wait + Sync + 's,
+>(
+    scope: &'s Scope<'s, E>,
+    rt: &'s R,
+    queue: &'s JobQueue<JobTicket<K>>,
+    cell: &'s SeatCell,
+    slot: &'s Mutex<Slot<S, T, J>>,
+    opened: &'s Condvar,
+    gate: &'s G,
+    keeper: &mut SeatPass,
+    pass: &mut QueuePass<JobTicket<K>>,
+    all: &mut Share<J>,
+    pending: &mut Vec<Option<Pending>>,
+    handles: &mut Vec<PromisedHandle<Worker<J, JobTicket<K>>, Number>>,
+    last: u32,
+) -> bool
+    requires list { J.jobs ≡ K.list }
+    requires cell { cell.now.table.shared.table_id ≡ J.seats }
+    requires queue { queue.now.table.shared.table_id ≡ J.queue }
+    requires few { last < 64 }
+    requires keeper { (keeper.old.table_id ≡ J.seats)
+        × (known_by keeper.old ≡ keeper_of [] []) }
+    requires pass { IsPassOf queue.now pass.old }
+    requires whole { (view pass.old).parts ≡ 1024 }
+    requires popped { (view pass.old).popped ≡ [] }
+    requires all { (all.old.parts ≡ 65) × (all.old.amount ≡ 0) }
+    requires pending { (pending.old.items ≡ []) × (last < vec_capacity pending.old) }
+    requires handles { (handles.old.items ≡ []) × (last < vec_capacity handles.old) }
+    ensures of { result ≡ true → keeper.new.table_id ≡ J.seats }
+    ensures keeper { result ≡ true
+        → known_by keeper.new ≡ keeper_of [] (jobs_of pending.new.items) }
+    ensures pass { result ≡ true → IsPassOf queue.now pass.new }
+    ensures whole { result ≡ true → (view pass.new).parts + last ≡ 1024 }
+    ensures pushed { result ≡ true → (view pass.new).pushed ≡ (view pass.old).pushed }
+    ensures popped { result ≡ true → (view pass.new).popped ≡ [] }
+    ensures all { result ≡ true → (all.new.parts + last ≡ 65) × (all.new.amount ≡ 0) }
+    ensures pending { result ≡ true → vec_len pending.new ≡ last }
+    ensures room { vec_capacity pending.new ≡ vec_capacity pending.old }
+    ensures none { result ≡ true → (session : ℕ) (p : WaitingJob)
+        → slice_get pending.new.items session ≡ Some (Some p) → ⊥ }
+    ensures handles { result ≡ true → vec_len handles.new ≡ last }
+    ensures ranked { result ≡ true
+        → (k : ℕ) → IfSome (slice_get handles.new.items k) (λ h. h.promise.0 ≡ k) }
+{
+    for w in 0..last {
+        let share = all.split_off(1, 0);
+        let seat = open(cell, keeper, share, w);
+        let mine = queue.another::<Parts>(pass);
+        pending.push_reserved(None);
+        let job = move || -> Worker<J, JobTicket<K>>
+            requires list { J.jobs ≡ K.list }
+            requires cell { cell.now.table.shared.table_id ≡ J.seats }
+            requires queue { queue.now.table.shared.table_id ≡ J.queue }
+            requires rests { (known_by seat.pass).job ≡ None }
+            requires fresh { (known_by seat.pass).notes ≡ [] }
+            requires pass { IsPassOf queue.now mine }
+            requires part { (view mine).parts ≡ 1 }
+            requires popped { (view mine).popped ≡ [] }
+            ensures { result.seat.worker ≡ seat.worker }
+        { crew(rt, queue, cell, slot, opened, gate, seat, mine) };
+        match scope.spawn_with(Number(w), job) {
+            Ok(handle) => handles.push_reserved(handle),
+            Err(_) => return false,
+        }
+    }
+    true
+}
+
+// Joins the threads, in order.
+fn joined<J: Jobs, K: JobList, R: Threads>(
+    rt: &R,
+    handles: Vec<PromisedHandle<Worker<J, JobTicket<K>>, Number>>,
+    mut staff: Vec<Worker<J, JobTicket<K>>>,
+) -> Vec<Worker<J, JobTicket<K>>>
+    requires ranked { (k : ℕ) → IfSome (slice_get handles.items k) (λ h. h.promise.0 ≡ k) }
+    requires staff { (staff.items ≡ []) × (vec_len handles < vec_capacity staff) }
+    ensures len { vec_len result ≡ vec_len handles }
+    ensures ranked { (k : ℕ) → IfSome (slice_get result.items k) (λ w. w.seat.worker ≡ k) }
+{
+    for handle in handles {
+        staff.push_reserved(handle.join(rt));
+    }
+    staff
+}
+
+// Works as the last worker, joins the others, and works until no job is left: then the pass has every part.
+fn work_out<S: PageStore, T: DeadRows + Drop, J: Jobs, K: JobList, G: Gate, R: Threads + Wait>(
+    rt: &R,
+    queue: &JobQueue<JobTicket<K>>,
+    cell: &SeatCell,
+    slot: &Mutex<Slot<S, T, J>>,
+    opened: &Condvar,
+    gate: &G,
+    own: Seat<J>,
+    pass: QueuePass<JobTicket<K>>,
+    handles: Vec<PromisedHandle<Worker<J, JobTicket<K>>, Number>>,
+    staff: Vec<Worker<J, JobTicket<K>>>,
+    mut seats: Vec<Seat<J>>,
+) -> (Vec<Seat<J>>, QueuePass<JobTicket<K>>)
+    requires list { J.jobs ≡ K.list }
+    requires cell { cell.now.table.shared.table_id ≡ J.seats }
+    requires queue { queue.now.table.shared.table_id ≡ J.queue }
+    requires own { own.worker ≡ vec_len handles }
+    requires rests { (known_by own.pass).job ≡ None }
+    requires fresh { (known_by own.pass).notes ≡ [] }
+    requires pass { IsPassOf queue.now pass }
+    requires part { 0 < (view pass).parts }
+    requires parts { (view pass).parts + vec_len handles ≡ 1024 }
+    requires popped { (view pass).popped ≡ [] }
+    requires ranked { (k : ℕ) → IfSome (slice_get handles.items k) (λ h. h.promise.0 ≡ k) }
+    requires staff { (staff.items ≡ []) × (vec_len handles < vec_capacity staff) }
+    requires seats { (seats.items ≡ []) × (vec_len handles < vec_capacity seats) }
+    ensures len { vec_len result.0 ≡ vec_len handles + 1 }
+    ensures ranked { (k : ℕ) → IfSome (slice_get result.0.items k) (λ s. s.worker ≡ k) }
+    ensures rest { (k : ℕ) → IfSome (slice_get result.0.items k)
+        (λ s. (known_by s.pass).job ≡ None) }
+    ensures whole { (view result.1).parts ≡ 1024 }
+    ensures pushed { (view result.1).pushed ≡ (view pass).pushed }
+    ensures empty { KnowsAll (view result.1) [] }
+    ensures popped { (h : ℕ → ℕ) → weigh h (view result.1).popped
+        ≡ sum_over (λ s. weigh h (jobs_in (known_by s.pass).notes)) result.0.items }
+{
+    let (own, mut pass) = work(rt, queue, cell, slot, opened, gate, own, pass);
+    let staff = joined(rt, handles, staff);
+    gather(queue, &mut pass, staff, &mut seats);
+    let (own, pass) = work(rt, queue, cell, slot, opened, gate, own, pass);
+    seats.push_reserved(own);
+    (seats, pass)
+}
+
+/// Starts a thread for each worker but the last, opens the lock when all have started, and works itself as the last worker, joins
+/// the others, and works on until no job is left. Where a thread can't be started, the world is given back and nothing was run.
+pub fn hire<
+    's,
+    E,
+    S: PageStore + Drop + Send + 's,
+    T: DeadRows + Drop + Send + 's,
+    J: Jobs + Send + Sync + 's,
+    K: JobList + Send + Sync + 's,
+    G: Gate + Sync + 's,
+    R: Threads + Wait + Sync + 's,
+>(
+    scope: &'s Scope<'s, E>,
+    rt: &'s R,
+    queue: &'s JobQueue<JobTicket<K>>,
+    cell: &'s SeatCell,
+    slot: &'s Mutex<Slot<S, T, J>>,
+    opened: &'s Condvar,
+    gate: &'s G,
+    world: World<S, T>,
+    room: Room<J, K>,
+    mut handles: Vec<PromisedHandle<Worker<J, JobTicket<K>>, Number>>,
+    last: u32,
+) -> Result<(World<S, T>, u64, Vec<Record>), World<S, T>>
+    requires list { J.jobs ≡ K.list }
+    requires cell { cell.now.table.shared.table_id ≡ J.seats }
+    requires queue { queue.now.table.shared.table_id ≡ J.queue }
+    requires parts { J.parts ≡ 65 }
+    requires handles { (handles.items ≡ []) × (last < vec_capacity handles) }
+    requires workers { last + 1 ≡ J.workers }
+    requires few { J.workers ≤ 64 }
+    requires sessions { J.workers ≤ length world.calls.slots.items }
+    requires stood { Stands S.PageStore J.stood J.kept_then (inside T.DeadRows world) }
+    requires handed { ComesOf S.PageStore J.handed (S.state world.store).acts
+        (inside T.DeadRows world) }
+    requires rests { AreIdle world.calls.slots.items }
+    ensures err { IfErr result (λ w. w ≡ world) }
+    ensures done { IfOk result (λ r. HasRun S.PageStore T.DeadRows J.stood J.kept_then J.handed
+        J.jobs J.workers r.0 r.1 r.2.items) }
+{
+    let Room {
+        mut keeper,
+        mut pass,
+        book,
+        mut all,
+        history,
+        mut pending,
+        staff,
+        seats,
+    } = room;
+    let started = start_all(
+        scope,
+        rt,
+        queue,
+        cell,
+        slot,
+        opened,
+        gate,
+        &mut keeper,
+        &mut pass,
+        &mut all,
+        &mut pending,
+        &mut handles,
+        last,
+    );
+    if !started {
+        put(rt, slot, opened, Slot::Closed);
+        return Err(world);
+    }
+    let share = all.split_off(1, 0);
+    let own = open(cell, &mut keeper, share, last);
+    pending.push_reserved(None);
+    let shared = first(world, history, pending, book, keeper);
+    put(rt, slot, opened, Slot::Open(shared));
+    let (seats, pass) = work_out(
+        rt, queue, cell, slot, opened, gate, own, pass, handles, staff, seats,
+    );
+    let shared = take_out(rt, slot, opened);
+    Ok(ended(rt, cell, shared, seats, all, &pass))
+}

@@ -1,0 +1,80 @@
+//! What a run is given before it begins.
+
+ghost use Rattle.std.specs.Prelude.{◌≡◌, ◌≤◌, IfSome, [], length, vec_capacity};
+ghost use Rattle.crossbeam_queue.specs.Passes.{view};
+ghost use Rattle.worker_seats.specs.Queue.{queue_view};
+ghost use Rattle.worker_seats.specs.Seats.{keeper_of, known_by};
+
+use crate::jobs::Jobs;
+use crate::record::{Pending, Record};
+use crate::ticket::{JobList, JobTicket};
+use std::alloc::Global;
+use std::sync::ledger::{Book, Share};
+use worker_seats::{QueuePass, Seat, SeatPass, Worker};
+
+/// What a run is given before it begins: the passes of the whole queue and of the keeper of the seats, the ledger, and room for
+/// the records, the jobs whose calls run and the workers.
+#[derive(Drop)]
+pub struct Room<J: Jobs, K: JobList> {
+    pub keeper: SeatPass,
+    pub pass: QueuePass<JobTicket<K>>,
+    pub book: Book<J>,
+    pub all: Share<J>,
+    pub history: Vec<Record>,
+    pub pending: Vec<Option<Pending>>,
+    pub staff: Vec<Worker<J, JobTicket<K>>>,
+    pub seats: Vec<Seat<J>>,
+    pub ghost of_seats: { keeper.table_id ≡ J.seats },
+    pub ghost keeper_is: { known_by keeper ≡ keeper_of [] [] },
+    pub ghost of_queue: { pass.table_id ≡ J.queue },
+    pub ghost pass_rests: { pass.me.1 ≡ [] },
+    pub ghost pass_is: { view pass ≡ queue_view 1024 (length J.jobs) [] },
+    pub ghost book_is: { book.total ≡ 0 },
+    pub ghost parts: { all.parts ≡ 65 },
+    pub ghost amount: { all.amount ≡ 0 },
+    pub ghost no_record: { history.items ≡ [] },
+    pub ghost none_pending: { pending.items ≡ [] },
+    pub ghost no_worker: { staff.items ≡ [] },
+    pub ghost no_seat: { seats.items ≡ [] },
+    pub ghost for_records: { length J.jobs ≤ vec_capacity history },
+    pub ghost for_pending: { J.workers ≤ vec_capacity pending },
+    pub ghost for_workers: { J.workers ≤ vec_capacity staff },
+    pub ghost for_seats: { J.workers ≤ vec_capacity seats },
+}
+
+/// The room of a run of so many jobs by so many workers. None where there is no memory for it.
+pub fn make_room<J: Jobs, K: JobList>(
+    alloc: Global,
+    keeper: SeatPass,
+    pass: QueuePass<JobTicket<K>>,
+    book: Book<J>,
+    all: Share<J>,
+    jobs: usize,
+    workers: u32,
+) -> Option<Room<J, K>>
+    requires of { keeper.table_id ≡ J.seats }
+    requires keeper { known_by keeper ≡ keeper_of [] [] }
+    requires queue { pass.table_id ≡ J.queue }
+    requires pass { pass.me.1 ≡ [] }
+    requires whole { view pass ≡ queue_view 1024 (length J.jobs) [] }
+    requires book { book.total ≡ 0 }
+    requires parts { all.parts ≡ 65 }
+    requires amount { all.amount ≡ 0 }
+    requires jobs { jobs ≡ length J.jobs }
+    requires workers { workers ≡ J.workers }
+{
+    let history = Vec::with_capacity(alloc, jobs).ok()?;
+    let pending = Vec::with_capacity(alloc, workers as usize).ok()?;
+    let staff = Vec::with_capacity(alloc, workers as usize).ok()?;
+    let seats = Vec::with_capacity(alloc, workers as usize).ok()?;
+    Some(Room {
+        keeper,
+        pass,
+        book,
+        all,
+        history,
+        pending,
+        staff,
+        seats,
+    })
+}
