@@ -23,7 +23,7 @@ mod streams;
 mod words;
 
 pub use answer::print_answer;
-pub use checking::check_pages;
+pub use checking::{check_pages, check_pages_one};
 pub use dead::DeadList;
 pub use end::End;
 pub use line::{Crash, Line, LineError, Rows, parse};

@@ -3,9 +3,9 @@
 ghost use Rattle.std.specs.Prelude.{◌≡◌, ◌≤◌, IfOk, OnErr};
 ghost use Rattle.command_line.specs.Ends.{status_of};
 
-use crate::command::{has_parents, limits, path, program, setting};
+use crate::command::{has_one_thread, has_parents, limits, path, program, setting};
 use crate::end::End;
-use crate::file_commands::{check, create, dump};
+use crate::file_commands::{check, check_one, create, dump};
 use crate::play::play;
 use crate::refusal::print_refusal;
 use clap::{ArgMatches, Error};
@@ -15,10 +15,11 @@ use std::convert::AsStr;
 use std::fs::File;
 use std::io::{self, BufWriter, Read, Write};
 use std::rt::Files;
+use std::thread::Threads;
 
 /// Runs the command of these words, the program's own name first, and answers its status: 0 where all was done, 1 where
 /// a check found damage, 2 where it was refused. `input` is read by `play`. A refusal is printed on `err`.
-pub fn execute<'a, F: Files<File = File>, S: AsStr, R: Read, W: Write, E: Write>(
+pub fn execute<'a, F: Files<File = File> + Threads + Sync, S: AsStr, R: Read, W: Write, E: Write>(
     rt: &F,
     alloc: Global,
     words: &'a [S],
@@ -47,7 +48,7 @@ fn status<E: Write>(ended: io::Result<End>, err: &mut E) -> u8
 }
 
 /// The command, with what it prints on `out` gathered in a buffer, which is handed on at its end at the latest.
-fn buffered<'a, F: Files<File = File>, S: AsStr, R: Read, W: Write, E: Write>(
+fn buffered<'a, F: Files<File = File> + Threads + Sync, S: AsStr, R: Read, W: Write, E: Write>(
     rt: &F,
     alloc: Global,
     words: &'a [S],
@@ -76,7 +77,7 @@ fn fault_of(error: &io::Error) -> Fault {
     }
 }
 
-fn command<'a, F: Files<File = File>, S: AsStr, R: Read, W: Write, E: Write>(
+fn command<'a, F: Files<File = File> + Threads + Sync, S: AsStr, R: Read, W: Write, E: Write>(
     rt: &F,
     alloc: Global,
     words: &'a [S],
@@ -103,7 +104,7 @@ fn print_usage<W: Write, E: Write>(error: &Error, out: &mut W, err: &mut E) -> i
     Ok(End::Done)
 }
 
-fn run<F: Files<File = File>, R: Read, W: Write, E: Write>(
+fn run<F: Files<File = File> + Threads + Sync, R: Read, W: Write, E: Write>(
     rt: &F,
     alloc: Global,
     matches: &ArgMatches<'_>,
@@ -114,8 +115,24 @@ fn run<F: Files<File = File>, R: Read, W: Write, E: Write>(
     match matches.subcommand() {
         Some(("play", matches)) => play(alloc, &setting(matches), input, out, err),
         Some(("create", matches)) => create(rt, path(matches), &limits(matches), out),
-        Some(("check", matches)) => check(rt, alloc, path(matches), has_parents(matches), out),
+        Some(("check", matches)) => run_check(rt, alloc, matches, out),
         Some(("dump", matches)) => dump(rt, alloc, path(matches), out),
         _ => Ok(End::Said),
+    }
+}
+
+/// A check, in one thread where that is asked for: what is printed is the same.
+fn run_check<F: Files<File = File> + Threads + Sync, W: Write>(
+    rt: &F,
+    alloc: Global,
+    matches: &ArgMatches<'_>,
+    out: &mut W,
+) -> io::Result<End> {
+    let path = path(matches);
+    let parents = has_parents(matches);
+    if has_one_thread(matches) {
+        check_one(rt, alloc, path, parents, out)
+    } else {
+        check(rt, alloc, path, parents, out)
     }
 }
