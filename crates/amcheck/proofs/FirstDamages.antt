@@ -2,6 +2,7 @@
 use Rattle.std.proofs.Common.{◌≡◌, ℕ, ◌<◌, ◌≤◌, inl, inr, Bool, true, false, Option, Some, None, List, [], ◌∷◌, length, slice_get, refl, sym, ap, subst, ◌∙◌, arith}
 use Rattle.std.proofs.lemmas.Option.{slice_get_within}
 use Rattle.std.specs.Prelude.{IsSome, ◌≢◌, Result, Ok, Err, IfOk, IfErr, OnOk}
+use Rattle.index_model.specs.declared.fault.Fault.{Fault}
 use Rattle.page_codec.specs.Grammar.{IsBlock, IsPage, IsOfKind}
 use Rattle.page_codec.specs.declared.page.Items.{Items}
 use Rattle.page_codec.specs.declared.page.Items.TheVariants.{Meta, Entries, Downlinks}
@@ -16,7 +17,7 @@ use Rattle.amcheck.specs.Places.{StandAtTheirBlocks}
 use Rattle.amcheck.specs.Answers.{IsAnswer}
 use Rattle.amcheck.specs.Reports.{IsReport}
 use Rattle.amcheck.specs.declared.report.CheckFault.{CheckFault}
-use Rattle.amcheck.specs.declared.report.CheckFault.TheVariants.{Damage as Damaged}
+use Rattle.amcheck.specs.declared.report.CheckFault.TheVariants.{Damage as Damaged, Refused}
 use Rattle.amcheck.specs.declared.report.Damage.{Damage}
 use Rattle.amcheck.specs.declared.report.Report.{Report}
 
@@ -111,3 +112,15 @@ pub answer_told : (parents : Bool) (pages : List Page) (judged : Result Report D
     → IfOk judged (λ report. result ≡ Ok report) → IfErr judged (λ d. result ≡ Err (Damaged d.number d.block)) → IsAnswer parents pages result
 answer_told parents pages (Ok report) result sound is first ok err = subst (IsAnswer parents pages) (sym ok) (sound, is)
 answer_told parents pages (Err d) result sound is first ok err = subst (IsAnswer parents pages) (sym err) first
+
+abbrev pub refused : Fault → Result Report CheckFault
+refused fault = Err (Refused fault)
+
+pub same_fault : (one other : Fault) → refused one ≡ refused other → one ≡ other
+same_fault one other e = cc
+
+-- what is told isn't a refusal
+pub never_refused : (judged : Result Report Damage) (result : Result Report CheckFault) (fault : Fault) → IfOk judged (λ report. result ≡ Ok report)
+    → IfErr judged (λ d. result ≡ Err (Damaged d.number d.block)) → result ≡ refused fault → ⊥
+never_refused (Ok report) result fault ok err e = cc
+never_refused (Err d) result fault ok err e = cc

@@ -7,6 +7,8 @@ pub mod WaysLeft
 pub mod Beyond
 pub mod Walked
 pub mod Found
+pub mod Searched
+pub mod Alike
 pub mod Chained
 pub mod AllStops
 pub mod ChainPlaces

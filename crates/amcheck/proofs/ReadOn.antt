@@ -1,5 +1,5 @@
 -- Pages are read one after the other.
-use Rattle.std.proofs.Common.{◌≡◌, ℕ, zero, suc, ◌+◌, ◌<◌, ◌≤◌, Bool, true, false, not, ◌&&◌, ◌||◌, ◌==◌, nat_lt, nat_le, List, [], ◌∷◌, ◌++◌, length, take, slice_get, Some, refl, sym, ap, ◌∙◌, arith}
+use Rattle.std.proofs.Common.{◌≡◌, ℕ, zero, suc, ◌+◌, ◌<◌, ◌≤◌, Bool, true, false, not, ◌&&◌, ◌||◌, ◌==◌, nat_lt, nat_le, List, [], ◌∷◌, ◌++◌, length, take, slice_get, Some, ◌≢◌, refl, sym, ap, subst, ◌∙◌, arith}
 use Rattle.std.proofs.lemmas.Bool.{ltb-true, lt-ltb}
 use Rattle.index_model.specs.Faults.{HasCause}
 use Rattle.index_model.specs.declared.fault.Fault.{Fault}
@@ -48,3 +48,10 @@ take_get xs i x found = by xs i found ∙ ap (λ (n : ℕ). take n xs) (let e : 
     by [] i found = absurd cc
     by (y ∷ ys) zero {x} found = (let same : y ≡ x = cc in ap (λ z. z ∷ []) (sym same))
     by (y ∷ ys) (suc i) found = ap (λ l. y ∷ l) (by ys i found)
+
+not_so : false ≡ true → ⊥
+not_so e = cc
+
+-- a read takes no memory
+pub never_memory : (st : State) (old new : Backing) (block : ℕ) (fault : Fault) → HasCause (where_read st old new block) fault → fault ≢ NoMemory
+never_memory st old new block fault h same = not_so (subst (HasCause (where_read st old new block)) same h)

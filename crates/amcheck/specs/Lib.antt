@@ -13,3 +13,5 @@ pub mod AllStops
 pub mod Downlinks
 pub mod ParentDamages
 pub mod Answers
+pub mod Searching
+pub mod Laws

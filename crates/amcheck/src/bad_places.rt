@@ -1,4 +1,4 @@
-//! The first damage of a level's chain, as a walk found it.
+//! The first damage of a level's chain, as a walk found it. Its stops are judged in one thread or in many.
 
 ghost use Rattle.std.specs.Prelude.{◌≡◌, ◌≢◌, ◌⊎◌, ◌<◌, ◌≤◌, ◌↔◌, None, length, IsTrue, IfNone, IfSome};
 ghost use Rattle.tree_shape.specs.Nodes.{nodes_of};
@@ -6,17 +6,22 @@ ghost use Rattle.damages.specs.Damages.{index_of};
 ghost use Rattle.amcheck.specs.Chains.{IsClearChain, IsFirstOfChain};
 ghost use Rattle.amcheck.specs.Ends.{IsEnd};
 ghost use Rattle.amcheck.specs.Places.{StandAtTheirBlocks};
-ghost use Rattle.amcheck.specs.Stops.{AreStops, IsRootAt, IsLeastNumber, IsWrongAt, IsBad, IsFirstPlace, AreInUse};
+ghost use Rattle.amcheck.specs.Searching.{AreSearchable, MaySearch, FindsFirst};
+ghost use Rattle.amcheck.specs.Stops.{AreStops, IsRootAt, IsLeastNumber, IsWrongAt, IsBad, IsFirstPlace};
 
 use crate::report::Damage;
 use crate::stops::{Stop, find_number, low};
 use crate::walks::End;
 use page_codec::Page;
+use rayon::prelude::*;
+use std::thread::Threads;
+
+/// Stops that one thread judges in a row at least.
+const LEAST_PIECE: usize = 256;
 
 /// The least number of what is wrong at the stop at this place.
 fn number_at(pages: &[Page], root: Option<u32>, stops: &[Stop], place: usize) -> Option<u8>
-    requires stand { StandAtTheirBlocks pages.now }
-    requires in_use { AreInUse (length pages.now) stops.now }
+    requires searchable { AreSearchable pages.now stops.now }
     requires inside { place < length stops.now }
     ensures least { IsLeastNumber (IsWrongAt (nodes_of pages.now) root stops.now place) result }
 {
@@ -27,18 +32,16 @@ fn number_at(pages: &[Page], root: Option<u32>, stops: &[Stop], place: usize) ->
 
 /// Whether something is wrong at the stop at this place.
 fn is_bad(pages: &[Page], root: Option<u32>, stops: &[Stop], place: usize) -> bool
-    requires stand { StandAtTheirBlocks pages.now }
-    requires in_use { AreInUse (length pages.now) stops.now }
+    requires searchable { AreSearchable pages.now stops.now }
     requires inside { place < length stops.now }
     ensures { IsTrue result ↔ IsBad (nodes_of pages.now) root stops.now place }
 {
     number_at(pages, root, stops, place).is_some()
 }
 
-/// The first bad stop of a chain.
-fn find_bad(pages: &[Page], root: Option<u32>, stops: &[Stop]) -> Option<usize>
-    requires stand { StandAtTheirBlocks pages.now }
-    requires in_use { AreInUse (length pages.now) stops.now }
+/// The first bad stop of a chain, stop by stop in this thread.
+pub(crate) fn find_bad_one(pages: &[Page], root: Option<u32>, stops: &[Stop]) -> Option<usize>
+    requires searchable { AreSearchable pages.now stops.now }
     ensures first { IsFirstPlace (IsBad (nodes_of pages.now) root stops.now) result }
 {
     for place in 0..stops.len() {
@@ -47,6 +50,28 @@ fn find_bad(pages: &[Page], root: Option<u32>, stops: &[Stop]) -> Option<usize>
         }
     }
     None
+}
+
+/// The first bad stop of a chain, which is cut into pieces for threads.
+pub(crate) fn find_bad(
+    rt: &(impl Threads + Sync),
+    pages: &[Page],
+    root: Option<u32>,
+    stops: &[Stop],
+) -> Option<usize>
+    requires searchable { AreSearchable pages.now stops.now }
+    ensures first { IsFirstPlace (IsBad (nodes_of pages.now) root stops.now) result }
+{
+    (0..stops.len())
+        .into_par_iter()
+        .with_min_len(LEAST_PIECE)
+        .position_first(
+            rt,
+            |place: usize| -> bool
+                requires { (place < length stops.now) × AreSearchable pages.now stops.now }
+                ensures { IsTrue result ↔ IsBad (nodes_of pages.entry.now) root stops.entry.now place }
+            { is_bad(pages, root, stops, place) },
+        )
 }
 
 /// The number of a page that was met before: 2 where its left link isn't the page before, and else 3.
@@ -90,14 +115,17 @@ fn damage_at_end(
     }
 }
 
-/// The first damage of the chain of a level, along which these stops were made.
-pub(crate) fn first_in_chain(
+/// The first damage of the chain of a level, along which these stops were made. The first bad one of them is found so.
+pub(crate) fn first_in_chain<F: Fn(&[Page], Option<u32>, &[Stop]) -> Option<usize>>(
+    find: &F,
     pages: &[Page],
     root: Option<u32>,
     depth: u8,
     stops: &[Stop],
     end: End,
 ) -> Option<Damage>
+    requires may { MaySearch (F.pre find.now) }
+    requires finds { FindsFirst (F.post find.now) }
     requires stand { StandAtTheirBlocks pages.now }
     requires few { length stops.now ≤ 65536 }
     requires deep { depth ≤ (index_of pages.now).top }
@@ -108,7 +136,7 @@ pub(crate) fn first_in_chain(
     ensures some { IfSome result
         (λ d. IsFirstOfChain (index_of pages.now) depth d.number d.block) }
 {
-    let place = match find_bad(pages, root, stops) {
+    let place = match find(pages, root, stops) {
         None => return damage_at_end(pages, root, depth, stops, end),
         Some(place) => place,
     };

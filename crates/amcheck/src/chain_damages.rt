@@ -7,6 +7,7 @@ ghost use Rattle.amcheck.specs.AllStops.{AreWhole, AreAllStops};
 ghost use Rattle.amcheck.specs.LevelDamages.{IsClearLevel, IsFirstOfLevel, AreOfUpper};
 ghost use Rattle.amcheck.specs.Marks.{IsMet};
 ghost use Rattle.amcheck.specs.Places.{StandAtTheirBlocks};
+ghost use Rattle.amcheck.specs.Searching.{MaySearch, FindsFirst};
 ghost use Rattle.amcheck.specs.Stops.{blocks_of, IsRootAt};
 
 use crate::bad_places::first_in_chain;
@@ -40,7 +41,8 @@ fn root_at(root: u32, depth: u8) -> Option<u32>
 }
 
 /// Judges the chain of a level: the leftmost page, or the first damage. `stops` has room for a stop at each page in use.
-fn judge_level(
+fn judge_level<F: Fn(&[Page], Option<u32>, &[Stop]) -> Option<usize>>(
+    find: &F,
     pages: &[Page],
     seen: &mut [bool],
     met: &mut Met,
@@ -50,6 +52,8 @@ fn judge_level(
     level: u8,
     begin: u32,
 ) -> Result<u32, Damage>
+    requires may { MaySearch (F.pre find.now) }
+    requires finds { FindsFirst (F.post find.now) }
     requires stand { StandAtTheirBlocks pages.now }
     requires some { 0 < length pages.now }
     requires few { length pages.now ≤ 65536 }
@@ -77,7 +81,7 @@ fn judge_level(
         Err(damage) => return Err(damage),
     };
     let end = walk(pages, met, stops, depth, level, head);
-    match first_in_chain(pages, root_at(root, depth), depth, stops, end) {
+    match first_in_chain(find, pages, root_at(root, depth), depth, stops, end) {
         None => Ok(head),
         Some(damage) => Err(damage),
     }
@@ -96,7 +100,8 @@ fn keep(chains: &mut Vec<Stop>, stops: &[Stop])
 
 /// The first damage of the chains of all levels, from the root's to the leaves. No block was seen or met before; `stops` and
 /// `chains` have room for a stop at each page in use. Where there is no damage `chains` has the stops of all levels.
-pub(crate) fn find_chain_damage(
+pub(crate) fn find_chain_damage<F: Fn(&[Page], Option<u32>, &[Stop]) -> Option<usize>>(
+    find: &F,
     pages: &[Page],
     seen: &mut [bool],
     met: &mut Met,
@@ -105,6 +110,8 @@ pub(crate) fn find_chain_damage(
     root: u32,
     top: u8,
 ) -> Option<Damage>
+    requires may { MaySearch (F.pre find.now) }
+    requires finds { FindsFirst (F.post find.now) }
     requires stand { StandAtTheirBlocks pages.now }
     requires some { 0 < length pages.now }
     requires few { length pages.now ≤ 65536 }
@@ -126,7 +133,17 @@ pub(crate) fn find_chain_damage(
 {
     let mut begin = root;
     for depth in 0..top + 1 {
-        match judge_level(pages, seen, met, stops, root, depth, top - depth, begin) {
+        match judge_level(
+            find,
+            pages,
+            seen,
+            met,
+            stops,
+            root,
+            depth,
+            top - depth,
+            begin,
+        ) {
             Ok(head) => {
                 keep(chains, stops);
                 begin = next_begin(pages, head);

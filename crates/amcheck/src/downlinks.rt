@@ -51,8 +51,10 @@ pub(crate) fn find_off(
     links: &[Downlink],
 ) -> Option<u32>
     requires { level + depth ≡ (index_of pages.now).top }
-    ensures none { IfNone result (AreBelow (index_of pages.now) depth (from_low low.now links.now)) }
-    ensures some { IfSome result (IsOff (index_of pages.now) depth (from_low low.now links.now)) }
+    ensures none { IfNone result
+        (AreBelow (index_of pages.now) depth (from_low low.now links.now)) }
+    ensures some { IfSome result
+        (IsOff (index_of pages.now) depth (from_low low.now links.now)) }
 {
     for item in 0..links.len() {
         let link = link_at(low, links, item);
@@ -94,7 +96,8 @@ fn has_wrong_bound(
     requires few { length stops.now ≤ 65536 }
     requires places { ArePlaces stops.now places.now }
     requires once { HaveBlocksOnce stops.now }
-    ensures { IsTrue result ↔ HasWrongBound (nodes_of pages.now) stops.now (from_low low.now links.now) }
+    ensures { IsTrue result
+        ↔ HasWrongBound (nodes_of pages.now) stops.now (from_low low.now links.now) }
 {
     for item in 0..links.len() {
         let link = link_at(low, links, item);
@@ -166,10 +169,12 @@ fn has_extra(
     requires places { ArePlaces stops.now places.now }
     requires once { HaveBlocksOnce stops.now }
     requires size { length linked.old ≡ length pages.now }
-    requires in_use { (item : ℕ) (link : Downlink) → slice_get (from_low low.now links.now) item ≡ Some link
+    requires in_use { (item : ℕ) (link : Downlink)
+        → slice_get (from_low low.now links.now) item ≡ Some link
         → link.child < length pages.now }
     ensures size { length linked.new ≡ length linked.old }
-    ensures extra { IsTrue result ↔ HasExtra (nodes_of pages.now) stops.now linked.old (from_low low.now links.now) }
+    ensures extra { IsTrue result
+        ↔ HasExtra (nodes_of pages.now) stops.now linked.old (from_low low.now links.now) }
     ensures noted { result ≡ false
         → AreNoted (from_low low.now links.now) (length links.now) linked.old linked.new }
 {
@@ -206,7 +211,8 @@ pub(crate) fn find_parent_number(
     ensures least { IsLeastNumber (IsWrongAmong (nodes_of pages.now) stops.now linked.old
         (from_low low.now (nodes_of pages.now stop.now.block).links) top
         (nodes_of pages.now stop.now.block) stop.now) result }
-    ensures noted { IfNone result (AreNoted (from_low low.now (nodes_of pages.now stop.now.block).links)
+    ensures noted { IfNone result
+        (AreNoted (from_low low.now (nodes_of pages.now stop.now.block).links)
         (length (nodes_of pages.now stop.now.block).links) linked.old linked.new) }
 {
     let page = &pages[stop.block as usize];

@@ -10,6 +10,7 @@ ghost use Rattle.amcheck.specs.Levels.{NamesRoot};
 ghost use Rattle.amcheck.specs.Marks.{IsMet};
 ghost use Rattle.amcheck.specs.Places.{StandAtTheirBlocks};
 ghost use Rattle.amcheck.specs.Reports.{IsReport};
+ghost use Rattle.amcheck.specs.Searching.{MaySearch, FindsFirst};
 ghost use Rattle.amcheck.specs.Stops.{blocks_of};
 
 use crate::chain_damages::find_chain_damage;
@@ -97,13 +98,16 @@ fn judge_parents(
 }
 
 /// Judges the chains of all levels: a report, or the first damage. No block was seen or met before.
-pub(crate) fn judge_chains(
+pub(crate) fn judge_chains<F: Fn(&[Page], Option<u32>, &[Stop]) -> Option<usize>>(
+    find: &F,
     pages: &[Page],
     seen: &mut [bool],
     met: &mut Met,
     stops: &mut Vec<Stop>,
     chains: &mut Vec<Stop>,
 ) -> Result<Report, Damage>
+    requires may { MaySearch (F.pre find.now) }
+    requires finds { FindsFirst (F.post find.now) }
     requires stand { StandAtTheirBlocks pages.now }
     requires few { length pages.now ≤ 65536 }
     requires seen { seen.old ≡ replicate (length pages.now) false }
@@ -125,14 +129,17 @@ pub(crate) fn judge_chains(
         Ok(root) => root,
         Err(damage) => return Err(damage),
     };
-    match find_chain_damage(pages, seen, met, stops, chains, root.block, root.level) {
+    match find_chain_damage(
+        find, pages, seen, met, stops, chains, root.block, root.level,
+    ) {
         Some(damage) => Err(damage),
         None => Ok(count_up(pages, root.level as u32 + 1)),
     }
 }
 
 /// Judges all pages, with parents and children: a report, or the first damage. No block was seen, met, noted or marked before.
-pub(crate) fn judge(
+pub(crate) fn judge<F: Fn(&[Page], Option<u32>, &[Stop]) -> Option<usize>>(
+    find: &F,
     pages: &[Page],
     seen: &mut [bool],
     met: &mut Met,
@@ -141,6 +148,8 @@ pub(crate) fn judge(
     places: &mut [Option<u32>],
     linked: &mut [bool],
 ) -> Result<Report, Damage>
+    requires may { MaySearch (F.pre find.now) }
+    requires finds { FindsFirst (F.post find.now) }
     requires stand { StandAtTheirBlocks pages.now }
     requires few { length pages.now ≤ 65536 }
     requires seen { seen.old ≡ replicate (length pages.now) false }
@@ -165,7 +174,7 @@ pub(crate) fn judge(
         Err(damage) => return Err(damage),
     };
     if let Some(damage) = find_chain_damage(
-        pages, seen, met, stops, chains, root.block, root.level,
+        find, pages, seen, met, stops, chains, root.block, root.level,
     ) {
         return Err(damage);
     }

@@ -4,6 +4,7 @@
 mod bad_places;
 mod chain_damages;
 mod chain_places;
+mod checking;
 mod checks;
 mod counts;
 mod downlinks;
@@ -18,5 +19,5 @@ mod strays;
 mod walks;
 mod ways;
 
-pub use checks::{check, check_parents};
+pub use checks::{check, check_one, check_parents, check_parents_one, checks_answer_alike};
 pub use report::{CheckFault, Report};

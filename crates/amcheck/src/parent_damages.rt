@@ -32,7 +32,8 @@ fn damage_at(
     requires marked { AreMarked (index_of pages.now) stops.now place linked.old }
     ensures size { length linked.new ≡ length linked.old }
     ensures clear { IfNone result (IsClearAt (index_of pages.now) stops.now place) }
-    ensures marked { IfNone result (AreMarked (index_of pages.now) stops.now (suc place) linked.new) }
+    ensures marked { IfNone result
+        (AreMarked (index_of pages.now) stops.now (suc place) linked.new) }
     ensures first { IfSome result
         (λ d. IsFirstAt (index_of pages.now) stops.now place d.number d.block) }
 {
@@ -69,7 +70,8 @@ pub(crate) fn find_parent_damage(
     requires places { ArePlaces stops.now places.now }
     requires size { length linked.old ≡ length pages.now }
     requires marked { AreMarked (index_of pages.now) stops.now 0 linked.old }
-    ensures none { IfNone result ((k : ℕ) → k < length stops.now → IsClearAt (index_of pages.now) stops.now k) }
+    ensures none { IfNone result
+        ((k : ℕ) → k < length stops.now → IsClearAt (index_of pages.now) stops.now k) }
     ensures some { IfSome result (λ d. IsFirstDamage true pages.now d.number d.block) }
 {
     for place in 0..stops.len() {

@@ -1,6 +1,6 @@
 //! All pages of a store are read into room that was made before.
 
-ghost use Rattle.std.specs.Prelude.{◌≡◌, ◌≤◌, [], true, IfOk, IfErr, OnOk, OnErr, length, vec_capacity};
+ghost use Rattle.std.specs.Prelude.{◌≡◌, ◌≢◌, ◌≤◌, [], true, IfOk, IfErr, OnOk, OnErr, length, vec_capacity};
 ghost use Rattle.index_model.specs.Faults.{HasCause};
 ghost use Rattle.page_action.specs.Room.{KeepsRoom};
 ghost use Rattle.page_action.specs.States.{Continues};
@@ -71,7 +71,7 @@ impl Room {
     }
 }
 
-/// Reads each page in use once, and puts a copy of it behind the others. Refused as [`PageStore::fetch`].
+/// Reads each page in use once, and puts a copy of it behind the others. Refused as [`PageStore::fetch`]: it takes no memory.
 pub(crate) fn read_pages<S: PageStore>(store: &mut S, pages: &mut Vec<Page>) -> Result<(), Fault>
     requires empty { pages.old.items ≡ [] }
     requires room { length (S.state store.old).pages ≤ vec_capacity pages.old }
@@ -80,6 +80,7 @@ pub(crate) fn read_pages<S: PageStore>(store: &mut S, pages: &mut Vec<Page>) -> 
     ensures read { OnOk result
         (AreRead (S.state store.old) (S.backing store.new) pages.new.items) }
     ensures room { KeepsRoom (S.state store.old) (S.backing store.old) (S.backing store.new) }
+    ensures memory { IfErr result (λ fault. fault ≢ Fault.NoMemory) }
     ensures cause { IfErr result (HasCause
         (where_checked (S.state store.old) (S.backing store.old) (S.backing store.new))) }
 {

@@ -92,7 +92,8 @@ fn is_too_much(
     low: &Option<Bound>,
     block: u32,
 ) -> bool
-    ensures { IsTrue result ↔ IsTooMuch root (record { low = low.now; left = left; behind = behind }) block }
+    ensures { IsTrue result
+        ↔ IsTooMuch root (record { low = low.now; left = left; behind = behind }) block }
 {
     match root {
         None => false,
@@ -119,7 +120,8 @@ pub(crate) fn find_number(
 ) -> Option<u8>
     requires page { IsPage page.now }
     ensures least { IsLeastNumber (IsWrong (node_of page.now) root
-        (record { low = low.now; left = stop.now.left; behind = stop.now.behind }) stop.now.block) result }
+        (record { low = low.now; left = stop.now.left; behind = stop.now.behind })
+        stop.now.block) result }
 {
     if is_linked_wrongly(page, stop.left) {
         return Some(2);

@@ -1,8 +1,11 @@
 -- What a check prints, and what that means.
-use Rattle.std.specs.Prelude.{◌≡◌, true, false, Bool, ℕ, Option, List, [], ◌∷◌, ◌++◌, codes, ⊤}
+use Rattle.std.specs.Prelude.{◌≡◌, true, false, Bool, ℕ, Option, Result, Ok, Err, List, [], ◌∷◌, ◌++◌, codes, ⊤}
 use Rattle.std.specs.Io.KnownBytes.{Appends}
+use Rattle.damages.specs.Damages.{IsFirstDamage}
 use Rattle.damages.specs.Levels.{HasLevels}
 use Rattle.amcheck.specs.Reports.{IsReport}
+use Rattle.amcheck.specs.declared.report.CheckFault.{CheckFault}
+use Rattle.amcheck.specs.declared.report.CheckFault.TheVariants.{Damage, Refused as NotChecked}
 use Rattle.amcheck.specs.declared.report.Report.{Report}
 use Rattle.command_line.specs.Printing.{numbered}
 use Rattle.command_line.specs.declared.end.End.{End}
@@ -25,11 +28,13 @@ pub record TellsReport (honest : Bool) (pages : List Page) (old new : Option (Li
   pub printed : Appends old new (report_text report ++ 10 ∷ [])
   pub is : honest ≡ true → IsReport pages report
 
--- what was printed is a damage, which pages that are a B-link tree don't have
-pub record TellsDamage (honest : Bool) (pages : List Page) (old new : Option (List ℕ)) : Type 0 where
+-- what was printed is the first damage that these pages have, with parents and children or without; pages that are a B-link
+-- tree have none
+pub record TellsDamage (honest parents : Bool) (pages : List Page) (old new : Option (List ℕ)) : Type 0 where
   pub number : ℕ
   pub block : ℕ
   pub printed : Appends old new (damage_text number block ++ 10 ∷ [])
+  pub first : honest ≡ true → IsFirstDamage parents pages number block
   pub unsound : honest ≡ true → IsTree pages → ⊥
 
 -- what was printed is a report
@@ -47,6 +52,12 @@ pub record PrintsDamage (old new : Option (List ℕ)) : Type 0 where
 abbrev pub AreSound : Bool → List Page → Type 0
 AreSound true pages = IsTree pages
 AreSound false pages = HasLevels pages
+
+-- what was printed of an answer, and how it ended: the report, the damage, or nothing
+abbrev pub IsTold : Result Report CheckFault → Option (List ℕ) → Option (List ℕ) → End → Type 0
+IsTold (Ok report) old new end = (end ≡ Done) × Appends old new (report_text report ++ 10 ∷ [])
+IsTold (Err (Damage number block)) old new end = (end ≡ Damaged) × Appends old new (damage_text number block ++ 10 ∷ [])
+IsTold (Err (NotChecked fault)) old new end = (end ≡ Refused fault) × (new ≡ old)
 
 -- a check finds no damage, finds one, or is refused
 abbrev pub IsCheckEnd : End → Type 0

@@ -5,21 +5,23 @@ ghost use Rattle.index_model.specs.Faults.{HasCause};
 ghost use Rattle.page_action.specs.States.{Continues};
 ghost use Rattle.amcheck.specs.Checks.{where_checked};
 ghost use Rattle.command_line.specs.Printing.{PrintsLine};
-ghost use Rattle.command_line.specs.Reporting.{TellsReport, TellsDamage, AreSound, IsCheckEnd, report_text, damage_text};
+ghost use Rattle.command_line.specs.Reporting.{TellsReport, TellsDamage, AreSound, IsCheckEnd, IsTold, report_text, damage_text};
 
 use crate::end::End;
-use amcheck::{CheckFault, Report, check, check_parents};
+use amcheck::{CheckFault, Report, check, check_one, check_parents, check_parents_one};
 use index_model::Fault;
 use page_action::PageStore;
 use std::alloc::Global;
 use std::io::{self, Write};
+use std::thread::Threads;
 
 /// Judges the levels and links of a store's pages, and their parents and children where that is asked for, and prints the
 /// report, or the first damage. Refused as `amcheck::check` is: nothing is printed then.
 ///
 /// A printed report is that of the pages, and with parents it means that they are a B-link tree; pages that are one have no
-/// damage.
-pub fn check_pages<S: PageStore, W: Write>(
+/// damage. A printed damage is the first that there is.
+pub fn check_pages<R: Threads + Sync, S: PageStore, W: Write>(
+    rt: &R,
     alloc: Global,
     store: &mut S,
     parents: bool,
@@ -32,7 +34,7 @@ pub fn check_pages<S: PageStore, W: Write>(
         (S.state store.old).pages (W.contents out.old) (W.contents out.new) }
     ensures sound { result ≡ Ok End.Done → (S.backing store.new).honest ≡ true
         → AreSound parents (S.state store.old).pages }
-    ensures damage { result ≡ Ok End.Damaged → TellsDamage (S.backing store.new).honest
+    ensures damage { result ≡ Ok End.Damaged → TellsDamage (S.backing store.new).honest parents
         (S.state store.old).pages (W.contents out.old) (W.contents out.new) }
     ensures refused { (fault : Fault) → result ≡ Ok (End.Refused fault)
         → HasCause (where_checked (S.state store.old) (S.backing store.old)
@@ -41,10 +43,47 @@ pub fn check_pages<S: PageStore, W: Write>(
         → W.contents out.new ≡ W.contents out.old }
 {
     let checked = if parents {
-        check_parents(alloc, store)
+        check_parents(rt, alloc, store)
     } else {
-        check(alloc, store)
+        check(rt, alloc, store)
     };
+    print_checked(out, checked)
+}
+
+/// Prints the same as [`check_pages`], and judges in this thread alone.
+pub fn check_pages_one<S: PageStore, W: Write>(
+    alloc: Global,
+    store: &mut S,
+    parents: bool,
+    out: &mut W,
+) -> io::Result<End>
+    ensures steps { Continues S.follows store.old store.new }
+    ensures state { S.state store.new ≡ S.state store.old }
+    ensures ends { IfOk result IsCheckEnd }
+    ensures report { result ≡ Ok End.Done → TellsReport (S.backing store.new).honest
+        (S.state store.old).pages (W.contents out.old) (W.contents out.new) }
+    ensures sound { result ≡ Ok End.Done → (S.backing store.new).honest ≡ true
+        → AreSound parents (S.state store.old).pages }
+    ensures damage { result ≡ Ok End.Damaged → TellsDamage (S.backing store.new).honest parents
+        (S.state store.old).pages (W.contents out.old) (W.contents out.new) }
+    ensures refused { (fault : Fault) → result ≡ Ok (End.Refused fault)
+        → HasCause (where_checked (S.state store.old) (S.backing store.old)
+        (S.backing store.new)) fault }
+    ensures silent { (fault : Fault) → result ≡ Ok (End.Refused fault)
+        → W.contents out.new ≡ W.contents out.old }
+{
+    let checked = if parents {
+        check_parents_one(alloc, store)
+    } else {
+        check_one(alloc, store)
+    };
+    print_checked(out, checked)
+}
+
+/// Prints a report, or a damage, and answers how that ends. A refusal isn't printed.
+fn print_checked<W: Write>(out: &mut W, checked: Result<Report, CheckFault>) -> io::Result<End>
+    ensures { IfOk result (IsTold checked (W.contents out.old) (W.contents out.new)) }
+{
     match checked {
         Ok(report) => {
             print_report(out, &report)?;

@@ -72,12 +72,8 @@ fn check<'a>(alloc: Global) -> Result<Command<'a>, AllocError> {
         .about("Look for damage in the index in a file")
         .after_help(REPORT)
         .arg(file(alloc))?
-        .arg(
-            Arg::new(alloc, "parents")
-                .long("parents")
-                .action(ArgAction::SetTrue)
-                .help("Compare parents and children too"),
-        )
+        .arg(flag(alloc, "parents", "Compare parents and children too"))?
+        .arg(flag(alloc, "one-thread", "Judge the pages in one thread"))
 }
 
 fn run<'a>(alloc: Global) -> Result<Command<'a>, AllocError> {
@@ -111,6 +107,13 @@ fn file<'a>(alloc: Global) -> Arg<'a> {
         .value_name("PATH")
         .required(true)
         .help("The file of the index")
+}
+
+fn flag<'a>(alloc: Global, name: &'a str, help: &'a str) -> Arg<'a> {
+    Arg::new(alloc, name)
+        .long(name)
+        .action(ArgAction::SetTrue)
+        .help(help)
 }
 
 fn needed_size<'a>(alloc: Global, name: &'a str, help: &'a str) -> Arg<'a> {
@@ -171,6 +174,13 @@ pub fn has_parents(matches: &ArgMatches<'_>) -> bool
     ensures { HasFlag (found_of matches.now) (codes "parents") result }
 {
     matches.get_flag("parents")
+}
+
+/// Whether a command line of `check` asks for one thread.
+pub fn has_one_thread(matches: &ArgMatches<'_>) -> bool
+    ensures { HasFlag (found_of matches.now) (codes "one-thread") result }
+{
+    matches.get_flag("one-thread")
 }
 
 fn number(matches: &ArgMatches<'_>, name: &str) -> u32 {

@@ -7,7 +7,7 @@ ghost use Rattle.index_model.specs.Limits.{AreLimits};
 ghost use Rattle.command_line.specs.Listing.{IsDoneOrRefused};
 ghost use Rattle.command_line.specs.Reporting.{PrintsReport, PrintsDamage, IsCheckEnd};
 
-use crate::checking::check_pages;
+use crate::checking::{check_pages, check_pages_one};
 use crate::end::End;
 use crate::files::{make_index, open_index};
 use crate::listing::list_pages;
@@ -17,6 +17,7 @@ use std::alloc::Global;
 use std::fs::File;
 use std::io::{self, Write};
 use std::rt::Files;
+use std::thread::Threads;
 
 /// Makes a new file with an empty index, and says so. Refused as `make_index` is: nothing is printed then.
 pub fn create<R: Files<File = File>, W: Write>(
@@ -45,7 +46,7 @@ pub fn create<R: Files<File = File>, W: Write>(
 
 /// Prints what a check of the index in a file answers, as `check_pages` does: with parents and children where that is asked
 /// for. Refused as `open_index` and `check_pages` are: nothing is printed then.
-pub fn check<R: Files<File = File>, W: Write>(
+pub fn check<R: Files<File = File> + Threads + Sync, W: Write>(
     rt: &R,
     alloc: Global,
     path: &str,
@@ -61,7 +62,29 @@ pub fn check<R: Files<File = File>, W: Write>(
         → W.contents out.new ≡ W.contents out.old }
 {
     match open_index::<R, Unknown>(rt, alloc, path) {
-        Ok(mut store) => check_pages(alloc, &mut store, parents, out),
+        Ok(mut store) => check_pages(rt, alloc, &mut store, parents, out),
+        Err(fault) => Ok(End::Refused(fault)),
+    }
+}
+
+/// Prints the same as [`check`], in this thread alone, as `check_pages_one` does.
+pub fn check_one<R: Files<File = File>, W: Write>(
+    rt: &R,
+    alloc: Global,
+    path: &str,
+    parents: bool,
+    out: &mut W,
+) -> io::Result<End>
+    ensures ends { IfOk result IsCheckEnd }
+    ensures report { result ≡ Ok End.Done
+        → PrintsReport (W.contents out.old) (W.contents out.new) }
+    ensures damage { result ≡ Ok End.Damaged
+        → PrintsDamage (W.contents out.old) (W.contents out.new) }
+    ensures silent { (fault : Fault) → result ≡ Ok (End.Refused fault)
+        → W.contents out.new ≡ W.contents out.old }
+{
+    match open_index::<R, Unknown>(rt, alloc, path) {
+        Ok(mut store) => check_pages_one(alloc, &mut store, parents, out),
         Err(fault) => Ok(End::Refused(fault)),
     }
 }

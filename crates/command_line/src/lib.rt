@@ -28,7 +28,7 @@ mod streams;
 mod words;
 
 pub use answer::print_answer;
-pub use checking::check_pages;
+pub use checking::{check_pages, check_pages_one};
 pub use dead::DeadList;
 pub use end::End;
 pub use job_file::{JobFile, JobFileError, read_jobs};

@@ -3,9 +3,9 @@
 ghost use Rattle.std.specs.Prelude.{◌≡◌, ◌≤◌, IfOk, OnErr};
 ghost use Rattle.command_line.specs.Ends.{status_of};
 
-use crate::command::{has_parents, limits, path, program, run_setting, setting};
+use crate::command::{has_one_thread, has_parents, limits, path, program, run_setting, setting};
 use crate::end::End;
-use crate::file_commands::{check, create, dump};
+use crate::file_commands::{check, check_one, create, dump};
 use crate::play::play;
 use crate::refusal::print_refusal;
 use crate::running;
@@ -118,8 +118,24 @@ fn run<F: Files<File = File> + Threads + Wait + Sync, R: Read, W: Write, E: Writ
         Some(("play", matches)) => play(alloc, &setting(matches), input, out, err),
         Some(("run", matches)) => running::run(rt, alloc, &run_setting(matches), out, err),
         Some(("create", matches)) => create(rt, path(matches), &limits(matches), out),
-        Some(("check", matches)) => check(rt, alloc, path(matches), has_parents(matches), out),
+        Some(("check", matches)) => run_check(rt, alloc, matches, out),
         Some(("dump", matches)) => dump(rt, alloc, path(matches), out),
         _ => Ok(End::Said),
+    }
+}
+
+/// A check, in one thread where that is asked for: what is printed is the same.
+fn run_check<F: Files<File = File> + Threads + Sync, W: Write>(
+    rt: &F,
+    alloc: Global,
+    matches: &ArgMatches<'_>,
+    out: &mut W,
+) -> io::Result<End> {
+    let path = path(matches);
+    let parents = has_parents(matches);
+    if has_one_thread(matches) {
+        check_one(rt, alloc, path, parents, out)
+    } else {
+        check(rt, alloc, path, parents, out)
     }
 }

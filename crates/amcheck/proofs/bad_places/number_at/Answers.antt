@@ -15,7 +15,7 @@ returns c =
     let at = nodes_of c.args.pages.now in
     let stop = get_or c.args.stops.now c.args.place none in
     let there : slice_get c.args.stops.now c.args.place ≡ Some stop = slice_get-get_or c.args.stops.now c.args.place none c.requires.inside in
-    let in_use = (c.requires.in_use c.args.place stop there).1 in
+    let in_use = (c.requires.searchable.in_use c.args.place stop there).1 in
     let here : at stop.block ≡ node_of c.index-pages-stop.result = ap node_from (slice_get_read c.args.pages.now _ stop.block c.index-pages-stop.result refl in_use c.index-pages-stop.is) in
     let least : IsLeastNumber (IsWrong (at stop.block) c.args.root (spot_at at stop) stop.block) c.find_number.result =
     subst (λ (n : Node). IsLeastNumber (IsWrong n c.args.root (spot_at at stop) stop.block) c.find_number.result) (sym here)
@@ -27,5 +27,5 @@ pub find_number-requires : goal.find_number-requires
 find_number-requires c =
     let stop = get_or c.args.stops.now c.args.place none in
     let there : slice_get c.args.stops.now c.args.place ≡ Some stop = slice_get-get_or c.args.stops.now c.args.place none c.requires.inside in
-    let in_use = (c.requires.in_use c.args.place stop there).1 in
-    record { page = (c.requires.stand stop.block c.index-pages-stop.result (slice_get_read c.args.pages.now _ stop.block c.index-pages-stop.result refl in_use c.index-pages-stop.is)).0 }
+    let in_use = (c.requires.searchable.in_use c.args.place stop there).1 in
+    record { page = (c.requires.searchable.stand stop.block c.index-pages-stop.result (slice_get_read c.args.pages.now _ stop.block c.index-pages-stop.result refl in_use c.index-pages-stop.is)).0 }

@@ -11,11 +11,12 @@ use Rattle.amcheck.proofs.AllStops.{blocks_append}
 use Rattle.amcheck.proofs.Blocks.{few_blocks}
 use Rattle.amcheck.proofs.Walked.{blocks_length}
 use Rattle.amcheck.proofs.ChainDamages.{first_level, sound_levels, none_of_upper}
+use Rattle.amcheck.proofs.chain_damages.find_chain_damage.Given.{Over}
 use Rattle.amcheck.proofs.chain_damages.find_chain_damage.Goals.{In-Ok}
 use Rattle.amcheck.proofs.chain_damages.find_chain_damage.Goals as goal
 
 pub loop-depth-init : goal.loop-depth-init
-loop-depth-init c = record {
+loop-depth-init g c = record {
   size = ap length c.requires.seen ∙ length-replicate (length c.args.pages.now) false;
   met = c.requires.met;
   room = refl;
@@ -29,14 +30,14 @@ loop-depth-init c = record {
 }
 
 -- the blocks that were met are those of the stops of all levels so far
-added_level : (c : In-Ok) → c.judge_level.new.met.blocks.items ≡ blocks_of (c.loop-depth.chains.items ++ c.judge_level.new.stops.items)
-added_level c =
+added_level : (g : Over) (c : In-Ok g) → c.judge_level.new.met.blocks.items ≡ blocks_of (c.loop-depth.chains.items ++ c.judge_level.new.stops.items)
+added_level g c =
     c.in-Ok.ensures.added ∙ ap (λ (l : List ℕ). l ++ blocks_of c.judge_level.new.stops.items) c.loop-depth.invariant.added
     ∙ sym (blocks_append c.loop-depth.chains.items c.judge_level.new.stops.items)
 
 pub keep-requires : goal.keep-requires
-keep-requires c =
-    let added = added_level (goal.at.keep-requires c).In-Ok in
+keep-requires g c =
+    let added = added_level g (goal.at.keep-requires g c).In-Ok in
     let all = c.loop-depth.chains.items ++ c.judge_level.new.stops.items in
     let few = few_blocks (length c.args.pages.now) c.judge_level.new.met.blocks.items c.requires.some c.judge_level.ensures.met.distinct c.judge_level.ensures.met.in_use in
     omega (
@@ -51,11 +52,11 @@ keep-requires c =
     )
 
 pub returns-in-Err-clause-some : goal.returns-in-Err-clause-some
-returns-in-Err-clause-some c =
+returns-in-Err-clause-some g c =
     first_level c.args.pages.now c.loop-depth.depth c.in-Err.damage.number c.in-Err.damage.block (omega (arith, c.loop-depth-test.true, c.requires.top)) c.loop-depth.invariant.clear c.in-Err.ensures.first
 
 pub loop-depth-preserved : goal.loop-depth-preserved
-loop-depth-preserved c =
+loop-depth-preserved g c =
     let depth = c.loop-depth.depth in
     let next : suc depth ≡ depth + 1 = omega arith in
     let kept : c.keep.new.chains.items ≡ c.loop-depth.chains.items ++ c.judge_level.new.stops.items =
@@ -68,7 +69,7 @@ loop-depth-preserved c =
       far = omega (arith, c.loop-depth-test.true);
       chains = subst (λ (d : ℕ). AreAllStops (index_of c.args.pages.now) d c.keep.new.chains.items) next
           (let all : AreAllStops (index_of c.args.pages.now) (suc depth) c.keep.new.chains.items = (c.loop-depth.chains.items, c.judge_level.new.stops.items, kept, c.loop-depth.invariant.chains, c.in-Ok.ensures.whole) in all);
-      added = added_level (goal.at.loop-depth-preserved c).In-Ok ∙ ap blocks_of (sym kept);
+      added = added_level g (goal.at.loop-depth-preserved g c).In-Ok ∙ ap blocks_of (sym kept);
       upper = subst (λ (d : ℕ). AreOfUpper (index_of c.args.pages.now) d c.judge_level.new.seen c.judge_level.new.met) next c.judge_level.ensures.upper;
       clear = λ d lt. elim (cases_lt d depth) [
         | inl before ↦ c.loop-depth.invariant.clear d before
@@ -79,10 +80,10 @@ loop-depth-preserved c =
     }
 
 pub returns-clause-none : goal.returns-clause-none
-returns-clause-none c =
+returns-clause-none g c =
     sound_levels c.args.pages.now (λ d deep. c.loop-depth.invariant.clear d (omega (arith, deep, c.loop-depth-test.false, c.requires.top)))
 
 pub returns-clause-chains : goal.returns-clause-chains
-returns-clause-chains c =
+returns-clause-chains g c =
     subst (λ (d : ℕ). AreAllStops (index_of c.args.pages.now) d c.loop-depth.chains.items)
     (let e : c.loop-depth.depth ≡ suc (index_of c.args.pages.now).top = omega (arith, c.loop-depth.invariant.far, c.loop-depth-test.false, c.requires.top) in e) c.loop-depth.invariant.chains

@@ -7,7 +7,7 @@ use Rattle.amcheck.specs.Stops.{blocks_of}
 use Rattle.amcheck.proofs.chain_damages.find_chain_damage.Given as goal
 
 abbrev pub invariant-loop-depth : goal.invariant-loop-depth
-invariant-loop-depth l = record {
+invariant-loop-depth g l = record {
   size : length l.seen ≡ length l.pages;
   met : IsMet l.met (length l.pages);
   room : vec_capacity l.stops ≡ vec_capacity l.fn.stops;

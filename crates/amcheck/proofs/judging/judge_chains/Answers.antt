@@ -3,11 +3,11 @@ use Rattle.amcheck.proofs.FirstDamages.{no_pages, top_low}
 use Rattle.amcheck.proofs.judging.judge_chains.Goals as goal
 
 pub returns-in-Err-clause-first : goal.returns-in-Err-clause-first
-returns-in-Err-clause-first c =
+returns-in-Err-clause-first g c =
     no_pages c.args.pages.now c.in-Err.damage.number c.in-Err.damage.block c.in-Err.ensures.none c.in-Err.ensures.damage.0 c.in-Err.ensures.damage.1
 
 pub find_chain_damage-requires-clause-low : goal.find_chain_damage-requires-clause-low
-find_chain_damage-requires-clause-low c = top_low c.args.pages.now c.in-Ok.root.block c.in-Ok.root.level c.in-Ok.ensures.named c.requires.stand
+find_chain_damage-requires-clause-low g c = top_low c.args.pages.now c.in-Ok.root.block c.in-Ok.root.level c.in-Ok.ensures.named c.requires.stand
 
 pub returns-in-None-clause-levels : goal.returns-in-None-clause-levels
-returns-in-None-clause-levels c = c.sound_pages_are_a_tree.ensures.levels false c.args.pages.now c.requires.stand c.in-None.ensures.none
+returns-in-None-clause-levels g c = c.sound_pages_are_a_tree.ensures.levels false c.args.pages.now c.requires.stand c.in-None.ensures.none

@@ -7,7 +7,7 @@ use Rattle.page_action.specs.Causes.{where_read}
 use Rattle.page_action.specs.Room.{KeepsRoom}
 use Rattle.page_action.specs.States.{State, IsLater}
 use Rattle.page_action.specs.Stored.{IsStored, AreStored}
-use Rattle.amcheck.proofs.ReadOn.{kept_on, cause_on, take_get}
+use Rattle.amcheck.proofs.ReadOn.{kept_on, cause_on, never_memory, take_get}
 use Rattle.amcheck.proofs.reading.read_pages.Given.{Over}
 use Rattle.amcheck.proofs.reading.read_pages.Goals.{After-fetch}
 use Rattle.amcheck.proofs.reading.read_pages.Goals as goal
@@ -30,6 +30,9 @@ room_on g c =
 
 pub returns-in-Err-clause-room : goal.returns-in-Err-clause-room
 returns-in-Err-clause-room g c = room_on g (goal.at.returns-in-Err-clause-room g c).After-fetch
+
+pub returns-in-Err-clause-memory : goal.returns-in-Err-clause-memory
+returns-in-Err-clause-memory g c = never_memory (g.S.PageStore.state c.loop-block.store) (g.S.PageStore.backing c.loop-block.store) (g.S.PageStore.backing c.fetch.new.self) c.loop-block.block c.in-Err.fault c.in-Err.ensures.cause
 
 pub returns-in-Err-clause-cause : goal.returns-in-Err-clause-cause
 returns-in-Err-clause-cause g c =

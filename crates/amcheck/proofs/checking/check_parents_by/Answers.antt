@@ -1,12 +1,13 @@
 use Rattle.std.proofs.Common.{true, List, sym, subst, ◌∙◌}
+use Rattle.index_model.specs.declared.fault.Fault.TheVariants.{NoMemory}
 use Rattle.page_codec.specs.declared.page.Page.{Page}
 use Rattle.amcheck.specs.Answers.{IsAnswer}
-use Rattle.amcheck.proofs.FirstDamages.{answer_told}
+use Rattle.amcheck.proofs.FirstDamages.{answer_told, same_fault, never_refused}
 use Rattle.amcheck.specs.Places.{StandAtTheirBlocks}
 use Rattle.amcheck.proofs.Judged.{they_stand, they_are_few}
-use Rattle.amcheck.proofs.checks.check_parents.Given.{Over}
-use Rattle.amcheck.proofs.checks.check_parents.Goals.{After-deref}
-use Rattle.amcheck.proofs.checks.check_parents.Goals as goal
+use Rattle.amcheck.proofs.checking.check_parents_by.Given.{Over}
+use Rattle.amcheck.proofs.checking.check_parents_by.Goals.{After-deref}
+use Rattle.amcheck.proofs.checking.check_parents_by.Goals as goal
 
 stand : (g : Over) (c : After-deref g) → StandAtTheirBlocks c.deref.result.now
 stand g c = subst StandAtTheirBlocks (sym c.deref.ensures.value) (they_stand (g.S.PageStore.state c.args.store.now).limits c.read_pages.new.pages.items c.in-Ok-read_pages.ensures.read.stored)
@@ -21,3 +22,9 @@ pub returns-clause-answer : goal.returns-clause-answer
 returns-clause-answer g c honest =
     subst (λ (ps : List Page). IsAnswer true ps c.told.result) (c.deref.ensures.value ∙ c.in-Ok-read_pages.ensures.read.same honest)
     (answer_told true c.deref.result.now c.judge.result c.told.result c.judge.ensures.sound c.judge.ensures.report c.judge.ensures.first c.told.ensures.ok c.told.ensures.err)
+
+pub returns-in-Err-read_pages-clause-unread : goal.returns-in-Err-read_pages-clause-unread
+returns-in-Err-read_pages-clause-unread g c same = absurd (c.in-Err-read_pages.ensures.memory (same_fault _ NoMemory same))
+
+pub returns-clause-unread : goal.returns-clause-unread
+returns-clause-unread g c same = absurd (never_refused c.judge.result c.told.result NoMemory c.told.ensures.ok c.told.ensures.err same)

@@ -1,7 +1,7 @@
 use Rattle.std.proofs.Common.{ℕ, ◌<◌}
 use Rattle.tree_shape.specs.Nodes.{nodes_of}
 use Rattle.amcheck.specs.Stops.{IsBad}
-use Rattle.amcheck.proofs.bad_places.find_bad.Given as goal
+use Rattle.amcheck.proofs.bad_places.find_bad_one.Given as goal
 
 abbrev pub invariant-loop-place : goal.invariant-loop-place
 invariant-loop-place l = (j : ℕ) → j < l.place → IsBad (nodes_of l.pages) l.root l.stops j → ⊥

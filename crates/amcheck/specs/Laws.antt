@@ -1,0 +1,30 @@
+-- What holds of two checks of the same pages.
+use Rattle.std.specs.Prelude.{◌≡◌, ◌⊎◌, Bool, true, false, Result, Ok, Err, List, ⊤}
+use Rattle.page_codec.specs.declared.page.Page.{Page}
+use Rattle.amcheck.specs.Answers.{IsAnswer}
+use Rattle.amcheck.specs.declared.report.CheckFault.{CheckFault}
+use Rattle.amcheck.specs.declared.report.CheckFault.TheVariants.{Damage, Refused}
+use Rattle.amcheck.specs.declared.report.Report.{Report}
+
+-- a damage is answered
+abbrev pub IsDamaged : Result Report CheckFault → Type 0
+IsDamaged (Ok report) = ⊥
+IsDamaged (Err (Damage number block)) = ⊤
+IsDamaged (Err (Refused fault)) = ⊥
+
+-- a report is, or a damage
+abbrev pub IsAnswered : Result Report CheckFault → Type 0
+IsAnswered (Ok report) = ⊤
+IsAnswered (Err (Damage number block)) = ⊤
+IsAnswered (Err (Refused fault)) = ⊥
+
+-- two answers, neither refused, are one, whichever check they are of, in one thread or in many
+abbrev pub AnswersAreOne : Type 0
+AnswersAreOne = (parents : Bool) (pages : List Page) (one other : Result Report CheckFault)
+    → IsAnswer parents pages one → IsAnswer parents pages other → IsAnswered one → IsAnswered other → one ≡ other
+
+-- so are one without parents and children and one with them, unless only the second is a damage
+abbrev pub ParentsSeeMore : Type 0
+ParentsSeeMore = (pages : List Page) (one other : Result Report CheckFault)
+    → IsAnswer false pages one → IsAnswer true pages other → IsAnswered one → IsAnswered other
+    → (one ≡ other) ⊎ ((IsDamaged one → ⊥) × IsDamaged other)

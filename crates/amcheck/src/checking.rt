@@ -1,0 +1,114 @@
+//! The checks of a store's pages, over any search for the first bad stop of a chain.
+
+ghost use Rattle.std.specs.Prelude.{◌≡◌, true, false, Err, IfOk, IfErr, OnOk};
+ghost use Rattle.page_action.specs.Room.{KeepsRoom};
+ghost use Rattle.page_action.specs.States.{Continues};
+ghost use Rattle.tree_acts.specs.TheoremTree.{IsTree};
+ghost use Rattle.damages.specs.Levels.{HasLevels};
+ghost use Rattle.amcheck.specs.Answers.{IsAnswer};
+ghost use Rattle.amcheck.specs.Checks.{IsCheckFault};
+ghost use Rattle.amcheck.specs.Reports.{IsReport};
+ghost use Rattle.amcheck.specs.Searching.{MaySearch, FindsFirst};
+
+use crate::judging::{judge, judge_chains};
+use crate::reading::{Room, read_pages};
+use crate::report::{CheckFault, Damage, Report};
+use crate::stops::Stop;
+use index_model::Fault;
+use page_action::PageStore;
+use page_codec::Page;
+use std::alloc::Global;
+
+// What is answered of a report or a damage.
+fn told(judged: Result<Report, Damage>) -> Result<Report, CheckFault>
+    ensures ok { IfOk judged (λ report. result ≡ Ok report) }
+    ensures err { IfErr judged (λ d. result ≡ Err (CheckFault.Damage d.number d.block)) }
+{
+    match judged {
+        Ok(report) => Ok(report),
+        Err(damage) => Err(CheckFault::Damage {
+            number: damage.number,
+            block: damage.block,
+        }),
+    }
+}
+
+/// Judges the levels of an index and their links, as `check` and `check_one` do, where the first bad stop is found so.
+pub(crate) fn check_by<F: Fn(&[Page], Option<u32>, &[Stop]) -> Option<usize>, S: PageStore>(
+    find: F,
+    alloc: Global,
+    store: &mut S,
+) -> Result<Report, CheckFault>
+    requires may { MaySearch (F.pre find) }
+    requires finds { FindsFirst (F.post find) }
+    ensures steps { Continues S.follows store.old store.new }
+    ensures state { S.state store.new ≡ S.state store.old }
+    ensures room { KeepsRoom (S.state store.old) (S.backing store.old) (S.backing store.new) }
+    ensures levels { (S.backing store.new).honest ≡ true
+        → OnOk result (HasLevels (S.state store.old).pages) }
+    ensures report { (S.backing store.new).honest ≡ true
+        → IfOk result (IsReport (S.state store.old).pages) }
+    ensures answer { (S.backing store.new).honest ≡ true
+        → IsAnswer false (S.state store.old).pages result }
+    ensures fault { IfErr result (IsCheckFault (S.state store.old) (S.backing store.old)
+        (S.backing store.new) (IsTree (S.state store.old).pages)) }
+    ensures unread { result ≡ Err (CheckFault.Refused Fault.NoMemory) → store.new ≡ store.old }
+{
+    let mut room = match Room::new(alloc, store.used()) {
+        Ok(room) => room,
+        Err(fault) => return Err(CheckFault::Refused(fault)),
+    };
+    match read_pages(store, &mut room.pages) {
+        Ok(()) => {}
+        Err(fault) => return Err(CheckFault::Refused(fault)),
+    }
+    told(judge_chains(
+        &find,
+        &room.pages,
+        &mut room.seen,
+        &mut room.met,
+        &mut room.stops,
+        &mut room.chains,
+    ))
+}
+
+/// Judges parents and children too, as `check_parents` and `check_parents_one` do, where the first bad stop is found so.
+pub(crate) fn check_parents_by<F: Fn(&[Page], Option<u32>, &[Stop]) -> Option<usize>, S: PageStore>(
+    find: F,
+    alloc: Global,
+    store: &mut S,
+) -> Result<Report, CheckFault>
+    requires may { MaySearch (F.pre find) }
+    requires finds { FindsFirst (F.post find) }
+    ensures steps { Continues S.follows store.old store.new }
+    ensures state { S.state store.new ≡ S.state store.old }
+    ensures room { KeepsRoom (S.state store.old) (S.backing store.old) (S.backing store.new) }
+    ensures tree { (S.backing store.new).honest ≡ true
+        → OnOk result (IsTree (S.state store.old).pages) }
+    ensures report { (S.backing store.new).honest ≡ true
+        → IfOk result (IsReport (S.state store.old).pages) }
+    ensures answer { (S.backing store.new).honest ≡ true
+        → IsAnswer true (S.state store.old).pages result }
+    ensures fault { IfErr result (IsCheckFault (S.state store.old) (S.backing store.old)
+        (S.backing store.new) (IsTree (S.state store.old).pages)) }
+    ensures unread { result ≡ Err (CheckFault.Refused Fault.NoMemory) → store.new ≡ store.old }
+{
+    let mut room = match Room::new(alloc, store.used()) {
+        Ok(room) => room,
+        Err(fault) => return Err(CheckFault::Refused(fault)),
+    };
+    match read_pages(store, &mut room.pages) {
+        Ok(()) => {}
+        Err(fault) => return Err(CheckFault::Refused(fault)),
+    }
+    told(judge(
+        &find,
+        &room.pages,
+        &mut room.seen,
+        &mut room.met,
+        &mut room.stops,
+        &mut room.chains,
+        &mut room.places,
+        &mut room.linked,
+    ))
+}
