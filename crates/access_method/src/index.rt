@@ -171,10 +171,10 @@ impl<S: PageStore> Index<S> {
         )
     }
 
-    /// Deletes every entry whose row is in the set, and answers statistics: what it removed, and how many entries are left.
-    /// Open scans stay as they are. Refused with `Blocked` (4) where an open scan stands on a leaf, with `Io` (2), `Stopped`
-    /// (3) and `NoFrame` (10), and with `PageDamaged` (17) on pages that are no tree: what it has removed stays removed, and
-    /// no other entry is gone.
+    /// Deletes every entry whose row is in the set, and answers statistics: what it removed, how many entries are left, how
+    /// many pages are in use and deleted then, and how many of these may be used again. Open scans stay as they are. Refused
+    /// with `Blocked` (4) where an open scan stands on a leaf, with `Io` (2), `Stopped` (3) and `NoFrame` (10), and with
+    /// `PageDamaged` (17) on pages that are no tree: what it has removed stays removed, and no other entry is gone.
     pub fn ambulkdelete<T: DeadRows>(&mut self, dead: &T) -> Result<VacuumStats, Fault>
         ensures steps { Continues S.follows self.old.store self.new.store }
         ensures sweeps { IndexCarries S.PageStore self.old self.new
@@ -202,10 +202,11 @@ impl<S: PageStore> Index<S> {
         )
     }
 
-    /// Deletes empty leaves and counts the entries: begins a cleanup and runs its steps to the end. The contents stay, whatever
-    /// it answers, and so do open scans; a leaf on which one stands is passed. Where it answers, no half-dead page is left, and
-    /// `num_index_tuples` is the number of entries. Refused with `Io` (2) and `Stopped` (3), with `Blocked` (4) or `NoFrame` (10)
-    /// where open scans hold what it needs, and with `PageDamaged` (17) on pages that are no tree.
+    /// Deletes empty leaves and counts the entries: begins a cleanup and runs its steps to the end. The contents stay,
+    /// whatever it answers, and so do open scans; a leaf on which one stands is passed. Where it answers, no half-dead page
+    /// is left, `num_index_tuples` is the number of entries, and of the pages that are deleted then (`pages_deleted`) it
+    /// tells how many it deleted and how many may be used again. Refused with `Io` (2) and `Stopped` (3), with `Blocked` (4)
+    /// or `NoFrame` (10) where open scans hold what it needs, and with `PageDamaged` (17) on pages that are no tree.
     pub fn amvacuumcleanup(&mut self) -> Result<VacuumStats, Fault>
         ensures steps { Continues S.follows self.old.store self.new.store }
         ensures runs { IndexGoes S.PageStore 63 (SweepTold 63 ToCleanup result)
