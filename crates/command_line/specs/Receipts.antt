@@ -7,7 +7,7 @@ use Rattle.command_line.specs.Printing.{numbered, answer_text}
 use Rattle.session_calls.specs.declared.answer.Answer.{Answer}
 use Rattle.session_calls.specs.declared.answer.Answer.TheVariants.{Begun, Going, Added, Ready, Done, Finished, Gave, Ended, Forced, Flushed, Checkpointed, Refused}
 use Rattle.sessions.specs.declared.record.Record.{Record}
-use Rattle.sessions.specs.declared.run.Receipt.{Receipt}
+use Rattle.sessions.specs.declared.outcome.Receipt.{Receipt}
 
 -- how many entries a scan gave and how it ended, and these entries
 abbrev pub scanned_text : List ℕ → List Entry → List ℕ

@@ -2,7 +2,7 @@
 
 ghost use Rattle.std.specs.Prelude.{◌≡◌, Ok, IfOk};
 ghost use Rattle.command_line.specs.Listing.{IsDoneOrRefused};
-ghost use Rattle.command_line.specs.Running.{IsRunEnd, PrintsRun};
+ghost use Rattle.command_line.specs.Running.{IsRunEnd, PrintsHistory, PrintsRun};
 
 use crate::answer::print_answer;
 use crate::dead::DeadList;
@@ -80,7 +80,7 @@ fn run_file<R: Files<File = File> + Threads + Wait + Sync, W: Write>(
 ) -> io::Result<End>
     ensures ends { IfOk result IsDoneOrRefused }
     ensures printed { result ≡ Ok End.Done
-        → PrintsRun file.jobs.items (W.contents out.old) (W.contents out.new) }
+        → PrintsRun file.jobs.items asked.now.workers (W.contents out.old) (W.contents out.new) }
 {
     let device = match FileDevice::<Unknown>::open(rt, asked.path) {
         Ok(device) => device,
@@ -101,7 +101,11 @@ fn run_file<R: Files<File = File> + Threads + Wait + Sync, W: Write>(
 fn finish<W: Write>(
     finished: Finished<Store<FileDevice<Unknown>>, DeadList>,
     out: &mut W,
-) -> io::Result<End> {
+) -> io::Result<End>
+    ensures ends { IfOk result IsDoneOrRefused }
+    ensures printed { result ≡ Ok End.Done → PrintsHistory finished.history.items
+        finished.receipts.items finished.calls.items (W.contents out.old) (W.contents out.new) }
+{
     let Finished {
         mut world,
         start: _,
