@@ -1,21 +1,31 @@
-//! The verifier: each damage that it finds, and what it answers where there is none.
+//! The verifier: each damage that it finds, and what it answers where there is none, in many threads and in one.
 
 use crate::plain::add;
 use crate::trees::{bound, emptied, flagged, leaf_of, meta, parent, stored};
-use amcheck::{CheckFault, Report, check, check_parents};
+use amcheck::{CheckFault, Report, check, check_one, check_parents, check_parents_one};
 use index_model::Fault;
 use page_action::MapStore;
 use page_codec::{Page, PageState};
 use std::alloc::Global;
 use std::process::Abort;
 use std::test::{Fail, *};
+use std::thread::Threads;
 
-fn levels(alloc: Global, store: &mut MapStore) -> Result<Report, CheckFault> {
-    check(alloc, store)
+type Answer = Result<Report, CheckFault>;
+
+// What the two forms answer, if that is the same.
+fn alike(many: Answer, one: Answer) -> Option<Answer> {
+    if many == one { Some(many) } else { None }
 }
 
-fn parents(alloc: Global, store: &mut MapStore) -> Result<Report, CheckFault> {
-    check_parents(alloc, store)
+pub fn levels(rt: &(impl Threads + Sync), alloc: Global, store: &mut MapStore) -> Option<Answer> {
+    let many = check(rt, alloc, store);
+    alike(many, check_one(alloc, store))
+}
+
+pub fn parents(rt: &(impl Threads + Sync), alloc: Global, store: &mut MapStore) -> Option<Answer> {
+    let many = check_parents(rt, alloc, store);
+    alike(many, check_parents_one(alloc, store))
 }
 
 fn half_dead() -> Page {
@@ -74,12 +84,12 @@ fn store(alloc: Global, pages: &[Page]) -> Result<MapStore, Fault> {
     Ok(store)
 }
 
-fn damage(number: u8, block: u32) -> Result<Report, CheckFault> {
-    Err(CheckFault::Damage { number, block })
+fn damage(number: u8, block: u32) -> Option<Answer> {
+    Some(Err(CheckFault::Damage { number, block }))
 }
 
 // Both checks of these pages find this damage.
-fn is_found<R: Abort>(
+fn is_found<R: Abort + Threads + Sync>(
     rt: &R,
     alloc: Global,
     pages: &[Page],
@@ -87,13 +97,13 @@ fn is_found<R: Abort>(
     block: u32,
 ) -> Result<(), Fault> {
     let mut store = store(alloc, pages)?;
-    assert!(rt; levels(alloc, &mut store) == damage(number, block));
-    assert!(rt; parents(alloc, &mut store) == damage(number, block));
+    assert!(rt; levels(rt, alloc, &mut store) == damage(number, block));
+    assert!(rt; parents(rt, alloc, &mut store) == damage(number, block));
     Ok(())
 }
 
 // The check of parents finds this damage of these pages, the other none.
-fn is_found_of_parents<R: Abort>(
+fn is_found_of_parents<R: Abort + Threads + Sync>(
     rt: &R,
     alloc: Global,
     pages: &[Page],
@@ -101,16 +111,21 @@ fn is_found_of_parents<R: Abort>(
     block: u32,
 ) -> Result<(), Fault> {
     let mut store = store(alloc, pages)?;
-    assert!(rt; levels(alloc, &mut store).is_ok());
-    assert!(rt; parents(alloc, &mut store) == damage(number, block));
+    assert!(rt; matches!(levels(rt, alloc, &mut store), Some(Ok(_))));
+    assert!(rt; parents(rt, alloc, &mut store) == damage(number, block));
     Ok(())
 }
 
 // Both checks of these pages answer this report.
-fn is_sound<R: Abort>(rt: &R, alloc: Global, pages: &[Page], report: Report) -> Result<(), Fault> {
+fn is_sound<R: Abort + Threads + Sync>(
+    rt: &R,
+    alloc: Global,
+    pages: &[Page],
+    report: Report,
+) -> Result<(), Fault> {
     let mut store = store(alloc, pages)?;
-    assert!(rt; levels(alloc, &mut store) == Ok(report));
-    assert!(rt; parents(alloc, &mut store) == Ok(report));
+    assert!(rt; levels(rt, alloc, &mut store) == Some(Ok(report)));
+    assert!(rt; parents(rt, alloc, &mut store) == Some(Ok(report)));
     Ok(())
 }
 
@@ -152,8 +167,8 @@ fn page_of_another_block_or_level(rt: HostRuntime) -> Result<(), Fail> {
     let alloc = rt.alloc();
     // No page, no metapage.
     let mut none = stored(alloc, 8, &[])?;
-    assert!(rt; levels(alloc, &mut none) == damage(1, 0));
-    assert!(rt; parents(alloc, &mut none) == damage(1, 0));
+    assert!(rt; levels(&rt, alloc, &mut none) == damage(1, 0));
+    assert!(rt; parents(&rt, alloc, &mut none) == damage(1, 0));
     // A right link to a block that is not in use, and one to a page of another level.
     for right in [7, 3] {
         let second = leaf_of(2, Some(1), Some(right), &[0x64], Some(0x66));

@@ -25,6 +25,8 @@ mod halves;
 #[cfg(test)]
 mod inserts;
 #[cfg(test)]
+mod judged_pages;
+#[cfg(test)]
 mod latches;
 #[cfg(test)]
 mod layouts;
@@ -32,6 +34,8 @@ mod layouts;
 mod logs;
 #[cfg(test)]
 mod plain;
+#[cfg(test)]
+mod plain_damages;
 #[cfg(test)]
 mod pools;
 #[cfg(test)]

@@ -4,6 +4,7 @@ mod caller;
 mod checks;
 mod commands;
 mod crashes;
+mod damages;
 mod deletes;
 mod examples;
 mod files;
@@ -35,7 +36,11 @@ struct Printed {
 }
 
 /// Runs the program on a script.
-fn played(rt: &(impl AllocGlobal + Files<File = File> + Threads + Wait + Sync), words: &[&str], script: &str) -> Printed {
+fn played(
+    rt: &(impl AllocGlobal + Files<File = File> + Threads + Wait + Sync),
+    words: &[&str],
+    script: &str,
+) -> Printed {
     let mut input = script.as_bytes();
     let mut out = Vec::new(rt.alloc());
     let mut err = Vec::new(rt.alloc());

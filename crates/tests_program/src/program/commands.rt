@@ -44,7 +44,10 @@ impl Write for Narrow {
 }
 
 /// What the program prints where the output takes 12 bytes.
-fn into_narrow(rt: &(impl AllocGlobal + Files<File = File> + Threads + Wait + Sync), script: &str) -> Printed {
+fn into_narrow(
+    rt: &(impl AllocGlobal + Files<File = File> + Threads + Wait + Sync),
+    script: &str,
+) -> Printed {
     let mut input = script.as_bytes();
     let taken = Vec::new(rt.alloc());
     let mut out = Narrow { taken, most: 12 };

@@ -11,7 +11,7 @@ use std::test::*;
 use std::thread::Threads;
 
 /// Makes an empty index of 64 blocks with a log of 65,536 bytes in a new file.
-fn create(
+pub fn create(
     rt: &(impl Abort + AllocGlobal + Print + Eprint + Files<File = File> + Threads + Wait + Sync),
     path: &str,
 ) -> Result<(), Fail> {
@@ -23,7 +23,7 @@ fn create(
 }
 
 /// Writes bytes over those of a file.
-fn patch(rt: &impl Files<File = File>, path: &str, at: u64, bytes: &[u8]) -> Result<(), Fail> {
+pub fn patch(rt: &impl Files<File = File>, path: &str, at: u64, bytes: &[u8]) -> Result<(), Fail> {
     let file = OpenOptions::new().write(true).open(rt, path)?;
     file.write_all_at(bytes, at)?;
     Ok(())
@@ -37,8 +37,8 @@ fn entry(key: u8) -> Entry {
 }
 
 /// Inserts entries into the index in a file, with keys of one byte, and makes a checkpoint. Answers the number of actions.
-fn fill(
-    rt: &(impl AllocGlobal + Files<File = File> + Threads + Wait + Sync),
+pub fn fill(
+    rt: &(impl AllocGlobal + Files<File = File>),
     path: &str,
     keys: &[u8],
 ) -> Result<u64, Fault> {
@@ -49,8 +49,8 @@ fn fill(
     caller::close(index)
 }
 
-/// A check of the file, with parents or without, prints this line and ends with this status.
-fn check_ends(
+/// A check of the file, with parents or without, prints this line and ends with this status, in many threads and in one.
+pub fn check_ends(
     rt: &(impl Abort + AllocGlobal + Print + Eprint + Files<File = File> + Threads + Wait + Sync),
     path: &str,
     parents: bool,
@@ -59,11 +59,14 @@ fn check_ends(
 ) -> Result<(), Fail> {
     let words = ["btidx", "check", path, "--parents"];
     let count = if parents { 4 } else { 3 };
+    runs(rt, &words[..count], "", printed, "", status)?;
+    let words = ["btidx", "check", path, "--one-thread", "--parents"];
+    let count = if parents { 5 } else { 4 };
     runs(rt, &words[..count], "", printed, "", status)
 }
 
 /// So does a check with parents and one without.
-fn checks(
+pub fn checks(
     rt: &(impl Abort + AllocGlobal + Print + Eprint + Files<File = File> + Threads + Wait + Sync),
     path: &str,
     printed: &str,

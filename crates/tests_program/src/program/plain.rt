@@ -2,7 +2,7 @@
 //! to the end of the test that makes it.
 
 use access_method::Index;
-use command_line::{DeadList, End, check_pages};
+use command_line::{DeadList, End, check_pages_one};
 use device::{CrashImage, MemDevice};
 use index_model::{Entry, Fault, Limits};
 use page_action::PageStore;
@@ -88,5 +88,5 @@ pub fn check(
     parents: bool,
     out: &mut Vec<u8>,
 ) -> io::Result<End> {
-    check_pages(alloc, store, parents, out)
+    check_pages_one(alloc, store, parents, out)
 }

@@ -7,7 +7,7 @@ use crate::plain::{
 };
 use crate::small::{ALL, keyed};
 use access_method::{Index, Inserted, ScanToken};
-use amcheck::{CheckFault, Report, check, check_parents};
+use amcheck::{CheckFault, Report, check_one, check_parents_one};
 use device::MemDevice;
 use index_model::{Entry, Fault, VacuumStats};
 use page_action::PageStore;
@@ -213,12 +213,12 @@ fn is_open_fault(fault: Fault) -> bool {
 }
 
 fn levels(alloc: Global, store: &mut Store<MemDevice>) -> Result<Report, CheckFault> {
-    check(alloc, store)
+    check_one(alloc, store)
 }
 
 /// What the check of parents answers.
 pub fn parents(alloc: Global, store: &mut Store<MemDevice>) -> Result<Report, CheckFault> {
-    check_parents(alloc, store)
+    check_parents_one(alloc, store)
 }
 
 /// What both checks answer: a report of the pages, or the number of a damage; None where one was refused, or where the check

@@ -1,0 +1,228 @@
+//! Random pages: each check, in many threads and in one, answers the damage that a plain program computes by the definition.
+
+ghost use Rattle.std.specs.Prelude.{◌<◌};
+
+use crate::checks::{levels, parents};
+use crate::plain::add;
+use crate::plain_damages::first_damage;
+use crate::trees::{bound, emptied, flagged, leaf_of, meta, nth, parent, stored};
+use amcheck::{CheckFault, Report};
+use page_action::MapStore;
+use page_codec::{Items, Page, PageState};
+use std::alloc::Global;
+use std::process::Abort;
+use std::test::{Fail, *};
+use std::thread::Threads;
+
+/// How many pages the index has, block 0 included.
+const COUNT: u32 = 11;
+
+/// How many sets of pages are made.
+const SETS: u32 = 3_000;
+
+/// Gives numbers that look random.
+#[derive(Drop)]
+struct Dice {
+    state: u64,
+}
+
+impl Dice {
+    /// A number below this one.
+    fn roll(&mut self, sides: u32) -> u32
+        requires { 0 < sides }
+        ensures { result < sides }
+    {
+        self.state = self
+            .state
+            .wrapping_mul(6_364_136_223_846_793_005)
+            .wrapping_add(1_442_695_040_888_963_407);
+        let number = u32::try_from(self.state >> 33).unwrap_or(0);
+        number % sides
+    }
+
+    /// A block, in use or the one behind those, or none.
+    fn block(&mut self) -> Option<u32> {
+        match self.roll(COUNT + 1) {
+            0 => None,
+            block => Some(block),
+        }
+    }
+
+    /// A key between those that there are, or one of them.
+    fn key(&mut self) -> u8 {
+        u8::try_from(self.roll(104)).unwrap_or(0)
+    }
+}
+
+/// A leaf that has two entries, up to the second.
+fn whole_leaf(block: u32, left: Option<u32>, right: u32, key: u8) -> Page {
+    let second = key.saturating_add(1);
+    leaf_of(block, left, Some(right), &[key, second], Some(second))
+}
+
+fn parent_of(
+    block: u32,
+    left: Option<u32>,
+    right: Option<u32>,
+    children: &[(Option<u8>, u32)],
+    high: Option<u8>,
+) -> Page {
+    let mut page = parent(block, children);
+    page.left = left;
+    page.right = right;
+    page.high = high.map(bound);
+    page
+}
+
+/// A sound index of three levels: leaves 1 to 6, of which 2 is flagged and 5 half-dead, under 7 and 8, and these under 9. Block
+/// 10 is deleted.
+fn sound() -> [Page; 11] {
+    let mut root = parent(9, &[(None, 7), (Some(49), 8)]);
+    root.level = 2;
+    [
+        meta(9, 2),
+        whole_leaf(1, None, 2, 16),
+        flagged(whole_leaf(2, Some(1), 3, 32)),
+        whole_leaf(3, Some(2), 4, 48),
+        whole_leaf(4, Some(3), 5, 64),
+        emptied(5, Some(4), 6, Some(81), PageState::HalfDead),
+        leaf_of(6, Some(5), None, &[96, 97], None),
+        parent_of(7, None, Some(8), &[(None, 1), (Some(17), 2)], Some(49)),
+        parent_of(8, Some(7), None, &[(None, 4), (Some(65), 6)], None),
+        root,
+        emptied(10, None, 4, None, PageState::Deleted),
+    ]
+}
+
+/// Alters an item; in the metapage the root is the first page of the level below.
+fn alter_item(dice: &mut Dice, page: &mut Page) {
+    let place = dice.roll(2) as usize;
+    match &mut page.items {
+        Items::Meta => {
+            page.level = 1;
+            page.right = Some(7);
+        }
+        Items::Entries(entries) => {
+            if let Some(entry) = entries.get_mut(place) {
+                *entry = nth(dice.key());
+            }
+        }
+        Items::Downlinks(links) => {
+            if let Some(link) = links.get_mut(place) {
+                match dice.roll(2) {
+                    0 => link.child = dice.block().unwrap_or(1),
+                    _ => link.bound = Some(bound(dice.key())),
+                }
+            }
+        }
+    }
+}
+
+/// Takes the last item away.
+fn shorten(page: &mut Page) {
+    match &mut page.items {
+        Items::Meta => {}
+        Items::Entries(entries) => {
+            let _ = entries.pop();
+        }
+        Items::Downlinks(links) => {
+            let _ = links.pop();
+        }
+    }
+}
+
+/// Makes the page the last of its chain, and live, or half-dead.
+fn end_chain(dice: &mut Dice, page: &mut Page) {
+    match dice.roll(2) {
+        0 => {
+            page.right = None;
+            page.high = None;
+            page.split = false;
+            page.state = PageState::Live;
+        }
+        _ => {
+            shorten(page);
+            shorten(page);
+            page.state = PageState::HalfDead;
+            page.split = false;
+        }
+    }
+}
+
+/// Alters a page at one place.
+fn alter(dice: &mut Dice, page: &mut Page) {
+    match dice.roll(8) {
+        0 => page.left = dice.block(),
+        1 => page.right = dice.block(),
+        2 => page.split = !page.split,
+        3 => page.high = Some(bound(dice.key())),
+        4 => end_chain(dice, page),
+        5 => shorten(page),
+        _ => alter_item(dice, page),
+    }
+}
+
+/// The damage that is answered, if one is.
+fn told(answer: Option<Result<Report, CheckFault>>) -> Option<Option<(u8, u32)>> {
+    match answer {
+        Some(Ok(_)) => Some(None),
+        Some(Err(CheckFault::Damage { number, block })) => Some(Some((number, block))),
+        _ => None,
+    }
+}
+
+/// Altered pages in a store; none where they aren't of the format.
+fn made(alloc: Global, dice: &mut Dice) -> Result<Option<(MapStore, Vec<Page>)>, Fail> {
+    let mut pages = Vec::new(alloc);
+    for page in sound() {
+        pages.push(page)?;
+    }
+    for _ in 0..1 + dice.roll(3) {
+        let block = dice.roll(COUNT) as usize;
+        if let Some(page) = pages.get_mut(block) {
+            alter(dice, page);
+        }
+    }
+    let mut store = stored(alloc, COUNT + 1, &[])?;
+    for page in &pages {
+        if add(&mut store, page.copy()).is_err() {
+            return Ok(None);
+        }
+    }
+    Ok(Some((store, pages)))
+}
+
+/// Compares what the checks of some pages answer with what the plain program computes.
+fn judged<R: Abort + AllocGlobal + Threads + Sync>(
+    rt: &R,
+    store: &mut MapStore,
+    pages: &[Page],
+) -> Result<Option<(u8, u32)>, Fail> {
+    let alloc = rt.alloc();
+    let chains = first_damage(alloc, pages, false)?;
+    assert!(rt; told(levels(rt, alloc, store)) == Some(chains));
+    let all = first_damage(alloc, pages, true)?;
+    assert!(rt; told(parents(rt, alloc, store)) == Some(all));
+    Ok(all)
+}
+
+#[test]
+fn damages_of_random_pages(rt: HostRuntime) -> Result<(), Fail> {
+    let mut dice = Dice { state: 1 };
+    let mut found = [0u32; 13];
+    for _ in 0..SETS {
+        let Some((mut store, pages)) = made(rt.alloc(), &mut dice)? else {
+            continue;
+        };
+        let number = match judged(&rt, &mut store, &pages)? {
+            Some((number, _)) => usize::from(number),
+            None => 0,
+        };
+        if let Some(count) = found.get_mut(number) {
+            *count = count.saturating_add(1);
+        }
+    }
+    // No damage, and each number, came up.
+    assert!(rt; found.iter().all(|count| *count > 0), "{found:?}");
+    Ok(())
+}
