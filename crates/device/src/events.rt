@@ -16,6 +16,9 @@ impl Model for Events {
     ghost also_owns = { λ _. ftrue };
 }
 
+// It owns nothing.
+unsafe impl Send for Events {}
+
 impl Events {
     pub fn new() -> Events
         ensures { result.list ≡ [] }

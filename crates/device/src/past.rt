@@ -17,6 +17,9 @@ impl Model for Past {
     ghost also_owns = { λ _. ftrue };
 }
 
+// It owns nothing.
+unsafe impl Send for Past {}
+
 impl Past {
     ghost use Rattle.device.specs.Record.{Write, Sync};
     ghost use Rattle.device.specs.Past.{begun_with, with_call};

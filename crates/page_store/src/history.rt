@@ -18,6 +18,9 @@ impl Model for History {
     ghost also_owns = { λ _. ftrue };
 }
 
+// It owns nothing.
+unsafe impl Send for History {}
+
 impl History {
     ghost use Rattle.page_store.specs.Histories.{with_read, with_act};
 

@@ -2,10 +2,16 @@
 #![tactic(auto)]
 
 #[cfg(test)]
+mod dead;
+#[cfg(test)]
 mod indexes;
 #[cfg(test)]
 mod judge;
 #[cfg(test)]
+mod judged;
+#[cfg(test)]
 mod lists;
 #[cfg(test)]
-mod tests;
+mod plain;
+#[cfg(test)]
+mod runs;

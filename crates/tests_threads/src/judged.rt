@@ -1,22 +1,22 @@
-use crate::indexes::{InMemory, all_entries, made, opened};
+//! Runs over devices in memory, of which a plain judge hears all.
+
+use crate::indexes::{InMemory, OfBlock, all_entries, made, opened};
 use crate::judge::{Addition, additions, are_right, are_those_added, has_each_once};
 use crate::lists::{Dice, entry, mixed, range, shuffled};
-use amcheck::check_parents;
-use device::CrashImage;
+use amcheck::check_parents_one;
 use index_model::{Fault, Limits, RowAddr};
 use page_store::Store;
-use device::MemDevice;
+use device::{CrashImage, MemDevice};
 use schedule::Event;
 use session_calls::Answer;
 use sessions::{Finished, Gate, Job, NoGate, run_jobs};
 use std::process::Abort;
 use std::sync::Wait;
-use std::sync::atomic::{AtomicBool, Ordering};
 use std::test::{Fail, *};
 use std::thread::Threads;
 
 /// What a run leaves of an index in memory.
-type Done = Finished<Store<MemDevice>, crate::indexes::OfBlock>;
+type Done = Finished<Store<MemDevice>, OfBlock>;
 
 /// Runs these jobs, and looks at all that they told. Answers what was added, too.
 fn ran<G: Gate + Sync>(
@@ -71,43 +71,7 @@ fn thousands_of_jobs(rt: HostRuntime) -> Result<(), Fail> {
     let entries = all_entries(rt.alloc(), &mut world)?;
     assert!(rt; are_those_added(entries.as_slice(), added.as_slice(), is_dead));
     let mut store = world.into_store();
-    assert!(rt; check_parents(rt.alloc(), &mut store).is_ok());
-    Ok(())
-}
-
-/// What two workers meet with: each sets the flag of its job, and then looks for the other's.
-struct Meeting {
-    taken: [AtomicBool; 2],
-    met: [AtomicBool; 2],
-}
-
-impl Gate for Meeting {
-    fn taken(&self, _worker: u32, job: u32) {
-        let own = (job % 2) as usize;
-        self.taken[own].store(true, Ordering::SeqCst);
-        for _ in 0..100_000_000 {
-            if self.taken[1 - own].load(Ordering::SeqCst) {
-                self.met[own].store(true, Ordering::SeqCst);
-                return;
-            }
-        }
-    }
-}
-
-/// Two workers run beside each other: that no contract says.
-#[test]
-fn two_workers_meet(rt: HostRuntime) -> Result<(), Fail> {
-    let jobs = [Job::Insert(entry(1, 0)), Job::Insert(entry(2, 0))];
-    let world = made(rt.alloc(), &LIMITS, 2)?;
-    let gate = Meeting {
-        taken: [AtomicBool::new(false), AtomicBool::new(false)],
-        met: [AtomicBool::new(false), AtomicBool::new(false)],
-    };
-    let (_, added) = ran(&rt, world, &jobs, 2, &gate)?;
-    assert_eq!(rt; added.len(), 2);
-    for met in &gate.met {
-        assert!(rt; met.load(Ordering::SeqCst));
-    }
+    assert!(rt; check_parents_one(rt.alloc(), &mut store).is_ok());
     Ok(())
 }
 
