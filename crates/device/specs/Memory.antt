@@ -19,6 +19,10 @@ failures_of m = m.failures.value
 abbrev pub plan_of : MemDevice → Plan
 plan_of m = m.plan
 
+-- how many of its calls it has counted
+abbrev pub calls_of : MemDevice → ℕ
+calls_of m = m.made
+
 -- what it leaves: the bytes at the last sync, all bytes as written, or those at the last sync with
 -- each later write torn
 abbrev pub left_by : CrashImage → MemDevice → List ℕ

@@ -1,5 +1,5 @@
 -- Which calls of a device in memory are made to fail.
-use Rattle.std.specs.Prelude.{ℕ, ◌-◌, false, ◌==◌, ◌||◌, if◌then◌else◌}
+use Rattle.std.specs.Prelude.{ℕ, ◌+◌, ◌-◌, ◌^◌, min, false, ◌==◌, ◌||◌, if◌then◌else◌}
 use Rattle.device.specs.declared.plan.Plan.{Plan}
 use Rattle.device.specs.declared.plan.Fate.{Fate}
 use Rattle.device.specs.declared.plan.Fate.TheVariants.{Runs, Fails, Dead}
@@ -28,3 +28,7 @@ failing_at n plan = record plan { fail_in = n }
 -- the nth call from now fails, and each later one
 abbrev pub stopping_at : ℕ → Plan → Plan
 stopping_at n plan = record plan { stop_in = n; stopped = false }
+
+-- so many calls, and the next one: none is counted after a stop, and none above 2^64 - 1
+abbrev pub counted_with : Plan → ℕ → ℕ
+counted_with plan count = if plan.stopped then count else min (count + 1) (2 ^ 64 - 1)

@@ -4,6 +4,7 @@ ghost use Rattle.std.specs.Prelude.{◌≡◌, ◌⊎◌, ◌↔◌, ◌+◌, �
 ghost use Rattle.device.specs.Disk.{MayLeave, first, Reads, Writes, IsKeptOrNot, Syncs, CountsFailures};
 ghost use Rattle.device.specs.Record.{done, are_inside, synced_calls, synced_over};
 ghost use Rattle.device.specs.Past.{writes_of};
+ghost use Rattle.device.specs.Plans.{fate_of, after_call, counted_with};
 
 use crate::count::Count;
 use crate::device::Device;
@@ -36,6 +37,7 @@ pub struct MemDevice {
     since: Vec<Piece>,
     failures: Count,
     plan: Plan,
+    made: u64,
     past: Past,
     ghost replayed: { bytes.items ≡ (done (first past.start) past.calls).now.seen },
     ghost inside: { IsTrue (are_inside (length past.start) past.calls) },
@@ -46,7 +48,7 @@ pub struct MemDevice {
 }
 
 impl MemDevice {
-    ghost use Rattle.device.specs.Memory.{trace_of, failures_of, plan_of, left_by};
+    ghost use Rattle.device.specs.Memory.{trace_of, failures_of, plan_of, calls_of, left_by};
     ghost use Rattle.device.specs.Plans.{no_plan, failing_at, stopping_at};
 
     /// A device of so many bytes, all zero and synced, of which no call is made to fail. Without
@@ -54,6 +56,7 @@ impl MemDevice {
     pub fn new(alloc: Global, len: u64) -> Result<MemDevice, Fault>
         ensures bytes { IfOk result (λ d. trace_of d ≡ first (replicate len 0)) }
         ensures plan { IfOk result (λ d. plan_of d ≡ no_plan) }
+        ensures calls { IfOk result (λ d. calls_of d ≡ 0) }
         ensures fault { IfErr result (λ e. e ≡ Fault.NoMemory) }
     {
         if len >= 1 << 63 {
@@ -71,6 +74,7 @@ impl MemDevice {
         ensures plan { plan_of self.new ≡ failing_at n (plan_of self.old) }
         ensures trace { trace_of self.new ≡ trace_of self.old }
         ensures failures { failures_of self.new ≡ failures_of self.old }
+        ensures calls { calls_of self.new ≡ calls_of self.old }
     {
         self.plan.fail_in = n;
     }
@@ -82,9 +86,18 @@ impl MemDevice {
         ensures plan { plan_of self.new ≡ stopping_at n (plan_of self.old) }
         ensures trace { trace_of self.new ≡ trace_of self.old }
         ensures failures { failures_of self.new ≡ failures_of self.old }
+        ensures calls { calls_of self.new ≡ calls_of self.old }
     {
         self.plan.stop_in = n;
         self.plan.stopped = false;
+    }
+
+    /// How many calls, of reads, writes and syncs, were made since it was made, the failed ones among them, but none
+    /// after a stop. From 2^64 - 1 on it says that number.
+    pub fn calls(&self) -> u64
+        ensures { result ≡ calls_of self.now }
+    {
+        self.made
     }
 
     /// What a crash now leaves, as a device of its own: its bytes are synced, and no call of it is
@@ -93,6 +106,7 @@ impl MemDevice {
         ensures bytes { IfOk result (λ d. trace_of d ≡ first (left_by image self.now)) }
         ensures left { MayLeave (trace_of self.now).now (left_by image self.now) }
         ensures plan { IfOk result (λ d. plan_of d ≡ no_plan) }
+        ensures calls { IfOk result (λ d. calls_of d ≡ 0) }
         ensures fault { IfErr result (λ e. e ≡ Fault.NoMemory) }
     {
         let made = match image {
@@ -111,6 +125,7 @@ impl MemDevice {
         requires { length firm.items < 2 ^ 63 }
         ensures bytes { IfOk result (λ d. trace_of d ≡ first firm.items) }
         ensures plan { IfOk result (λ d. plan_of d ≡ no_plan) }
+        ensures calls { IfOk result (λ d. calls_of d ≡ 0) }
         ensures fault { IfErr result (λ e. e ≡ Fault.NoMemory) }
     {
         let Ok(bytes) = firm.to_vec(alloc) else {
@@ -125,9 +140,22 @@ impl MemDevice {
             since: Vec::new(alloc),
             failures: Count::new(),
             plan: Plan::NONE,
+            made: 0,
             past,
         })
     }
+}
+
+/// Counts a call, unless the device has stopped, and says what becomes of it.
+fn next_call(plan: &mut Plan, made: &mut u64) -> Fate
+    ensures fate { result ≡ fate_of plan.old }
+    ensures plan { plan.new ≡ after_call plan.old }
+    ensures made { made.new ≡ counted_with plan.old made.old }
+{
+    if !plan.stopped {
+        *made = made.saturating_add(1);
+    }
+    plan.next()
 }
 
 /// Counts a failed call.
@@ -140,8 +168,8 @@ fn count_failure(failures: &mut Count) -> Fault
 }
 
 impl Device for MemDevice {
-    ghost use Rattle.device.specs.Memory.{trace_of, failures_of, plan_of};
-    ghost use Rattle.device.specs.Plans.{fate_of, after_call};
+    ghost use Rattle.device.specs.Memory.{trace_of, failures_of, plan_of, calls_of};
+    ghost use Rattle.device.specs.Plans.{fate_of, after_call, counted_with};
 
     ghost trace = { λ m. done (first m.past.start) m.past.calls };
 
@@ -162,8 +190,9 @@ impl Device for MemDevice {
         ensures failures { CountsFailures result (failures_of self.old) (failures_of self.new) }
         ensures fate { IsOk result ↔ (fate_of (plan_of self.old) ≡ Fate.Runs) }
         ensures plan { plan_of self.new ≡ after_call (plan_of self.old) }
+        ensures calls { calls_of self.new ≡ counted_with (plan_of self.old) (calls_of self.old) }
     {
-        let Fate::Runs = self.plan.next() else {
+        let Fate::Runs = next_call(&mut self.plan, &mut self.made) else {
             return Err(count_failure(&mut self.failures));
         };
         let at = at as usize;
@@ -183,8 +212,9 @@ impl Device for MemDevice {
         ensures kept { OnErr result
             (IsKeptOrNot at bytes.now (trace_of self.old) (trace_of self.new)) }
         ensures plan { plan_of self.new ≡ after_call (plan_of self.old) }
+        ensures calls { calls_of self.new ≡ counted_with (plan_of self.old) (calls_of self.old) }
     {
-        let fate = self.plan.next();
+        let fate = next_call(&mut self.plan, &mut self.made);
         if fate == Fate::Dead {
             return Err(count_failure(&mut self.failures));
         }
@@ -204,8 +234,9 @@ impl Device for MemDevice {
         ensures failures { CountsFailures result (failures_of self.old) (failures_of self.new) }
         ensures fate { IsOk result ↔ (fate_of (plan_of self.old) ≡ Fate.Runs) }
         ensures plan { plan_of self.new ≡ after_call (plan_of self.old) }
+        ensures calls { calls_of self.new ≡ counted_with (plan_of self.old) (calls_of self.old) }
     {
-        let Fate::Runs = self.plan.next() else {
+        let Fate::Runs = next_call(&mut self.plan, &mut self.made) else {
             return Err(count_failure(&mut self.failures));
         };
         settle(&mut self.firm, &mut self.since);
