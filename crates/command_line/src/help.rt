@@ -100,7 +100,8 @@ Else the first damage, with status 1:
   damage N block B";
 
 /// The lines of a job file, and what is printed of a run.
-pub const JOBS: &str = "Lines of a job file:     What they do:                                     Ends:
+pub const JOBS: &str =
+    "Lines of a job file:     What they do:                                     Ends:
   insert KEY ROW         insert the entry                                  added N, added N unfinished M
   scan FROM BELOW ROOM   give the entries of the range, ROOM at most       scanned N finished, scanned N cut
   bulk ROW ..            remove the entries of these rows                  finished ..

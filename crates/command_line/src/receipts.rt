@@ -28,11 +28,7 @@ pub fn print_run<W: Write>(
 }
 
 // The record at the place of each receipt.
-fn print_records<W: Write>(
-    out: &mut W,
-    history: &[Record],
-    receipts: &[Receipt],
-) -> io::Result<()>
+fn print_records<W: Write>(out: &mut W, history: &[Record], receipts: &[Receipt]) -> io::Result<()>
     ensures { OnOk result (Appends (W.contents out.old) (W.contents out.new)
         (records_text history.now receipts.now)) }
 {

@@ -114,7 +114,12 @@ fn finish<W: Write>(
         calls,
     } = finished;
     let answer = world.one(Event::Checkpoint);
-    print_run(out, history.as_slice(), receipts.as_slice(), calls.as_slice())?;
+    print_run(
+        out,
+        history.as_slice(),
+        receipts.as_slice(),
+        calls.as_slice(),
+    )?;
     match answer {
         Answer::Refused(fault) => Ok(End::Refused(fault)),
         _ => {

@@ -21,14 +21,14 @@ use std::thread::Threads;
 
 /// Runs the command of these words, the program's own name first, and answers its status: 0 where all was done, 1 where
 /// a check found damage, 2 where it was refused. `input` is read by `play`. A refusal is printed on `err`.
-pub fn execute<'a, F: Files<File = File> + Threads + Wait + Sync, S: AsStr, R: Read, W: Write, E: Write>(
-    rt: &F,
-    alloc: Global,
-    words: &'a [S],
-    input: &mut R,
-    out: &mut W,
-    err: &mut E,
-) -> u8
+pub fn execute<
+    'a,
+    F: Files<File = File> + Threads + Wait + Sync,
+    S: AsStr,
+    R: Read,
+    W: Write,
+    E: Write,
+>(rt: &F, alloc: Global, words: &'a [S], input: &mut R, out: &mut W, err: &mut E) -> u8
     ensures { result ≤ 2 }
 {
     let ended = buffered(rt, alloc, words, input, out, err);
@@ -50,7 +50,14 @@ fn status<E: Write>(ended: io::Result<End>, err: &mut E) -> u8
 }
 
 /// The command, with what it prints on `out` gathered in a buffer, which is handed on at its end at the latest.
-fn buffered<'a, F: Files<File = File> + Threads + Wait + Sync, S: AsStr, R: Read, W: Write, E: Write>(
+fn buffered<
+    'a,
+    F: Files<File = File> + Threads + Wait + Sync,
+    S: AsStr,
+    R: Read,
+    W: Write,
+    E: Write,
+>(
     rt: &F,
     alloc: Global,
     words: &'a [S],
@@ -79,7 +86,14 @@ fn fault_of(error: &io::Error) -> Fault {
     }
 }
 
-fn command<'a, F: Files<File = File> + Threads + Wait + Sync, S: AsStr, R: Read, W: Write, E: Write>(
+fn command<
+    'a,
+    F: Files<File = File> + Threads + Wait + Sync,
+    S: AsStr,
+    R: Read,
+    W: Write,
+    E: Write,
+>(
     rt: &F,
     alloc: Global,
     words: &'a [S],

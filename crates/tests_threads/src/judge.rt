@@ -68,7 +68,10 @@ pub fn has_each_once(
 
 fn are_calls(history: &[Record], calls: &[u64]) -> bool {
     for (worker, count) in calls.iter().enumerate() {
-        let own = history.iter().filter(|record| record.worker as usize == worker).count();
+        let own = history
+            .iter()
+            .filter(|record| record.worker as usize == worker)
+            .count();
         if own as u64 != *count {
             return false;
         }
@@ -120,7 +123,9 @@ fn is_scan(range: &Range, room: u32, record: &Record, added: &[Addition]) -> boo
     }
     given.iter().all(|entry| {
         is_in(range, &entry.key)
-            && added.iter().any(|one| one.entry == *entry && one.action <= record.to)
+            && added
+                .iter()
+                .any(|one| one.entry == *entry && one.action <= record.to)
     })
 }
 
@@ -155,7 +160,11 @@ pub fn are_right(jobs: &[Job], history: &[Record], added: &[Addition], start: u6
 }
 
 /// Whether these are, but for the rows of the sets, just the entries that were added.
-pub fn are_those_added(entries: &[Entry], added: &[Addition], is_dead: fn(RowAddr) -> bool) -> bool {
+pub fn are_those_added(
+    entries: &[Entry],
+    added: &[Addition],
+    is_dead: fn(RowAddr) -> bool,
+) -> bool {
     let live = added.iter().filter(|one| !is_dead(one.entry.row)).count();
     let found = entries.iter().filter(|entry| !is_dead(entry.row)).count();
     live == found

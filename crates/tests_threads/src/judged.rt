@@ -4,9 +4,9 @@ use crate::indexes::{InMemory, OfBlock, all_entries, made, opened};
 use crate::judge::{Addition, additions, are_right, are_those_added, has_each_once};
 use crate::lists::{Dice, entry, mixed, range, shuffled};
 use amcheck::check_parents_one;
+use device::{CrashImage, MemDevice};
 use index_model::{Fault, Limits, RowAddr};
 use page_store::Store;
-use device::{CrashImage, MemDevice};
 use schedule::Event;
 use session_calls::Answer;
 use sessions::{Finished, Gate, Job, NoGate, run_jobs};
@@ -158,7 +158,10 @@ fn a_device_call_fails(rt: HostRuntime) -> Result<(), Fail> {
             let mut world = opened(rt.alloc(), device, 1)?;
             let entries = all_entries(rt.alloc(), &mut world)?;
             for one in added.as_slice() {
-                assert!(rt; one.action > durable || entries.as_slice().contains(&one.entry), "{n}");
+                assert!(rt;
+                    one.action > durable || entries.as_slice().contains(&one.entry),
+                    "{n}"
+                );
             }
             assert!(rt; entries.len() <= 60);
         }

@@ -94,8 +94,12 @@ job 9 worker 0 from 11 to 11 finished pages=5 tuples=5 removed=0 new=0 deleted=0
     made(&rt, path, jobs, lines)?;
     let ran = played(&rt, ["btidx", "run", path, jobs].as_slice(), "");
     assert!(rt; text(&ran.out).starts_with(printed));
-    assert!(rt; text(&ran.out).contains(" finished pages=5 tuples=5 removed=0 new=1 deleted=1 free=1\n"));
-    assert!(rt; text(&ran.out).contains(" finished pages=5 tuples=2 removed=3 new=0 deleted=1 free=0\n"));
+    assert!(rt;
+        text(&ran.out).contains(" finished pages=5 tuples=5 removed=0 new=1 deleted=1 free=1\n")
+    );
+    assert!(rt;
+        text(&ran.out).contains(" finished pages=5 tuples=2 removed=3 new=0 deleted=1 free=0\n")
+    );
     assert_eq!(rt; ran.status, 0);
     fs::remove_file(&rt, path)?;
     fs::remove_file(&rt, jobs)?;
@@ -140,7 +144,14 @@ fn lines_that_are_no_jobs(rt: HostRuntime) -> Result<(), Fail> {
         lines.push_str("\ncommit\n")?;
         made(&rt, path, jobs, lines.as_str())?;
         let words = ["btidx", "run", path, jobs];
-        runs(&rt, words.as_slice(), "", "", "btidx: line 2: not a job\n", 2)?;
+        runs(
+            &rt,
+            words.as_slice(),
+            "",
+            "",
+            "btidx: line 2: not a job\n",
+            2,
+        )?;
         let words = ["btidx", "check", path];
         let sound = "ok levels=1 pages=2 entries=0 halfdead=0 deleted=0 unfinished=0\n";
         runs(&rt, words.as_slice(), "", sound, "", 0)?;
@@ -159,7 +170,14 @@ fn refused_runs(rt: HostRuntime) -> Result<(), Fail> {
     let words = ["btidx", "run", path, jobs];
     runs(&rt, words.as_slice(), "", "", "btidx: refused 2 Io\n", 2)?;
     fs::write(&rt, jobs, "puts\n")?;
-    runs(&rt, words.as_slice(), "", "", "btidx: line 1: not a job\n", 2)?;
+    runs(
+        &rt,
+        words.as_slice(),
+        "",
+        "",
+        "btidx: line 1: not a job\n",
+        2,
+    )?;
     fs::write(&rt, jobs, "commit\n")?;
     runs(&rt, words.as_slice(), "", "", "btidx: refused 2 Io\n", 2)?;
     let limits = "btidx: refused 18 BadLimits\n";
@@ -196,9 +214,27 @@ fn many_workers(rt: HostRuntime) -> Result<(), Fail> {
     let ran = played(&rt, words.as_slice(), "");
     assert_eq!(rt; ran.status, 0);
     let printed = text(&ran.out);
-    assert_eq!(rt; printed.lines().filter(|line| line.contains(" added ")).count(), 64);
-    assert_eq!(rt; printed.lines().filter(|line| line.contains(" committed ")).count(), 64);
-    assert_eq!(rt; printed.lines().filter(|line| line.starts_with("worker ")).count(), 8);
+    assert_eq!(rt;
+        printed
+            .lines()
+            .filter(|line| line.contains(" added "))
+            .count(),
+        64
+    );
+    assert_eq!(rt;
+        printed
+            .lines()
+            .filter(|line| line.contains(" committed "))
+            .count(),
+        64
+    );
+    assert_eq!(rt;
+        printed
+            .lines()
+            .filter(|line| line.starts_with("worker "))
+            .count(),
+        8
+    );
     assert!(rt; printed.contains("\nhistory 128\n"));
     let check = played(&rt, ["btidx", "check", path, "--parents"].as_slice(), "");
     assert!(rt; text(&check.out).contains(" entries=64 "));
