@@ -1,11 +1,10 @@
 -- Which blocks wait in the log, and what it has no room for.
-use Rattle.std.proofs.Common.{◌≡◌, ◌≢◌, inl, inr, ℕ, ◌+◌, ◌<◌, ◌≤◌, Bool, true, false, List, [], ◌∷◌, ◌++◌, length, refl, sym, ap, ◌∙◌, arith}
+use Rattle.std.proofs.Common.{◌≡◌, inl, inr, ℕ, ◌+◌, ◌<◌, ◌≤◌, Bool, true, false, List, [], ◌∷◌, ◌++◌, length, refl, sym, ap, ◌∙◌, arith}
 use Rattle.std.specs.Prelude.{◌==◌, ◌||◌, if◌then◌else◌, Result, Ok, Err, IsErrAnd}
 use Rattle.std.specs.List.{list_any}
 use Rattle.std.proofs.lemmas.Bool.{cases_lt}
-use Rattle.buffer_pool.specs.declared.pool.Pool.{Pool}
 use Rattle.index_model.specs.declared.fault.Fault.{Fault}
-use Rattle.index_model.specs.declared.fault.Fault.TheVariants.{Io, Stopped, NoFrame, LogFull}
+use Rattle.index_model.specs.declared.fault.Fault.TheVariants.{Stopped, LogFull}
 use Rattle.page_codec.specs.declared.page.Page.{Page}
 use Rattle.page_action.specs.Order.{with_changed}
 use Rattle.page_action.specs.Room.{WaitsOn}
@@ -14,7 +13,6 @@ use Rattle.redo_log.specs.Blocks.{is_among, with_blocks, new_count}
 use Rattle.redo_log.specs.Kept.{ImagesFit, end_with, limits_of, waiting_blocks}
 use Rattle.redo_log.specs.declared.log.Log.{Log}
 use Rattle.redo_log.proofs.BlockLists.{length-with_blocks}
-use Rattle.page_store.specs.Taking.{TakingFails}
 
 -- to be one of these is one word of logs and of stores
 among_any : (blocks : List ℕ) (block : ℕ) → is_among blocks block ≡ list_any (λ b. b == block) blocks

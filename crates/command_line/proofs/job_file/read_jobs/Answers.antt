@@ -3,7 +3,6 @@ use Rattle.command_line.specs.JobFiles.{SpellJobs, SpellsJob, sets_with, sets_be
 use Rattle.command_line.specs.Spelling.{lines_of}
 use Rattle.command_line.proofs.JobsRead.{spelled_on, behind_on, none_left, some_left}
 use Rattle.command_line.proofs.job_file.read_jobs.Goals as goal
-use Rattle.sessions.specs.declared.job.Job.{Job}
 
 pub loop-rest-preserved : goal.loop-rest-preserved
 loop-rest-preserved c =

@@ -1,4 +1,4 @@
-use Rattle.std.proofs.Common.{◌≡◌, ◌++◌, ℕ, List, length}
+use Rattle.std.proofs.Common.{◌≡◌, ◌++◌, List, length}
 use Rattle.std.specs.Prelude.{vec_len}
 use Rattle.command_line.specs.JobFiles.{SpellJobs, sets_behind}
 use Rattle.command_line.specs.Spelling.{lines_of}

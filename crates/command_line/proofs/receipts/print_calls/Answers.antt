@@ -1,4 +1,4 @@
-use Rattle.std.specs.Prelude.{◌+◌, take, slice_index}
+use Rattle.std.specs.Prelude.{take, slice_index}
 use Rattle.std.proofs.Common.{subst}
 use Rattle.std.specs.Io.KnownBytes.{Appends}
 use Rattle.std.proofs.KnownBytes.{Appends-trans}
