@@ -25,6 +25,7 @@ pub fn range(from: u16, below: u16) -> Range {
 }
 
 /// Numbers below a bound, each as likely as the others.
+#[derive(Drop)]
 pub struct Dice {
     state: u64,
 }
