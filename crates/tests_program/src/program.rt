@@ -11,7 +11,6 @@ mod files;
 mod help;
 mod in_a_file;
 mod inserts;
-mod jobs;
 mod lines;
 mod plain;
 mod rows;
