@@ -4,7 +4,7 @@ mod caller;
 mod checks;
 mod commands;
 mod crashes;
-mod damages;
+mod damaged;
 mod deletes;
 mod examples;
 mod files;
