@@ -1,5 +1,5 @@
 -- The bytes of a page are read as that page.
-use Rattle.std.proofs.Common.{◌≡◌, ℕ, ◌-◌, ◌+◌, ◌%◌, ◌≤◌, ◌<◌, ◌^◌, Bool, true, false, List, ◌++◌, Option, Some, None, length, drop, replicate, refl, sym, ap, subst, ◌∙◌, append_assoc, arith}
+use Rattle.std.proofs.Common.{◌≡◌, ℕ, ◌-◌, ◌+◌, ◌%◌, ◌<◌, ◌^◌, Bool, true, false, List, ◌++◌, Option, Some, None, length, drop, replicate, refl, sym, ap, subst, ◌∙◌, append_assoc, arith}
 use Rattle.std.specs.Prelude.{IfSome, nat_lt, ◌==◌, slice_index}
 use Rattle.std.specs.List.{flat_map, AllByRecursion}
 use Rattle.std.proofs.lemmas.Bool.Decides.{nat_tests}
@@ -9,21 +9,16 @@ use Rattle.byteorder.specs.Numbers.{little_number-reads_back}
 use Rattle.index_model.specs.Order.{IsEntry}
 use Rattle.index_model.specs.declared.entry.Entry.{Entry}
 use Rattle.index_model.specs.declared.bound.Bound.{Bound}
+use Rattle.page_codec.specs.Begins.{AreItems}
 use Rattle.page_codec.specs.Grammar.{IsBlock, IsPage, IsDownlink, IsLeafIn, IsOfKind}
 use Rattle.page_codec.specs.Spelling.{bit, bit_of, link_number, kind_byte, count_of, state_byte, slot_bytes, entry_bytes, downlink_bytes, items_bytes, head_bytes, used_bytes, page_bytes}
-use Rattle.page_codec.specs.Reading.{◌>>=◌, slot_at, entry_at, downlink_at, items_at, items_of, state_at, link_at, page_at}
+use Rattle.page_codec.proofs.Fields.{◌>>=◌, slot_at, entry_at, downlink_at, items_at, items_of, state_at, link_at, page_at}
 use Rattle.page_codec.specs.declared.page.PageState.{PageState}
 use Rattle.page_codec.specs.declared.page.PageState.TheVariants.{Live, HalfDead, Deleted}
 use Rattle.page_codec.specs.declared.page.Items.{Items}
 use Rattle.page_codec.specs.declared.page.Items.TheVariants.{Meta, Entries, Downlinks}
 use Rattle.page_codec.specs.declared.page.Page.{Page}
 use Rattle.page_codec.proofs.Again.{slot_again, entry_again, downlink_again, items_again, length-slot, length-entry, length-downlink}
-
--- what the items of a page are, whatever its kind
-abbrev pub AreItems : Items → Type 0
-AreItems Meta = Unit {0}
-AreItems (Entries v) = (length v.items ≤ 50) × AllByRecursion IsEntry v.items
-AreItems (Downlinks v) = (length v.items ≤ 50) × AllByRecursion IsDownlink v.items
 
 leaf_entries : (s : PageState) (p : Page) (es : List Entry) → IsLeafIn s p es → AllByRecursion IsEntry es
 leaf_entries Live p es h = h.entries.valid
@@ -76,8 +71,49 @@ block_fits p Meta h = omega (arith, h.block)
 block_fits p (Entries v) h = omega (arith, h.block.1)
 block_fits p (Downlinks v) h = omega (arith, h.block.1)
 
+pub length-head : (p : Page) → length (head_bytes p) ≡ 36
+unfolding head_bytes
+length-head p = refl
+
+-- the fields of a page, where its bytes have them
+pub record HasFields (p : Page) (bytes : List ℕ) : Type 0 where
+  pub block : little_number 4 (drop 4 bytes) ≡ p.block
+  pub kind : slice_index bytes 8 ≡ kind_byte p.items
+  pub level : slice_index bytes 9 ≡ p.level
+  pub state : slice_index bytes 10 ≡ state_byte p.state
+  pub split : (slice_index bytes 11 % 2 == 1) ≡ p.split
+  pub left : little_number 4 (drop 12 bytes) ≡ link_number p.left
+  pub right : little_number 4 (drop 16 bytes) ≡ link_number p.right
+  pub cycle : little_number 4 (drop 20 bytes) ≡ p.cycle
+  pub deletion : little_number 8 (drop 24 bytes) ≡ p.deletion
+  pub count : little_number 2 (drop 32 bytes) ≡ count_of p.items
+
+head_has : (p : Page) (behind : List ℕ) → IsPage p → HasFields p (head_bytes p ++ behind)
+unfolding head_bytes
+head_has p behind h =
+    let whole : List ℕ = head_bytes p ++ behind in
+    record {
+      block = little_number-reads_back 4 p.block (drop 8 whole) (block_fits p p.items h.kind);
+      kind = refl;
+      level = refl;
+      state = refl;
+      split = flag_again p.split p.high;
+      left = little_number-reads_back 4 (link_number p.left) (drop 16 whole) (link_fits p.left h.left);
+      right = little_number-reads_back 4 (link_number p.right) (drop 20 whole) (link_fits p.right h.right);
+      cycle = little_number-reads_back 4 p.cycle (drop 24 whole) (omega (arith, h.cycle));
+      deletion = little_number-reads_back 8 p.deletion (drop 32 whole) (omega (arith, h.deletion));
+      count = little_number-reads_back 2 (count_of p.items) (drop 34 whole) (count_fits p.items (are_items p p.items h.kind));
+    }
+
+pub has_fields : (p : Page) (bytes : List ℕ) → IsPage p → bytes ≡ page_bytes p → HasFields p bytes
+unfolding page_bytes used_bytes
+has_fields p bytes h e =
+    let zeros : List ℕ = replicate (4096 - length (used_bytes p)) 0 in
+    let parts : page_bytes p ≡ head_bytes p ++ (slot_bytes p.high ++ (items_bytes p.items ++ zeros)) = simp append_assoc in
+    rw (e, parts) (head_has p (slot_bytes p.high ++ (items_bytes p.items ++ zeros)) h)
+
 pub page_again : (p : Page) → IsPage p → page_at (page_bytes p) ≡ Some p
-unfolding page_at page_bytes used_bytes head_bytes
+unfolding page_at page_bytes used_bytes
 page_again p h =
     let zeros : List ℕ = replicate (4096 - length (used_bytes p)) 0 in
     let slot : List ℕ = slot_bytes p.high in
@@ -85,26 +121,23 @@ page_again p h =
     let whole : List ℕ = head_bytes p ++ (slot ++ (items ++ zeros)) in
     let parts : page_bytes p ≡ whole = simp append_assoc in
     let are = are_items p p.items h.kind in
-    let e_state : state_at (slice_index whole 10) ≡ Some p.state = state_again p.state in
-    let e_high : slot_at (drop 36 whole) ≡ Some p.high = slot_again p.high (items ++ zeros) h.high in
-    let at107 : drop 107 whole ≡ items ++ zeros = sym (drop-drop 71 36 whole) ∙ drop_at slot (items ++ zeros) 71 (length-slot p.high h.high) in
-    let e_count : little_number 2 (drop 32 whole) ≡ count_of p.items = little_number-reads_back 2 (count_of p.items) (drop 34 whole) (count_fits p.items are) in
-    let e_items : items_of (slice_index whole 8) (little_number 2 (drop 32 whole)) (drop 107 whole) ≡ Some p.items = (λ i. items_of (kind_byte p.items) (e_count i) (at107 i)) ∙ kind_again p.items zeros are in
-    let e_block : little_number 4 (drop 4 whole) ≡ p.block = little_number-reads_back 4 p.block (drop 8 whole) (block_fits p p.items h.kind) in
-    let e_split : (slice_index whole 11 % 2 == 1) ≡ p.split = flag_again p.split p.high in
-    let e_left : link_at (little_number 4 (drop 12 whole)) ≡ p.left = ap link_at (little_number-reads_back 4 (link_number p.left) (drop 16 whole) (link_fits p.left h.left)) ∙ link_again p.left h.left in
-    let e_right : link_at (little_number 4 (drop 16 whole)) ≡ p.right = ap link_at (little_number-reads_back 4 (link_number p.right) (drop 20 whole) (link_fits p.right h.right)) ∙ link_again p.right h.right in
-    let e_cycle : little_number 4 (drop 20 whole) ≡ p.cycle = little_number-reads_back 4 p.cycle (drop 24 whole) (omega (arith, h.cycle)) in
-    let e_deletion : little_number 8 (drop 24 whole) ≡ p.deletion = little_number-reads_back 8 p.deletion (drop 32 whole) (omega (arith, h.deletion)) in
+    let has = head_has p (slot ++ (items ++ zeros)) h in
+    let at36 : drop 36 whole ≡ slot ++ (items ++ zeros) = drop_at (head_bytes p) (slot ++ (items ++ zeros)) 36 (length-head p) in
+    let at107 : drop 107 whole ≡ items ++ zeros = sym (drop-drop 71 36 whole) ∙ ap (λ (x : List ℕ). drop 71 x) at36 ∙ drop_at slot (items ++ zeros) 71 (length-slot p.high h.high) in
+    let e_state : state_at (slice_index whole 10) ≡ Some p.state = ap state_at has.state ∙ state_again p.state in
+    let e_high : slot_at (drop 36 whole) ≡ Some p.high = ap slot_at at36 ∙ slot_again p.high (items ++ zeros) h.high in
+    let e_items : items_of (slice_index whole 8) (little_number 2 (drop 32 whole)) (drop 107 whole) ≡ Some p.items = (λ i. items_of (has.kind i) (has.count i) (at107 i)) ∙ kind_again p.items zeros are in
+    let e_left : link_at (little_number 4 (drop 12 whole)) ≡ p.left = ap link_at has.left ∙ link_again p.left h.left in
+    let e_right : link_at (little_number 4 (drop 16 whole)) ≡ p.right = ap link_at has.right ∙ link_again p.right h.right in
     ap page_at parts ∙ (λ i. e_state i >>= λ state. e_high i >>= λ high. e_items i >>= λ its. Some (let x : Page = record {
-      block = e_block i;
-      level = p.level;
+      block = has.block i;
+      level = has.level i;
       state = state;
-      split = e_split i;
+      split = has.split i;
       left = e_left i;
       right = e_right i;
       high = high;
-      cycle = e_cycle i;
-      deletion = e_deletion i;
+      cycle = has.cycle i;
+      deletion = has.deletion i;
       items = its;
     } in x))

@@ -1,55 +1,66 @@
 -- One more item at the front.
-use Rattle.std.proofs.Common.{List, [], ◌∷◌, Option, Some}
-use Rattle.index_model.specs.Order.{IsEntry, IsUpTo, AscendsPast, IsAscending, bound_of}
+use Rattle.std.proofs.Common.{◌≡◌, true, List, [], ◌∷◌, Option, Some, None, refl, ap}
+use Rattle.std.specs.Ordering.{is_lt}
+use Rattle.std.specs.Cmp.Lexicographic.{options_total}
+use Rattle.std.specs.declared.cmp.Ordering.{Ordering}
+use Rattle.std.specs.declared.cmp.Ordering.TheVariants.{Less, Equal, Greater}
+use Rattle.index_model.specs.Order.{IsEntry, IsUpTo}
 use Rattle.index_model.specs.declared.entry.Entry.{Entry}
 use Rattle.index_model.specs.declared.bound.Bound.{Bound}
-use Rattle.page_codec.specs.Grammar.{IsDownlink, EntryBefore, LinkBefore, Below, FirstAfter, Ascends, AreEntries, AreLinks}
+use Rattle.page_codec.specs.Grammar.{IsDownlink, EntryBefore, LinkBefore, Below, EntryInPlace, LinkInPlace, AreEntries, AreLinks}
 use Rattle.page_codec.specs.declared.page.Downlink.{Downlink}
+use Rattle.index_model.proofs.Order.{bounds_total}
+use Rattle.index_model.proofs.Ascending.{is_past-falls}
 
-first_after : {A : Type 0} (R : A → A → Type 0) (a : A) (rest : List A) → Ascends R (a ∷ rest) → FirstAfter R a rest
-first_after R a [] h = tt
-first_after R a (b ∷ bs) h = h.0
-
-later : {A : Type 0} (R : A → A → Type 0) (a : A) (rest : List A) → Ascends R (a ∷ rest) → Ascends R rest
-later R a [] h = tt
-later R a (b ∷ bs) h = h.1
-
-both : {A : Type 0} (R : A → A → Type 0) (a : A) (rest : List A) → FirstAfter R a rest → Ascends R rest → Ascends R (a ∷ rest)
-both R a [] f h = tt
-both R a (b ∷ bs) f h = (f, h)
-
-entry_first : (e : Entry) (es : List Entry) → AscendsPast (Some (bound_of e)) es → FirstAfter EntryBefore e es
-entry_first e [] h = tt
-entry_first e (x ∷ xs) h = h.0
-
-entry_later : (low : Option Bound) (es : List Entry) → AscendsPast low es → IsAscending es
-entry_later low [] h = tt
-entry_later low (x ∷ xs) h = (tt, h.1)
-
-entry_both : (e : Entry) (es : List Entry) → FirstAfter EntryBefore e es → IsAscending es → AscendsPast (Some (bound_of e)) es
-entry_both e [] f h = tt
-entry_both e (x ∷ xs) f h = (f, h.1)
+-- an entry less than one that is at most the high key is so too
+up_to_before : (high : Option Bound) (e x : Entry) → EntryBefore e x → IsUpTo high x → IsUpTo high e
+up_to_before None e x before h = tt
+up_to_before (Some b) e x before h = is_past-falls b e x h before
 
 pub no_entries : (high : Option Bound) → AreEntries high []
 no_entries high = record { valid = tt; ascends = tt; within = tt }
 
-pub entries_first : (high : Option Bound) (e : Entry) (es : List Entry) → AreEntries high (e ∷ es) → IsUpTo high e × FirstAfter EntryBefore e es
-entries_first high e es h = (h.within.0, entry_first e es h.ascends.1)
+pub entries_first : (high : Option Bound) (e : Entry) (es : List Entry) → AreEntries high (e ∷ es) → EntryInPlace high e es
+entries_first high e [] h = h.within.0
+entries_first high e (x ∷ xs) h = h.ascends.1.0
 
 pub entries_rest : (high : Option Bound) (e : Entry) (es : List Entry) → AreEntries high (e ∷ es) → AreEntries high es
-entries_rest high e es h = record { valid = h.valid.1; ascends = entry_later (Some (bound_of e)) es h.ascends.1; within = h.within.1 }
+entries_rest high e [] h = no_entries high
+entries_rest high e (x ∷ xs) h = record { valid = h.valid.1; ascends = (tt, h.ascends.1.1); within = h.within.1 }
 
-pub entries_more : (high : Option Bound) (e : Entry) (es : List Entry) → IsEntry e → IsUpTo high e → FirstAfter EntryBefore e es → AreEntries high es → AreEntries high (e ∷ es)
-entries_more high e es valid within first h = record { valid = (valid, h.valid); ascends = (tt, entry_both e es first h.ascends); within = (within, h.within) }
+pub entries_more : (high : Option Bound) (e : Entry) (es : List Entry) → IsEntry e → EntryInPlace high e es → AreEntries high es → AreEntries high (e ∷ es)
+entries_more high e [] valid place h = record { valid = (valid, tt); ascends = (tt, tt); within = (place, tt) }
+entries_more high e (x ∷ xs) valid place h = record {
+  valid = (valid, h.valid);
+  ascends = (tt, (place, h.ascends.1));
+  within = (up_to_before high e x place h.within.0, h.within);
+}
+
+lt_is : (o : Ordering) → is_lt o ≡ true → o ≡ Less
+lt_is Less e = refl
+lt_is Equal e = absurd cc
+lt_is Greater e = absurd cc
+
+-- a downlink before one that is below the high key is so too
+below_before : (high : Option Bound) (d x : Downlink) → LinkBefore d x → Below high x → Below high d
+below_before None d x before h = tt
+below_before (Some b) d x before h = ap is_lt ((options_total bounds_total).trans d.bound x.bound (Some b) (lt_is _ before) (lt_is _ h))
 
 pub no_links : (high : Option Bound) → AreLinks high []
 no_links high = record { valid = tt; ascends = tt; within = tt }
 
-pub links_first : (high : Option Bound) (e : Downlink) (es : List Downlink) → AreLinks high (e ∷ es) → IsDownlink e × Below high e × FirstAfter LinkBefore e es
-links_first high e es h = (h.valid.0, h.within.0, first_after LinkBefore e es h.ascends)
+pub links_first : (high : Option Bound) (d : Downlink) (ds : List Downlink) → AreLinks high (d ∷ ds) → IsDownlink d × LinkInPlace high d ds
+links_first high d [] h = (h.valid.0, h.within.0)
+links_first high d (x ∷ xs) h = (h.valid.0, h.ascends.0)
 
-pub links_rest : (high : Option Bound) (e : Downlink) (es : List Downlink) → AreLinks high (e ∷ es) → AreLinks high es
-links_rest high e es h = record { valid = h.valid.1; ascends = later LinkBefore e es h.ascends; within = h.within.1 }
+pub links_rest : (high : Option Bound) (d : Downlink) (ds : List Downlink) → AreLinks high (d ∷ ds) → AreLinks high ds
+links_rest high d [] h = no_links high
+links_rest high d (x ∷ xs) h = record { valid = h.valid.1; ascends = h.ascends.1; within = h.within.1 }
 
-pub links_more : (high : Option Bound) (e : Downlink) (es : List Downlink) → IsDownlink e → Below high e → FirstAfter LinkBefore e es → AreLinks high es → AreLinks high (e ∷ es)
-links_more high e es valid within first h = record { valid = (valid, h.valid); ascends = both LinkBefore e es first h.ascends; within = (within, h.within) }
+pub links_more : (high : Option Bound) (d : Downlink) (ds : List Downlink) → IsDownlink d → LinkInPlace high d ds → AreLinks high ds → AreLinks high (d ∷ ds)
+links_more high d [] valid place h = record { valid = (valid, tt); ascends = tt; within = (place, tt) }
+links_more high d (x ∷ xs) valid place h = record {
+  valid = (valid, h.valid);
+  ascends = (place, h.ascends);
+  within = (below_before high d x place h.within.0, h.within);
+}

@@ -1,12 +1,12 @@
 -- A page's bytes, by their four pieces.
-use Rattle.std.proofs.Common.{◌≡◌, ℕ, ◌-◌, ◌+◌, List, ◌++◌, length, drop, replicate, refl, sym, ap, ◌∙◌, append_assoc, arith, length-append}
+use Rattle.std.proofs.Common.{◌≡◌, ℕ, ◌-◌, ◌+◌, List, ◌++◌, length, drop, replicate, sym, ap, ◌∙◌, append_assoc, arith, length-append}
 use Rattle.std.proofs.lemmas.List.{drop_at, drop-drop, length-drop, length-replicate}
 use Rattle.page_codec.specs.Grammar.{IsPage}
 use Rattle.page_codec.specs.Begins.{Begins, size_of}
 use Rattle.page_codec.specs.Spelling.{head_bytes, slot_bytes, items_bytes, used_bytes, page_bytes}
 use Rattle.page_codec.specs.declared.page.Page.{Page}
 use Rattle.page_codec.proofs.Again.{length-slot}
-use Rattle.page_codec.proofs.PageAgain.{are_items}
+use Rattle.page_codec.proofs.PageAgain.{are_items, length-head}
 use Rattle.page_codec.proofs.Laws.{length-items, size_fits}
 use Rattle.page_codec.proofs.Pieces.{begins_itself, split_at}
 
@@ -16,10 +16,6 @@ pub record HasPieces (p : Page) (bytes : List ℕ) : Type 0 where
   pub slot : Begins (slot_bytes p.high) (drop 36 bytes)
   pub items : Begins (items_bytes p.items) (drop 107 bytes)
   pub zeros : drop (size_of p.items) (drop 107 bytes) ≡ replicate (length (drop (size_of p.items) (drop 107 bytes))) 0
-
-length-head : (p : Page) → length (head_bytes p) ≡ 36
-unfolding head_bytes
-length-head p = refl
 
 zeros_of : Page → List ℕ
 zeros_of p = replicate (4096 - (107 + size_of p.items)) 0

@@ -53,10 +53,15 @@ pub record IsDownlink (d : Downlink) : Type 0 where
   pub bound : IfSome d.bound IsWhole
   pub child : IsBlock d.child
 
--- the first of these, if there is one, stands in R to the item before them
-abbrev pub FirstAfter : {A : Type 0} → (A → A → Type 0) → A → List A → Type 0
-FirstAfter R a [] = Unit {0}
-FirstAfter R a (b ∷ bs) = R a b
+-- the entry is less than the first of those behind it, or, where it is the last, at most the high key
+abbrev pub EntryInPlace : Option Bound → Entry → List Entry → Type 0
+EntryInPlace high e [] = IsUpTo high e
+EntryInPlace high e (x ∷ xs) = EntryBefore e x
+
+-- the downlink's bound is less than that of the first of those behind it, or, where it is the last, than the high key
+abbrev pub LinkInPlace : Option Bound → Downlink → List Downlink → Type 0
+LinkInPlace high d [] = Below high d
+LinkInPlace high d (x ∷ xs) = LinkBefore d x
 
 -- valid entries, strictly ascending, each at most the high key
 pub record AreEntries (high : Option Bound) (es : List Entry) : Type 0 where

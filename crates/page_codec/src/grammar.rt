@@ -3,7 +3,7 @@
 ghost use Rattle.std.specs.Prelude.{◌≡◌, ◌↔◌, ◌≤◌, IsTrue, IfSome, List, length};
 ghost use Rattle.std.specs.List.{AllByRecursion};
 ghost use Rattle.index_model.specs.Order.{IsEntry, IsUpTo};
-ghost use Rattle.page_codec.specs.Grammar.{IsBlock, IsWhole, IsDownlink, EntryBefore, LinkBefore, Below, FirstAfter, AreEntries, AreLinks, StartsLow, IsMeta, IsLiveLeaf, IsHalfDeadLeaf, IsDeletedLeaf, IsLeaf, IsInternal, IsOfKind, IsPage};
+ghost use Rattle.page_codec.specs.Grammar.{IsBlock, IsWhole, IsDownlink, EntryInPlace, LinkInPlace, Below, AreEntries, AreLinks, StartsLow, IsMeta, IsLiveLeaf, IsHalfDeadLeaf, IsDeletedLeaf, IsLeaf, IsInternal, IsOfKind, IsPage};
 
 use crate::page::{Downlink, Items, Page, PageState};
 use index_model::{Bound, Entry, Key, RowAddr};
@@ -54,11 +54,12 @@ fn is_up_to(high: &Option<Bound>, entry: &Entry) -> bool
     }
 }
 
-fn is_before(entry: &Entry, tail: &[Entry]) -> bool
-    ensures { IsTrue result ↔ FirstAfter EntryBefore entry.now tail.now }
+// Whether it is less than the first of those behind it, or, where it is the last, at most the high key.
+fn is_entry_in_place(entry: &Entry, tail: &[Entry], high: &Option<Bound>) -> bool
+    ensures { IsTrue result ↔ EntryInPlace high.now entry.now tail.now }
 {
     match tail {
-        [] => true,
+        [] => is_up_to(high, entry),
         [next, ..] => entry < next,
     }
 }
@@ -69,7 +70,7 @@ fn are_entries(entries: &[Entry], high: &Option<Bound>) -> bool
     let mut rest = entries;
     while let [first, tail @ ..] = rest {
         first.seen();
-        if !is_up_to(high, first) || !is_before(first, tail) {
+        if !is_entry_in_place(first, tail, high) {
             return false;
         }
         rest = tail;
@@ -92,11 +93,12 @@ fn is_below(high: &Option<Bound>, link: &Downlink) -> bool
     }
 }
 
-fn is_before_link(link: &Downlink, tail: &[Downlink]) -> bool
-    ensures { IsTrue result ↔ FirstAfter LinkBefore link.now tail.now }
+// Whether its bound is less than that of the first of those behind it, or, where it is the last, than the high key.
+fn is_link_in_place(link: &Downlink, tail: &[Downlink], high: &Option<Bound>) -> bool
+    ensures { IsTrue result ↔ LinkInPlace high.now link.now tail.now }
 {
     match tail {
-        [] => true,
+        [] => is_below(high, link),
         [next, ..] => link.bound < next.bound,
     }
 }
@@ -106,7 +108,7 @@ fn are_links(links: &[Downlink], high: &Option<Bound>) -> bool
 {
     let mut rest = links;
     while let [first, tail @ ..] = rest {
-        if !is_downlink(first) || !is_below(high, first) || !is_before_link(first, tail) {
+        if !is_downlink(first) || !is_link_in_place(first, tail, high) {
             return false;
         }
         rest = tail;

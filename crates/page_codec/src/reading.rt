@@ -1,17 +1,20 @@
 //! A page from its bytes.
 
-ghost use Rattle.std.specs.Prelude.{◌≡◌, ◌≢◌, ◌≤◌, ◌+◌, ◌*◌, length, drop, [], if◌then◌else◌, Some, None, replicate, IfSome, IsNone, ◌↔◌, IsTrue};
-ghost use Rattle.std.specs.Option.{option_map};
+ghost use Rattle.std.specs.Prelude.{◌≡◌, ◌≢◌, ◌≤◌, ◌+◌, ◌*◌, ◌∷◌, ◌↔◌, ℕ, List, Option, length, drop, [], Some, replicate, IfSome, IsSome, IsNone, IsTrue};
+ghost use Rattle.std.specs.List.{AllByRecursion};
 ghost use Rattle.byteorder.specs.Endian.{little_number};
-ghost use Rattle.page_codec.specs.Reading.{slot_at, entry_at, downlink_at, items_at, items_of, state_at, link_at, page_at};
-ghost use Rattle.page_codec.specs.Spelling.{page_bytes};
-ghost use Rattle.page_codec.specs.Grammar.{IsPage};
+ghost use Rattle.index_model.specs.Row.{Row, IsRow};
+ghost use Rattle.index_model.specs.Padded.{padded};
+ghost use Rattle.index_model.specs.Order.{IsEntry};
+ghost use Rattle.page_codec.specs.Begins.{Begins, IsRead, HasSlot, AreItems};
+ghost use Rattle.page_codec.specs.Spelling.{kind_byte, count_of, state_byte, link_number, row_bytes, slot_bytes, entry_bytes, downlink_bytes, items_bytes, page_bytes};
+ghost use Rattle.page_codec.specs.Grammar.{IsPage, IsBlock, IsWhole, IsDownlink};
 ghost use Rattle.page_codec.specs.declared.page.Page.{Page};
 
 use crate::edits::clear_entries;
 use crate::grammar::is_page;
 use crate::page::{Downlink, Items, Page, PageState};
-use crate::written::is_written;
+use crate::written::{begins_with, is_written};
 use arrayvec::ArrayVec;
 use byteorder::{ByteOrder, LittleEndian};
 use index_model::{Bound, Entry, Key, RowAddr};
@@ -45,49 +48,65 @@ fn u64_at(bytes: &[u8], at: usize) -> u64
     LittleEndian::read_u64(tail(bytes, at))
 }
 
-#[tactic(auto, unfolding(crate::specs::Reading::slot_at))]
-fn slot(bytes: &[u8]) -> Option<Option<Bound>>
-    requires { 71 ≤ length bytes.now }
-    ensures { result ≡ slot_at bytes.now }
+// The key in the first 65 bytes: its length, its bytes, and zeros behind them.
+fn key_at(bytes: &[u8]) -> Option<Key>
+    requires { 65 ≤ length bytes.now }
+    ensures found { IfSome result (λ k. (length k ≤ 64) × Begins (length k ∷ padded k) bytes.now) }
+    ensures only { (k : List ℕ) → length k ≤ 64 → Begins (length k ∷ padded k) bytes.now
+        → result ≡ Some k }
 {
-    let len = bytes[0] as usize;
-    let block = u32_at(bytes, 65);
-    let offset = u16_at(bytes, 69);
-    if offset == 0 {
-        return Some(None);
-    }
-    if len > 64 {
-        return None;
-    }
-    let Ok(row) = RowAddr::new(block, offset) else {
+    let Ok(cells) = <&[u8; 64]>::try_from(&bytes[1..65]) else {
         return None;
     };
-    let Ok(key) = Key::new(&bytes[1..1 + len]) else {
-        return None;
-    };
-    Some(Some(Bound {
-        key,
-        row: Some(row),
-    }))
+    Key::from_cells(bytes[0], cells)
 }
 
-#[tactic(auto, unfolding(crate::specs::Reading::entry_at))]
+// The row in the first six bytes.
+fn row_at(bytes: &[u8]) -> Option<RowAddr>
+    requires { 6 ≤ length bytes.now }
+    ensures found { IfSome result (λ r. IsRow r × Begins (row_bytes (Some r)) bytes.now) }
+    ensures only { (r : Row) → IsRow r → Begins (row_bytes (Some r)) bytes.now → result ≡ Some r }
+{
+    let block = u32_at(bytes, 0);
+    let offset = u16_at(bytes, 4);
+    match RowAddr::new(block, offset) {
+        Ok(row) => Some(row),
+        Err(_) => None,
+    }
+}
+
+// The entry in the first 71 bytes.
 fn entry(bytes: &[u8]) -> Option<Entry>
     requires { 71 ≤ length bytes.now }
-    ensures { result ≡ entry_at bytes.now }
+    ensures found { IfSome result (λ e. IsEntry e × Begins (entry_bytes e) bytes.now) }
+    ensures only { (e : Entry) → IsEntry e → Begins (entry_bytes e) bytes.now → result ≡ Some e }
 {
-    let bound = slot(bytes)??;
-    let row = bound.row?;
-    Some(Entry {
-        key: bound.key,
-        row,
-    })
+    let key = key_at(bytes)?;
+    let row = row_at(tail(bytes, 65))?;
+    Some(Entry { key, row })
 }
 
-#[tactic(auto, unfolding(crate::specs::Reading::downlink_at))]
+// The bound in the first 71 bytes, which is an entry, or none, where they are zeros.
+fn slot(bytes: &[u8]) -> Option<Option<Bound>>
+    requires { 71 ≤ length bytes.now }
+    ensures found { IfSome result (λ b. IfSome b IsWhole × Begins (slot_bytes b) bytes.now) }
+    ensures only { (b : Option Bound) → IfSome b IsWhole → Begins (slot_bytes b) bytes.now
+        → result ≡ Some b }
+{
+    if begins_with(bytes, &[0; 71]) {
+        return Some(None);
+    }
+    let entry = entry(bytes)?;
+    Some(Some(entry.bound()))
+}
+
+// The downlink in the first 75 bytes.
 fn downlink(bytes: &[u8]) -> Option<Downlink>
     requires { 75 ≤ length bytes.now }
-    ensures { result ≡ downlink_at bytes.now }
+    ensures found { IfSome result
+        (λ d. IfSome d.bound IsWhole × Begins (downlink_bytes d) bytes.now) }
+    ensures only { (d : Downlink) → IsDownlink d → Begins (downlink_bytes d) bytes.now
+        → result ≡ Some d }
 {
     let bound = slot(bytes)?;
     let child = u32_at(bytes, 71);
@@ -99,8 +118,9 @@ fn entries(count: usize, bytes: &[u8], into: &mut ArrayVec<Entry, 50>) -> bool
     requires count { count ≤ 50 }
     requires room { 71 * count ≤ length bytes.now }
     requires empty { into.old.items ≡ [] }
-    ensures { items_at entry_at 71 count bytes.now
-        ≡ (if result then Some into.new.items else None) }
+    ensures found { IsTrue result → IsRead IsEntry entry_bytes count bytes.now into.new.items }
+    ensures only { (es : List Entry) → AllByRecursion IsEntry es
+        → IsRead IsEntry entry_bytes count bytes.now es → IsTrue result × (into.new.items ≡ es) }
 {
     let mut rest = bytes;
     for _ in 0..count {
@@ -113,10 +133,14 @@ fn entries(count: usize, bytes: &[u8], into: &mut ArrayVec<Entry, 50>) -> bool
     true
 }
 
+// Reads so many downlinks.
 fn downlinks(count: usize, bytes: &[u8]) -> Option<ArrayVec<Downlink, 50>>
     requires count { count ≤ 50 }
     requires room { 75 * count ≤ length bytes.now }
-    ensures { option_map (λ v. v.items) result ≡ items_at downlink_at 75 count bytes.now }
+    ensures found { IfSome result (λ v. IsRead HasSlot downlink_bytes count bytes.now v.items) }
+    ensures only { (ds : List Downlink) → AllByRecursion IsDownlink ds
+        → IsRead HasSlot downlink_bytes count bytes.now ds
+        → IfSome result (λ v. v.items ≡ ds) × IsSome result }
 {
     let mut links = ArrayVec::new();
     let mut rest = bytes;
@@ -128,10 +152,12 @@ fn downlinks(count: usize, bytes: &[u8]) -> Option<ArrayVec<Downlink, 50>>
 }
 
 // Reads the items. Leaves are read most: their entries take the place of those that were there.
-#[tactic(auto, unfolding(crate::specs::Reading::items_of))]
+#[tactic(auto, unfolding(crate::specs::Spelling::items_bytes))]
 fn items(kind: u8, count: usize, bytes: &[u8], into: &mut Items) -> bool
     requires { 3750 ≤ length bytes.now }
-    ensures { items_of kind count bytes.now ≡ (if result then Some into.new else None) }
+    ensures found { IsTrue result → Begins (items_bytes into.new) bytes.now }
+    ensures only { (its : Items) → AreItems its → kind ≡ kind_byte its → count ≡ count_of its
+        → Begins (items_bytes its) bytes.now → IsTrue result × (into.new ≡ its) }
 {
     if count > 50 {
         return false;
@@ -159,8 +185,9 @@ fn items(kind: u8, count: usize, bytes: &[u8], into: &mut Items) -> bool
     }
 }
 
+// The state that a byte names.
 fn state(byte: u8) -> Option<PageState>
-    ensures { result ≡ state_at byte }
+    ensures { (s : PageState) → byte ≡ state_byte s → result ≡ Some s }
 {
     match byte {
         0 => Some(PageState::Live),
@@ -170,8 +197,9 @@ fn state(byte: u8) -> Option<PageState>
     }
 }
 
+// The link that a number is.
 fn link(number: u32) -> Option<u32>
-    ensures { result ≡ link_at number }
+    ensures { (link : Option ℕ) → IfSome link IsBlock → number ≡ link_number link → result ≡ link }
 {
     if number == u32::MAX {
         None
@@ -180,10 +208,13 @@ fn link(number: u32) -> Option<u32>
     }
 }
 
-#[tactic(auto, unfolding(crate::specs::Reading::page_at))]
+// Reads a page of whose first 36 bytes only as much is judged as is needed to read it.
 fn read(bytes: &[u8], page: &mut Page) -> bool
     requires { length bytes.now ≡ 4096 }
-    ensures { page_at bytes.now ≡ (if result then Some page.new else None) }
+    ensures found { IsTrue result → Begins (slot_bytes page.new.high) (drop 36 bytes.now)
+        × Begins (items_bytes page.new.items) (drop 107 bytes.now) }
+    ensures only { (p : Page) → IsPage p → bytes.now ≡ page_bytes p
+        → IsTrue result × (page.new ≡ p) }
 {
     let Some(state) = state(bytes[10]) else {
         return false;

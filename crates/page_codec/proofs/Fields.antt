@@ -1,5 +1,5 @@
--- What the reader takes bytes for before they are judged and compared: it tests as little as it
--- can. Only private functions speak of it; the public calls speak of `IsPage` and `page_bytes`.
+-- What bytes are read as, field by field, where each field is tested as little as it can be: with it, two pages of the same
+-- bytes are one.
 use Rattle.std.specs.Prelude.{ℕ, zero, suc, ◌%◌, ◌==◌, if◌then◌else◌, nat_lt, Option, Some, None, List, [], ◌∷◌, take, drop, slice_index}
 use Rattle.byteorder.specs.Endian.{little_number}
 use Rattle.index_model.specs.declared.entry.Entry.{Entry}
