@@ -20,6 +20,36 @@ fn keys_rows_and_sessions(rt: HostRuntime) {
 }
 
 #[test]
+fn keys_by_their_cells(rt: HostRuntime) {
+    let mut cells = [0; 64];
+    cells[0] = 8;
+    cells[1] = 9;
+    assert!(rt; Key::from_cells(2, &cells) == Key::new(&[8, 9]).ok());
+    assert!(rt; Key::from_cells(3, &cells) == Key::new(&[8, 9, 0]).ok());
+    assert!(rt; Key::from_cells(1, &cells).is_none());
+    assert!(rt; Key::from_cells(65, &cells).is_none());
+    cells[63] = 1;
+    assert!(rt; Key::from_cells(63, &cells).is_none());
+    assert!(rt; Key::from_cells(64, &cells) == Key::new(&cells).ok());
+    assert!(rt; Key::from_cells(0, &[0; 64]) == Some(Key::EMPTY));
+}
+
+#[test]
+fn keys_in_order_at_each_byte(rt: HostRuntime) {
+    for at in 0..64 {
+        let low = [7; 64];
+        let mut high = [7; 64];
+        high[at] = 200;
+        let (lower, upper) = (keyed(&low, 9, 9), keyed(&high, 0, 1));
+        assert!(rt; lower.compare(&upper) == Ordering::Less, "byte {at}");
+        assert!(rt; upper.compare(&lower) == Ordering::Greater, "byte {at}");
+        let beginning = keyed(&low[..at], 9, 9);
+        assert!(rt; beginning.compare(&lower) == Ordering::Less, "{at} bytes");
+        assert!(rt; lower.compare(&beginning) == Ordering::Greater, "{at} bytes");
+    }
+}
+
+#[test]
 fn entries_and_bounds_in_order(rt: HostRuntime) {
     let rising = [
         keyed(&[], 9, 9),
