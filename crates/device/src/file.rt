@@ -33,7 +33,8 @@ impl Start for Unknown {
     ghost sized = { λ len. length-replicate len 0 };
 }
 
-/// A file, which held what `S` says when it was opened. After a failed write or sync each call answers `Io`, as what the file
+/// A file, which held what `S` says when it was opened. The file's lock is held as long as this value stands, so that no
+/// other one stands for the same file, in this process or another. After a failed write or sync each call answers `Io`, as what the file
 /// holds then is not known: a later sync must not make it look firm.
 #[derive(Drop)]
 pub struct FileDevice<S: Start> {
@@ -65,8 +66,8 @@ impl<S: Start> FileDevice<S> {
         }
     }
 
-    /// A new file of so many bytes, all zero; it and its folder are synced. Refused with `Io` where the path is there, or a call
-    /// fails; then a file may be left there.
+    /// A new file of so many bytes, all zero; it and its folder are synced. Refused with `Io` where the path is there, another
+    /// has taken the file's lock by now, or a call fails; then a file may be left there.
     pub fn create<R: Files<File = File>>(
         rt: &R,
         path: &str,
@@ -87,6 +88,7 @@ impl<S: Start> FileDevice<S> {
         let Ok(file) = File::create_new(rt, path) else {
             return Err(Fault::Io);
         };
+        lock(&file)?;
         let (Ok(()), Ok(())) = (file.set_len(len), file.sync_all()) else {
             return Err(Fault::Io);
         };
@@ -95,7 +97,7 @@ impl<S: Start> FileDevice<S> {
     }
 
     /// A file that is there, for reading and writing, with all its bytes. It is synced first, so that what it holds stands
-    /// through a crash. Refused with `Io`.
+    /// through a crash. Refused with `Io`, and so where another has the file's lock; nothing is changed then.
     pub fn open<R: Files<File = File>>(rt: &R, path: &str) -> Result<FileDevice<S>, Fault>
         ensures held { IfOk result (λ d. behind_calls (S.Start.bytes d.len) d.events.list
             ≡ first (S.Start.bytes d.len)) }
@@ -108,6 +110,7 @@ impl<S: Start> FileDevice<S> {
         let Ok(file) = OpenOptions::new().read(true).write(true).open(rt, path) else {
             return Err(Fault::Io);
         };
+        lock(&file)?;
         let (Ok(()), Ok(metadata)) = (file.sync_all(), file.metadata()) else {
             return Err(Fault::Io);
         };
@@ -129,6 +132,16 @@ impl<S: Start> FileDevice<S> {
         self.stopped = true;
         self.events.note(kind, at, 0, false, bytes);
         Fault::Io
+    }
+}
+
+/// Takes the file's lock, for as long as the file is open. Refused with `Io` where another has it, or the call fails.
+fn lock(file: &File) -> Result<(), Fault>
+    ensures fault { IfErr result (λ e. e ≡ Fault.Io) }
+{
+    match file.try_lock() {
+        Ok(()) => Ok(()),
+        Err(_) => Err(Fault::Io),
     }
 }
 

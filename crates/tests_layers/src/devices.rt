@@ -128,6 +128,9 @@ fn files(rt: HostRuntime) {
     assert!(rt; FileDevice::<Unknown>::create(&rt, path, 8_192).is_err());
     assert!(rt; four_at(&mut device, 8_188) == Some([0; 4]));
     assert!(rt; is_kept(&mut device, 8_187, &[1, 2, 3, 4, 5]));
+    // Its lock is held as long as the device stands.
+    assert!(rt; FileDevice::<Unknown>::open(&rt, path).is_err());
+    drop(device);
     let Ok(mut again) = FileDevice::<Unknown>::open(&rt, path) else {
         assert!(rt; false);
         return;
