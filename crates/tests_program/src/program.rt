@@ -12,6 +12,7 @@ mod help;
 mod in_a_file;
 mod inserts;
 mod lines;
+mod long_chains;
 mod plain;
 mod rows;
 mod scans;
