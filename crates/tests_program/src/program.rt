@@ -12,7 +12,6 @@ mod help;
 mod in_a_file;
 mod inserts;
 mod lines;
-mod long_chains;
 mod plain;
 mod rows;
 mod scans;
