@@ -1,5 +1,5 @@
 -- Whether an entry or a bound of a page of the format isn't beyond its low: the first entry and the second bound tell.
-use Rattle.std.proofs.Common.{◌≡◌, ◌≢◌, ◌⊎◌, ◌↔◌, ℕ, ◌<◌, inl, inr, Bool, true, false, not, IsTrue, Option, Some, None, List, [], ◌∷◌, length, slice_get, refl, sym, ap, subst, arith}
+use Rattle.std.proofs.Common.{◌≡◌, ◌≢◌, ◌⊎◌, ℕ, ◌<◌, inl, inr, Option, Some, None, List, [], ◌∷◌, length, slice_get, refl, sym, ap, subst, ◌∙◌, arith}
 use Rattle.std.specs.List.{Contains, AllByRecursion}
 use Rattle.index_model.specs.Order.{bound_of}
 use Rattle.index_model.specs.declared.bound.Bound.{Bound}
@@ -12,14 +12,17 @@ use Rattle.page_codec.specs.declared.page.Items.TheVariants.{Meta, Entries, Down
 use Rattle.page_codec.specs.declared.page.Page.{Page}
 use Rattle.page_codec.specs.declared.page.PageState.{PageState}
 use Rattle.page_codec.specs.declared.page.PageState.TheVariants.{Live, HalfDead, Deleted}
-use Rattle.tree_shape.specs.Nodes.{Node, links_of, node_of}
+use Rattle.tree_shape.specs.Nodes.{links_of, node_of}
 use Rattle.tree_shape.specs.Chains.{Spot, Rises, IsBeyond, LinksWithin}
 use Rattle.damages.specs.Damages.{HasNotBeyond}
 use Rattle.damages.proofs.Decided.{no_link}
+use Rattle.damages.proofs.Items.{IsFirstBeyond, IsSecondBeyond, IsBoundBeyond, entries_within, links_within}
 use Rattle.damages.proofs.TreesSound.{entry_beyond, link_beyond}
-use Rattle.amcheck.specs.Places.{IsFirstBeyond, IsSecondBeyond, IsBoundBeyond}
+use Rattle.amcheck.specs.Places.{IsNoneOrBeyond}
+use Rattle.amcheck.specs.Sketches.{IsSketch, second_bound, least_bound}
 use Rattle.amcheck.specs.Stops.{HasWrongItem, IsWrong, IsLeastNumber}
-use Rattle.amcheck.proofs.ItemsWithin.{entries_within, links_within}
+use Rattle.amcheck.specs.WrongSketches.{IsWrongSketch}
+use Rattle.amcheck.specs.declared.sketches.Sketch.{Sketch}
 
 pub first_not : (low : Option Bound) (es : List Entry) → (IsFirstBeyond low es → ⊥) → (e : Entry) × Contains es e × (IsBeyond low (bound_of e) → ⊥)
 first_not low [] h = absurd (h tt)
@@ -84,19 +87,73 @@ all_beyond low page admitted first second has = by page.items admitted.kind firs
 pub wrong_first : (low : Option Bound) (page : Page) → (IsFirstBeyond low (entries_of page.items) → ⊥) → HasWrongItem low (node_of page)
 wrong_first low page h = record { is = inl (first_not low (entries_of page.items) h) }
 
-pub wrong_second : (r : Bool) (low : Option Bound) (page : Page) → IsPage page → IsFirstBeyond low (entries_of page.items) → (IsTrue r ↔ IsSecondBeyond low (links_of page.items))
-    → IsTrue (not r) ↔ HasWrongItem low (node_of page)
-wrong_second true low page admitted first told = (λ e. absurd (let k : false ≡ true = e in cc), λ w. absurd (all_beyond low page admitted first (told.0 refl) w.is))
-wrong_second false low page admitted first told = (
-  λ e. record { is = second_tells low page admitted (λ second. absurd (let k : false ≡ true = told.1 second in cc)) },
-  λ w. refl,
-)
-
-pub least_six : (node : Node) (root : Option ℕ) (s : Spot) (block : ℕ) → ((node.left ≢ s.left) → ⊥) → (node.state ≡ Deleted → ⊥) → ((node.state ≡ Live) × (Rises s.low node.high → ⊥) → ⊥)
-    → HasWrongItem s.low node → IsLeastNumber (IsWrong node root s block) (Some 6)
-least_six node root s block linked stands rises wrong = (inr (inr (inr (inl (refl, wrong)))), less)
+-- the least of them tells
+second_from : (low : Option Bound) (ds : List Downlink) → IsSecondBeyond low ds → IsNoneOrBeyond low (second_bound ds)
+second_from low [] h = tt
+second_from low (i ∷ []) h = tt
+second_from low (i ∷ j ∷ js) h = go j.bound h
   where
-    less : (m : ℕ) → m < 6 → IsWrong node root s block m → ⊥
+    go : (o : Option Bound) → IsBoundBeyond low o → IsNoneOrBeyond low o
+    go None k = tt
+    go (Some b) k = k
+
+second_back : (low : Option Bound) (ds : List Downlink) → Ascends LinkBefore ds → IsNoneOrBeyond low (second_bound ds) → IsSecondBeyond low ds
+second_back low [] up h = tt
+second_back low (i ∷ []) up h = tt
+second_back low (i ∷ j ∷ js) up h =
+    let b = some_bound i j up.0 in
+    subst (IsBoundBeyond low) (sym b.1) (subst (IsNoneOrBeyond low) b.1 h)
+
+pub least_wrong : (low : Option Bound) (page : Page) → IsPage page → (IsNoneOrBeyond low (least_bound (entries_of page.items) (links_of page.items)) → ⊥) → HasWrongItem low (node_of page)
+least_wrong low page admitted h = by (entries_of page.items) refl
+  where
+    by : (es : List Entry) → entries_of page.items ≡ es → HasWrongItem low (node_of page)
+    by [] is = record {
+      is = second_tells low page admitted
+          (λ second. h (subst (λ (es : List Entry). IsNoneOrBeyond low (least_bound es (links_of page.items))) (sym is) (second_from low (links_of page.items) second)));
+    }
+    by (e ∷ es) is = wrong_first low page
+        (λ first. h (subst (λ (es : List Entry). IsNoneOrBeyond low (least_bound es (links_of page.items))) (sym is) (subst (IsFirstBeyond low) is first)))
+
+pub least_right : (low : Option Bound) (page : Page) → IsPage page → IsNoneOrBeyond low (least_bound (entries_of page.items) (links_of page.items)) → HasWrongItem low (node_of page) → ⊥
+least_right low page admitted h wrong = (let both = by page.items (links_ascend page admitted) h in all_beyond low page admitted both.0 both.1 wrong.is)
+  where
+    first_one : (es : List Entry) → IsNoneOrBeyond low (least_bound es []) → IsFirstBeyond low es
+    first_one [] h = tt
+    first_one (e ∷ es) h = h
+
+    by : (items : Items) → Ascends LinkBefore (links_of items) → IsNoneOrBeyond low (least_bound (entries_of items) (links_of items)) → IsFirstBeyond low (entries_of items) × IsSecondBeyond low (links_of items)
+    by Meta up h = (tt, tt)
+    by (Entries v) up h = (first_one v.items h, tt)
+    by (Downlinks v) up h = (tt, second_back low v.items up h)
+
+-- what is wrong as the sketch tells is wrong, and the other way round
+module _ (page : Page) (sketch : Sketch) (root : Option ℕ) (s : Spot) (block : ℕ) (admitted : IsPage page) (is : IsSketch (node_of page) sketch) where
+  pub wrong_to : (n : ℕ) → IsWrongSketch sketch root s block n → IsWrong (node_of page) root s block n
+  wrong_to n (inl a) = inl (a.0, λ e. a.1 (is.left ∙ e))
+  wrong_to n (inr (inl a)) = inr (inl (a.0, sym is.state ∙ a.1))
+  wrong_to n (inr (inr (inl a))) = inr (inr (inl (a.0, sym is.state ∙ a.1, λ rises. a.2 (subst (Rises s.low) (sym is.high) rises))))
+  wrong_to n (inr (inr (inr (inl a)))) = inr (inr (inr (inl (a.0, least_wrong s.low page admitted (λ beyond. a.1 (subst (IsNoneOrBeyond s.low) (sym is.least) beyond))))))
+  wrong_to n (inr (inr (inr (inr (inl a))))) = inr (inr (inr (inr (inl a))))
+  wrong_to n (inr (inr (inr (inr (inr a))))) = inr (inr (inr (inr (inr (a.0, sym is.state ∙ a.1, a.2)))))
+
+  pub wrong_from : (n : ℕ) → IsWrong (node_of page) root s block n → IsWrongSketch sketch root s block n
+  wrong_from n (inl a) = inl (a.0, λ e. a.1 (sym is.left ∙ e))
+  wrong_from n (inr (inl a)) = inr (inl (a.0, is.state ∙ a.1))
+  wrong_from n (inr (inr (inl a))) = inr (inr (inl (a.0, is.state ∙ a.1, λ rises. a.2 (subst (Rises s.low) is.high rises))))
+  wrong_from n (inr (inr (inr (inl a)))) = inr (inr (inr (inl (a.0, λ beyond. least_right s.low page admitted (subst (IsNoneOrBeyond s.low) is.least beyond) a.1))))
+  wrong_from n (inr (inr (inr (inr (inl a))))) = inr (inr (inr (inr (inl a))))
+  wrong_from n (inr (inr (inr (inr (inr a))))) = inr (inr (inr (inr (inr (a.0, is.state ∙ a.1, a.2)))))
+
+  pub least_told : (o : Option ℕ) → IsLeastNumber (IsWrongSketch sketch root s block) o → IsLeastNumber (IsWrong (node_of page) root s block) o
+  least_told None least = λ n w. least n (wrong_from n w)
+  least_told (Some n) least = (wrong_to n least.0, λ m lt w. least.1 m lt (wrong_from m w))
+
+pub least_six : (sketch : Sketch) (root : Option ℕ) (s : Spot) (block : ℕ) → ((sketch.left ≢ s.left) → ⊥) → (sketch.state ≡ Deleted → ⊥) → ((sketch.state ≡ Live) × (Rises s.low sketch.high → ⊥) → ⊥)
+    → (IsNoneOrBeyond s.low sketch.least → ⊥) → IsLeastNumber (IsWrongSketch sketch root s block) (Some 6)
+least_six sketch root s block linked stands rises wrong = (inr (inr (inr (inl (refl, wrong)))), less)
+  where
+    less : (m : ℕ) → m < 6 → IsWrongSketch sketch root s block m → ⊥
     less m lt (inl a) = linked a.1
     less m lt (inr (inl a)) = stands a.1
     less m lt (inr (inr (inl a))) = rises (a.1, a.2)

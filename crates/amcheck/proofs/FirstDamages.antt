@@ -1,7 +1,7 @@
 -- What the search for the first damage of the chains comes to.
 use Rattle.std.proofs.Common.{◌≡◌, ℕ, ◌<◌, ◌≤◌, inl, inr, Bool, true, false, Option, Some, None, List, [], ◌∷◌, length, slice_get, refl, sym, ap, subst, ◌∙◌, arith}
 use Rattle.std.proofs.lemmas.Option.{slice_get_within}
-use Rattle.std.specs.Prelude.{IsSome, ◌≢◌, Result, Ok, Err, IfOk, IfErr, OnOk}
+use Rattle.std.specs.Prelude.{IsSome, Result, Ok, Err, IfOk, IfErr, OnOk}
 use Rattle.index_model.specs.declared.fault.Fault.{Fault}
 use Rattle.page_codec.specs.Grammar.{IsBlock, IsPage, IsOfKind}
 use Rattle.page_codec.specs.declared.page.Items.{Items}
@@ -12,6 +12,7 @@ use Rattle.tree_acts.specs.TheoremTree.{IsTree}
 use Rattle.damages.specs.Damages.{index_of, or_block, Site, IsDamage, IsSound, IsFirstDamage, ComesBefore, rank}
 use Rattle.damages.specs.Damages.Site.{on_way, on_chain, at_child, at_page, nowhere}
 use Rattle.damages.specs.Levels as levels
+use Rattle.amcheck.proofs.Kept.{page_there}
 use Rattle.amcheck.specs.Levels.{NamesRoot}
 use Rattle.amcheck.specs.Places.{StandAtTheirBlocks}
 use Rattle.amcheck.specs.Answers.{IsAnswer}
@@ -78,7 +79,7 @@ no_block : (n : ℕ) → n ≡ 0 → IsBlock n → ⊥
 no_block n zero_is block = (let k = block.0 in omega (arith, k, zero_is))
 
 -- the page of block 0 is the metapage, and names a root
-pub first_is_meta : (pages : List Page) (page : Page) → StandAtTheirBlocks pages → slice_get pages 0 ≡ Some page → (page.items ≡ Meta) × IsSome page.right
+first_is_meta : (pages : List Page) (page : Page) → StandAtTheirBlocks pages → slice_get pages 0 ≡ Some page → (page.items ≡ Meta) × IsSome page.right
 first_is_meta pages page stand found = by page.items refl own.0.kind
   where
     own : IsPage page × (page.block ≡ 0)
@@ -89,11 +90,22 @@ first_is_meta pages page stand found = by page.items refl own.0.kind
     by (Entries v) is kind = absurd (no_block page.block own.1 kind.block)
     by (Downlinks v) is kind = absurd (no_block page.block own.1 kind.block)
 
-pub never_other : (pages : List Page) (page : Page) → StandAtTheirBlocks pages → slice_get pages 0 ≡ Some page → page.items ≢ Meta → ⊥
-never_other pages page stand found other = other (first_is_meta pages page stand found).0
+-- so it names the root
+pub names_root : (pages : List Page) (root level : ℕ) → StandAtTheirBlocks pages → 0 < length pages → (nodes_of pages 0).right ≡ Some root → level ≡ (nodes_of pages 0).level → NamesRoot pages root level
+names_root pages root level stand some right level_is =
+    let page = page_there pages 0 some in
+    let here : nodes_of pages 0 ≡ node_of page.0 = ap node_from page.1 in
+    record {
+      meta = page.0;
+      meta_at = page.1;
+      names = record { kind = (first_is_meta pages page.0 stand page.1).0; root_is = sym (ap (λ (n : Node). n.right) here) ∙ right; level_is = refl };
+      top_is = level_is ∙ ap (λ (n : Node). n.level) here;
+    }
 
-pub never_rootless : (pages : List Page) (page : Page) → StandAtTheirBlocks pages → slice_get pages 0 ≡ Some page → page.right ≡ None → ⊥
-never_rootless pages page stand found none = by page.right none (first_is_meta pages page stand found).1
+pub never_rootless : (pages : List Page) → StandAtTheirBlocks pages → 0 < length pages → (nodes_of pages 0).right ≡ None → ⊥
+never_rootless pages stand some none =
+    let page = page_there pages 0 some in
+    by page.0.right (sym (ap (λ (n : Node). n.right) (ap node_from page.1)) ∙ none) (first_is_meta pages page.0 stand page.1).1
   where
     by : (o : Option ℕ) → o ≡ None → IsSome o → ⊥
     by None is some = not_so some

@@ -1,5 +1,5 @@
 -- What is known of the pages that are judged.
-use Rattle.std.proofs.Common.{◌≡◌, ℕ, zero, suc, ◌<◌, ◌≤◌, inl, inr, List, [], ◌∷◌, length, slice_get, Some, refl, ap, ◌∙◌, arith}
+use Rattle.std.proofs.Common.{◌≡◌, ℕ, suc, ◌<◌, ◌≤◌, inl, inr, List, length, ap, ◌∙◌, arith}
 use Rattle.std.proofs.lemmas.Bool.{cases_lt}
 use Rattle.index_model.specs.declared.limits.Limits.{Limits}
 use Rattle.page_codec.specs.Grammar.{IsPage, IsOfKind}
@@ -8,6 +8,7 @@ use Rattle.page_codec.specs.declared.page.Items.TheVariants.{Meta, Entries, Down
 use Rattle.page_codec.specs.declared.page.Page.{Page}
 use Rattle.page_action.specs.Stored.{AreStored}
 use Rattle.page_action.proofs.StoredPages.{stored_page}
+use Rattle.amcheck.proofs.Kept.{page_there}
 use Rattle.amcheck.specs.Levels.{NamesRoot}
 use Rattle.amcheck.specs.Places.{StandAtTheirBlocks}
 use Rattle.amcheck.specs.Reports.{IsReport, report_of}
@@ -24,11 +25,6 @@ block_low page admitted = by page.items admitted.kind
     by Meta h = (let zero_is = h.block in omega arith)
     by (Entries v) h = h.block.1
     by (Downlinks v) h = h.block.1
-
-page_there : (pages : List Page) (n : ℕ) → n < length pages → (page : Page) × (slice_get pages n ≡ Some page)
-page_there [] n lt = absurd (omega arith)
-page_there (p ∷ pages) zero lt = (p, refl)
-page_there (p ∷ pages) (suc n) lt = page_there pages n (omega arith)
 
 -- so there are no more of them than the format has blocks
 pub they_are_few : (pages : List Page) → StandAtTheirBlocks pages → length pages ≤ 65536

@@ -1,6 +1,6 @@
 pub mod Blocks
-pub mod ItemsWithin
-pub mod Pages
+pub mod Kept
+pub mod Steps
 pub mod ReadOn
 pub mod Judged
 pub mod WaysLeft

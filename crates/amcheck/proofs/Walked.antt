@@ -1,7 +1,7 @@
 -- A walk along a chain, as far as it has come.
 use Rattle.std.proofs.Common.{◌≡◌, ◌⊎◌, ℕ, zero, suc, ◌<◌, inl, inr, false, Some, None, List, [], ◌∷◌, ◌++◌, length, length-append, append_assoc, append-nil, slice_get, refl, sym, ap, subst, ◌∙◌, arith}
 use Rattle.page_codec.specs.declared.page.Page.{Page}
-use Rattle.tree_shape.specs.Nodes.{Node, node_of, nodes_of}
+use Rattle.tree_shape.specs.Nodes.{nodes_of}
 use Rattle.tree_shape.specs.Chains.{past, IsIn, AreDistinct}
 use Rattle.tree_shape.proofs.Members.{in_append_cases, apart_back}
 use Rattle.damages.specs.Damages.{Index, index_of, head, Place, next_place, place_at, IsOnLevel}
@@ -135,23 +135,22 @@ module _ (pages : List Page) (depth : ℕ) (before : List ℕ) (met : Met) (stop
     next_place_is : place_at ix depth (suc step) ≡ record { spot = past stop.block (nodes_of pages stop.block) (spot_at (nodes_of pages) stop); block = (nodes_of pages stop.block).right }
     next_place_is = ap (λ (p : Place). next_place (nodes_of pages) p.spot p.block) far.here
 
-    pub walk_goes_on : (page : Page) (right : ℕ) (next : Stop) (n : ℕ) → nodes_of pages stop.block ≡ node_of page → page.right ≡ Some right → next.block ≡ right
-        → spot_at (nodes_of pages) next ≡ past stop.block (node_of page) (spot_at (nodes_of pages) stop) → n ≡ suc step → HasWalked pages depth before after more next n
-    walk_goes_on page right next n here right_is block_is spot_is n_is = subst (HasWalked pages depth before after more next) (sym n_is) (record {
+    pub walk_goes_on : (right : ℕ) (next : Stop) (n : ℕ) → (nodes_of pages stop.block).right ≡ Some right → next.block ≡ right
+        → spot_at (nodes_of pages) next ≡ past stop.block (nodes_of pages stop.block) (spot_at (nodes_of pages) stop) → n ≡ suc step → HasWalked pages depth before after more next n
+    walk_goes_on right next n right_is block_is spot_is n_is = subst (HasWalked pages depth before after more next) (sym n_is) (record {
       met_is = after_is;
       added = added_more;
       placed = placed_more;
       on_level = on_level_more;
       count = count_more;
       here = next_place_is ∙ (λ i. record {
-        spot = (ap (λ (m : Node). past stop.block m (spot_at (nodes_of pages) stop)) here ∙ sym spot_is) i;
-        block = (ap (λ (m : Node). m.right) here ∙ right_is ∙ ap Some (sym block_is)) i;
+        spot = (sym spot_is) i;
+        block = (right_is ∙ ap Some (sym block_is)) i;
       });
     })
 
-    pub ends_whole : (page : Page) → nodes_of pages stop.block ≡ node_of page → page.right ≡ None → IsEnd ix depth (length more) ends.Whole
-    ends_whole page here none' =
-        ap (λ (k : ℕ). (place_at ix depth k).block) count_more ∙ ap (λ (p : Place). p.block) next_place_is ∙ ap (λ (m : Node). m.right) here ∙ none'
+    pub ends_whole : (nodes_of pages stop.block).right ≡ None → IsEnd ix depth (length more) ends.Whole
+    ends_whole none' = ap (λ (k : ℕ). (place_at ix depth k).block) count_more ∙ ap (λ (p : Place). p.block) next_place_is ∙ none'
 
     pub are_stops_more : AreStops ix depth more
     are_stops_more = record {

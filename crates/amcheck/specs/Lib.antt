@@ -2,10 +2,13 @@ pub mod Places
 pub mod Marks
 pub mod Levels
 pub mod Reports
+pub mod Sketches
+pub mod PageRooms
 pub mod Reading
 pub mod Checks
 pub mod Ways
 pub mod Stops
+pub mod WrongSketches
 pub mod Ends
 pub mod Chains
 pub mod LevelDamages

@@ -8,7 +8,6 @@ use Rattle.amcheck.specs.declared.reading.Room.{Room}
 
 -- there is room to check so many pages, and no block was seen or met
 pub record HasRoom (room : Room) (used : ℕ) : Type 0 where
-  pub pages : used ≤ vec_capacity room.pages
   pub met : IsMet room.met used
   pub none : room.met.blocks.items ≡ []
   pub seen : room.seen.items ≡ replicate used false

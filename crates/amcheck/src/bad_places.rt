@@ -9,10 +9,10 @@ ghost use Rattle.amcheck.specs.Places.{StandAtTheirBlocks};
 ghost use Rattle.amcheck.specs.Searching.{AreSearchable, MaySearch, FindsFirst};
 ghost use Rattle.amcheck.specs.Stops.{AreStops, IsRootAt, IsLeastNumber, IsWrongAt, IsBad, IsFirstPlace};
 
+use crate::pages::Pages;
 use crate::report::Damage;
 use crate::stops::{Stop, find_number, low};
 use crate::walks::End;
-use page_codec::Page;
 use rayon::prelude::*;
 use std::thread::Threads;
 
@@ -20,18 +20,18 @@ use std::thread::Threads;
 const LEAST_PIECE: usize = 256;
 
 /// The least number of what is wrong at the stop at this place.
-fn number_at(pages: &[Page], root: Option<u32>, stops: &[Stop], place: usize) -> Option<u8>
+fn number_at(pages: &Pages, root: Option<u32>, stops: &[Stop], place: usize) -> Option<u8>
     requires searchable { AreSearchable pages.now stops.now }
     requires inside { place < length stops.now }
     ensures least { IsLeastNumber (IsWrongAt (nodes_of pages.now) root stops.now place) result }
 {
     let stop = &stops[place];
     let low = low(pages, stop.low_at);
-    find_number(&pages[stop.block as usize], root, &low, stop)
+    find_number(pages.sketch(stop.block), root, &low, stop)
 }
 
 /// Whether something is wrong at the stop at this place.
-fn is_bad(pages: &[Page], root: Option<u32>, stops: &[Stop], place: usize) -> bool
+fn is_bad(pages: &Pages, root: Option<u32>, stops: &[Stop], place: usize) -> bool
     requires searchable { AreSearchable pages.now stops.now }
     requires inside { place < length stops.now }
     ensures { IsTrue result ↔ IsBad (nodes_of pages.now) root stops.now place }
@@ -40,7 +40,7 @@ fn is_bad(pages: &[Page], root: Option<u32>, stops: &[Stop], place: usize) -> bo
 }
 
 /// The first bad stop of a chain, stop by stop in this thread.
-pub(crate) fn find_bad_one(pages: &[Page], root: Option<u32>, stops: &[Stop]) -> Option<usize>
+pub(crate) fn find_bad_one(pages: &Pages, root: Option<u32>, stops: &[Stop]) -> Option<usize>
     requires searchable { AreSearchable pages.now stops.now }
     ensures first { IsFirstPlace (IsBad (nodes_of pages.now) root stops.now) result }
 {
@@ -55,7 +55,7 @@ pub(crate) fn find_bad_one(pages: &[Page], root: Option<u32>, stops: &[Stop]) ->
 /// The first bad stop of a chain, which is cut into pieces for threads.
 pub(crate) fn find_bad(
     rt: &(impl Threads + Sync),
-    pages: &[Page],
+    pages: &Pages,
     root: Option<u32>,
     stops: &[Stop],
 ) -> Option<usize>
@@ -75,14 +75,13 @@ pub(crate) fn find_bad(
 }
 
 /// The number of a page that was met before: 2 where its left link isn't the page before, and else 3.
-fn met_number(pages: &[Page], stop: &Stop) -> u8
+fn met_number(pages: &Pages, stop: &Stop) -> u8
     requires in_use { stop.now.block < length pages.now }
     ensures two { result ≡ 2 → (nodes_of pages.now stop.now.block).left ≢ stop.now.left }
     ensures three { (result ≡ 3 → (nodes_of pages.now stop.now.block).left ≡ stop.now.left)
         × ((result ≡ 2) ⊎ (result ≡ 3)) }
 {
-    let page = &pages[stop.block as usize];
-    if page.left != stop.left {
+    if pages.sketch(stop.block).left != stop.left {
         return 2;
     }
     3
@@ -90,7 +89,7 @@ fn met_number(pages: &[Page], stop: &Stop) -> u8
 
 /// The damage where the walk ended, if it didn't end at the rightmost page. Nothing is wrong at its stops.
 fn damage_at_end(
-    pages: &[Page],
+    pages: &Pages,
     root: Option<u32>,
     depth: u8,
     stops: &[Stop],
@@ -116,9 +115,9 @@ fn damage_at_end(
 }
 
 /// The first damage of the chain of a level, along which these stops were made. The first bad one of them is found so.
-pub(crate) fn first_in_chain<F: Fn(&[Page], Option<u32>, &[Stop]) -> Option<usize>>(
+pub(crate) fn first_in_chain<F: Fn(&Pages, Option<u32>, &[Stop]) -> Option<usize>>(
     find: &F,
-    pages: &[Page],
+    pages: &Pages,
     root: Option<u32>,
     depth: u8,
     stops: &[Stop],

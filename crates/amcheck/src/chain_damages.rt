@@ -12,21 +12,17 @@ ghost use Rattle.amcheck.specs.Stops.{blocks_of, IsRootAt};
 
 use crate::bad_places::first_in_chain;
 use crate::marks::Met;
+use crate::pages::Pages;
 use crate::report::Damage;
 use crate::stops::Stop;
 use crate::walks::walk;
 use crate::ways::find_leftmost;
-use page_codec::Page;
-use tree_shape::links_on;
 
 /// Where the way to the leftmost page of the next level begins: the child of the first downlink of this one's, or 0.
-fn next_begin(pages: &[Page], head: u32) -> u32
+fn next_begin(pages: &Pages, head: u32) -> u32
     ensures { result ≡ first_child (nodes_of pages.now head).links }
 {
-    let Some(page) = pages.get(head as usize) else {
-        return 0;
-    };
-    match links_on(page).first() {
+    match pages.links(head).first() {
         None => 0,
         Some(link) => link.child,
     }
@@ -41,9 +37,9 @@ fn root_at(root: u32, depth: u8) -> Option<u32>
 }
 
 /// Judges the chain of a level: the leftmost page, or the first damage. `stops` has room for a stop at each page in use.
-fn judge_level<F: Fn(&[Page], Option<u32>, &[Stop]) -> Option<usize>>(
+fn judge_level<F: Fn(&Pages, Option<u32>, &[Stop]) -> Option<usize>>(
     find: &F,
-    pages: &[Page],
+    pages: &Pages,
     seen: &mut [bool],
     met: &mut Met,
     stops: &mut Vec<Stop>,
@@ -100,9 +96,9 @@ fn keep(chains: &mut Vec<Stop>, stops: &[Stop])
 
 /// The first damage of the chains of all levels, from the root's to the leaves. No block was seen or met before; `stops` and
 /// `chains` have room for a stop at each page in use. Where there is no damage `chains` has the stops of all levels.
-pub(crate) fn find_chain_damage<F: Fn(&[Page], Option<u32>, &[Stop]) -> Option<usize>>(
+pub(crate) fn find_chain_damage<F: Fn(&Pages, Option<u32>, &[Stop]) -> Option<usize>>(
     find: &F,
-    pages: &[Page],
+    pages: &Pages,
     seen: &mut [bool],
     met: &mut Met,
     stops: &mut Vec<Stop>,

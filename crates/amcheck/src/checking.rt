@@ -11,12 +11,13 @@ ghost use Rattle.amcheck.specs.Reports.{IsReport};
 ghost use Rattle.amcheck.specs.Searching.{MaySearch, FindsFirst};
 
 use crate::judging::{judge, judge_chains};
+use crate::page_room::PageRoom;
+use crate::pages::Pages;
 use crate::reading::{Room, read_pages};
 use crate::report::{CheckFault, Damage, Report};
 use crate::stops::Stop;
 use index_model::Fault;
 use page_action::PageStore;
-use page_codec::Page;
 use std::alloc::Global;
 
 // What is answered of a report or a damage.
@@ -34,7 +35,7 @@ fn told(judged: Result<Report, Damage>) -> Result<Report, CheckFault>
 }
 
 /// Judges the levels of an index and their links, as `check` and `check_one` do, where the first bad stop is found so.
-pub(crate) fn check_by<F: Fn(&[Page], Option<u32>, &[Stop]) -> Option<usize>, S: PageStore>(
+pub(crate) fn check_by<F: Fn(&Pages, Option<u32>, &[Stop]) -> Option<usize>, S: PageStore>(
     find: F,
     alloc: Global,
     store: &mut S,
@@ -54,17 +55,22 @@ pub(crate) fn check_by<F: Fn(&[Page], Option<u32>, &[Stop]) -> Option<usize>, S:
         (S.backing store.new) (IsTree (S.state store.old).pages)) }
     ensures unread { result ≡ Err (CheckFault.Refused Fault.NoMemory) → store.new ≡ store.old }
 {
-    let mut room = match Room::new(alloc, store.used()) {
+    let used = store.used();
+    let mut room = match Room::new(alloc, used) {
         Ok(room) => room,
         Err(fault) => return Err(CheckFault::Refused(fault)),
     };
-    match read_pages(store, &mut room.pages) {
-        Ok(()) => {}
+    let page_room = match PageRoom::new(alloc, used) {
+        Ok(room) => room,
         Err(fault) => return Err(CheckFault::Refused(fault)),
-    }
+    };
+    let pages = match read_pages(store, page_room) {
+        Ok(pages) => pages,
+        Err(fault) => return Err(CheckFault::Refused(fault)),
+    };
     told(judge_chains(
         &find,
-        &room.pages,
+        &pages,
         &mut room.seen,
         &mut room.met,
         &mut room.stops,
@@ -73,7 +79,7 @@ pub(crate) fn check_by<F: Fn(&[Page], Option<u32>, &[Stop]) -> Option<usize>, S:
 }
 
 /// Judges parents and children too, as `check_parents` and `check_parents_one` do, where the first bad stop is found so.
-pub(crate) fn check_parents_by<F: Fn(&[Page], Option<u32>, &[Stop]) -> Option<usize>, S: PageStore>(
+pub(crate) fn check_parents_by<F: Fn(&Pages, Option<u32>, &[Stop]) -> Option<usize>, S: PageStore>(
     find: F,
     alloc: Global,
     store: &mut S,
@@ -93,17 +99,22 @@ pub(crate) fn check_parents_by<F: Fn(&[Page], Option<u32>, &[Stop]) -> Option<us
         (S.backing store.new) (IsTree (S.state store.old).pages)) }
     ensures unread { result ≡ Err (CheckFault.Refused Fault.NoMemory) → store.new ≡ store.old }
 {
-    let mut room = match Room::new(alloc, store.used()) {
+    let used = store.used();
+    let mut room = match Room::new(alloc, used) {
         Ok(room) => room,
         Err(fault) => return Err(CheckFault::Refused(fault)),
     };
-    match read_pages(store, &mut room.pages) {
-        Ok(()) => {}
+    let page_room = match PageRoom::new(alloc, used) {
+        Ok(room) => room,
         Err(fault) => return Err(CheckFault::Refused(fault)),
-    }
+    };
+    let pages = match read_pages(store, page_room) {
+        Ok(pages) => pages,
+        Err(fault) => return Err(CheckFault::Refused(fault)),
+    };
     told(judge(
         &find,
-        &room.pages,
+        &pages,
         &mut room.seen,
         &mut room.met,
         &mut room.stops,

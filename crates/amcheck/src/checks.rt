@@ -16,12 +16,12 @@ ghost use denote.Param.Send.{IsSync};
 
 use crate::bad_places::{find_bad, find_bad_one};
 use crate::checking::{check_by, check_parents_by};
+use crate::pages::Pages;
 use crate::report::{CheckFault, Report};
 use crate::stops::Stop;
 use damages::first_damage_is_one;
 use index_model::Fault;
 use page_action::PageStore;
-use page_codec::Page;
 use std::alloc::Global;
 use std::thread::Threads;
 
@@ -52,7 +52,7 @@ pub fn check<R: Threads + Sync, S: PageStore>(
     ensures unread { result ≡ Err (CheckFault.Refused Fault.NoMemory) → store.new ≡ store.old }
 {
     check_by(
-        |pages: &[Page], root: Option<u32>, stops: &[Stop]| -> Option<usize>
+        |pages: &Pages, root: Option<u32>, stops: &[Stop]| -> Option<usize>
             requires { IsSync R.row × AreSearchable pages.now stops.now }
             ensures { IsFirstPlace (IsBad (nodes_of pages.now) root stops.now) result }
         { find_bad(rt, pages, root, stops) },
@@ -77,7 +77,7 @@ pub fn check_one<S: PageStore>(alloc: Global, store: &mut S) -> Result<Report, C
     ensures unread { result ≡ Err (CheckFault.Refused Fault.NoMemory) → store.new ≡ store.old }
 {
     check_by(
-        |pages: &[Page], root: Option<u32>, stops: &[Stop]| -> Option<usize>
+        |pages: &Pages, root: Option<u32>, stops: &[Stop]| -> Option<usize>
             requires { AreSearchable pages.now stops.now }
             ensures { IsFirstPlace (IsBad (nodes_of pages.now) root stops.now) result }
         { find_bad_one(pages, root, stops) },
@@ -111,7 +111,7 @@ pub fn check_parents<R: Threads + Sync, S: PageStore>(
     ensures unread { result ≡ Err (CheckFault.Refused Fault.NoMemory) → store.new ≡ store.old }
 {
     check_parents_by(
-        |pages: &[Page], root: Option<u32>, stops: &[Stop]| -> Option<usize>
+        |pages: &Pages, root: Option<u32>, stops: &[Stop]| -> Option<usize>
             requires { IsSync R.row × AreSearchable pages.now stops.now }
             ensures { IsFirstPlace (IsBad (nodes_of pages.now) root stops.now) result }
         { find_bad(rt, pages, root, stops) },
@@ -136,7 +136,7 @@ pub fn check_parents_one<S: PageStore>(alloc: Global, store: &mut S) -> Result<R
     ensures unread { result ≡ Err (CheckFault.Refused Fault.NoMemory) → store.new ≡ store.old }
 {
     check_parents_by(
-        |pages: &[Page], root: Option<u32>, stops: &[Stop]| -> Option<usize>
+        |pages: &Pages, root: Option<u32>, stops: &[Stop]| -> Option<usize>
             requires { AreSearchable pages.now stops.now }
             ensures { IsFirstPlace (IsBad (nodes_of pages.now) root stops.now) result }
         { find_bad_one(pages, root, stops) },

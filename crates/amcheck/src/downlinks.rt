@@ -3,18 +3,18 @@
 ghost use Rattle.std.specs.Prelude.{◌≡◌, ◌+◌, ◌<◌, ◌≤◌, ◌↔◌, ℕ, suc, true, false, Some, IsTrue, IfNone, IfSome, length, slice_get};
 ghost use Rattle.page_codec.specs.declared.page.Downlink.{Downlink};
 ghost use Rattle.tree_shape.specs.Chains.{from_low};
-ghost use Rattle.tree_shape.specs.Nodes.{node_of, nodes_of};
+ghost use Rattle.tree_shape.specs.Nodes.{nodes_of};
 ghost use Rattle.damages.specs.Damages.{index_of, IsOnLevel};
 ghost use Rattle.amcheck.specs.AllStops.{ArePlaces, HaveBlocksOnce};
 ghost use Rattle.amcheck.specs.Downlinks.{IsOff, AreBelow, HasOtherLow, HasWrongBound, IsSkipped, LacksLink, IsExtra, HasExtra, AreNoted, IsWrongAmong};
 ghost use Rattle.amcheck.specs.Stops.{IsLeastNumber};
 
 use crate::chain_places::find_stop;
+use crate::pages::Pages;
 use crate::places::is_on_level;
 use crate::stops::{Stop, low};
 use index_model::Bound;
-use page_codec::{Downlink, Page, PageState};
-use tree_shape::links_on;
+use page_codec::{Downlink, PageState};
 
 /// The downlink at this place, with the low for its bound if it is the first.
 fn link_at(low: &Option<Bound>, links: &[Downlink], item: usize) -> Downlink
@@ -32,7 +32,7 @@ fn link_at(low: &Option<Bound>, links: &[Downlink], item: usize) -> Downlink
 }
 
 /// Whether a child of a page on this level is in use, and on the level below.
-fn is_below(pages: &[Page], depth: u8, level: u8, child: u32) -> bool
+fn is_below(pages: &Pages, depth: u8, level: u8, child: u32) -> bool
     requires { level + depth ≡ (index_of pages.now).top }
     ensures { IsTrue result ↔ IsOnLevel (index_of pages.now) (suc depth) child }
 {
@@ -44,7 +44,7 @@ fn is_below(pages: &[Page], depth: u8, level: u8, child: u32) -> bool
 
 /// The first child that isn't on the level below.
 pub(crate) fn find_off(
-    pages: &[Page],
+    pages: &Pages,
     depth: u8,
     level: u8,
     low: &Option<Bound>,
@@ -73,7 +73,7 @@ fn is_same(one: &Option<Bound>, other: &Option<Bound>) -> bool
 }
 
 /// Whether the bound of a downlink isn't the low of its child, which is on a chain.
-fn has_other_low(pages: &[Page], stops: &[Stop], places: &[Option<u32>], link: &Downlink) -> bool
+fn has_other_low(pages: &Pages, stops: &[Stop], places: &[Option<u32>], link: &Downlink) -> bool
     requires few { length stops.now ≤ 65536 }
     requires places { ArePlaces stops.now places.now }
     requires once { HaveBlocksOnce stops.now }
@@ -87,7 +87,7 @@ fn has_other_low(pages: &[Page], stops: &[Stop], places: &[Option<u32>], link: &
 
 /// Whether one of the bounds isn't the low of its child.
 fn has_wrong_bound(
-    pages: &[Page],
+    pages: &Pages,
     stops: &[Stop],
     places: &[Option<u32>],
     low: &Option<Bound>,
@@ -108,24 +108,26 @@ fn has_wrong_bound(
     false
 }
 
-/// Whether a page is to have no downlink: it is half-dead, or right behind a flagged page.
-fn is_skipped(page: &Page, behind: bool) -> bool
-    ensures { IsTrue result ↔ IsSkipped (node_of page.now) behind }
+/// Whether the page of a block in use is to have no downlink: it is half-dead, or right behind a flagged page.
+fn is_skipped(pages: &Pages, block: u32, behind: bool) -> bool
+    requires { block < length pages.now }
+    ensures { IsTrue result ↔ IsSkipped (nodes_of pages.now block) behind }
 {
-    match page.state {
+    match pages.sketch(block).state {
         PageState::HalfDead => true,
         PageState::Live | PageState::Deleted => behind,
     }
 }
 
 /// Whether a page below the root's level may have a downlink, and none leads to it.
-fn lacks_link(page: &Page, top: u8, behind: bool, is_linked: bool) -> bool
-    ensures { IsTrue result ↔ LacksLink top (node_of page.now) behind is_linked }
+fn lacks_link(pages: &Pages, block: u32, top: u8, behind: bool, is_linked: bool) -> bool
+    requires { block < length pages.now }
+    ensures { IsTrue result ↔ LacksLink top (nodes_of pages.now block) behind is_linked }
 {
-    if page.level >= top {
+    if pages.sketch(block).level >= top {
         return false;
     }
-    if is_skipped(page, behind) {
+    if is_skipped(pages, block, behind) {
         return false;
     }
     !is_linked
@@ -133,7 +135,7 @@ fn lacks_link(page: &Page, top: u8, behind: bool, is_linked: bool) -> bool
 
 /// Whether a downlink to this block, which is in use, is one too many.
 fn is_extra(
-    pages: &[Page],
+    pages: &Pages,
     stops: &[Stop],
     places: &[Option<u32>],
     linked: &[bool],
@@ -150,7 +152,7 @@ fn is_extra(
         None => return true,
         Some(stop) => stop,
     };
-    if is_skipped(&pages[child as usize], stop.behind) {
+    if is_skipped(pages, child, stop.behind) {
         return true;
     }
     linked[child as usize]
@@ -158,7 +160,7 @@ fn is_extra(
 
 /// Whether one of the downlinks of a page is one too many. If none is, their children are marked.
 fn has_extra(
-    pages: &[Page],
+    pages: &Pages,
     stops: &[Stop],
     places: &[Option<u32>],
     linked: &mut [bool],
@@ -191,7 +193,7 @@ fn has_extra(
 /// The least number of what is wrong with a page among its parents and children, which are on the level below. If nothing
 /// is, its children are marked beside those to which earlier pages led.
 pub(crate) fn find_parent_number(
-    pages: &[Page],
+    pages: &Pages,
     stops: &[Stop],
     places: &[Option<u32>],
     linked: &mut [bool],
@@ -215,12 +217,12 @@ pub(crate) fn find_parent_number(
         (AreNoted (from_low low.now (nodes_of pages.now stop.now.block).links)
         (length (nodes_of pages.now stop.now.block).links) linked.old linked.new) }
 {
-    let page = &pages[stop.block as usize];
-    let links = links_on(page);
+    let links = pages.links(stop.block);
     if has_wrong_bound(pages, stops, places, low, links) {
         return Some(7);
     }
-    if lacks_link(page, top, stop.behind, linked[stop.block as usize]) {
+    let is_linked = linked[stop.block as usize];
+    if lacks_link(pages, stop.block, top, stop.behind, is_linked) {
         return Some(8);
     }
     if has_extra(pages, stops, places, linked, low, links) {

@@ -1,7 +1,6 @@
 //! All pages of an index are judged: the chains of its levels, with its parents and children or without.
 
 ghost use Rattle.std.specs.Prelude.{◌≡◌, ◌≢◌, ◌≤◌, ◌<◌, suc, true, false, None, [], IfNone, IfSome, IfOk, IfErr, OnOk, OnErr, length, replicate, vec_capacity};
-ghost use Rattle.page_codec.specs.declared.page.Items.TheVariants.{Meta};
 ghost use Rattle.damages.specs.Damages.{index_of, IsSound, IsFirstDamage};
 ghost use Rattle.damages.specs.Levels.{HasLevels};
 ghost use Rattle.tree_acts.specs.TheoremTree.{IsTree};
@@ -17,12 +16,12 @@ use crate::chain_damages::find_chain_damage;
 use crate::chain_places::note_places;
 use crate::counts::count_up;
 use crate::marks::Met;
+use crate::pages::Pages;
 use crate::parent_damages::find_parent_damage;
 use crate::report::{Damage, Report};
 use crate::stops::Stop;
 use crate::strays::find_stray;
 use damages::{first_damage_is_one, sound_pages_are_a_tree, trees_are_sound};
-use page_codec::{Items, Page};
 
 /// The root's block, and its level.
 #[derive(Clone, Copy)]
@@ -31,15 +30,8 @@ struct Root {
     level: u8,
 }
 
-fn is_metapage(page: &Page) -> bool
-    ensures yes { result ≡ true → page.now.items ≡ Meta }
-    ensures no { result ≡ false → page.now.items ≢ Meta }
-{
-    matches!(page.items, Items::Meta)
-}
-
-/// The root that the metapage names. Damage 1 of block 0, where there is no metapage.
-fn find_root(pages: &[Page]) -> Result<Root, Damage>
+/// The root that the metapage, the page of block 0, names. Damage 1 of block 0, where there is no page.
+fn find_root(pages: &Pages) -> Result<Root, Damage>
     requires stand { StandAtTheirBlocks pages.now }
     ensures named { IfOk result (λ root. NamesRoot pages.now root.block root.level) }
     ensures none { OnErr result (length pages.now ≡ 0) }
@@ -50,12 +42,10 @@ fn find_root(pages: &[Page]) -> Result<Root, Damage>
         number: 1,
         block: 0,
     };
-    let Some(meta) = pages.get(0) else {
-        return Err(damage);
-    };
-    if !is_metapage(meta) {
+    if pages.len() == 0 {
         return Err(damage);
     }
+    let meta = pages.sketch(0);
     match meta.right {
         None => Err(damage),
         Some(block) => Ok(Root {
@@ -68,7 +58,7 @@ fn find_root(pages: &[Page]) -> Result<Root, Damage>
 /// Judges parents and children, where the chains of all levels are right, and at last the pages on no chain: the first
 /// damage, if there is one. No block was noted or marked before.
 fn judge_parents(
-    pages: &[Page],
+    pages: &Pages,
     met: &Met,
     chains: &[Stop],
     places: &mut [Option<u32>],
@@ -98,9 +88,9 @@ fn judge_parents(
 }
 
 /// Judges the chains of all levels: a report, or the first damage. No block was seen or met before.
-pub(crate) fn judge_chains<F: Fn(&[Page], Option<u32>, &[Stop]) -> Option<usize>>(
+pub(crate) fn judge_chains<F: Fn(&Pages, Option<u32>, &[Stop]) -> Option<usize>>(
     find: &F,
-    pages: &[Page],
+    pages: &Pages,
     seen: &mut [bool],
     met: &mut Met,
     stops: &mut Vec<Stop>,
@@ -138,9 +128,9 @@ pub(crate) fn judge_chains<F: Fn(&[Page], Option<u32>, &[Stop]) -> Option<usize>
 }
 
 /// Judges all pages, with parents and children: a report, or the first damage. No block was seen, met, noted or marked before.
-pub(crate) fn judge<F: Fn(&[Page], Option<u32>, &[Stop]) -> Option<usize>>(
+pub(crate) fn judge<F: Fn(&Pages, Option<u32>, &[Stop]) -> Option<usize>>(
     find: &F,
-    pages: &[Page],
+    pages: &Pages,
     seen: &mut [bool],
     met: &mut Met,
     stops: &mut Vec<Stop>,

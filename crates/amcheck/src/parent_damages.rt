@@ -6,15 +6,14 @@ ghost use Rattle.amcheck.specs.AllStops.{AreAllStops, ArePlaces};
 ghost use Rattle.amcheck.specs.ParentDamages.{IsClearAt, IsFirstAt, AreMarked};
 
 use crate::downlinks::{find_off, find_parent_number};
+use crate::pages::Pages;
 use crate::report::Damage;
 use crate::stops::{Stop, low};
-use page_codec::Page;
-use tree_shape::links_on;
 
 /// The first damage at the stop at this place, with its parents and children; none at an earlier one. The blocks are marked
 /// to which those lead.
 fn damage_at(
-    pages: &[Page],
+    pages: &Pages,
     stops: &[Stop],
     places: &[Option<u32>],
     linked: &mut [bool],
@@ -38,9 +37,10 @@ fn damage_at(
         (λ d. IsFirstAt (index_of pages.now) stops.now place d.number d.block) }
 {
     let stop = &stops[place];
-    let page = &pages[stop.block as usize];
+    let level = pages.sketch(stop.block).level;
+    let links = pages.links(stop.block);
     let low = low(pages, stop.low_at);
-    if let Some(child) = find_off(pages, top - page.level, page.level, &low, links_on(page)) {
+    if let Some(child) = find_off(pages, top - level, level, &low, links) {
         return Some(Damage {
             number: 1,
             block: child,
@@ -57,7 +57,7 @@ fn damage_at(
 
 /// The first damage of parents and children, stop by stop. No block was marked before.
 pub(crate) fn find_parent_damage(
-    pages: &[Page],
+    pages: &Pages,
     stops: &[Stop],
     places: &[Option<u32>],
     linked: &mut [bool],

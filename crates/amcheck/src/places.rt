@@ -2,16 +2,16 @@
 
 ghost use Rattle.std.specs.Prelude.{◌≡◌, ◌↔◌, IsTrue};
 ghost use Rattle.tree_shape.specs.Chains.{IsBeyond, Rises};
-ghost use Rattle.amcheck.specs.Places.{IsOnLevel, IsFirstBeyond, IsSecondBeyond};
+ghost use Rattle.amcheck.specs.Places.{IsOnLevel, IsNoneOrBeyond};
 
-use index_model::{Bound, Entry};
-use page_codec::{Downlink, Page};
+use crate::pages::Pages;
+use index_model::Bound;
 
 /// Whether the block is in use, and its page is of this level. Block 0 is on no level.
-pub(crate) fn is_on_level(pages: &[Page], level: u8, block: u32) -> bool
+pub(crate) fn is_on_level(pages: &Pages, level: u8, block: u32) -> bool
     ensures { IsTrue result ↔ IsOnLevel pages.now level block }
 {
-    block != 0 && (block as usize) < pages.len() && pages[block as usize].level == level
+    block != 0 && (block as usize) < pages.len() && pages.sketch(block).level == level
 }
 
 /// Whether the bound lies beyond the low, an absent low being below all.
@@ -34,25 +34,12 @@ pub(crate) fn rises(low: &Option<Bound>, high: &Option<Bound>) -> bool
     }
 }
 
-/// Whether the first entry, if there is one, lies beyond the low.
-pub(crate) fn first_is_beyond(low: &Option<Bound>, entries: &[Entry]) -> bool
-    ensures { IsTrue result ↔ IsFirstBeyond low.now entries.now }
+/// Whether the bound, if there is one, lies beyond the low.
+pub(crate) fn is_none_or_beyond(low: &Option<Bound>, bound: &Option<Bound>) -> bool
+    ensures { IsTrue result ↔ IsNoneOrBeyond low.now bound.now }
 {
-    match entries.first() {
+    match bound {
         None => true,
-        Some(entry) => is_beyond(low, &entry.bound()),
-    }
-}
-
-/// Whether the bound of the second downlink, if there is one, lies beyond the low.
-pub(crate) fn second_is_beyond(low: &Option<Bound>, links: &[Downlink]) -> bool
-    ensures { IsTrue result ↔ IsSecondBeyond low.now links.now }
-{
-    if links.len() < 2 {
-        return true;
-    }
-    match &links[1].bound {
-        None => false,
         Some(bound) => is_beyond(low, bound),
     }
 }

@@ -1,25 +1,24 @@
-//! All pages of a store are read into room that was made before.
+//! All pages of a store are read, in room that was made before.
 
-ghost use Rattle.std.specs.Prelude.{◌≡◌, ◌≢◌, ◌≤◌, [], true, IfOk, IfErr, OnOk, OnErr, length, vec_capacity};
+ghost use Rattle.std.specs.Prelude.{◌≡◌, ◌≢◌, [], IfOk, IfErr, length};
 ghost use Rattle.index_model.specs.Faults.{HasCause};
 ghost use Rattle.page_action.specs.Room.{KeepsRoom};
 ghost use Rattle.page_action.specs.States.{Continues};
-ghost use Rattle.page_action.specs.Stored.{AreStored};
 ghost use Rattle.amcheck.specs.Checks.{where_checked};
+ghost use Rattle.amcheck.specs.PageRooms.{HasPageRoom};
 ghost use Rattle.amcheck.specs.Reading.{HasRoom, AreRead};
 
 use crate::marks::Met;
+use crate::page_room::PageRoom;
+use crate::pages::Pages;
 use crate::stops::Stop;
 use index_model::Fault;
 use page_action::PageStore;
-use page_codec::Page;
 use std::alloc::Global;
 
-/// All that a check takes of memory.
+/// All that a check takes of memory beside the room for the pages.
 #[derive(Drop)]
 pub(crate) struct Room {
-    /// A copy of each page in use.
-    pub(crate) pages: Vec<Page>,
     pub(crate) met: Met,
     /// For each page in use whether it was seen on the way to the leftmost page of a level.
     pub(crate) seen: Vec<bool>,
@@ -37,12 +36,8 @@ impl Room {
     /// The room to check so many pages. Refused with `NoMemory`.
     pub(crate) fn new(alloc: Global, used: u32) -> Result<Room, Fault>
         ensures made { IfOk result (λ room. HasRoom room used) }
-        ensures none { IfOk result (λ room. room.pages.items ≡ []) }
         ensures fault { IfErr result (λ f. f ≡ Fault.NoMemory) }
     {
-        let Ok(pages) = Vec::with_capacity(alloc, used as usize) else {
-            return Err(Fault::NoMemory);
-        };
         let Ok(places) = vec![in alloc; None; used as usize] else {
             return Err(Fault::NoMemory);
         };
@@ -60,7 +55,6 @@ impl Room {
         };
         let met = Met::new(alloc, used)?;
         Ok(Room {
-            pages,
             met,
             seen,
             stops,
@@ -71,25 +65,26 @@ impl Room {
     }
 }
 
-/// Reads each page in use once, and puts a copy of it behind the others. Refused as [`PageStore::fetch`]: it takes no memory.
-pub(crate) fn read_pages<S: PageStore>(store: &mut S, pages: &mut Vec<Page>) -> Result<(), Fault>
-    requires empty { pages.old.items ≡ [] }
-    requires room { length (S.state store.old).pages ≤ vec_capacity pages.old }
+/// Reads each page in use once, and keeps what is judged of it. Refused as [`PageStore::fetch`]: it takes no memory.
+pub(crate) fn read_pages<S: PageStore>(store: &mut S, room: PageRoom) -> Result<Pages, Fault>
+    requires empty { room.list.pages ≡ [] }
+    requires room { HasPageRoom room (length (S.state store.old).pages) }
     ensures steps { Continues S.follows store.old store.new }
     ensures state { S.state store.new ≡ S.state store.old }
-    ensures read { OnOk result
-        (AreRead (S.state store.old) (S.backing store.new) pages.new.items) }
+    ensures read { IfOk result (AreRead (S.state store.old) (S.backing store.new)) }
     ensures room { KeepsRoom (S.state store.old) (S.backing store.old) (S.backing store.new) }
     ensures memory { IfErr result (λ fault. fault ≢ Fault.NoMemory) }
     ensures cause { IfErr result (HasCause
         (where_checked (S.state store.old) (S.backing store.old) (S.backing store.new))) }
 {
-    for block in 0..store.used() {
+    let mut room = room;
+    let used = store.used();
+    for block in 0..used {
         match store.fetch(block) {
             Ok(()) => {}
             Err(fault) => return Err(fault),
         }
-        pages.push_reserved(store.view(block).copy());
+        room.add(used, store.view(block));
     }
-    Ok(())
+    Ok(Pages::new(room))
 }

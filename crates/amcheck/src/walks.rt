@@ -8,9 +8,9 @@ ghost use Rattle.amcheck.specs.Stops.{blocks_of, AreStops};
 ghost use Rattle.amcheck.specs.Ends.{IsEnd};
 
 use crate::marks::Met;
+use crate::pages::Pages;
 use crate::places::is_on_level;
 use crate::stops::{Stop, next_stop};
-use page_codec::Page;
 
 /// How a walk ended.
 #[derive(Clone, Copy)]
@@ -26,7 +26,7 @@ pub(crate) enum End {
 /// Walks along the chain of a level as far as its pages are of this level and new: the stops, and how it ended. Of blocks of
 /// this level none was met before.
 pub(crate) fn walk(
-    pages: &[Page],
+    pages: &Pages,
     met: &mut Met,
     stops: &mut Vec<Stop>,
     depth: u8,
@@ -64,10 +64,10 @@ pub(crate) fn walk(
         }
         met.add(pages.len() as u32, stop.block);
         stops.push_reserved(stop);
-        let page = &pages[stop.block as usize];
-        match page.right {
+        let sketch = pages.sketch(stop.block);
+        match sketch.right {
             None => return End::Whole,
-            Some(right) => stop = next_stop(&stop, page, right),
+            Some(right) => stop = next_stop(&stop, sketch, right),
         }
     }
     End::Met(stop)

@@ -4,14 +4,14 @@ ghost use Rattle.std.specs.Prelude.{◌≡◌, ◌+◌, ◌<◌, ◌≤◌, ◌�
 ghost use Rattle.damages.specs.Damages.{index_of, head, start, IsOnLevel};
 ghost use Rattle.amcheck.specs.Ways.{IsClearWay, IsFirstOfWay};
 
+use crate::pages::Pages;
 use crate::places::is_on_level;
 use crate::report::Damage;
-use page_codec::Page;
 
 /// The leftmost page of a level, from where the way to it begins. Damage 1 where it comes to a block that is not in use or to
 /// a page of another level, and 3 where it comes back to a page. Of blocks of this level none was seen before.
 pub(crate) fn find_leftmost(
-    pages: &[Page],
+    pages: &Pages,
     seen: &mut [bool],
     depth: u8,
     level: u8,
@@ -41,8 +41,7 @@ pub(crate) fn find_leftmost(
             return Err(Damage { number: 3, block });
         }
         seen[block as usize] = true;
-        let page = &pages[block as usize];
-        match page.left {
+        match pages.sketch(block).left {
             None => return Ok(block),
             Some(left) => block = left,
         }

@@ -33,6 +33,8 @@ mod layouts;
 #[cfg(test)]
 mod logs;
 #[cfg(test)]
+mod long_chains;
+#[cfg(test)]
 mod plain;
 #[cfg(test)]
 mod plain_damages;

@@ -1,4 +1,4 @@
-use Rattle.std.proofs.Common.{true, List, sym, subst, ◌∙◌}
+use Rattle.std.proofs.Common.{true, List, subst}
 use Rattle.index_model.specs.declared.fault.Fault.TheVariants.{NoMemory}
 use Rattle.page_codec.specs.declared.page.Page.{Page}
 use Rattle.amcheck.specs.Answers.{IsAnswer}
@@ -6,22 +6,22 @@ use Rattle.amcheck.proofs.FirstDamages.{answer_told, same_fault, never_refused}
 use Rattle.amcheck.specs.Places.{StandAtTheirBlocks}
 use Rattle.amcheck.proofs.Judged.{they_stand, they_are_few}
 use Rattle.amcheck.proofs.checking.check_parents_by.Given.{Over}
-use Rattle.amcheck.proofs.checking.check_parents_by.Goals.{After-deref}
+use Rattle.amcheck.proofs.checking.check_parents_by.Goals.{In-Ok-read_pages}
 use Rattle.amcheck.proofs.checking.check_parents_by.Goals as goal
 
-stand : (g : Over) (c : After-deref g) → StandAtTheirBlocks c.deref.result.now
-stand g c = subst StandAtTheirBlocks (sym c.deref.ensures.value) (they_stand (g.S.PageStore.state c.args.store.now).limits c.read_pages.new.pages.items c.in-Ok-read_pages.ensures.read.stored)
+stand : (g : Over) (c : In-Ok-read_pages g) → StandAtTheirBlocks c.in-Ok-read_pages.pages
+stand g c = they_stand (g.S.PageStore.state c.args.store.now).limits c.in-Ok-read_pages.pages c.in-Ok-read_pages.ensures.read.stored
 
 pub judge-requires-clause-stand : goal.judge-requires-clause-stand
-judge-requires-clause-stand g c = stand g (goal.at.judge-requires-clause-stand g c).After-deref
+judge-requires-clause-stand g c = stand g (goal.at.judge-requires-clause-stand g c).In-Ok-read_pages
 
 pub judge-requires-clause-few : goal.judge-requires-clause-few
-judge-requires-clause-few g c = they_are_few c.deref.result.now (stand g (goal.at.judge-requires-clause-few g c).After-deref)
+judge-requires-clause-few g c = they_are_few c.in-Ok-read_pages.pages (stand g (goal.at.judge-requires-clause-few g c).In-Ok-read_pages)
 
 pub returns-clause-answer : goal.returns-clause-answer
 returns-clause-answer g c honest =
-    subst (λ (ps : List Page). IsAnswer true ps c.told.result) (c.deref.ensures.value ∙ c.in-Ok-read_pages.ensures.read.same honest)
-    (answer_told true c.deref.result.now c.judge.result c.told.result c.judge.ensures.sound c.judge.ensures.report c.judge.ensures.first c.told.ensures.ok c.told.ensures.err)
+    subst (λ (ps : List Page). IsAnswer true ps c.told.result) (c.in-Ok-read_pages.ensures.read.same honest)
+    (answer_told true c.in-Ok-read_pages.pages c.judge.result c.told.result c.judge.ensures.sound c.judge.ensures.report c.judge.ensures.first c.told.ensures.ok c.told.ensures.err)
 
 pub returns-in-Err-read_pages-clause-unread : goal.returns-in-Err-read_pages-clause-unread
 returns-in-Err-read_pages-clause-unread g c same = absurd (c.in-Err-read_pages.ensures.memory (same_fault _ NoMemory same))

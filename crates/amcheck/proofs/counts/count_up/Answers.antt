@@ -1,6 +1,33 @@
-use Rattle.amcheck.proofs.Pages.{found_at}
+use Rattle.std.proofs.Common.{◌≡◌, ◌<◌, length, ap, ◌∙◌, arith}
+use Rattle.tree_shape.specs.Nodes.{Node, node_of, node_from, nodes_of}
+use Rattle.amcheck.specs.Reports.{entry_count, one_if_half_dead, one_if_deleted, one_if_flagged}
+use Rattle.amcheck.proofs.Kept.{page_there, total_drop, one_half_dead, one_deleted, one_flagged}
 use Rattle.amcheck.proofs.counts.count_up.Goals as goal
 
-pub count_entries-requires : goal.count_entries-requires
-count_entries-requires c =
-    (c.requires.stand c.loop-page.page-index c.page-item.result (found_at c.args.pages.now c.loop-page.page-index c.page-item.result c.loop-page-test.true c.page-item.is)).0
+pub loop-block-preserved : goal.loop-block-preserved
+loop-block-preserved c =
+    let pages = c.args.pages.now in
+    let block = c.loop-block.block in
+    let old = c.loop-block.invariant in
+    let lt : block < length pages = omega (arith, c.loop-block-test.true, c.len-block-end.ensures, c.requires.few) in
+    let page = page_there pages block lt in
+    let here : nodes_of pages block ≡ node_of page.0 = ap node_from page.1 in
+    let is = c.sketch-sketch.ensures.is in
+    let state = is.state ∙ ap (λ (n : Node). n.state) here in
+    let split = is.split ∙ ap (λ (n : Node). n.split) here in
+    let entries = c.sketch-sketch.ensures.entries page.0 page.1 in
+    let half_dead = c.one_if_half_dead.ensures ∙ ap one_if_half_dead state in
+    let deleted = c.one_if_deleted.ensures ∙ ap one_if_deleted state in
+    let unfinished = c.one_if_flagged.ensures ∙ ap one_if_flagged split in
+    record {
+      levels = old.levels;
+      pages = old.pages;
+      entries = omega (arith, old.entries, entries, total_drop entry_count pages block page.0 page.1);
+      half_dead = omega (arith, old.half_dead, half_dead, total_drop (λ p. one_if_half_dead p.state) pages block page.0 page.1);
+      deleted = omega (arith, old.deleted, deleted, total_drop (λ p. one_if_deleted p.state) pages block page.0 page.1);
+      unfinished = omega (arith, old.unfinished, unfinished, total_drop (λ p. one_if_flagged p.split) pages block page.0 page.1);
+      few_entries = omega (arith, old.few_entries, c.sketch-sketch.ensures.few);
+      few_half_dead = (let k = one_half_dead c.sketch-sketch.result.now.state in omega (arith, old.few_half_dead, k, c.one_if_half_dead.ensures));
+      few_deleted = (let k = one_deleted c.sketch-sketch.result.now.state in omega (arith, old.few_deleted, k, c.one_if_deleted.ensures));
+      few_unfinished = (let k = one_flagged c.sketch-sketch.result.now.split in omega (arith, old.few_unfinished, k, c.one_if_flagged.ensures));
+    }

@@ -2,16 +2,16 @@ use Rattle.std.proofs.Common.{◌≡◌, ◌≤◌, ◌+◌, ◌*◌, length, dr
 use Rattle.amcheck.specs.Reports.{total, entry_count, one_if_half_dead, one_if_deleted, one_if_flagged}
 use Rattle.amcheck.proofs.counts.count_up.Given as goal
 
-abbrev pub invariant-loop-page : goal.invariant-loop-page
-invariant-loop-page l = record {
+abbrev pub invariant-loop-block : goal.invariant-loop-block
+invariant-loop-block l = record {
   levels : l.report.levels ≡ l.fn.levels;
   pages : l.report.pages ≡ length l.pages;
-  entries : l.report.entries + total entry_count (drop l.page-index l.pages) ≡ total entry_count l.pages;
-  half_dead : l.report.half_dead + total (λ p. one_if_half_dead p.state) (drop l.page-index l.pages) ≡ total (λ p. one_if_half_dead p.state) l.pages;
-  deleted : l.report.deleted + total (λ p. one_if_deleted p.state) (drop l.page-index l.pages) ≡ total (λ p. one_if_deleted p.state) l.pages;
-  unfinished : l.report.unfinished + total (λ p. one_if_flagged p.split) (drop l.page-index l.pages) ≡ total (λ p. one_if_flagged p.split) l.pages;
-  few_entries : l.report.entries ≤ 50 * l.page-index;
-  few_half_dead : l.report.half_dead ≤ l.page-index;
-  few_deleted : l.report.deleted ≤ l.page-index;
-  few_unfinished : l.report.unfinished ≤ l.page-index;
+  entries : l.report.entries + total entry_count (drop l.block l.pages) ≡ total entry_count l.pages;
+  half_dead : l.report.half_dead + total (λ p. one_if_half_dead p.state) (drop l.block l.pages) ≡ total (λ p. one_if_half_dead p.state) l.pages;
+  deleted : l.report.deleted + total (λ p. one_if_deleted p.state) (drop l.block l.pages) ≡ total (λ p. one_if_deleted p.state) l.pages;
+  unfinished : l.report.unfinished + total (λ p. one_if_flagged p.split) (drop l.block l.pages) ≡ total (λ p. one_if_flagged p.split) l.pages;
+  few_entries : l.report.entries ≤ 50 * l.block;
+  few_half_dead : l.report.half_dead ≤ l.block;
+  few_deleted : l.report.deleted ≤ l.block;
+  few_unfinished : l.report.unfinished ≤ l.block;
 }

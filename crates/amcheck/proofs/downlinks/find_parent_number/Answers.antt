@@ -1,21 +1,17 @@
-use Rattle.std.proofs.Common.{◌≡◌, true, false, List, Some, get_or, slice_get, length, refl, sym, ap, subst, ◌∙◌}
+use Rattle.std.proofs.Common.{◌≡◌, true, false, List, Some, get_or, slice_get, length, refl, sym, ap, subst}
 use Rattle.page_codec.specs.declared.page.Downlink.{Downlink}
 use Rattle.tree_shape.specs.Chains.{from_low}
-use Rattle.tree_shape.specs.Nodes.{Node, nodes_of, node_of}
+use Rattle.tree_shape.specs.Nodes.{nodes_of}
 use Rattle.amcheck.specs.Downlinks.{HasWrongBound, LacksLink, HasExtra, AreNoted}
 use Rattle.amcheck.proofs.ItemsNoted.{least_nine, least_none}
-use Rattle.amcheck.proofs.Pages.{node_at}
 use Rattle.amcheck.proofs.downlinks.find_parent_number.Goals.{Else-lacks_link}
 use Rattle.amcheck.proofs.downlinks.find_parent_number.Goals as goal
 
-here : (c : Else-lacks_link) → nodes_of c.args.pages.now c.args.stop.now.block ≡ node_of c.index-pages-stop.result
-here c = node_at c.args.pages.now c.args.stop.now.block c.index-pages-stop.result c.requires.stop c.index-pages-stop.is
-
 -- the downlinks of the page
-items_are : (c : Else-lacks_link) → (nodes_of c.args.pages.now c.args.stop.now.block).links ≡ c.links_on-links.result.now
-items_are c = ap (λ (n : Node). n.links) (here c) ∙ sym c.links_on-links.ensures
+items_are : (c : Else-lacks_link) → (nodes_of c.args.pages.now c.args.stop.now.block).links ≡ c.links-links.result.now
+items_are c = sym c.links-links.ensures
 
-links_are : (c : Else-lacks_link) → from_low c.args.low.now (nodes_of c.args.pages.now c.args.stop.now.block).links ≡ from_low c.args.low.now c.links_on-links.result.now
+links_are : (c : Else-lacks_link) → from_low c.args.low.now (nodes_of c.args.pages.now c.args.stop.now.block).links ≡ from_low c.args.low.now c.links-links.result.now
 links_are c = ap (from_low c.args.low.now) (items_are c)
 
 -- nothing of 7 and 8 is wrong
@@ -26,7 +22,7 @@ not_seven c w =
 
 not_eight : (c : Else-lacks_link) → LacksLink c.args.top (nodes_of c.args.pages.now c.args.stop.now.block) c.args.stop.now.behind (get_or c.args.linked.now c.args.stop.now.block false) → ⊥
 not_eight c w =
-    let k : false ≡ true = c.if-lacks_link.ensures.1 (subst (λ (n : Node). LacksLink c.args.top n c.args.stop.now.behind (get_or c.args.linked.now c.args.stop.now.block false)) (here c) w) in
+    let k : false ≡ true = c.if-lacks_link.ensures.1 w in
     absurd cc
 
 pub has_extra-requires-clause-in_use : goal.has_extra-requires-clause-in_use

@@ -1,11 +1,16 @@
-use Rattle.std.proofs.Common.{length, sym}
-use Rattle.std.proofs.lemmas.Bool.{ltb-true}
-use Rattle.amcheck.proofs.FirstDamages.{never_other, never_rootless}
-use Rattle.amcheck.proofs.Pages.{found_at}
+use Rattle.std.proofs.Common.{◌<◌, length, sym, ◌∙◌, arith}
+use Rattle.amcheck.proofs.FirstDamages.{names_root, never_rootless}
+use Rattle.amcheck.proofs.judging.find_root.Goals.{After-sketch-meta}
 use Rattle.amcheck.proofs.judging.find_root.Goals as goal
 
-pub returns-then-not-is_metapage-clause-none : goal.returns-then-not-is_metapage-clause-none
-returns-then-not-is_metapage-clause-none c = absurd (never_other c.args.pages.now c.in-Some.meta.now c.requires.stand (found_at c.args.pages.now 0 c.in-Some.meta.now (ltb-true 0 (length c.args.pages.now) (sym c.in-Some.ensures.lookup.0)) c.in-Some.ensures.lookup.1) (c.is_metapage.ensures.no c.if-not-is_metapage.true))
+some : (c : After-sketch-meta) → 0 < length c.args.pages.now
+some c = (let filled = c.if-len-eq0.false in let size = c.len.ensures in omega arith)
 
 pub returns-in-None-clause-none : goal.returns-in-None-clause-none
-returns-in-None-clause-none c = absurd (never_rootless c.args.pages.now c.in-Some.meta.now c.requires.stand (found_at c.args.pages.now 0 c.in-Some.meta.now (ltb-true 0 (length c.args.pages.now) (sym c.in-Some.ensures.lookup.0)) c.in-Some.ensures.lookup.1) c.in-None.is)
+returns-in-None-clause-none c =
+    absurd (never_rootless c.args.pages.now c.requires.stand (some (goal.at.returns-in-None-clause-none c).After-sketch-meta) (sym c.sketch-meta.ensures.is.right ∙ c.in-None.is))
+
+pub returns-in-Some-clause-named : goal.returns-in-Some-clause-named
+returns-in-Some-clause-named c =
+    names_root c.args.pages.now c.in-Some.block c.sketch-meta.result.now.level c.requires.stand (some (goal.at.returns-in-Some-clause-named c).After-sketch-meta)
+    (sym c.sketch-meta.ensures.is.right ∙ c.in-Some.is) c.sketch-meta.ensures.is.level

@@ -1,17 +1,15 @@
-use Rattle.std.proofs.Common.{◌≡◌, ◌<◌, ◌≤◌, ◌+◌, ◌-◌, ℕ, List, Option, Some, None, slice_get, get_or, length, refl, sym, ap, subst, ◌∙◌, arith}
+use Rattle.std.proofs.Common.{◌≡◌, ◌<◌, ◌≤◌, ◌+◌, ◌-◌, ℕ, List, Option, Some, None, slice_get, get_or, length, refl, subst, arith}
 use Rattle.std.proofs.lemmas.Option.{slice_get-get_or}
 use Rattle.index_model.specs.declared.bound.Bound.{Bound}
 use Rattle.page_codec.specs.declared.page.Downlink.{Downlink}
-use Rattle.page_codec.specs.declared.page.Page.{Page}
 use Rattle.tree_shape.specs.Chains.{from_low}
-use Rattle.tree_shape.specs.Nodes.{Node, nodes_of, node_of}
+use Rattle.tree_shape.specs.Nodes.{nodes_of}
 use Rattle.damages.specs.Damages.{index_of}
 use Rattle.amcheck.specs.Downlinks.{IsOff, AreBelow, AreNoted, IsWrongAmong}
 use Rattle.amcheck.specs.ParentDamages.{AreChildrenBelow}
 use Rattle.amcheck.specs.Stops.{high_at, IsLeastNumber}
 use Rattle.amcheck.specs.declared.stops.Stop.{Stop}
 use Rattle.amcheck.proofs.Found.{no_stop}
-use Rattle.amcheck.proofs.Pages.{node_at}
 use Rattle.amcheck.proofs.ParentDamages.{blocks_once, stops_in_use, stop_low, children_below, child_off, page_first, page_clear, marked_more}
 use Rattle.amcheck.proofs.parent_damages.damage_at.Goals.{Start}
 use Rattle.amcheck.proofs.parent_damages.damage_at.Goals as goal
@@ -28,40 +26,37 @@ in_use c = (stops_in_use c.args.pages.now c.args.stops.now c.requires.stops c.re
 low_level : (c : Start) → (nodes_of c.args.pages.now (stop c.args.stops.now c.args.place).block).level ≤ (index_of c.args.pages.now).top
 low_level c = stop_low c.args.pages.now c.args.stops.now c.requires.stops c.requires.sound c.args.place (stop c.args.stops.now c.args.place) (there c)
 
-pub bounds-pages-stop : goal.bounds-pages-stop
-bounds-pages-stop c = in_use (goal.at.bounds-pages-stop c).Start
-
-here : (t : Start) (page : Page) → page ≡ get_or t.args.pages.now (stop t.args.stops.now t.args.place).block page → nodes_of t.args.pages.now (stop t.args.stops.now t.args.place).block ≡ node_of page
-here t page is = node_at t.args.pages.now (stop t.args.stops.now t.args.place).block page (in_use t) is
+pub sketch-requires : goal.sketch-requires
+sketch-requires c = in_use (goal.at.sketch-requires c).Start
 
 abbrev links : Start → List Downlink
 links t = from_low (high_at (nodes_of t.args.pages.now) (stop t.args.stops.now t.args.place).low_at) (nodes_of t.args.pages.now (stop t.args.stops.now t.args.place).block).links
 
 -- the downlinks as they were read
-links_are : (t : Start) (page : Page) (low : Option Bound) (read : List Downlink) → page ≡ get_or t.args.pages.now (stop t.args.stops.now t.args.place).block page
-    → low ≡ high_at (nodes_of t.args.pages.now) (stop t.args.stops.now t.args.place).low_at → read ≡ (node_of page).links → from_low low read ≡ links t
-links_are t page low read is low_is read_is = (λ i. from_low (low_is i) ((read_is ∙ ap (λ (n : Node). n.links) (sym (here t page is))) i))
+links_are : (t : Start) (low : Option Bound) (read : List Downlink)
+    → low ≡ high_at (nodes_of t.args.pages.now) (stop t.args.stops.now t.args.place).low_at → read ≡ (nodes_of t.args.pages.now (stop t.args.stops.now t.args.place).block).links → from_low low read ≡ links t
+links_are t low read low_is read_is = (λ i. from_low (low_is i) (read_is i))
 
 pub overflow_sub-top : goal.overflow_sub-top
 overflow_sub-top c =
     let t = (goal.at.overflow_sub-top c).Start in
-    omega (arith, low_level t, ap (λ (n : Node). n.level) (here t c.index-pages-stop.result c.index-pages-stop.is), c.requires.top)
+    omega (arith, low_level t, c.sketch.ensures.is.level, c.requires.top)
 
 pub find_off-requires : goal.find_off-requires
 find_off-requires c =
     let t = (goal.at.find_off-requires c).Start in
-    omega (arith, low_level t, ap (λ (n : Node). n.level) (here t c.index-pages-stop.result c.index-pages-stop.is), c.requires.top)
+    omega (arith, low_level t, c.sketch.ensures.is.level, c.requires.top)
 
-sum : (t : Start) (page : Page) → page ≡ get_or t.args.pages.now (stop t.args.stops.now t.args.place).block page
-    → (nodes_of t.args.pages.now (stop t.args.stops.now t.args.place).block).level + (t.args.top - page.level) ≡ (index_of t.args.pages.now).top
-sum t page is = omega (arith, low_level t, ap (λ (n : Node). n.level) (here t page is), t.requires.top)
+sum : (t : Start) (level : ℕ) → level ≡ (nodes_of t.args.pages.now (stop t.args.stops.now t.args.place).block).level
+    → (nodes_of t.args.pages.now (stop t.args.stops.now t.args.place).block).level + (t.args.top - level) ≡ (index_of t.args.pages.now).top
+sum t level is = omega (arith, low_level t, is, t.requires.top)
 
 pub returns-in-Some-clause-first : goal.returns-in-Some-clause-first
 returns-in-Some-clause-first c =
     let t = (goal.at.returns-in-Some-clause-first c).Start in
-    let page = c.index-pages-stop.result in
-    child_off c.args.pages.now c.args.stops.now c.requires.stops c.requires.sound c.args.place (stop c.args.stops.now c.args.place) (there t) (c.args.top - page.level) (sum t page c.index-pages-stop.is) c.in-Some.child
-    (subst (λ (l : List Downlink). IsOff (index_of c.args.pages.now) (c.args.top - page.level) l c.in-Some.child) (links_are t page c.low-low.result c.links_on.result.now c.index-pages-stop.is c.low-low.ensures c.links_on.ensures) c.in-Some.ensures.some)
+    let level = c.sketch.result.now.level in
+    child_off c.args.pages.now c.args.stops.now c.requires.stops c.requires.sound c.args.place (stop c.args.stops.now c.args.place) (there t) (c.args.top - level) (sum t level c.sketch.ensures.is.level) c.in-Some.child
+    (subst (λ (l : List Downlink). IsOff (index_of c.args.pages.now) (c.args.top - level) l c.in-Some.child) (links_are t c.low-low.result c.links-links.result.now c.low-low.ensures c.links-links.ensures) c.in-Some.ensures.some)
 
 pub find_parent_number-requires-clause-once : goal.find_parent_number-requires-clause-once
 find_parent_number-requires-clause-once c = blocks_once c.args.pages.now c.args.stops.now c.requires.stops c.requires.sound
@@ -72,8 +67,8 @@ find_parent_number-requires-clause-stop c = in_use (goal.at.find_parent_number-r
 pub find_parent_number-requires-clause-in_use : goal.find_parent_number-requires-clause-in_use
 find_parent_number-requires-clause-in_use c item link found =
     let t = (goal.at.find_parent_number-requires-clause-in_use c).Start in
-    let page = c.index-pages-stop.result in
-    let all = subst (AreBelow (index_of c.args.pages.now) (c.args.top - page.level)) (links_are t page c.low-low.result c.links_on.result.now c.index-pages-stop.is c.low-low.ensures c.links_on.ensures) c.in_default.ensures.none in
+    let level = c.sketch.result.now.level in
+    let all = subst (AreBelow (index_of c.args.pages.now) (c.args.top - level)) (links_are t c.low-low.result c.links-links.result.now c.low-low.ensures c.links-links.ensures) c.in_default.ensures.none in
     (all item link (subst (λ (o : Option Bound). slice_get (from_low o (nodes_of c.args.pages.now (stop c.args.stops.now c.args.place).block).links) item ≡ Some link) c.low-low.ensures found)).in_use
 
 -- what was found, in the words of the stop
@@ -88,18 +83,18 @@ least t low top o low_is top_is found =
     (subst (λ (n : ℕ). IsLeastNumber (IsWrongAmong (nodes_of t.args.pages.now) t.args.stops.now t.args.linked.now (from_low low (nodes_of t.args.pages.now (stop t.args.stops.now t.args.place).block).links) n
     (nodes_of t.args.pages.now (stop t.args.stops.now t.args.place).block) (stop t.args.stops.now t.args.place)) o) top_is found)
 
-children : (t : Start) (page : Page) (low : Option Bound) (read : List Downlink) → page ≡ get_or t.args.pages.now (stop t.args.stops.now t.args.place).block page
-    → low ≡ high_at (nodes_of t.args.pages.now) (stop t.args.stops.now t.args.place).low_at → read ≡ (node_of page).links
-    → AreBelow (index_of t.args.pages.now) (t.args.top - page.level) (from_low low read) → AreChildrenBelow (index_of t.args.pages.now) t.args.stops.now t.args.place
-children t page low read is low_is read_is all =
-    children_below t.args.pages.now t.args.stops.now t.requires.stops t.requires.sound t.args.place (stop t.args.stops.now t.args.place) (there t) (t.args.top - page.level) (sum t page is)
-    (subst (AreBelow (index_of t.args.pages.now) (t.args.top - page.level)) (links_are t page low read is low_is read_is) all)
+children : (t : Start) (level : ℕ) (low : Option Bound) (read : List Downlink) → level ≡ (nodes_of t.args.pages.now (stop t.args.stops.now t.args.place).block).level
+    → low ≡ high_at (nodes_of t.args.pages.now) (stop t.args.stops.now t.args.place).low_at → read ≡ (nodes_of t.args.pages.now (stop t.args.stops.now t.args.place).block).links
+    → AreBelow (index_of t.args.pages.now) (t.args.top - level) (from_low low read) → AreChildrenBelow (index_of t.args.pages.now) t.args.stops.now t.args.place
+children t level low read is low_is read_is all =
+    children_below t.args.pages.now t.args.stops.now t.requires.stops t.requires.sound t.args.place (stop t.args.stops.now t.args.place) (there t) (t.args.top - level) (sum t level is)
+    (subst (AreBelow (index_of t.args.pages.now) (t.args.top - level)) (links_are t low read low_is read_is) all)
 
 pub returns-in-None-clause-clear : goal.returns-in-None-clause-clear
 returns-in-None-clause-clear c =
     let t = (goal.at.returns-in-None-clause-clear c).Start in
     page_clear c.args.pages.now c.args.stops.now c.requires.stops c.requires.sound c.args.place (stop c.args.stops.now c.args.place) (there t) c.args.linked.now c.requires.marked c.requires.clear
-    (children t c.index-pages-stop.result c.low-low.result c.links_on.result.now c.index-pages-stop.is c.low-low.ensures c.links_on.ensures c.in_default.ensures.none)
+    (children t c.sketch.result.now.level c.low-low.result c.links-links.result.now c.sketch.ensures.is.level c.low-low.ensures c.links-links.ensures c.in_default.ensures.none)
     (least t c.low-low.result c.args.top None c.low-low.ensures c.requires.top c.in-None.ensures.least)
 
 pub returns-in-None-clause-marked : goal.returns-in-None-clause-marked
@@ -115,5 +110,5 @@ pub returns-in-Some-find_parent_number-clause-first :
 returns-in-Some-find_parent_number-clause-first c =
     let t = (goal.at.returns-in-Some-find_parent_number-clause-first c).Start in
     page_first c.args.pages.now c.args.stops.now c.requires.stops c.requires.sound c.args.place (stop c.args.stops.now c.args.place) (there t) c.args.linked.now c.requires.marked c.requires.clear c.in-Some-find_parent_number.number
-    (children t c.index-pages-stop.result c.low-low.result c.links_on.result.now c.index-pages-stop.is c.low-low.ensures c.links_on.ensures c.in_default.ensures.none)
+    (children t c.sketch.result.now.level c.low-low.result c.links-links.result.now c.sketch.ensures.is.level c.low-low.ensures c.links-links.ensures c.in_default.ensures.none)
     (least t c.low-low.result c.args.top (Some c.in-Some-find_parent_number.number) c.low-low.ensures c.requires.top c.in-Some-find_parent_number.ensures.least)

@@ -1,4 +1,4 @@
-use Rattle.std.proofs.Common.{◌≡◌, ◌+◌, ◌++◌, ◌∷◌, [], ℕ, ◌<◌, List, length, slice_get, Some, sym, ap, subst, ◌∙◌, arith, length-append}
+use Rattle.std.proofs.Common.{◌≡◌, ◌+◌, ◌++◌, ◌∷◌, [], ℕ, ◌<◌, List, length, slice_get, sym, ap, subst, ◌∙◌, arith, length-append}
 use Rattle.std.proofs.lemmas.Bool.{lt-leb}
 use Rattle.index_model.specs.Faults.{HasCause}
 use Rattle.page_codec.specs.declared.page.Page.{Page}
@@ -7,9 +7,10 @@ use Rattle.page_action.specs.Causes.{where_read}
 use Rattle.page_action.specs.Room.{KeepsRoom}
 use Rattle.page_action.specs.States.{State, IsLater}
 use Rattle.page_action.specs.Stored.{IsStored, AreStored}
+use Rattle.amcheck.specs.PageRooms.{HasPageRoom}
 use Rattle.amcheck.proofs.ReadOn.{kept_on, cause_on, never_memory, take_get}
 use Rattle.amcheck.proofs.reading.read_pages.Given.{Over}
-use Rattle.amcheck.proofs.reading.read_pages.Goals.{After-fetch}
+use Rattle.amcheck.proofs.reading.read_pages.Goals.{After-fetch, After-view}
 use Rattle.amcheck.proofs.reading.read_pages.Goals as goal
 
 -- what never goes back, up to the page that is read
@@ -39,10 +40,20 @@ returns-in-Err-clause-cause g c =
     let before = (goal.at.returns-in-Err-clause-cause g c).After-fetch in
     let l = later g before in
     let old = c.loop-block.invariant in
-    let used : c.loop-block.block < length (g.S.PageStore.state c.args.store.now).pages = omega (arith, c.loop-block-test.true, c.used-block-end.ensures) in
+    let used : c.loop-block.block < length (g.S.PageStore.state c.args.store.now).pages = omega (arith, c.loop-block-test.true, c.used-used.ensures) in
     cause_on (g.S.PageStore.state c.args.store.now) (g.S.PageStore.backing c.args.store.now) (g.S.PageStore.backing c.loop-block.store) (g.S.PageStore.backing c.fetch.new.self) c.loop-block.block c.in-Err.fault
     l.failures old.alive (lt-leb (length (g.S.PageStore.state c.args.store.now).pages) c.loop-block.block used)
     (subst (λ (s : State). HasCause (where_read s (g.S.PageStore.backing c.loop-block.store) (g.S.PageStore.backing c.fetch.new.self) c.loop-block.block) c.in-Err.fault) old.state_is c.in-Err.ensures.cause)
+
+-- the page that is read stands at its block
+stored_here : (g : Over) (c : After-view g) → IsStored (g.S.PageStore.state c.args.store.now).limits (0 + length c.loop-block.room.list.pages) c.view.result.now
+stored_here g c =
+    subst (λ (n : ℕ). IsStored (g.S.PageStore.state c.args.store.now).limits n c.view.result.now)
+    (let e : c.loop-block.block ≡ 0 + length c.loop-block.room.list.pages = omega (arith, c.loop-block.invariant.count) in e)
+    (subst (λ (s : State). IsStored s.limits c.loop-block.block c.view.result.now) (c.fetch.ensures.state ∙ c.loop-block.invariant.state_is) c.view.ensures.stored)
+
+pub add-requires-clause-page : goal.add-requires-clause-page
+add-requires-clause-page g c = (stored_here g (goal.at.add-requires-clause-page g c).After-view).storable.admitted
 
 pub loop-block-preserved : goal.loop-block-preserved
 loop-block-preserved g c =
@@ -51,19 +62,17 @@ loop-block-preserved g c =
     let pages = (g.S.PageStore.state c.args.store.now).pages in
     let on = later_on g before in
     let same_state = c.fetch.ensures.state ∙ old.state_is in
-    let items : c.push_reserved.new.self.items ≡ c.loop-block.pages.items ++ c.copy.result ∷ [] = c.push_reserved.ensures.items in
+    let page = c.view.result.now in
+    let items : c.add.new.self.list.pages ≡ c.loop-block.room.list.pages ++ page ∷ [] = c.add.ensures.list in
     record {
       steps = λ first f. c.fetch.ensures.steps first (old.steps first f);
       state_is = same_state;
-      count = (let size = ap length items in omega (arith, size, length-append c.loop-block.pages.items (c.copy.result ∷ []), old.count));
+      count = (let size = ap length items in omega (arith, size, length-append c.loop-block.room.list.pages (page ∷ []), old.count));
       stored = subst (AreStored (g.S.PageStore.state c.args.store.now).limits 0) (sym items)
-          (stored-add (g.S.PageStore.state c.args.store.now).limits 0 c.loop-block.pages.items c.copy.result old.stored
-          (subst (λ (p : Page). IsStored (g.S.PageStore.state c.args.store.now).limits (0 + length c.loop-block.pages.items) p) (sym c.copy.ensures)
-          (subst (λ (n : ℕ). IsStored (g.S.PageStore.state c.args.store.now).limits n c.view.result.now) (let e : c.loop-block.block ≡ 0 + length c.loop-block.pages.items = omega (arith, old.count) in e)
-          (subst (λ (s : State). IsStored s.limits c.loop-block.block c.view.result.now) same_state c.view.ensures.stored))));
-      same = λ honest. items ∙ ap (λ (ps : List Page). ps ++ c.copy.result ∷ []) (old.same (on.honest honest))
-          ∙ take_get pages c.loop-block.block c.copy.result (ap (λ (s : State). slice_get s.pages c.loop-block.block) (sym same_state) ∙ c.view.ensures.page honest ∙ ap Some (sym c.copy.ensures));
-      capacity = c.push_reserved.ensures.capacity ∙ old.capacity;
+          (stored-add (g.S.PageStore.state c.args.store.now).limits 0 c.loop-block.room.list.pages page old.stored (stored_here g (goal.at.loop-block-preserved g c).After-view));
+      same = λ honest. items ∙ ap (λ (ps : List Page). ps ++ page ∷ []) (old.same (on.honest honest))
+          ∙ take_get pages c.loop-block.block page (ap (λ (s : State). slice_get s.pages c.loop-block.block) (sym same_state) ∙ c.view.ensures.page honest);
+      room_is = subst (HasPageRoom c.add.new.self) c.used-used.ensures c.add.ensures.room;
       kept = room_on g before;
       alive = λ stopped. old.alive (c.in-Ok.ensures.alive stopped);
     }

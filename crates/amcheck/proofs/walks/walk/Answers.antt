@@ -1,6 +1,6 @@
-use Rattle.std.proofs.Common.{◌+◌, refl, ◌∙◌, arith}
+use Rattle.std.proofs.Common.{◌+◌, refl, sym, subst, ◌∙◌, arith}
 use Rattle.tree_shape.specs.Nodes.{nodes_of}
-use Rattle.amcheck.proofs.Pages.{node_at}
+use Rattle.amcheck.specs.Marks.{IsMet}
 use Rattle.amcheck.proofs.Walked.{are_stops, ends_met, stops_few, walk_goes_on, ends_whole, are_stops_more, added_all}
 use Rattle.amcheck.proofs.WaysLeft.{level_there}
 use Rattle.amcheck.proofs.walks.walk.Goals as goal
@@ -21,32 +21,30 @@ returns-then-has-clause-end c =
 pub returns-in-None-clause-added : goal.returns-in-None-clause-added
 returns-in-None-clause-added c =
     added_all c.args.pages.now c.args.depth c.args.met.now.blocks.items c.loop.met c.loop.stops.items c.loop.stop c.loop.counter c.loop.invariant.walked
-    c.add.new.self c.add.ensures.met c.add.ensures.added (level_there c.args.pages.now c.args.level c.args.depth c.loop.stop.block c.requires.level (c.if-not-is_on_level.ensures.0 refl))
+    c.add.new.self (subst (IsMet c.add.new.self) c.len-in-loop.ensures c.add.ensures.met) c.add.ensures.added (level_there c.args.pages.now c.args.level c.args.depth c.loop.stop.block c.requires.level (c.if-not-is_on_level.ensures.0 refl))
     c.push_reserved.new.self.items c.push_reserved.ensures.items
 
 pub returns-in-None-clause-stops : goal.returns-in-None-clause-stops
 returns-in-None-clause-stops c =
     are_stops_more c.args.pages.now c.args.depth c.args.met.now.blocks.items c.loop.met c.loop.stops.items c.loop.stop c.loop.counter c.loop.invariant.walked
-    c.add.new.self c.add.ensures.met c.add.ensures.added (level_there c.args.pages.now c.args.level c.args.depth c.loop.stop.block c.requires.level (c.if-not-is_on_level.ensures.0 refl))
+    c.add.new.self (subst (IsMet c.add.new.self) c.len-in-loop.ensures c.add.ensures.met) c.add.ensures.added (level_there c.args.pages.now c.args.level c.args.depth c.loop.stop.block c.requires.level (c.if-not-is_on_level.ensures.0 refl))
     c.push_reserved.new.self.items c.push_reserved.ensures.items
 
 pub returns-in-None-clause-end : goal.returns-in-None-clause-end
 returns-in-None-clause-end c =
     let on = c.if-not-is_on_level.ensures.0 refl in
     ends_whole c.args.pages.now c.args.depth c.args.met.now.blocks.items c.loop.met c.loop.stops.items c.loop.stop c.loop.counter c.loop.invariant.walked
-    c.add.new.self c.add.ensures.met c.add.ensures.added (level_there c.args.pages.now c.args.level c.args.depth c.loop.stop.block c.requires.level on)
-    c.push_reserved.new.self.items c.push_reserved.ensures.items c.index-pages-stop.result
-    (node_at c.args.pages.now c.loop.stop.block c.index-pages-stop.result on.in_use c.index-pages-stop.is) c.in-None.is
+    c.add.new.self (subst (IsMet c.add.new.self) c.len-in-loop.ensures c.add.ensures.met) c.add.ensures.added (level_there c.args.pages.now c.args.level c.args.depth c.loop.stop.block c.requires.level on)
+    c.push_reserved.new.self.items c.push_reserved.ensures.items (sym c.sketch-sketch.ensures.is.right ∙ c.in-None.is)
 
 pub loop-preserved : goal.loop-preserved
 loop-preserved c =
     let on = c.if-not-is_on_level.ensures.0 refl in
-    let here = node_at c.args.pages.now c.loop.stop.block c.index-pages-stop.result on.in_use c.index-pages-stop.is in
     record {
       walked = walk_goes_on c.args.pages.now c.args.depth c.args.met.now.blocks.items c.loop.met c.loop.stops.items c.loop.stop c.loop.counter c.loop.invariant.walked
-          c.add.new.self c.add.ensures.met c.add.ensures.added (level_there c.args.pages.now c.args.level c.args.depth c.loop.stop.block c.requires.level on)
-          c.push_reserved.new.self.items c.push_reserved.ensures.items c.index-pages-stop.result c.in-Some.right c.next_stop-stop.result (c.loop.counter + 1)
-          here c.in-Some.is c.next_stop-stop.ensures.block (c.next_stop-stop.ensures.spot (nodes_of c.args.pages.now) here) (omega arith);
+          c.add.new.self (subst (IsMet c.add.new.self) c.len-in-loop.ensures c.add.ensures.met) c.add.ensures.added (level_there c.args.pages.now c.args.level c.args.depth c.loop.stop.block c.requires.level on)
+          c.push_reserved.new.self.items c.push_reserved.ensures.items c.in-Some.right c.next_stop-stop.result (c.loop.counter + 1)
+          (sym c.sketch-sketch.ensures.is.right ∙ c.in-Some.is) c.next_stop-stop.ensures.block (c.next_stop-stop.ensures.spot (nodes_of c.args.pages.now) c.sketch-sketch.ensures.is) (omega arith);
       room = c.push_reserved.ensures.capacity ∙ c.loop.invariant.room;
     }
 
@@ -57,4 +55,4 @@ returns-clause-stops c =
 pub returns-clause-end : goal.returns-clause-end
 returns-clause-end c =
     let few = stops_few c.args.pages.now c.args.depth c.args.met.now.blocks.items c.loop.met c.loop.stops.items c.loop.stop c.loop.counter c.loop.invariant.walked c.requires.some in
-    absurd (omega (arith, few, c.loop.invariant.walked.count, c.loop-test.false))
+    absurd (omega (arith, few, c.loop.invariant.walked.count, c.loop-test.false, c.len-end.ensures))

@@ -1,9 +1,7 @@
-use Rattle.std.proofs.Common.{◌≡◌, ◌+◌, true, false, length, refl, sym, ap, ◌∙◌, arith}
-use Rattle.tree_shape.specs.Nodes.{Node}
+use Rattle.std.proofs.Common.{◌≡◌, ◌+◌, true, false, length, refl, sym, ◌∙◌, arith}
 use Rattle.damages.specs.Damages.{index_of, way_left}
 use Rattle.damages.proofs.TreePlaces.{head_is}
 use Rattle.amcheck.specs.Ways.{IsClearWay}
-use Rattle.amcheck.proofs.Pages.{node_at}
 use Rattle.amcheck.proofs.WaysLeft.{begin_way, way_off, way_back, way_goes_on, way_ends, kept_more, kept_so_far, way_is_short, level_there, level_back}
 use Rattle.amcheck.proofs.ways.find_leftmost.Goals as goal
 
@@ -35,9 +33,9 @@ returns-in-None-clause-kept c =
 ends : (c : goal.In-None) → (c.loop.block ≡ way_left (index_of c.args.pages.now) c.args.depth (length c.args.pages.now)) × IsClearWay (index_of c.args.pages.now) c.args.depth
 ends c =
     let on = level_there c.args.pages.now c.args.level c.args.depth c.loop.block c.requires.level (c.if-not-is_on_level.ensures.0 refl) in
-    let left = ap (λ (n : Node). n.left) (node_at c.args.pages.now c.loop.block c.index-pages-block.result on.in_use c.index-pages-block.is) ∙ c.in-None.is in
+    let left = sym c.sketch.ensures.is.left ∙ c.in-None.is in
     way_ends c.args.pages.now c.args.depth c.args.seen.now c.loop.seen c.loop.block c.loop.counter c.loop.invariant c.requires.apart on
-    (λ mark. let k : true ≡ false = sym mark ∙ c.if-seen-block.false in absurd cc) left (let lt = c.loop-test.true in omega arith)
+    (λ mark. let k : true ≡ false = sym mark ∙ c.if-seen-block.false in absurd cc) left (omega (arith, c.loop-test.true, c.len-end.ensures))
 
 pub returns-in-None-clause-found : goal.returns-in-None-clause-found
 returns-in-None-clause-found c = (ends c).0 ∙ sym (head_is (index_of c.args.pages.now) c.args.depth)
@@ -48,7 +46,7 @@ returns-in-None-clause-clear c = (ends c).1
 pub loop-preserved : goal.loop-preserved
 loop-preserved c =
     let on = level_there c.args.pages.now c.args.level c.args.depth c.loop.block c.requires.level (c.if-not-is_on_level.ensures.0 refl) in
-    let left = ap (λ (n : Node). n.left) (node_at c.args.pages.now c.loop.block c.index-pages-block.result on.in_use c.index-pages-block.is) ∙ c.in-Some.is in
+    let left = sym c.sketch.ensures.is.left ∙ c.in-Some.is in
     way_goes_on c.args.pages.now c.args.depth c.args.seen.now c.loop.seen c.loop.block c.loop.counter c.loop.invariant c.requires.apart on
     (λ mark. let k : true ≡ false = sym mark ∙ c.if-seen-block.false in absurd cc) c.in-Some.left (c.loop.counter + 1) left (omega arith)
 
@@ -56,4 +54,4 @@ pub returns-clause-kept : goal.returns-clause-kept
 returns-clause-kept c = kept_so_far c.args.pages.now c.args.depth c.args.seen.now c.loop.seen c.loop.block c.loop.counter c.loop.invariant c.requires.apart
 
 pub returns-clause-first : goal.returns-clause-first
-returns-clause-first c = absurd (way_is_short c.args.pages.now c.args.depth c.args.seen.now c.loop.seen c.loop.block c.loop.counter c.loop.invariant c.requires.apart c.loop-test.false c.requires.some)
+returns-clause-first c = absurd (way_is_short c.args.pages.now c.args.depth c.args.seen.now c.loop.seen c.loop.block c.loop.counter c.loop.invariant c.requires.apart (omega (arith, c.loop-test.false, c.len-end.ensures)) c.requires.some)
