@@ -19,7 +19,7 @@ use Rattle.damages.proofs.Decided.{no_link}
 use Rattle.damages.proofs.TreesSound.{entry_beyond, link_beyond}
 use Rattle.amcheck.specs.Places.{IsFirstBeyond, IsSecondBeyond, IsBoundBeyond}
 use Rattle.amcheck.specs.Stops.{HasWrongItem, IsWrong, IsLeastNumber}
-use Rattle.amcheck.proofs.ItemsWithin.{entries_within, links_within}
+use Rattle.damages.proofs.Items.{entries_within, links_within}
 
 pub first_not : (low : Option Bound) (es : List Entry) → (IsFirstBeyond low es → ⊥) → (e : Entry) × Contains es e × (IsBeyond low (bound_of e) → ⊥)
 first_not low [] h = absurd (h tt)

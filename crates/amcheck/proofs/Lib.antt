@@ -1,5 +1,4 @@
 pub mod Blocks
-pub mod ItemsWithin
 pub mod Pages
 pub mod ReadOn
 pub mod Judged

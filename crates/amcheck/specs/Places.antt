@@ -1,37 +1,12 @@
 -- What is judged of one page of a level's chain.
-use Rattle.std.specs.Prelude.{◌≡◌, ℕ, ◌<◌, Option, Some, None, List, [], ◌∷◌, length, slice_get}
-use Rattle.index_model.specs.Order.{bound_of}
-use Rattle.index_model.specs.declared.bound.Bound.{Bound}
-use Rattle.index_model.specs.declared.entry.Entry.{Entry}
-use Rattle.page_codec.specs.Grammar.{IsPage}
-use Rattle.page_codec.specs.declared.page.Downlink.{Downlink}
+use Rattle.std.specs.Prelude.{◌≡◌, ℕ, ◌<◌, List, length}
 use Rattle.page_codec.specs.declared.page.Page.{Page}
 use Rattle.tree_shape.specs.Nodes.{nodes_of}
-use Rattle.tree_shape.specs.Chains.{IsBeyond}
+pub use Rattle.damages.specs.Levels.{StandAtTheirBlocks}
+pub use Rattle.damages.specs.Lows.{IsFirstBeyond, IsSecondBeyond, IsBoundBeyond}
 
 -- a block in use whose page is of this level; block 0 is on no level
 pub record IsOnLevel (pages : List Page) (level block : ℕ) : Type 0 where
   pub after_meta : 0 < block
   pub in_use : block < length pages
   pub level_is : (nodes_of pages block).level ≡ level
-
--- the first of these entries lies beyond the low
-abbrev pub IsFirstBeyond : Option Bound → List Entry → Type 0
-IsFirstBeyond low [] = Unit {0}
-IsFirstBeyond low (e ∷ es) = IsBeyond low (bound_of e)
-
--- a bound lies beyond the low
-abbrev pub IsBoundBeyond : Option Bound → Option Bound → Type 0
-IsBoundBeyond low None = ⊥
-IsBoundBeyond low (Some bound) = IsBeyond low bound
-
--- the bound of the second of these downlinks lies beyond the low
-abbrev pub IsSecondBeyond : Option Bound → List Downlink → Type 0
-IsSecondBeyond low [] = Unit {0}
-IsSecondBeyond low (i ∷ []) = Unit {0}
-IsSecondBeyond low (i ∷ j ∷ js) = IsBoundBeyond low j.bound
-
--- each page is one of the format, and stands at its block
-abbrev pub StandAtTheirBlocks : List Page → Type 0
-StandAtTheirBlocks pages = (block : ℕ) (page : Page) → slice_get pages block ≡ Some page
-    → IsPage page × (page.block ≡ block)
