@@ -16,7 +16,8 @@ use Rattle.tree_shape.specs.Nodes.{links_of, node_of}
 use Rattle.tree_shape.specs.Chains.{Spot, Rises, IsBeyond, LinksWithin}
 use Rattle.damages.specs.Damages.{HasNotBeyond}
 use Rattle.damages.proofs.Decided.{no_link}
-use Rattle.damages.proofs.Items.{IsFirstBeyond, IsSecondBeyond, IsBoundBeyond, entries_within, links_within}
+use Rattle.damages.specs.Lows.{IsFirstBeyond, IsSecondBeyond, IsBoundBeyond}
+use Rattle.damages.proofs.Items.{entries_within, links_within}
 use Rattle.damages.proofs.TreesSound.{entry_beyond, link_beyond}
 use Rattle.amcheck.specs.Places.{IsNoneOrBeyond}
 use Rattle.amcheck.specs.Sketches.{IsSketch, second_bound, least_bound}

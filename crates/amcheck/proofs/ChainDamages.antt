@@ -12,7 +12,7 @@ use Rattle.amcheck.specs.Marks.{IsMet}
 use Rattle.amcheck.specs.Stops.{blocks_of, AreStops}
 use Rattle.amcheck.specs.declared.marks.Met.{Met}
 use Rattle.amcheck.specs.declared.stops.Stop.{Stop}
-use Rattle.amcheck.proofs.Blocks.{few_blocks}
+use Rattle.tree_shape.proofs.Few.{few_blocks}
 use Rattle.amcheck.proofs.Walked.{stop_of, blocks_length}
 
 -- a block is of one level

@@ -12,7 +12,7 @@ use Rattle.tree_acts.specs.TheoremTree.{IsTree}
 use Rattle.damages.specs.Damages.{index_of, or_block, Site, IsDamage, IsSound, IsFirstDamage, ComesBefore, rank}
 use Rattle.damages.specs.Damages.Site.{on_way, on_chain, at_child, at_page, nowhere}
 use Rattle.damages.specs.Levels as levels
-use Rattle.amcheck.proofs.Kept.{page_there}
+use Rattle.damages.proofs.Fitting.{page_there}
 use Rattle.amcheck.specs.Levels.{NamesRoot}
 use Rattle.amcheck.specs.Places.{StandAtTheirBlocks}
 use Rattle.amcheck.specs.Answers.{IsAnswer}

@@ -2,13 +2,11 @@
 use Rattle.std.proofs.Common.{◌≡◌, ℕ, suc, ◌<◌, ◌≤◌, inl, inr, List, length, ap, ◌∙◌, arith}
 use Rattle.std.proofs.lemmas.Bool.{cases_lt}
 use Rattle.index_model.specs.declared.limits.Limits.{Limits}
-use Rattle.page_codec.specs.Grammar.{IsPage, IsOfKind}
-use Rattle.page_codec.specs.declared.page.Items.{Items}
-use Rattle.page_codec.specs.declared.page.Items.TheVariants.{Meta, Entries, Downlinks}
 use Rattle.page_codec.specs.declared.page.Page.{Page}
 use Rattle.page_action.specs.Stored.{AreStored}
 use Rattle.page_action.proofs.StoredPages.{stored_page}
-use Rattle.amcheck.proofs.Kept.{page_there}
+use Rattle.tree_acts.proofs.Sizes.{block_low}
+use Rattle.damages.proofs.Fitting.{page_there}
 use Rattle.amcheck.specs.Levels.{NamesRoot}
 use Rattle.amcheck.specs.Places.{StandAtTheirBlocks}
 use Rattle.amcheck.specs.Reports.{IsReport, report_of}
@@ -17,14 +15,6 @@ use Rattle.amcheck.specs.declared.report.Report.{Report}
 -- pages as the format demands stand at their blocks
 pub they_stand : (limits : Limits) (pages : List Page) → AreStored limits 0 pages → StandAtTheirBlocks pages
 they_stand limits pages stored block page found = (let s = stored_page limits block pages page stored found in (s.storable.admitted, s.block_is))
-
-block_low : (page : Page) → IsPage page → page.block < 65536
-block_low page admitted = by page.items admitted.kind
-  where
-    by : (items : Items) → IsOfKind page items → page.block < 65536
-    by Meta h = (let zero_is = h.block in omega arith)
-    by (Entries v) h = h.block.1
-    by (Downlinks v) h = h.block.1
 
 -- so there are no more of them than the format has blocks
 pub they_are_few : (pages : List Page) → StandAtTheirBlocks pages → length pages ≤ 65536

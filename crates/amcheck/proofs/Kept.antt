@@ -10,6 +10,7 @@ use Rattle.page_codec.specs.declared.page.PageState.TheVariants.{Live, HalfDead,
 use Rattle.tree_shape.specs.LinkPlaces.{HasLinks}
 use Rattle.tree_shape.specs.Nodes.{Node, node_of, node_from, nodes_of, no_node, links_of}
 use Rattle.damages.proofs.Decided.{no_link, some_is}
+use Rattle.damages.proofs.Fitting.{page_there}
 use Rattle.amcheck.specs.Reports.{total, entry_count, one_if_half_dead, one_if_deleted, one_if_flagged}
 use Rattle.amcheck.specs.Sketches.{IsSketch, Keeps, AreKept, links_at, HasGrown}
 use Rattle.amcheck.specs.declared.sketches.Sketch.{Sketch}
@@ -87,11 +88,6 @@ no_links page none = by page.items none
     by Meta h = refl
     by (Entries v) h = refl
     by (Downlinks v) h = absurd (h tt)
-
-pub page_there : (pages : List Page) (n : ℕ) → n < length pages → (page : Page) × (slice_get pages n ≡ Some page)
-page_there [] n lt = absurd (omega arith)
-page_there (p ∷ pages) zero lt = (p, refl)
-page_there (p ∷ pages) (suc n) lt = page_there pages n (omega arith)
 
 -- what is read of one that is kept
 module _ (pages whole : List Page) (sketches : List Sketch) (kept : AreKept pages whole sketches) (block : ℕ) (sketch : Sketch) (found : slice_get sketches block ≡ Some sketch) where

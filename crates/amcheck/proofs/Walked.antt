@@ -13,7 +13,7 @@ use Rattle.amcheck.specs.Ends.{IsEnd, IsEarlier}
 use Rattle.amcheck.specs.declared.marks.Met.{Met}
 use Rattle.amcheck.specs.declared.stops.Stop.{Stop}
 use Rattle.amcheck.specs.declared.walks.End.TheVariants as ends
-use Rattle.amcheck.proofs.Blocks.{few_blocks}
+use Rattle.tree_shape.proofs.Few.{few_blocks}
 
 pub blocks_more : (ss : List Stop) (s : Stop) → blocks_of (ss ++ s ∷ []) ≡ blocks_of ss ++ s.block ∷ []
 blocks_more [] s = refl

@@ -7,7 +7,7 @@ use Rattle.tree_shape.specs.Nodes.{Node, nodes_of}
 use Rattle.tree_shape.specs.Chains.{IsIn, AreDistinct}
 use Rattle.tree_shape.proofs.Members.{not_in_from}
 use Rattle.damages.specs.Damages.{Index, index_of, or_block, start, way_left, IsOnLevel, IsOfWay}
-use Rattle.damages.proofs.Blocks.{few_blocks}
+use Rattle.tree_shape.proofs.Few.{few_blocks}
 use Rattle.damages.proofs.Decided.{no_link, on_level_so}
 use Rattle.amcheck.specs.Places as places
 use Rattle.amcheck.specs.Ways.{IsClearWay, IsFirstOfWay}

@@ -1,10 +1,11 @@
 -- What is judged of one page of a level's chain.
-use Rattle.std.specs.Prelude.{◌≡◌, ℕ, ◌<◌, Option, Some, None, List, length, slice_get}
+use Rattle.std.specs.Prelude.{◌≡◌, ℕ, ◌<◌, Option, Some, None, List, length}
 use Rattle.index_model.specs.declared.bound.Bound.{Bound}
-use Rattle.page_codec.specs.Grammar.{IsPage}
 use Rattle.page_codec.specs.declared.page.Page.{Page}
 use Rattle.tree_shape.specs.Nodes.{nodes_of}
 use Rattle.tree_shape.specs.Chains.{IsBeyond}
+pub use Rattle.damages.specs.Levels.{StandAtTheirBlocks}
+pub use Rattle.damages.specs.Lows.{IsFirstBeyond, IsSecondBeyond, IsBoundBeyond}
 
 -- a block in use whose page is of this level; block 0 is on no level
 pub record IsOnLevel (pages : List Page) (level block : ℕ) : Type 0 where
@@ -16,8 +17,3 @@ pub record IsOnLevel (pages : List Page) (level block : ℕ) : Type 0 where
 abbrev pub IsNoneOrBeyond : Option Bound → Option Bound → Type 0
 IsNoneOrBeyond low None = Unit {0}
 IsNoneOrBeyond low (Some bound) = IsBeyond low bound
-
--- each page is one of the format, and stands at its block
-abbrev pub StandAtTheirBlocks : List Page → Type 0
-StandAtTheirBlocks pages = (block : ℕ) (page : Page) → slice_get pages block ≡ Some page
-    → IsPage page × (page.block ≡ block)

@@ -7,7 +7,7 @@ use Rattle.page_codec.specs.declared.page.PageState.TheVariants.{Live, HalfDead,
 use Rattle.tree_shape.specs.Nodes.{Node}
 use Rattle.tree_shape.specs.Chains.{Spot, past, low_past, first_or, Rises, IsBoundWithin, BoundsWithin, LinksWithin, FitsState, IsRunOf, due_link, due_links, from_low, downlinks}
 use Rattle.tree_shape.proofs.Order.{before_trans, before_not, before_weak}
-use Rattle.damages.proofs.Items.{IsBoundBeyond}
+use Rattle.damages.specs.Lows.{IsBoundBeyond}
 
 pub beyond_not : (a b : Option Bound) → IsBoundBeyond a b → IsBoundBeyond b a → ⊥
 beyond_not None b p q = q

@@ -17,7 +17,8 @@ use Rattle.tree_shape.specs.Chains.{Spot, IsBeyond, Rises, FitsState, IsPlaced}
 use Rattle.damages.specs.Damages.{index_of, Here, node, spot, IsOnLevel, IsOfChain, HasNotBeyond}
 use Rattle.damages.specs.Levels.{StandAtTheirBlocks}
 use Rattle.damages.proofs.Decided.{link_so, beyond_so, rises_so, bool_so, on_level_so}
-use Rattle.damages.proofs.Items.{IsFirstBeyond, IsSecondBeyond, IsBoundBeyond, items_are, high_as_right, half_dead_is}
+use Rattle.damages.specs.Lows.{IsFirstBeyond, IsSecondBeyond, IsBoundBeyond}
+use Rattle.damages.proofs.Items.{items_are, high_as_right, half_dead_is}
 
 first_so : (low : Option Bound) (es : List Entry) → ((e : Entry) → Contains es e → (IsBeyond low (bound_of e) → ⊥) → ⊥) → IsFirstBeyond low es
 first_so low [] h = tt

@@ -13,23 +13,8 @@ use Rattle.page_codec.specs.declared.page.Page.{Page}
 use Rattle.page_codec.specs.declared.page.PageState.{PageState}
 use Rattle.page_codec.specs.declared.page.PageState.TheVariants.{Live, HalfDead, Deleted}
 use Rattle.tree_shape.specs.Nodes.{links_of, node_of}
-use Rattle.tree_shape.specs.Chains.{IsBeyond, AscendWithin, BoundsWithin, LinksWithin, IsBoundWithin, HasItems}
-
--- the first of these entries lies beyond the low
-abbrev pub IsFirstBeyond : Option Bound → List Entry → Type 0
-IsFirstBeyond low [] = Unit {0}
-IsFirstBeyond low (e ∷ es) = IsBeyond low (bound_of e)
-
--- a bound lies beyond the low
-abbrev pub IsBoundBeyond : Option Bound → Option Bound → Type 0
-IsBoundBeyond low None = ⊥
-IsBoundBeyond low (Some bound) = IsBeyond low bound
-
--- the bound of the second of these downlinks lies beyond the low
-abbrev pub IsSecondBeyond : Option Bound → List Downlink → Type 0
-IsSecondBeyond low [] = Unit {0}
-IsSecondBeyond low (i ∷ []) = Unit {0}
-IsSecondBeyond low (i ∷ j ∷ js) = IsBoundBeyond low j.bound
+use Rattle.tree_shape.specs.Chains.{AscendWithin, BoundsWithin, LinksWithin, IsBoundWithin, HasItems}
+use Rattle.damages.specs.Lows.{IsFirstBeyond, IsSecondBeyond, IsBoundBeyond}
 
 ascend_more : (b : Bound) (es : List Entry) (high : Option Bound) → AscendsPast (Some b) es → AllByRecursion (IsUpTo high) es → AscendWithin (Some b) es high
 ascend_more b [] high up within = tt

@@ -1,6 +1,5 @@
 pub mod Ranks
 pub mod Decided
-pub mod Blocks
 pub mod Items
 pub mod Fitting
 pub mod Walks

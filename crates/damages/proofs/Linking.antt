@@ -7,7 +7,7 @@ use Rattle.page_codec.specs.declared.page.PageState.TheVariants.{Live, HalfDead,
 use Rattle.tree_shape.specs.Nodes.{Node}
 use Rattle.tree_shape.specs.Chains.{Spot, past, spot_after, due_link, due_links, from_low, downlinks}
 use Rattle.damages.proofs.Ascending.{IsAmong, among_left, among_right, among_cases, Ascend, ascend_front, ascend_back, ascend_sides}
-use Rattle.damages.proofs.Items.{IsBoundBeyond}
+use Rattle.damages.specs.Lows.{IsBoundBeyond}
 use Rattle.damages.proofs.Decided.{no_link, some_is}
 
 pub among_at : (d : Downlink) (xs : List Downlink) (n : ℕ) → slice_get xs n ≡ Some d → IsAmong d xs

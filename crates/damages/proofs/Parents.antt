@@ -10,13 +10,13 @@ use Rattle.damages.specs.Damages.{Index, index_of, Place, place_at, Here, Item, 
 use Rattle.damages.specs.Damages.Site.{at_child, at_page}
 use Rattle.damages.specs.Levels.{StandAtTheirBlocks}
 use Rattle.damages.proofs.Ascending.{IsAmong, same_list, due_ascend, down_ascend}
-use Rattle.damages.proofs.Blocks.{is_in_or}
+use Rattle.tree_shape.proofs.Few.{is_in_or}
 use Rattle.damages.proofs.Decided.{bound_so, bool_so, on_level_so}
 use Rattle.damages.proofs.Levels.{chain_at, right_at, place_told, block_at, distinct_at, run_at}
 use Rattle.damages.proofs.Linking.{leads_or, had, has, IsDue, due, is_due}
 use Rattle.damages.proofs.Places.{at_from, in_from, one_place}
 
-live_so : (state : PageState) (level : ℕ) (s : Spot) (n : Node) → FitsState state level s n → state ≢ HalfDead → state ≡ Live
+pub live_so : (state : PageState) (level : ℕ) (s : Spot) (n : Node) → FitsState state level s n → state ≢ HalfDead → state ≡ Live
 live_so Live level s n f stands = refl
 live_so HalfDead level s n f stands = absurd (stands refl)
 live_so Deleted level s n f stands = absurd f

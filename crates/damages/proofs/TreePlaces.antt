@@ -6,7 +6,7 @@ use Rattle.tree_shape.specs.Nodes.{Node, nodes_of}
 use Rattle.tree_shape.specs.Chains.{Spot, past, spot_after, first_spot, first_or, LinksWithin, IsPlaced, IsRunOf, IsRootLevel, IsTreeOf, from_low, downlinks}
 use Rattle.damages.specs.Damages.{Index, index_of, gone_left, first_child, head, start, way_left, Place, place_at, Here, node, spot, IsOnLevel, IsBack}
 use Rattle.damages.proofs.Ascending.{IsAmong, upper_fits}
-use Rattle.damages.proofs.Blocks.{few_blocks}
+use Rattle.tree_shape.proofs.Few.{few_blocks}
 use Rattle.damages.proofs.Decided.{no_link, some_is}
 use Rattle.damages.proofs.Linking.{due}
 use Rattle.damages.proofs.Places.{in_from, one_place, placed_at, place_is}

@@ -17,10 +17,12 @@ use Rattle.damages.specs.Levels.{StandAtTheirBlocks, HasTree}
 use Rattle.damages.proofs.Ascending.{IsAmong, Ascend, beyond_not, beyond_trans, bounds_in, down_ascend}
 use Rattle.damages.proofs.Decided.{no_link, some_is, bool_so}
 use Rattle.damages.proofs.Fitting.{page_there}
-use Rattle.damages.proofs.Items.{IsBoundBeyond, leaf_links, upper_entries}
+use Rattle.damages.specs.Lows.{IsBoundBeyond}
+use Rattle.damages.proofs.Items.{leaf_links, upper_entries}
 use Rattle.damages.proofs.Linking.{among_at, had, has, IsHad, due, IsDue, is_due, ascend_items, ascend_places}
 use Rattle.damages.proofs.Places.{at_from, one_place}
 use Rattle.damages.proofs.TreePlaces.{place_told, way_on, way_not_back, there, spot_is, placed, on_level, on_level_from, same_spot}
+use Rattle.damages.proofs.Parents.{live_so}
 
 -- what a page that stands in its place says of the numbers of damages
 not_deleted : (state : PageState) (level : ℕ) (s : Spot) (n : Node) → FitsState state level s n → state ≡ Deleted → ⊥
@@ -37,11 +39,6 @@ dead_clear : (state : PageState) (level : ℕ) (s : Spot) (n : Node) → FitsSta
 dead_clear Live level s n f e = absurd cc
 dead_clear HalfDead level s n f e = f.3
 dead_clear Deleted level s n f e = absurd f
-
-is_live : (state : PageState) (level : ℕ) (s : Spot) (n : Node) → FitsState state level s n → state ≢ HalfDead → state ≡ Live
-is_live Live level s n f stands = refl
-is_live HalfDead level s n f stands = absurd (stands refl)
-is_live Deleted level s n f stands = absurd f
 
 -- entries and bounds lie beyond the low
 pub entry_beyond : (low : Option Bound) (es : List Entry) (high : Option Bound) (k : ℕ) (e : Entry) → AscendWithin low es high → k < length es → get_or es k e ≡ e
@@ -214,7 +211,7 @@ module _ (pages : List Page) (stand : StandAtTheirBlocks pages) (chain : ℕ →
         let deep = h.deep in
         let upper : suc (ix.top - h.depth) ≡ ix.top - (h.depth - 1) = omega arith in
         let spot_told = spot_is pages chain t h in
-        let alive = is_live (node h).state (ix.top - h.depth) (spot h) (node h) place_fits (λ dead. not_unlinked (inl dead)) in
+        let alive = live_so (node h).state (ix.top - h.depth) (spot h) (node h) place_fits (λ dead. not_unlinked (inl dead)) in
         let clear = bool_so (spot h).behind (λ behind. not_unlinked (inr behind)) in
         let among = is_due at first_spot xs h.place own
         (there pages chain t h) refl alive (ap (λ (s : Spot). s.behind) (sym spot_told) ∙ clear) in

@@ -6,7 +6,7 @@ use Rattle.tree_shape.specs.Nodes.{Node, nodes_of}
 use Rattle.tree_shape.specs.Chains.{Spot, past, first_spot, first_or, IsPlaced, IsRunOf, IsIn, IsNotIn, AreDistinct}
 use Rattle.tree_shape.proofs.Members.{not_in_from}
 use Rattle.damages.specs.Damages.{Index, index_of, or_block, head, Place, next_place, place_at}
-use Rattle.damages.proofs.Blocks.{few_blocks}
+use Rattle.tree_shape.proofs.Few.{few_blocks}
 use Rattle.damages.proofs.Decided.{no_link}
 use Rattle.damages.proofs.Fitting.{IsRight}
 

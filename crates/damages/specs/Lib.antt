@@ -1,3 +1,4 @@
 pub mod Damages
 pub mod Levels
 pub mod Laws
+pub mod Lows

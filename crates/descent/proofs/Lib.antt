@@ -5,3 +5,4 @@ pub mod Working
 pub mod Acting
 pub mod Blocks
 pub mod Mended
+pub mod Shortening

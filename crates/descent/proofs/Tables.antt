@@ -83,7 +83,7 @@ pub apart_nothing : (table : Table) (session : ℕ) → session < length table �
 apart_nothing table session below apart =
     apart_with table session nothing_held below apart (λ other block differ alone. absurd cc) (λ other block differ alone. refl)
 
-out_of_table : (table : Table) (other : ℕ) → length table ≤ other → holding_of table other ≡ nothing_held
+pub out_of_table : (table : Table) (other : ℕ) → length table ≤ other → holding_of table other ≡ nothing_held
 out_of_table [] other le = refl
 out_of_table (h ∷ table) zero le = absurd (omega arith)
 out_of_table (h ∷ table) (suc other) le = out_of_table table other (omega arith)

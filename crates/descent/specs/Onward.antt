@@ -1,5 +1,5 @@
 -- The way of a call down a tree: where it may stand, and where a page leads it.
-use Rattle.std.specs.Prelude.{◌≡◌, ◌⊎◌, ℕ, suc, ◌<◌, ◌≤◌, nat_lt, if◌then◌else◌, Bool, true, Option, Some, None}
+use Rattle.std.specs.Prelude.{◌≡◌, ◌⊎◌, ℕ, suc, ◌+◌, ◌-◌, ◌*◌, ◌<◌, ◌≤◌, nat_lt, if◌then◌else◌, Bool, true, Option, Some, None}
 use Rattle.index_model.specs.declared.bound.Bound.{Bound}
 use Rattle.page_codec.specs.Grammar.{Ascends, LinkBefore, StartsLow}
 use Rattle.page_codec.specs.declared.page.Page.{Page}
@@ -60,6 +60,14 @@ pub record IsShorter (to most : ℕ) (way on : Way) : Type 0 where
   pub not_below : to ≤ on.level
   pub shorter : (on.level < way.level) ⊎
       ((on.level ≡ way.level) × ((on.moves ≡ suc way.moves) × (on.moves ≤ most)))
+
+-- how many more pages a way leads over, at most, with so many moves on each level
+abbrev pub way_left : ℕ → Way → ℕ
+way_left most way = way.level * (most + 4) + suc ((most + 2) - way.moves)
+
+-- ... and a whole walk
+abbrev pub walk_length : ℕ → ℕ
+walk_length most = 256 * (most + 4)
 
 -- a way that goes on is shorter, whatever the pages are
 abbrev pub LeavesLess : ℕ → ℕ → Way → Option Onward → Type 0

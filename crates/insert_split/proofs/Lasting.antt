@@ -13,7 +13,7 @@ use Rattle.descent.specs.Shared.{MayRely, NumbersStay}
 use Rattle.descent.specs.declared.way.Way.{Way}
 use Rattle.split_finish.specs.Targets.{IsTarget, FinishStands, FinishFits}
 use Rattle.split_finish.proofs.Bounds.{finish_bounded}
-use Rattle.split_finish.proofs.Counting.{walk_is_long}
+use Rattle.descent.proofs.Shortening.{walk_is_long}
 use Rattle.split_finish.specs.declared.finish.FinishAt.{FinishAt}
 use Rattle.split_finish.specs.declared.finish.FinishAt.TheVariants.{Start as FinishStart, Down, Link, Root}
 use Rattle.split_finish.specs.declared.finish.FinishOp.{FinishOp}

@@ -1,4 +1,3 @@
-pub mod Left
 pub mod Steps
 pub mod Ways
 pub mod Walking

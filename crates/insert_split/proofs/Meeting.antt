@@ -18,7 +18,8 @@ use Rattle.tree_acts.proofs.Telling.{live_tells, high_tells}
 use Rattle.descent.specs.Shared.{IsInOrder}
 use Rattle.descent.specs.declared.way.Way.{Way}
 use Rattle.latch_table.specs.Holdings.{holding_of, nothing_held}
-use Rattle.split_finish.specs.Targets.{is_as_read, finish_left, walk_length, is_among_targets, IsTarget, FinishStands, FinishFits}
+use Rattle.descent.specs.Onward.{walk_length}
+use Rattle.split_finish.specs.Targets.{is_as_read, finish_left, is_among_targets, IsTarget, FinishStands, FinishFits}
 use Rattle.split_finish.specs.declared.finish.FinishOp.{FinishOp}
 use Rattle.split_finish.specs.declared.finish.FinishAt.TheVariants.{Start as FinishStart}
 use Rattle.split_finish.specs.declared.finish.Target.{Target}

@@ -20,8 +20,7 @@ use Rattle.page_action.specs.Stored.{IsStored, IsApartFrom, AreActable}
 use Rattle.page_action.specs.declared.page_store.PageStore.{Ghosts}
 use Rattle.tree_shape.specs.Nodes.{Node}
 use Rattle.tree_shape.specs.Walks.{entry_aim, is_within}
-use Rattle.tree_acts.specs.Acts.{LeafIsSplit, IsMended}
-use Rattle.tree_acts.specs.Acts.IsMended.{rightmost, neighbour}
+use Rattle.tree_acts.specs.Acts.{LeafIsSplit}
 use Rattle.tree_acts.specs.Flags.{FlagsMove, flag_after}
 use Rattle.tree_acts.specs.Trees.{HasTree, HasPlace}
 use Rattle.tree_acts.proofs.Entering.{leaf_split_lasts}
@@ -38,6 +37,7 @@ use Rattle.descent.proofs.Working.{working_later}
 use Rattle.split_finish.specs.Targets.{OnlyTargetsAreFlagged, is_among_targets, targets_of}
 use Rattle.split_finish.specs.declared.finish.FinishOp.{FinishOp}
 use Rattle.split_finish.specs.declared.finish.Target.{Target}
+use Rattle.split_finish.proofs.Parting.{mends_right}
 use Rattle.insert_split.specs.Inserts.{leaf_held, count_halved, InsertFits, InsertSteps, targets_at}
 use Rattle.insert_split.specs.Turns.{IsSplittable, SplitsLeaf}
 use Rattle.insert_split.specs.declared.insert.InsertAt.{InsertAt}
@@ -90,13 +90,6 @@ apart_let_go table table' session apart none kept one two block differ alone =
             | inr not_two ↦ ap (λ (h : Holding). latches_exclude h.latches block Exclusive) (kept two not_two) ∙ apart one two block differ was
           ])
     ]
-
--- the page to the right, with its left link mended
-pub mends_right : (st : State) (session new : ℕ) (link : Option ℕ) (right : Option Page) → RightIsStored st session link right → RightIsFound st link right → IsMended st new link (mended_to new right)
-mends_right st session new None None stored found = rightmost
-mends_right st session new None (Some page) stored found = absurd stored
-mends_right st session new (Some r) None stored found = absurd stored
-mends_right st session new (Some r) (Some page) stored found = neighbour page (record page { left = Some new }) found stored.0.block_is refl
 
 -- no other session holds it
 pub right_free : (st : State) (session new other block : ℕ) (link : Option ℕ) (right : Option Page) → other ≢ session → HoldsAlone st.table other block → RightIsStored st session link right → IsApartFrom block (mended_to new right)

@@ -16,10 +16,10 @@ use Rattle.page_action.specs.declared.page_store.PageStore.{Ghosts}
 use Rattle.tree_shape.specs.Walks.{entry_aim, is_within}
 use Rattle.tree_acts.specs.Trees.{HasPlace}
 use Rattle.tree_acts.specs.Ways.{AreWhole}
-use Rattle.descent.specs.Onward.{IsOnWay}
+use Rattle.descent.specs.Onward.{IsOnWay, walk_length, way_left}
 use Rattle.descent.specs.Shared.{IsInOrder, Does, IsOneStep, is_flagged, where_working, where_splitting_any}
 use Rattle.split_finish.specs.Finishes.{images_of, frames_of, takes_block_of}
-use Rattle.split_finish.specs.Targets.{targets_of, OnlyTargetsAreFlagged, FinishFits, finish_left, walk_length, way_left}
+use Rattle.split_finish.specs.Targets.{targets_of, OnlyTargetsAreFlagged, FinishFits, finish_left}
 use Rattle.split_finish.specs.Turns.{splits_root_of}
 use Rattle.split_finish.specs.declared.finish.Target.{Target}
 use Rattle.insert_split.specs.Straight.{IsStraight, HasRoomFor, CountsDown}

@@ -15,7 +15,7 @@ use Rattle.tree_acts.proofs.Overlays.{pages_other, pages_first, pages_second, pa
 use Rattle.vacuum.proofs.Holding.{pinned_is_held}
 use Rattle.page_delete.specs.Parts.{IsTakenLeft, PinnedLeavesStay, unlinked}
 use Rattle.page_delete.proofs.Dying.{links_no_leaf}
-use Rattle.page_delete.proofs.Trying.{same_page}
+use Rattle.vacuum.proofs.Lasting.{same_page}
 
 -- a page that keeps its state and its items
 leaf_kept : (pages pages2 : List Page) (b : ℕ) (page before after : Page) → IsLeafAt pages b page → slice_get pages b ≡ Some before → slice_get pages2 b ≡ Some after

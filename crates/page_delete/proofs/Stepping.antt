@@ -30,6 +30,8 @@ use Rattle.descent.specs.declared.way.Onward.{Onward}
 use Rattle.descent.specs.declared.way.Onward.TheVariants.{Going as LeadsOn, Here}
 use Rattle.descent.specs.declared.way.Way.{Way}
 use Rattle.descent.proofs.Acting.{one_nothing, cleans_nothing}
+use Rattle.vacuum.proofs.Lasting.{same_page}
+use Rattle.vacuum.proofs.Causes.{or_more}
 use Rattle.page_delete.specs.Cleanups.{IsUnderway, CleanupFits, CleanupSteps, where_cleaning}
 use Rattle.page_delete.specs.Counts.{IsEmptyAt, IsFoundEmpty, come_to, IsCleaned, AllIsCleaned, deleted_in}
 use Rattle.page_delete.specs.Ops.{is_counted_out, cleanup_stats, turned_to, gone_past, gone_past_deleted, TurnsAt, unlinks, tries, passes}
@@ -43,7 +45,7 @@ use Rattle.page_delete.proofs.Measuring.{look_starts, look_unlinks, look_passes,
 use Rattle.page_delete.proofs.Siblings.{trail_in_use, dead_begins_trail}
 use Rattle.page_delete.proofs.Sparing.{spared_at, spared_looking, spared_judged, spared_dying, spared_deleted, spared_all, no_root_leaf}
 use Rattle.page_delete.proofs.Tallying.{none_deleted, one_deleted}
-use Rattle.page_delete.proofs.Trying.{same_page, pinned_same}
+use Rattle.page_delete.proofs.Trying.{pinned_same}
 use Rattle.page_delete.specs.declared.steps.CleanupAt.{CleanupAt}
 use Rattle.page_delete.specs.declared.steps.CleanupAt.TheVariants.{Look, Start, Down, Judge, Unlink}
 use Rattle.page_delete.specs.declared.steps.CleanupOp.{CleanupOp}
@@ -53,11 +55,6 @@ use Rattle.page_delete.specs.declared.steps.CleanupStep.TheVariants.{Going, Fini
 -- behind the look at it the page at the cursor is in use
 come_within : (st : State) (op : CleanupOp) (at : CleanupAt) → op.at ≡ at → IsCleaned st op → come_to op.cursor at ≤ length st.pages
 come_within st op at is h = subst (λ (a : CleanupAt). come_to op.cursor a ≤ length st.pages) is h.within
-
-or_more : (a b c : Bool) → (a || b) ≡ true → (a || (b || c)) ≡ true
-or_more true b c h = refl
-or_more false true c h = refl
-or_more false false c h = absurd cc
 
 or_there : (a b c : Bool) → c ≡ true → (a || (b || c)) ≡ true
 or_there true b c h = refl

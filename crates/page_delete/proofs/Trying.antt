@@ -157,10 +157,6 @@ left_later st st2 h h2 session page None (Some l) same back t = absurd t
 left_later st st2 h h2 session page (Some b) None same back t = absurd t
 left_later st st2 h h2 session page (Some b) (Some l) same back t = (taken_later st st2 h h2 session b l same back t.0, t.1)
 
--- two pages of a block are one
-pub same_page : (pages : List Page) (block : ℕ) (a b : Page) → slice_get pages block ≡ Some a → slice_get pages block ≡ Some b → a ≡ b
-same_page pages block a b x y = (let k : Some a ≡ Some b = sym x ∙ y in cc)
-
 -- a link that is compared with the block that it names
 pub same_link : (o : Option ℕ) (b : ℕ) → o ≡ Some b → option_eq eqb o (Some b) ≡ true
 same_link None b is = cc

@@ -1,5 +1,5 @@
 -- What is left to do gets less.
-use Rattle.std.proofs.Common.{◌≡◌, ◌⊎◌, ℕ, zero, suc, ◌+◌, ◌-◌, ◌*◌, ◌<◌, ◌≤◌, inl, inr, Bool, true, false, ◌&&◌, if◌then◌else◌, Some, List, [], ◌∷◌, length, slice_get, refl, ap, ◌∙◌, arith}
+use Rattle.std.proofs.Common.{◌≡◌, ℕ, zero, suc, ◌+◌, ◌*◌, ◌<◌, ◌≤◌, Bool, true, false, ◌&&◌, if◌then◌else◌, Some, List, [], ◌∷◌, length, slice_get, refl, ap, ◌∙◌, arith}
 use Rattle.std.proofs.lemmas.Nat.{mul-add-lt}
 use Rattle.std.proofs.Math.Nat.{mul_comm}
 use Rattle.index_model.specs.declared.bound.Bound.{Bound}
@@ -7,10 +7,9 @@ use Rattle.page_codec.specs.declared.page.Page.{Page}
 use Rattle.page_codec.specs.declared.page.PageState.TheVariants.{Live}
 use Rattle.tree_shape.specs.Chains.{IsNoGreater}
 use Rattle.tree_shape.specs.Walks.{frontier_aim, is_within}
-use Rattle.descent.specs.Onward.{IsShorter}
-use Rattle.descent.specs.declared.way.Way.{Way}
+use Rattle.descent.specs.Onward.{walk_length}
 use Rattle.scan.specs.Scans.{frontier_past}
-use Rattle.scan.specs.Work.{is_live, is_ahead, count_ahead, way_left, walk_length}
+use Rattle.scan.specs.Work.{is_live, is_ahead, count_ahead}
 use Rattle.scan.proofs.Behind.{within_falls, high_is_passed}
 
 counted : Bool → ℕ → ℕ
@@ -92,23 +91,6 @@ passed_not_ahead f high page is = none (is_live page.state) (is_within (frontier
     none : (a b : Bool) → b ≡ false → a && b ≡ false
     none true b h = h
     none false b h = refl
-
--- a way is shorter than a walk, and gets shorter
-pub first_way : (most : ℕ) (way : Way) → way.level < 256 → way_left most way < walk_length most
-first_way most way low =
-    let t = mul-add-lt way.level (most + 4) (suc ((most + 2) - way.moves)) 256 low (omega arith) in
-    let c = mul_comm (most + 4) 256 in
-    omega arith
-
-pub way_shortens : (most : ℕ) (way on : Way) → IsShorter 0 most way on → way_left most on < way_left most way
-way_shortens most way on s = go s.shorter
-  where
-    go : (on.level < way.level) ⊎ ((on.level ≡ way.level) × ((on.moves ≡ suc way.moves) × (on.moves ≤ most))) → way_left most on < way_left most way
-    go (inl lower) =
-        let t = mul-add-lt on.level (most + 4) (suc ((most + 2) - on.moves)) way.level lower (omega arith) in
-        let c = mul_comm (most + 4) way.level in
-        omega arith
-    go (inr right) = rw (right.0) (let a = right.1.0 in let b = right.1.1 in omega arith)
 
 -- one leaf fewer is more than a walk and the entries of a leaf
 pub leaf_less : (most fewer many rest left : ℕ) → fewer < many → rest < walk_length most + 52 → fewer * (walk_length most + 52) + rest < many * (walk_length most + 52) + left

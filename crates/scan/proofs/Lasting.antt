@@ -13,11 +13,13 @@ use Rattle.tree_acts.specs.Trees.{HasTree}
 use Rattle.tree_acts.proofs.Sizes.{low_level, pages_few}
 use Rattle.descent.specs.Shared.{NumbersStay}
 use Rattle.scan.specs.Scans.{LeafIsLive, leaf_pinned, ScanStands}
-use Rattle.scan.specs.Work.{count_ahead, leaves_left, walk_left, walk_length}
+use Rattle.descent.specs.Onward.{walk_length}
+use Rattle.scan.specs.Work.{count_ahead, leaves_left, walk_left}
 use Rattle.scan.specs.Laws.{PinnedLeavesLast, ScansAreUndisturbed, FreshScansAreBounded, ScansAreBounded}
 use Rattle.scan.specs.declared.steps.ScanAt.{ScanAt}
 use Rattle.scan.specs.declared.steps.ScanAt.TheVariants.{Start, At, Last}
-use Rattle.scan.proofs.Counting.{count_few, first_way}
+use Rattle.descent.proofs.Shortening.{walk_is_long}
+use Rattle.scan.proofs.Counting.{count_few}
 
 stands_still : (old new : State) (start : ℕ) (leaf : Option ℕ) (f : Bound) (at : ScanAt) → NumbersStay start old new → ScanStands old start leaf f at → ScanStands new start leaf f at
 stands_still old new start leaf f Start stay h = h
@@ -64,7 +66,7 @@ walk_few : (st : State) (start most : ℕ) (leaf : Option ℕ) (f : Bound) (at :
 walk_few st start most leaf f Start has stands = omega arith
 walk_few st start most leaf f (At way) has stands =
     let low = low_level st start way.level (frontier_aim f) false way.block has stands.place in
-    let short = first_way most way (omega arith) in
+    let short = walk_is_long most way (omega arith) in
     omega arith
 walk_few st start most leaf f Last has stands = omega arith
 

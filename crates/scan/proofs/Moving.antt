@@ -13,17 +13,19 @@ use Rattle.tree_acts.specs.Leaves.{WasLeaf}
 use Rattle.tree_acts.specs.Trees.{HasTree, HasPlace}
 use Rattle.tree_acts.specs.Ways.{RightIsThere}
 use Rattle.tree_acts.proofs.Telling.{passed_tells, places_widen, trail_begins_here, trail_goes_right}
-use Rattle.descent.specs.Onward.{IsOnWay, IsArrived, IsShorter}
+use Rattle.descent.specs.Onward.{IsOnWay, IsArrived, IsShorter, way_left}
 use Rattle.descent.specs.Shared.{IsInOrder, Does}
 use Rattle.descent.specs.declared.way.Way.{Way}
+use Rattle.descent.proofs.Acting.{holds_else}
+use Rattle.descent.proofs.Shortening.{walk_is_long, way_shortens}
 use Rattle.scan.specs.Scans.{waiting, without_leaf, gone_to, behind, behind_leaf, frontier_past, ScanStands, ScanFits}
-use Rattle.scan.specs.Work.{scan_left, leaves_left, walk_left, way_left, count_ahead, is_ahead}
+use Rattle.scan.specs.Work.{scan_left, leaves_left, walk_left, count_ahead, is_ahead}
 use Rattle.scan.specs.declared.steps.ScanAt.{ScanAt}
 use Rattle.scan.specs.declared.steps.ScanAt.TheVariants.{Start, At, Last}
 use Rattle.scan.specs.declared.steps.ScanOp.{ScanOp}
 use Rattle.scan.proofs.Behind.{not_back, aim_widens, past_falls, high_is_passed}
-use Rattle.scan.proofs.Counting.{count_drops, live_ahead, passed_not_ahead, some_ahead, first_way, way_shortens, leaf_less}
-use Rattle.scan.proofs.Resting.{does_hold, way_with}
+use Rattle.scan.proofs.Counting.{count_drops, live_ahead, passed_not_ahead, some_ahead, leaf_less}
+use Rattle.scan.proofs.Resting.{way_with}
 use Rattle.scan.proofs.Standing.{without_many, without_apart, without_other, without_held, stood_many, stood_apart, stood_other, stood_held}
 
 -- a scan that goes on to another page
@@ -32,7 +34,7 @@ module _ (old new : State) (before : ScanOp) (order : IsInOrder old) (fits : Sca
   below = (let many = order.holdings in let low = fits.session in omega arith)
 
   pub going_does : Does before.session None old new
-  going_does = does_hold before.session old new (without_leaf old.table before.session before.leaf) is order (without_apart old.table before.session before.leaf below order.apart)
+  going_does = holds_else before.session old new (without_leaf old.table before.session before.leaf) is order (without_apart old.table before.session before.leaf below order.apart)
       (without_many old.table before.session before.leaf ∙ order.holdings) (λ other differ. without_other old.table before.session before.leaf other differ)
 
   pub going_fits : (way : Way) → IsOnWay old fits.start (frontier_aim before.frontier) false 0 way → ScanFits new (gone_to before way)
@@ -100,7 +102,7 @@ module _ (old new : State) (before : ScanOp) (block : ℕ) (order : IsInOrder ol
   low = (let many = order.holdings in let low = fits.session in omega arith)
 
   pub reading_does : Does before.session None old new
-  reading_does = does_hold before.session old new (pinned (without_leaf old.table before.session before.leaf) before.session block) is order (stood_apart old.table before.session before.leaf block low order.apart)
+  reading_does = holds_else before.session old new (pinned (without_leaf old.table before.session before.leaf) before.session block) is order (stood_apart old.table before.session before.leaf block low order.apart)
       (stood_many old.table before.session before.leaf block low ∙ order.holdings) (λ other differ. stood_other old.table before.session before.leaf block low other differ)
 
   pub reading_fits : (page : Page) (es : List Entry) → slice_get old.pages page.block ≡ Some page → HasPlace old fits.start 0 (frontier_aim before.frontier) false page.block
@@ -121,12 +123,12 @@ module _ (old new : State) (before : ScanOp) (block : ℕ) (order : IsInOrder ol
 -- what is left to do
 pub first_less : (most : ℕ) (pages : List Page) (before : ScanOp) (way : Way) → before.at ≡ Start → way.level < 256 → scan_left most pages (gone_to before way) < scan_left most pages before
 first_less most pages before way is low =
-    let w = first_way most way low in
+    let w = walk_is_long most way (omega (arith, low)) in
     rw is (omega arith)
 
 pub going_less : (most : ℕ) (pages : List Page) (before : ScanOp) (way on : Way) → before.at ≡ At way → IsShorter 0 most way on → scan_left most pages (gone_to before on) < scan_left most pages before
 going_less most pages before way on is s =
-    let w = way_shortens most way on s in
+    let w = way_shortens 0 most way on s in
     rw is (omega arith)
 
 -- a page with a high key is passed, and without one it is the last

@@ -1,14 +1,11 @@
 -- Steps with no action, on a tree that many sessions share.
-use Rattle.std.proofs.Common.{◌≡◌, ◌≢◌, ℕ, Bool, None, length, inl, refl, sym, subst}
+use Rattle.std.proofs.Common.{◌≡◌, ℕ, Bool, inl, refl, sym, subst}
 use Rattle.index_model.specs.declared.bound.Bound.{Bound}
-use Rattle.latch_table.specs.Holdings.{Table, holding_of}
+use Rattle.latch_table.specs.Holdings.{Table}
 use Rattle.page_action.specs.States.{State, with_table}
 use Rattle.tree_acts.specs.Trees.{HasPlace, HasTrail}
 use Rattle.descent.specs.Onward.{IsOnWay}
-use Rattle.tree_acts.proofs.Leaving.{leaves_same}
-use Rattle.tree_acts.proofs.Lows.{lows_same}
-use Rattle.descent.specs.Shared.{IsInOrder, Does, IsOneStep, NumbersStay}
-use Rattle.descent.specs.Steps.{AreApart}
+use Rattle.descent.specs.Shared.{IsOneStep}
 use Rattle.descent.specs.declared.way.Way.{Way}
 
 -- other latches and pins leave every page number what it was
@@ -26,38 +23,6 @@ way_with st table start aim clear to way on = record {
   place = place_with st table start way.level aim clear way.block on.place;
   trail = trail_with st table start way.level way.block way.moves on.trail;
 }
-
-numbers_with : (st : State) (table : Table) (start : ℕ) → NumbersStay start st (with_table st table)
-numbers_with st table start = record {
-  places = λ level aim clear block is p. place_with st table start level aim clear block p;
-  trails = λ level block moves t. trail_with st table start level block moves t;
-}
-
--- what this session holds changed
-pub does_hold : (session : ℕ) (old new : State) (table : Table) → new ≡ with_table old table → IsInOrder old → AreApart table → length table ≡ 64
-    → ((other : ℕ) → other ≢ session → holding_of table other ≡ holding_of old.table other) → Does session None old new
-does_hold session old new table is order apart many kept = subst (λ (st : State). Does session None old st) (sym is) (record {
-  changes = refl;
-  flags = tt;
-  leaves = leaves_same old (with_table old table) refl refl;
-  limits = refl;
-  frames = refl;
-  begun = refl;
-  running = refl;
-  order = record {
-    tree = record { tree = order.tree.tree; stored = order.tree.stored; counted = order.tree.counted; within = order.tree.within; lead = order.tree.lead };
-    apart = apart;
-    holdings = many;
-    calls = order.calls;
-  };
-  others = λ other differ. record {
-    held = kept other differ;
-    number = refl;
-    pages = λ block alone. refl;
-    numbers = λ start runs. numbers_with old table start;
-    lows = lows_same old.pages;
-  };
-})
 
 pub rests : (old new : State) (table : Table) → new ≡ with_table old table → IsOneStep old new
 rests old new table is = subst (λ (st : State). IsOneStep old st) (sym is) (record {

@@ -4,14 +4,9 @@ use Rattle.index_model.specs.declared.bound.Bound.{Bound}
 use Rattle.page_codec.specs.declared.page.Items.{Items}
 use Rattle.page_codec.specs.declared.page.Page.{Page}
 use Rattle.page_action.specs.States.{State}
-use Rattle.tree_shape.specs.Nodes.{nodes_of}
 use Rattle.tree_shape.specs.Tree.{IsMetaOf}
-use Rattle.tree_shape.specs.Walks.{is_fit}
-use Rattle.tree_shape.proofs.Told.{places_keep_their_level}
-use Rattle.tree_acts.specs.Trees.{HasTree, HasPlace, HasCover}
+use Rattle.tree_acts.specs.Trees.{HasTree, HasCover}
 use Rattle.tree_acts.specs.Ways.{AreWhole}
-use Rattle.tree_acts.proofs.Lasting.{deleted_in_use}
-use Rattle.tree_acts.proofs.Words.{place_in}
 use Rattle.tree_acts.proofs.Telling.{metapage_tells, trail_begins_here, root_covers_all}
 use Rattle.descent.specs.Onward.{IsOnWay, way_from}
 use Rattle.descent.specs.Ways.{level_with, level_of, root_level}
@@ -30,15 +25,6 @@ root_way st start aim clear meta h found =
       names = r.names;
       on = record { not_below = omega arith; place = r.place; trail = trail_begins_here st start meta.level aim clear r.root h r.place };
     }
-
--- the block of a place is in use
-pub place_in_use : (st : State) (start level : ℕ) (aim : Bound → Bool) (clear : Bool) (block : ℕ) → HasTree st → HasPlace st start level aim clear block → block < length st.pages
-place_in_use st start level aim clear block h place =
-    let p = place_in st h.tree start level aim clear block place in
-    elim (places_keep_their_level (nodes_of st.pages) (slice_index st.counted) (length st.pages) h.tree.root h.tree.meta.level h.tree.chain level start (is_fit aim clear) block h.tree.is p.in_tree p.place) [
-      | inl gone ↦ (deleted_in_use st h block gone).1
-      | inr on ↦ (h.tree.is.in_use level block p.in_tree on.1).1
-    ]
 
 -- where no page is flagged, the root covers whatever is looked for
 pub record StartsStraight (st : State) (aim : Bound → Bool) (meta : Page) : Type 0 where

@@ -1,11 +1,11 @@
 -- How much is left to do for a scan, while the pages are as they are.
-use Rattle.std.specs.Prelude.{ℕ, suc, ◌+◌, ◌-◌, ◌*◌, ◌&&◌, if◌then◌else◌, Bool, true, false, List, [], ◌∷◌, length}
+use Rattle.std.specs.Prelude.{ℕ, suc, ◌+◌, ◌*◌, ◌&&◌, if◌then◌else◌, Bool, true, false, List, [], ◌∷◌, length}
 use Rattle.index_model.specs.declared.bound.Bound.{Bound}
 use Rattle.page_codec.specs.declared.page.Page.{Page}
 use Rattle.page_codec.specs.declared.page.PageState.{PageState}
 use Rattle.page_codec.specs.declared.page.PageState.TheVariants.{Live, HalfDead, Deleted}
 use Rattle.tree_shape.specs.Walks.{frontier_aim, is_within}
-use Rattle.descent.specs.declared.way.Way.{Way}
+use Rattle.descent.specs.Onward.{way_left, walk_length}
 use Rattle.scan.specs.Ready.{waiting}
 use Rattle.scan.specs.declared.steps.ScanAt.{ScanAt}
 use Rattle.scan.specs.declared.steps.ScanAt.TheVariants.{Start, At, Last}
@@ -31,14 +31,6 @@ abbrev pub leaves_left : Bound → List Page → ScanAt → ℕ
 leaves_left frontier pages Start = count_ahead frontier pages
 leaves_left frontier pages (At way) = count_ahead frontier pages
 leaves_left frontier pages Last = 0
-
--- how many more pages a way leads over, at most, with so many moves on each level
-abbrev pub way_left : ℕ → Way → ℕ
-way_left most way = way.level * (most + 4) + suc ((most + 2) - way.moves)
-
--- ... and a whole walk
-abbrev pub walk_length : ℕ → ℕ
-walk_length most = 256 * (most + 4)
 
 -- how many more pages it reads until it has read a leaf, at most
 abbrev pub walk_left : ℕ → ScanAt → ℕ

@@ -6,12 +6,13 @@ use Rattle.tree_shape.specs.Nodes.{Node, nodes_of}
 use Rattle.tree_shape.specs.Walks.{bound_aim}
 use Rattle.tree_acts.specs.Trees.{HasTree}
 use Rattle.tree_acts.proofs.Sizes.{low_level}
-use Rattle.split_finish.specs.Targets.{targets_of, FinishStands, FinishFits, is_as_read, stale_count, is_ready, one_unless, detour, walks_left, walk_length, walk_left, finish_left}
+use Rattle.descent.specs.Onward.{walk_length}
+use Rattle.split_finish.specs.Targets.{targets_of, FinishStands, FinishFits, is_as_read, stale_count, is_ready, one_unless, detour, walks_left, walk_left, finish_left}
 use Rattle.split_finish.specs.declared.finish.FinishAt.{FinishAt}
 use Rattle.split_finish.specs.declared.finish.FinishAt.TheVariants.{Start, Down, Link, Root}
 use Rattle.split_finish.specs.declared.finish.FinishOp.{FinishOp}
 use Rattle.split_finish.specs.declared.finish.Target.{Target}
-use Rattle.split_finish.proofs.Counting.{walk_is_long}
+use Rattle.descent.proofs.Shortening.{walk_is_long}
 
 -- no more targets are other than they were read than there are
 stale_few : (at : ℕ → Node) (targets : List Target) → stale_count at targets ≤ length targets

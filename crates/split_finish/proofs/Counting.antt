@@ -1,10 +1,11 @@
 -- What is left to do, while the pages are as they are.
-use Rattle.std.proofs.Common.{◌≡◌, ◌⊎◌, ℕ, suc, ◌+◌, ◌-◌, ◌*◌, ◌<◌, ◌≤◌, ◌==◌, true, false, List, [], ◌∷◌, ◌++◌, length, refl, sym, ap, inl, inr, ◌∙◌, arith, length-append}
+use Rattle.std.proofs.Common.{◌≡◌, ℕ, suc, ◌+◌, ◌-◌, ◌*◌, ◌<◌, ◌≤◌, ◌==◌, true, false, List, [], ◌∷◌, ◌++◌, length, refl, sym, ap, ◌∙◌, arith, length-append}
 use Rattle.std.proofs.Math.Nat.{mul-le-mul_right}
 use Rattle.tree_shape.specs.Nodes.{Node}
+use Rattle.descent.specs.Onward.{IsShorter, way_left, walk_length}
 use Rattle.descent.specs.declared.way.Way.{Way}
-use Rattle.descent.specs.Onward.{IsShorter}
-use Rattle.split_finish.specs.Targets.{is_as_read, stale_count, is_ready, detour, way_left, walk_length, walk_left}
+use Rattle.descent.proofs.Shortening.{walk_is_long, way_shortens}
+use Rattle.split_finish.specs.Targets.{is_as_read, stale_count, is_ready, detour, walk_left}
 use Rattle.split_finish.specs.declared.finish.FinishAt.{FinishAt}
 use Rattle.split_finish.specs.declared.finish.FinishAt.TheVariants.{Start, Down, Link, Root}
 use Rattle.split_finish.specs.declared.finish.Target.{Target}
@@ -34,12 +35,6 @@ abbrev pub left : ℕ → (ℕ → Node) → List Target → Target → FinishAt
 left most at below target spot =
     ((33 + (2 * stale_count at (below ++ target ∷ []) + detour at target spot)) - length (below ++ target ∷ [])) * suc (walk_length most) + walk_left most spot
 
--- a way is shorter than a walk
-pub walk_is_long : (most : ℕ) (way : Way) → way.level ≤ 255 → way_left most way < walk_length most
-walk_is_long most way low =
-    let k : way.level * (most + 4) ≤ 255 * (most + 4) = mul-le-mul_right (most + 4) low in
-    omega arith
-
 module _ (most : ℕ) (at : ℕ → Node) (below : List Target) (target : Target) where
   walk : ℕ
   walk = walk_length most
@@ -54,18 +49,7 @@ module _ (most : ℕ) (at : ℕ → Node) (below : List Target) (target : Target
   less_down way low = same_walks _ (walk_length most) (way_left most way) (walk_length most) (walk_is_long most way low)
 
   pub less_onward : (to : ℕ) (way on : Way) → IsShorter to most way on → left most at below target (Down on) < left most at below target (Down way)
-  less_onward to way on h = same_walks _ (walk_length most) (way_left most on) (way_left most way) (shorter h.shorter)
-    where
-      shorter : (on.level < way.level) ⊎ ((on.level ≡ way.level) × ((on.moves ≡ suc way.moves) × (on.moves ≤ most))) → way_left most on < way_left most way
-      shorter (inl lt) =
-          let k : suc on.level * (most + 4) ≤ way.level * (most + 4) = mul-le-mul_right (most + 4) lt in
-          let e : suc on.level * (most + 4) ≡ on.level * (most + 4) + (most + 4) = omega arith in
-          omega arith
-      shorter (inr e) =
-          let same : on.level * (most + 4) ≡ way.level * (most + 4) = ap (λ (n : ℕ). n * (most + 4)) e.0 in
-          let moved = e.1.0 in
-          let few = e.1.1 in
-          omega arith
+  less_onward to way on h = same_walks _ (walk_length most) (way_left most on) (way_left most way) (way_shortens to most way on h)
 
   pub less_link : (way : Way) → is_ready (at way.block) (suc target.level) target.separator ≡ true → left most at below target (Link way) < left most at below target (Down way)
   less_link way is = rw is (same_walks _ (walk_length most) 0 (way_left most way) (omega arith))

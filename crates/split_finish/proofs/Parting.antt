@@ -77,7 +77,7 @@ ready_parent page level separator h =
     }
 
 -- the page to the right, with its left link mended
-mends_right : (st : State) (session new : ℕ) (link : Option ℕ) (right : Option Page) → RightIsStored st session link right → RightIsFound st link right → IsMended st new link (mended_to new right)
+pub mends_right : (st : State) (session new : ℕ) (link : Option ℕ) (right : Option Page) → RightIsStored st session link right → RightIsFound st link right → IsMended st new link (mended_to new right)
 mends_right st session new None None stored found = rightmost
 mends_right st session new None (Some page) stored found = absurd stored
 mends_right st session new (Some r) None stored found = absurd stored

@@ -13,13 +13,11 @@ use Rattle.page_action.specs.States.{State}
 use Rattle.latch_table.specs.Holdings.{Holding, HasRoom, holding_of, nothing_held}
 use Rattle.page_action.proofs.StoredPages.{stored_page}
 use Rattle.tree_shape.specs.Tree.{IsMetaOf}
-use Rattle.tree_shape.specs.Nodes.{Node, nodes_of}
-use Rattle.tree_shape.specs.Walks.{bound_aim, is_fit}
-use Rattle.tree_shape.proofs.Told.{places_keep_their_level}
-use Rattle.tree_acts.proofs.Lasting.{deleted_in_use, fresh_free}
+use Rattle.tree_shape.specs.Nodes.{Node}
+use Rattle.tree_shape.specs.Walks.{bound_aim}
+use Rattle.tree_acts.proofs.Lasting.{fresh_free}
 use Rattle.page_action.specs.Reuse.{IsFresh}
 use Rattle.tree_acts.proofs.Overlays.{inside, node_there}
-use Rattle.tree_acts.proofs.Words.{place_in}
 use Rattle.tree_acts.specs.Trees.{HasTree, HasPlace}
 use Rattle.tree_acts.specs.Acts.{IsUnfinished}
 use Rattle.tree_acts.specs.Ways.{RootIsThere}
@@ -225,15 +223,6 @@ to_finish st start level aim block page h place found flagged =
         right_is = right.1;
       };
     }
-
--- a place is the block of a page in use
-pub place_inside : (st : State) (start level : ℕ) (aim : Bound → Bool) (clear : Bool) (block : ℕ) → HasTree st → HasPlace st start level aim clear block → block < length st.pages
-place_inside st start level aim clear block h place =
-    let p = place_in st h.tree start level aim clear block place in
-    elim (places_keep_their_level (nodes_of st.pages) (slice_index st.counted) (length st.pages) h.tree.root h.tree.meta.level h.tree.chain level start (is_fit aim clear) block h.tree.is p.in_tree p.place) [
-      | inl gone ↦ (deleted_in_use st h block gone).1
-      | inr on ↦ (h.tree.is.in_use level block p.in_tree on.1).1
-    ]
 
 -- there is a metapage
 pub meta_inside : (st : State) → HasTree st → 0 < length st.pages

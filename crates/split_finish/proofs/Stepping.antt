@@ -10,7 +10,8 @@ use Rattle.page_action.specs.States.{State, Backing, Continues}
 use Rattle.page_action.specs.declared.page_store.PageStore.{Ghosts}
 use Rattle.descent.specs.Shared.{IsInOrder, IsOneStep, is_flagged}
 use Rattle.descent.proofs.Acting.{one_nothing, nothing_else}
-use Rattle.split_finish.specs.Targets.{FinishFits, OnlyTargetsAreFlagged, targets_of, finish_left, walk_length}
+use Rattle.descent.specs.Onward.{walk_length}
+use Rattle.split_finish.specs.Targets.{FinishFits, OnlyTargetsAreFlagged, targets_of, finish_left}
 use Rattle.split_finish.specs.Turns.{Turned, where_turned}
 use Rattle.split_finish.specs.Finishes.{FinishSteps, FinishStays, FinishStepped, images_of, where_finishing}
 use Rattle.page_codec.specs.declared.page.Page.{Page}

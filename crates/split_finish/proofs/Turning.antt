@@ -14,7 +14,8 @@ use Rattle.tree_acts.specs.Trees.{HasTree}
 use Rattle.tree_acts.proofs.Overlays.{node_there}
 use Rattle.descent.specs.declared.way.Way.{Way}
 use Rattle.tree_shape.specs.Walks.{bound_aim, is_within}
-use Rattle.split_finish.specs.Targets.{FinishStands, FinishFits, OnlyTargetsAreFlagged, targets_of, is_among_targets, is_as_read, is_ready, detour, walk_left, walk_length}
+use Rattle.descent.specs.Onward.{walk_length}
+use Rattle.split_finish.specs.Targets.{FinishStands, FinishFits, OnlyTargetsAreFlagged, targets_of, is_among_targets, is_as_read, is_ready, detour, walk_left}
 use Rattle.split_finish.specs.Turns.{Turned, TurnGoesOn, Popped, Pushed, Retaken}
 use Rattle.descent.specs.Shared.{is_flagged}
 use Rattle.split_finish.specs.declared.finish.FinishStep.{FinishStep}

@@ -17,7 +17,8 @@ use Rattle.tree_shape.specs.LinkPlaces.{HasLinks, FitsBehind, child_at}
 use Rattle.tree_shape.specs.Nodes.{node_of, links_of}
 use Rattle.tree_acts.specs.Acts.{IsClear}
 use Rattle.descent.specs.Shared.{IsInOrder, IsOneStep}
-use Rattle.split_finish.specs.Targets.{FinishFits, finish_left, walk_length}
+use Rattle.descent.specs.Onward.{walk_length}
+use Rattle.split_finish.specs.Targets.{FinishFits, finish_left}
 use Rattle.descent.specs.declared.way.Way.{Way}
 use Rattle.split_finish.specs.Turns.{IsReadyToLink, IsReadyToGrow}
 use Rattle.split_finish.specs.declared.finish.FinishAt.TheVariants.{Link, Root}

@@ -11,7 +11,8 @@ use Rattle.tree_shape.specs.Nodes.{links_of, nodes_of}
 use Rattle.descent.specs.Shared.{IsInOrder, Does, IsOneStep, is_flagged, where_working}
 use Rattle.descent.specs.Ways.{root_level}
 use Rattle.descent.specs.declared.way.Way.{Way}
-use Rattle.split_finish.specs.Targets.{targets_of, OnlyTargetsAreFlagged, FinishFits, is_as_read, is_ready, finish_left, walk_length}
+use Rattle.descent.specs.Onward.{walk_length}
+use Rattle.split_finish.specs.Targets.{targets_of, OnlyTargetsAreFlagged, FinishFits, is_as_read, is_ready, finish_left}
 use Rattle.split_finish.specs.Turns.{splits_root_of}
 use Rattle.split_finish.specs.declared.finish.FinishAt.{FinishAt}
 use Rattle.split_finish.specs.declared.finish.FinishAt.TheVariants.{Start, Down, Link, Root}

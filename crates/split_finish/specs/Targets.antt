@@ -11,9 +11,8 @@ use Rattle.page_action.specs.States.{State}
 use Rattle.tree_shape.specs.Nodes.{Node, nodes_of}
 use Rattle.tree_shape.specs.Walks.{bound_aim, is_within}
 use Rattle.tree_acts.specs.Trees.{HasPlace}
-use Rattle.descent.specs.Onward.{IsOnWay}
+use Rattle.descent.specs.Onward.{IsOnWay, way_left, walk_length}
 use Rattle.descent.specs.Shared.{is_flagged}
-use Rattle.descent.specs.declared.way.Way.{Way}
 use Rattle.split_finish.specs.declared.finish.FinishAt.{FinishAt}
 use Rattle.split_finish.specs.declared.finish.FinishAt.TheVariants.{Start, Down, Link, Root}
 use Rattle.split_finish.specs.declared.finish.FinishOp.{FinishOp}
@@ -102,14 +101,6 @@ detour at target Root = one_unless ((at 0).level == target.level)
 abbrev pub walks_left : (ℕ → Node) → FinishOp → ℕ
 walks_left at op = (33 + (2 * stale_count at (targets_of op) + detour at op.target op.at))
     - length (targets_of op)
-
--- how many more pages a way leads over, at most, with so many moves on each level
-abbrev pub way_left : ℕ → Way → ℕ
-way_left most way = way.level * (most + 4) + suc ((most + 2) - way.moves)
-
--- ... and a whole walk
-abbrev pub walk_length : ℕ → ℕ
-walk_length most = 256 * (most + 4)
 
 -- how many steps of the present walk are left, at most
 abbrev pub walk_left : ℕ → FinishAt → ℕ

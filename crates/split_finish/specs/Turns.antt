@@ -11,7 +11,8 @@ use Rattle.tree_shape.specs.Nodes.{node_of}
 use Rattle.tree_acts.specs.Trees.{HasTree}
 use Rattle.descent.specs.Shared.{is_flagged}
 use Rattle.descent.specs.Ways.{root_level}
-use Rattle.split_finish.specs.Targets.{targets_of, OnlyTargetsAreFlagged, FinishFits, finish_left, walk_length, is_ready}
+use Rattle.descent.specs.Onward.{walk_length}
+use Rattle.split_finish.specs.Targets.{targets_of, OnlyTargetsAreFlagged, FinishFits, finish_left, is_ready}
 use Rattle.split_finish.specs.declared.finish.FinishAt.{FinishAt}
 use Rattle.split_finish.specs.declared.finish.FinishAt.TheVariants.{Start, Down, Link, Root}
 use Rattle.split_finish.specs.declared.finish.FinishOp.{FinishOp}

@@ -35,6 +35,7 @@ pub mod Halves
 pub mod LeafHalves
 pub mod LinkHalves
 pub mod Aims
+pub mod Few
 pub mod Trails
 pub mod FitsBehind
 pub mod Straight

@@ -14,7 +14,7 @@ use Rattle.vacuum.specs.BulkDeletes.{where_taking, where_deleting, is_counted_ou
 use Rattle.vacuum.specs.declared.steps.BulkDeleteOp.{BulkDeleteOp}
 use Rattle.vacuum.proofs.Holding.{held_for_cleanup}
 
-or_more : (a b c : Bool) → (a || b) ≡ true → (a || (b || c)) ≡ true
+pub or_more : (a b c : Bool) → (a || b) ≡ true → (a || (b || c)) ≡ true
 or_more true b c h = refl
 or_more false true c h = refl
 or_more false false c h = absurd cc

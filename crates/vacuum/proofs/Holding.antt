@@ -1,11 +1,12 @@
 -- What keeps a bulk delete from a leaf: any latch or pin of another session.
 use Rattle.std.proofs.Common.{◌≡◌, ◌≢◌, ℕ, zero, suc, ◌≤◌, inl, inr, Bool, true, false, not, ◌&&◌, ◌||◌, ◌==◌, List, [], ◌∷◌, length, refl, sym, ap, ◌∙◌, arith}
 use Rattle.std.proofs.lemmas.Bool.{cases_lt, cases_Bool, or_cases, and_parts}
-use Rattle.latch_table.specs.Holdings.{Holding, Table, excludes, has_pin, holding_of, holding_excludes, nothing_held, latches_exclude, pins_exclude, others_exclude, is_held_by_another}
+use Rattle.latch_table.specs.Holdings.{Holding, Table, excludes, has_pin, holding_of, holding_excludes, latches_exclude, pins_exclude, others_exclude, is_held_by_another}
 use Rattle.latch_table.specs.declared.mode.Mode.{Mode}
 use Rattle.latch_table.specs.declared.mode.Mode.TheVariants.{Shared, Exclusive, Cleanup}
 use Rattle.latch_table.specs.declared.mode.Latch.{Latch}
 use Rattle.latch_table.proofs.Tables.{is_held_by_another-free}
+use Rattle.descent.proofs.Tables.{out_of_table}
 
 or_left : (a b : Bool) → a ≡ true → (a || b) ≡ true
 or_left true b h = refl
@@ -66,11 +67,6 @@ free_for_all table session block asked free = elim (cases_Bool (is_held_by_anoth
   | inl held ↦ absurd (true_false (sym (held_for_cleanup table session block asked held) ∙ free))
   | inr free_of ↦ free_of
 ]
-
-out_of_table : (table : Table) (other : ℕ) → length table ≤ other → holding_of table other ≡ nothing_held
-out_of_table [] other le = refl
-out_of_table (h ∷ table) zero le = absurd (omega arith)
-out_of_table (h ∷ table) (suc other) le = out_of_table table other (omega arith)
 
 -- a leaf that another session has pinned isn't free for cleanup
 pub pinned_is_held : (table : Table) (session other block : ℕ) → other ≢ session → has_pin (holding_of table other).pins block ≡ true → is_held_by_another table session block Cleanup ≡ false → ⊥

@@ -8,7 +8,7 @@ use Rattle.amcheck.specs.LevelDamages.{IsClearLevel, AreOfUpper}
 use Rattle.amcheck.specs.Stops.{blocks_of}
 use Rattle.amcheck.specs.declared.stops.Stop.{Stop}
 use Rattle.amcheck.proofs.AllStops.{blocks_append}
-use Rattle.amcheck.proofs.Blocks.{few_blocks}
+use Rattle.tree_shape.proofs.Few.{few_blocks}
 use Rattle.amcheck.proofs.Walked.{blocks_length}
 use Rattle.amcheck.proofs.ChainDamages.{first_level, sound_levels, none_of_upper}
 use Rattle.amcheck.proofs.chain_damages.find_chain_damage.Given.{Over}

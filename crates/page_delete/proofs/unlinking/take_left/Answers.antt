@@ -3,7 +3,8 @@ use Rattle.page_codec.specs.declared.page.Page.{Page}
 use Rattle.tree_acts.proofs.Overlays.{inside}
 use Rattle.page_delete.specs.Needs.{frames_for}
 use Rattle.page_delete.proofs.Needs.{frames_some}
-use Rattle.page_delete.proofs.Trying.{same_page, same_link}
+use Rattle.vacuum.proofs.Lasting.{same_page}
+use Rattle.page_delete.proofs.Trying.{same_link}
 use Rattle.page_delete.proofs.unlinking.take_left.Goals as goal
 
 pub returns-in-Ok-2-clause-cause : goal.returns-in-Ok-2-clause-cause

@@ -4,7 +4,7 @@ use Rattle.page_action.specs.States.{State}
 use Rattle.page_action.specs.Stored.{IsStored}
 use Rattle.tree_shape.specs.Walks.{entry_aim}
 use Rattle.split_finish.specs.Targets.{OnlyTargetsAreFlagged}
-use Rattle.split_finish.proofs.Counting.{walk_is_long}
+use Rattle.descent.proofs.Shortening.{walk_is_long}
 use Rattle.insert_split.specs.Inserts.{InsertStands, IsToCome, targets_at}
 use Rattle.insert_split.specs.Straight.{straight_steps}
 use Rattle.insert_split.specs.declared.insert.InsertAt.{InsertAt}

@@ -1,7 +1,7 @@
 use Rattle.std.proofs.Common.{arith, ◌≡◌, ℕ, suc, ◌+◌, ◌≤◌, ◌<◌, Some, Ok, true, false, refl, sym, ap, subst, ◌∙◌, length, slice_get}
 use Rattle.page_action.specs.States.{State, IsLater, with_table}
 use Rattle.page_action.specs.Stored.{IsStored}
-use Rattle.descent.specs.Onward.{LeadsOnward, LeavesLess}
+use Rattle.descent.specs.Onward.{LeadsOnward, LeavesLess, way_left}
 use Rattle.tree_shape.specs.Walks.{entry_aim, bound_aim, is_within}
 use Rattle.index_model.specs.declared.bound.Bound.{Bound}
 use Rattle.index_model.specs.declared.limits.Limits.{Limits}
@@ -14,13 +14,13 @@ use Rattle.tree_acts.specs.Trees.{HasCover}
 use Rattle.insert_split.specs.Straight.{IsStraight, straight_steps}
 use Rattle.descent.specs.declared.way.Way.{Way}
 use Rattle.descent.specs.declared.way.Onward.TheVariants.{Going, Here}
-use Rattle.split_finish.specs.Targets.{way_left, OnlyTargetsAreFlagged}
+use Rattle.split_finish.specs.Targets.{OnlyTargetsAreFlagged}
 use Rattle.insert_split.specs.declared.insert.InsertOp.{InsertOp}
 use Rattle.insert_split.specs.declared.insert.InsertStep.TheVariants.{Going as InsertGoing}
 use Rattle.insert_split.specs.Inserts.{InsertSteps, insert_left, targets_at}
 use Rattle.insert_split.specs.declared.insert.InsertAt.{InsertAt}
 use Rattle.insert_split.specs.declared.insert.InsertAt.TheVariants.{At, Holding as Holds}
-use Rattle.insert_split.proofs.Left.{way_shortens}
+use Rattle.descent.proofs.Shortening.{way_shortens}
 use Rattle.insert_split.proofs.Steps.{refuses, goes_on, on_ok, on_err, only_going}
 use Rattle.insert_split.proofs.Walking.{led, on_way, to_come_there, reading_cause, room_free, place_in_use}
 use Rattle.insert_split.proofs.Meeting.{meets}

@@ -14,6 +14,7 @@ use Rattle.tree_shape.specs.Leaf.{IsCopiedFrom}
 use Rattle.tree_shape.specs.Walks.{frontier_aim}
 use Rattle.tree_acts.specs.Leaves.{IsLeafAt}
 use Rattle.tree_acts.specs.Trees.{HasPlace, HasCover}
+use Rattle.tree_acts.proofs.Telling.{place_inside}
 use Rattle.descent.proofs.Looking.{if_err}
 use Rattle.descent.specs.Onward.{IsOnWay, LeadsOnward, LeadsStraight, LeavesLess, IsShorter, IsArrived}
 use Rattle.descent.specs.declared.way.Way.{Way}
@@ -30,7 +31,6 @@ use Rattle.scan.proofs.Leaf.{reads_leaf}
 use Rattle.scan.proofs.Moving.{going_does, going_fits, going_less, reading_does, reading_fits, reading_less}
 use Rattle.scan.proofs.Refusing.{refuses, scan_led}
 use Rattle.scan.proofs.Resting.{quiet_by, rests}
-use Rattle.scan.proofs.Rooting.{place_in_use}
 use Rattle.scan.proofs.steps.ScanOp.read.Given.{Over}
 use Rattle.scan.proofs.steps.ScanOp.read.Goals.{After-view-page}
 use Rattle.scan.proofs.steps.ScanOp.read.Goals as goal
@@ -61,7 +61,7 @@ returns-in_err-look-clause-all g c = record {
       let before : ScanOp = c.args.self.now in
       let way : Way = c.args.way in
       let on_way : IsOnWay old fits.start (frontier_aim before.frontier) false 0 way = subst (ScanStands old fits.start before.leaf before.frontier) c.requires.at fits.stands in
-      let used = place_in_use old fits.start way.level (frontier_aim before.frontier) false way.block order.tree on_way.place in
+      let used = place_inside old fits.start way.level (frontier_aim before.frontier) false way.block order.tree on_way.place in
       let cause : IfErr c.look.result (HasCause (where_scanning old (g.S.PageStore.backing c.args.store.now) (g.S.PageStore.backing c.look.new.store) before.session)) =
       if_err c.look.result _ _ (λ f h. scanning_cause old (g.S.PageStore.backing c.args.store.now) (g.S.PageStore.backing c.look.new.store) before.session way.block f honest used h)
       (c.look.ensures.cause (scan_has_room old before fits)) in

@@ -1,9 +1,10 @@
 use Rattle.std.proofs.Common.{true, sym, ◌∙◌}
 use Rattle.page_action.specs.States.{IsLater}
+use Rattle.tree_acts.proofs.Telling.{place_inside}
 use Rattle.split_finish.specs.Finishes.{images_of, frames_of, takes_block_of}
 use Rattle.split_finish.specs.Turns.{splits_root_of}
 use Rattle.split_finish.proofs.Needs.{needs_frame}
-use Rattle.split_finish.proofs.Standing.{place_inside, meta_inside, has_room}
+use Rattle.split_finish.proofs.Standing.{meta_inside, has_room}
 use Rattle.split_finish.proofs.Stepping.{refuses, behind}
 use Rattle.split_finish.proofs.finish.FinishOp.grow.Goals as goal
 

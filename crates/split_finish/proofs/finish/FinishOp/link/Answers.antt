@@ -1,10 +1,11 @@
 use Rattle.std.proofs.Common.{true, sym, subst, ◌∙◌}
 use Rattle.page_action.specs.States.{IsLater}
+use Rattle.tree_acts.proofs.Telling.{place_inside}
 use Rattle.split_finish.specs.Targets.{FinishStands}
 use Rattle.split_finish.specs.Finishes.{images_of, frames_of, takes_block_of}
 use Rattle.split_finish.specs.Turns.{splits_root_of}
 use Rattle.split_finish.proofs.Needs.{needs_frame}
-use Rattle.split_finish.proofs.Standing.{place_inside, has_room}
+use Rattle.split_finish.proofs.Standing.{has_room}
 use Rattle.split_finish.proofs.Stepping.{refuses, behind}
 use Rattle.split_finish.proofs.finish.FinishOp.link.Goals as goal
 

@@ -1,10 +1,11 @@
--- Different blocks in use.
+-- Different numbers below a bound are no more than it.
 use Rattle.std.proofs.Common.{◌≡◌, ◌≢◌, ◌⊎◌, ℕ, zero, suc, ◌<◌, ◌≤◌, inl, inr, List, [], ◌∷◌, ◌++◌, length, length-append, refl, sym, ap, subst, ◌∙◌, arith}
 use Rattle.std.proofs.lemmas.Bool.{cases_eq}
 use Rattle.tree_shape.specs.Chains.{IsIn, AreDistinct}
 use Rattle.tree_shape.proofs.Runs.{split_at}
 use Rattle.tree_shape.proofs.Members.{in_append_left, in_append_right, in_append_cases, not_in_apart, not_in_from}
 
+-- what is left without one of different numbers: different ones, and not that
 without : (n : ℕ) (front back : List ℕ) → AreDistinct (front ++ n ∷ back) → AreDistinct (front ++ back) × ((c : ℕ) → IsIn c (front ++ back) → c ≢ n)
 without n [] back d = (d.1, λ c i same. not_in_apart n c back d.0 i (sym same))
 without n (x ∷ xs) back d =
@@ -19,6 +20,7 @@ without n (x ∷ xs) back d =
     widen : (c : ℕ) → IsIn c (xs ++ back) → IsIn c (xs ++ n ∷ back)
     widen c i = elim (in_append_cases c xs back i) [ inl l ↦ in_append_left c xs (n ∷ back) l | inr r ↦ in_append_right c xs (n ∷ back) (inr r) ]
 
+-- a number is one of these, or none of them
 pub is_in_or : (n : ℕ) (xs : List ℕ) → IsIn n xs ⊎ ((c : ℕ) → IsIn c xs → c ≢ n)
 is_in_or n [] = inr (λ c i. absurd i)
 is_in_or n (x ∷ xs) = elim (cases_eq n x) [
@@ -30,7 +32,7 @@ is_in_or n (x ∷ xs) = elim (cases_eq n x) [
 ]
 
 -- a list of different numbers below a bound is no longer than that
-few_below : (n : ℕ) (xs : List ℕ) → AreDistinct xs → ((c : ℕ) → IsIn c xs → c < n) → length xs ≤ n
+pub few_below : (n : ℕ) (xs : List ℕ) → AreDistinct xs → ((c : ℕ) → IsIn c xs → c < n) → length xs ≤ n
 few_below zero [] d below = omega arith
 few_below zero (x ∷ xs) d below = absurd (let lt = below x (inl refl) in omega arith)
 few_below (suc n) xs d below = elim (is_in_or n xs) [
