@@ -7,6 +7,7 @@ pub mod Scripts
 pub mod Newlines
 pub mod Workers
 pub mod JobsRead
+pub mod Finished
 pub mod Fresh
 pub mod Opened
 pub mod Printed

@@ -1,35 +1,51 @@
 -- What a run of jobs prints, and what that means.
-use Rattle.std.specs.Prelude.{◌≡◌, ℕ, Option, List, [], ◌∷◌, ◌++◌, IfSome, length, slice_get, ⊤}
+use Rattle.std.specs.Prelude.{◌≡◌, ℕ, Option, List, [], ◌∷◌, ◌++◌, ⊤}
 use Rattle.std.specs.Io.KnownBytes.{Appends}
+use Rattle.index_model.specs.declared.dead_rows.DeadRows.{Ghosts as SetGhosts}
+use Rattle.page_action.specs.declared.page_store.PageStore.{Ghosts}
+use Rattle.schedule.specs.declared.event.Event.TheVariants.{Checkpoint}
+use Rattle.session_calls.specs.declared.answer.Answer.{Answer}
+use Rattle.session_calls.specs.declared.answer.Answer.TheVariants.{Refused as NotMade}
+use Rattle.sessions.specs.Doing.{IsDone}
+use Rattle.sessions.specs.Finishing.{IsFinished}
+use Rattle.sessions.specs.declared.job.Job.{Job}
+use Rattle.sessions.specs.declared.outcome.Finished.{Finished}
+use Rattle.world.specs.Worlds.{inside}
+use Rattle.world.specs.declared.world.World.{World}
 use Rattle.command_line.specs.Printing.{answer_text}
 use Rattle.command_line.specs.Receipts.{run_text}
 use Rattle.command_line.specs.declared.end.End.{End}
 use Rattle.command_line.specs.declared.end.End.TheVariants.{Done, Damaged, Said, Refused}
-use Rattle.schedule.specs.Events.{AnswersUpkeep}
-use Rattle.schedule.specs.TheoremKinds.{Checkpoints}
-use Rattle.session_calls.specs.declared.answer.Answer.{Answer}
-use Rattle.sessions.specs.Finishing.{IsReceiptFor, records_of}
-use Rattle.sessions.specs.declared.job.Job.{Job}
-use Rattle.sessions.specs.declared.outcome.Receipt.{Receipt}
-use Rattle.sessions.specs.declared.record.Record.{Record}
 
--- what was printed is what these jobs did, and what a checkpoint behind them answered
-pub record PrintsHistory (history : List Record) (receipts : List Receipt) (calls : List ℕ) (old new : Option (List ℕ)) : Type 0 where
+-- the line of the checkpoint behind a run; a refusal of it is told elsewhere
+abbrev pub last_text : Answer → List ℕ
+last_text (NotMade fault) = []
+last_text answer = answer_text answer ++ 10 ∷ []
+
+-- how a run ends whose checkpoint answered so
+abbrev pub end_behind : Answer → End
+end_behind (NotMade fault) = Refused fault
+end_behind answer = Done
+
+-- A checkpoint has followed a run that is done, and left this world. What was printed is that run: each job's record, by the jobs'
+-- numbers, and how many each worker has; and what the checkpoint answered.
+pub record PrintsDone {S T : Type 0} (g : Ghosts S) (rows : SetGhosts T) (done : Finished S T) (after : World S T) (old new : Option (List ℕ)) (end : End) : Type 0 where
   pub answer : Answer
-  pub checkpointed : AnswersUpkeep Checkpoints answer
-  pub printed : Appends old new (run_text history receipts calls ++ (answer_text answer ++ 10 ∷ []))
+  pub checkpointed : IsDone g Checkpoint answer (inside rows done.world) (inside rows after)
+  pub printed : Appends old new (run_text done.history.items done.receipts.items done.calls.items ++ last_text answer)
+  pub end_is : end ≡ end_behind answer
 
--- what was printed is a run of these jobs by so many workers: a record of each job, by the jobs' numbers, and how many each worker has
-pub record PrintsRun (jobs : List Job) (workers : ℕ) (old new : Option (List ℕ)) : Type 0 where
-  pub history : List Record
-  pub receipts : List Receipt
-  pub calls : List ℕ
-  pub all : length history ≡ length jobs
-  pub receipts_are : length receipts ≡ length jobs
-  pub each : (job : ℕ) → IfSome (slice_get receipts job) (IsReceiptFor history job)
-  pub workers_are : length calls ≡ workers
-  pub counted : (worker : ℕ) → IfSome (slice_get calls worker) (λ n. n ≡ records_of worker history)
-  pub printed : PrintsHistory history receipts calls old new
+-- ... which was a run of these jobs by so many workers on the world before: so its records are those of calls that this world had since
+pub record PrintsRun {S T : Type 0} (g : Ghosts S) (rows : SetGhosts T) (jobs : List Job) (workers : ℕ) (before after : World S T) (old new : Option (List ℕ)) (end : End) : Type 0 where
+  pub done : Finished S T
+  pub ran : IsFinished g rows jobs workers before done
+  pub prints : PrintsDone g rows done after old new end
+
+-- ... on some world
+pub record PrintsSomeRun {S T : Type 0} (g : Ghosts S) (rows : SetGhosts T) (jobs : List Job) (workers : ℕ) (old new : Option (List ℕ)) (end : End) : Type 0 where
+  pub before : World S T
+  pub after : World S T
+  pub prints : PrintsRun g rows jobs workers before after old new end
 
 -- all was done, what was wrong is said, or a refusal is to be said
 abbrev pub IsRunEnd : End → Type 0

@@ -34,4 +34,5 @@ pub use end::End;
 pub use job_file::{JobFile, JobFileError, read_jobs};
 pub use job_line::{JobLine, parse_job};
 pub use line::{Crash, Line, LineError, Rows, parse};
+pub use running::{Ran, run_world};
 pub use streams::execute;

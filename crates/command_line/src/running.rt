@@ -1,8 +1,11 @@
 //! The command that runs the jobs of a file over the index in another.
 
-ghost use Rattle.std.specs.Prelude.{◌≡◌, Ok, IfOk};
+ghost use Rattle.std.specs.Prelude.{◌≡◌, ◌++◌, Ok, IfErr, IfOk, OnErr, OnOk};
+ghost use Rattle.std.specs.Io.KnownBytes.{Appends};
+ghost use Rattle.sessions.specs.Finishing.{IsRefusedFor};
 ghost use Rattle.command_line.specs.Listing.{IsDoneOrRefused};
-ghost use Rattle.command_line.specs.Running.{IsRunEnd, PrintsHistory, PrintsRun};
+ghost use Rattle.command_line.specs.Receipts.{run_text};
+ghost use Rattle.command_line.specs.Running.{IsRunEnd, PrintsDone, PrintsRun, PrintsSomeRun, end_behind, last_text};
 
 use crate::answer::print_answer;
 use crate::dead::DeadList;
@@ -11,11 +14,12 @@ use crate::job_file::{JobFile, JobFileError, read_jobs};
 use crate::receipts::print_run;
 use crate::refusal::print_no_job;
 use device::{FileDevice, Unknown};
-use index_model::Fault;
+use index_model::{DeadRows, Fault};
+use page_action::PageStore;
 use page_store::Store;
 use schedule::Event;
 use session_calls::Answer;
-use sessions::{Finished, NoGate, run_jobs};
+use sessions::{Finished, Job, NoGate, NotRun, Receipt, Record, run_jobs};
 use std::alloc::Global;
 use std::fs::File;
 use std::io::{self, Read, Write};
@@ -80,7 +84,8 @@ fn run_file<R: Files<File = File> + Threads + Wait + Sync, W: Write>(
 ) -> io::Result<End>
     ensures ends { IfOk result IsDoneOrRefused }
     ensures printed { result ≡ Ok End.Done
-        → PrintsRun file.jobs.items asked.now.workers (W.contents out.old) (W.contents out.new) }
+        → PrintsSomeRun ⟦<Store<FileDevice<Unknown>> as PageStore>⟧ ⟦<DeadList as DeadRows>⟧
+        file.jobs.items asked.now.workers (W.contents out.old) (W.contents out.new) End.Done }
 {
     let device = match FileDevice::<Unknown>::open(rt, asked.path) {
         Ok(device) => device,
@@ -91,20 +96,60 @@ fn run_file<R: Files<File = File> + Threads + Wait + Sync, W: Write>(
         Ok(world) => world,
         Err(not_opened) => return Ok(End::Refused(not_opened.fault)),
     };
-    match run_jobs(rt, alloc, world, jobs.as_slice(), asked.workers, &NoGate) {
-        Ok(finished) => finish(finished, out),
+    match run_world(rt, alloc, world, jobs.as_slice(), asked.workers, out) {
+        Ok(ran) => ran.end,
         Err(not_run) => Ok(End::Refused(not_run.fault)),
     }
 }
 
-// Makes a checkpoint, and prints what was done.
-fn finish<W: Write>(
-    finished: Finished<Store<FileDevice<Unknown>>, DeadList>,
+/// What a run of jobs leaves: the world, and how the command ends.
+#[derive(Drop)]
+pub struct Ran<S, T> {
+    pub world: World<S, T>,
+    pub end: io::Result<End>,
+}
+
+/// Runs these jobs on the world, as `run_jobs` does, makes a checkpoint, and prints the record of each job, what each worker did, and
+/// the checkpoint's answer. It ends with the refusal of the checkpoint, if that is refused: it comes behind what is printed of the
+/// jobs. Waits for the workers.
+///
+/// Refused as `run_jobs` is, with the world as it was: nothing is run or printed then.
+pub fn run_world<
+    S: PageStore + Drop + Send,
+    T: DeadRows + Drop + Send,
+    R: Threads + Wait + Sync,
+    W: Write,
+>(
+    rt: &R,
+    alloc: Global,
+    world: World<S, T>,
+    jobs: &[Job],
+    workers: u32,
     out: &mut W,
-) -> io::Result<End>
-    ensures ends { IfOk result IsDoneOrRefused }
-    ensures printed { result ≡ Ok End.Done → PrintsHistory finished.history.items
-        finished.receipts.items finished.calls.items (W.contents out.old) (W.contents out.new) }
+) -> Result<Ran<S, T>, NotRun<S, T>>
+    ensures given_back { IfErr result (λ not_run. not_run.world ≡ world) }
+    ensures refused { IfErr result (λ not_run.
+        IsRefusedFor not_run.fault world.calls.slots.items jobs.now workers) }
+    ensures silent { OnErr result (W.contents out.new ≡ W.contents out.old) }
+    ensures ends { IfOk result (λ ran. IfOk ran.end IsDoneOrRefused) }
+    ensures printed { IfOk result (λ ran. IfOk ran.end
+        (PrintsRun S.PageStore T.DeadRows jobs.now workers world ran.world
+        (W.contents out.old) (W.contents out.new))) }
+{
+    match run_jobs(rt, alloc, world, jobs, workers, &NoGate) {
+        Ok(finished) => Ok(finish(finished, out)),
+        Err(not_run) => Err(not_run),
+    }
+}
+
+// Makes a checkpoint, and prints what was done.
+fn finish<S: PageStore, T: DeadRows + Drop, W: Write>(
+    finished: Finished<S, T>,
+    out: &mut W,
+) -> Ran<S, T>
+    ensures ends { IfOk result.end IsDoneOrRefused }
+    ensures printed { IfOk result.end (PrintsDone S.PageStore T.DeadRows finished result.world
+        (W.contents out.old) (W.contents out.new)) }
 {
     let Finished {
         mut world,
@@ -114,16 +159,34 @@ fn finish<W: Write>(
         calls,
     } = finished;
     let answer = world.one(Event::Checkpoint);
-    print_run(
+    let end = print_done(
         out,
         history.as_slice(),
         receipts.as_slice(),
         calls.as_slice(),
-    )?;
+        &answer,
+    );
+    Ran { world, end }
+}
+
+// Prints what was done, and what the checkpoint behind it answered, if it wasn't refused.
+fn print_done<W: Write>(
+    out: &mut W,
+    history: &[Record],
+    receipts: &[Receipt],
+    calls: &[u64],
+    answer: &Answer,
+) -> io::Result<End>
+    ensures ends { IfOk result IsDoneOrRefused }
+    ensures end { IfOk result (λ end. end ≡ end_behind answer.now) }
+    ensures printed { OnOk result (Appends (W.contents out.old) (W.contents out.new)
+        (run_text history.now receipts.now calls.now ++ last_text answer.now)) }
+{
+    print_run(out, history, receipts, calls)?;
     match answer {
-        Answer::Refused(fault) => Ok(End::Refused(fault)),
+        Answer::Refused(fault) => Ok(End::Refused(*fault)),
         _ => {
-            print_answer(out, &answer)?;
+            print_answer(out, answer)?;
             Ok(End::Done)
         }
     }

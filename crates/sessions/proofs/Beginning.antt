@@ -1,20 +1,23 @@
 -- What the beginning of a job under the lock leaves of what is kept.
-use Rattle.std.proofs.Common.{◌≡◌, ◌⊎◌, Bool, true, ℕ, suc, ◌<◌, ◌≤◌, List, [], ◌∷◌, ◌++◌, length, Option, Some, None, slice_get, slice_set, vec_capacity, refl, sym, ap, ◌∙◌, subst, inl, inr, arith}
+use Rattle.std.proofs.Common.{◌≡◌, ◌⊎◌, Bool, true, false, ℕ, suc, ◌<◌, ◌≤◌, List, [], ◌∷◌, ◌++◌, length, Option, Some, None, slice_get, slice_set, vec_capacity, refl, sym, ap, ◌∙◌, subst, inl, inr, arith}
 use Rattle.index_model.specs.Actions.{Action}
 use Rattle.index_model.specs.Calls.{Call}
+use Rattle.index_model.specs.Faults.{HasCause}
 use Rattle.index_model.specs.declared.entry.Entry.{Entry}
 use Rattle.index_model.specs.declared.fault.Fault.{Fault}
+use Rattle.index_model.specs.declared.fault.Fault.TheVariants.{Blocked}
 use Rattle.page_action.specs.States.{Continues, IsLater}
 use Rattle.page_action.specs.declared.page_store.PageStore.{Ghosts}
-use Rattle.session_calls.specs.TheoremCalls.{asked_by}
-use Rattle.session_calls.specs.Slots.{has_call, slot_has_call}
+use Rattle.session_calls.specs.Ops.{IsCaused}
+use Rattle.session_calls.specs.TheoremCalls.{DeadSets, asked_by}
+use Rattle.session_calls.specs.Slots.{has_call, one_vacuums, slot_has_call}
 use Rattle.session_calls.specs.declared.answer.Answer.{Answer}
 use Rattle.session_calls.specs.declared.answer.Answer.TheVariants.{Begun, Forced, Checkpointed, Refused}
 use Rattle.session_calls.specs.declared.op.Op.{Op}
 use Rattle.session_calls.specs.declared.request.Request.{Request}
 use Rattle.session_calls.specs.declared.request.Request.TheVariants.{Insert as ToInsert, Scan as ToScan, Bulk as ToBulk, Cleanup as ToCleanup}
 use Rattle.schedule.specs.CallLists.{RefusedCallsFit}
-use Rattle.schedule.specs.Events.{AnswersEvent, AnswersBeginning, EventAlways, UpkeepIsDone, Stays, kept_answer}
+use Rattle.schedule.specs.Events.{AnswersEvent, AnswersBeginning, EventAlways, UpkeepIsDone, Stays, kept_answer, where_begun_at}
 use Rattle.schedule.specs.Making.{EventDoes}
 use Rattle.schedule.specs.TheoremCrashes.{KeepsHistory}
 use Rattle.schedule.specs.TheoremKinds.{Upkeep, Forces, Flushes, Checkpoints, Kind, BeginsCall, KeepsStore, kind_of}
@@ -30,7 +33,7 @@ use Rattle.sessions.specs.declared.job.Job.TheVariants.{Insert, Scan, Bulk, Clea
 use Rattle.sessions.specs.declared.record.Record.{Record}
 use Rattle.sessions.specs.declared.record.Pending.{Pending}
 use Rattle.sessions.specs.Jobs.{request_of, upkeep_of, begins, IsRoomOf}
-use Rattle.sessions.specs.Kept.{Keeps, KeepsAll, record_of}
+use Rattle.sessions.specs.Kept.{IsBlocked, Keeps, KeepsAll, record_of}
 use Rattle.sessions.proofs.Noting.{set_same, busy_is, OthersRunOn}
 use Rattle.sessions.proofs.Happening.{keeps_begun, keeps_refused, keeps_upkept}
 
@@ -58,6 +61,13 @@ refused_of : (a : Answer) → AnswersBeginning a → (a ≡ Begun → ⊥) → (
 refused_of Begun h n = absurd (n refl)
 refused_of (Refused fault) h n = (fault, refl)
 refused_of a h n = absurd h
+
+-- no beginning is blocked
+begins_settled : {S : Type 0} (g : Ghosts S) (store : S) (vacuums : Bool) (sets : DeadSets) (request : Request) (slot : Option (Option Op)) (fault : Fault) → HasCause (where_begun_at g store vacuums sets request slot) fault
+    → IsBlocked (Refused fault) → ⊥
+begins_settled g store vacuums sets request None (Blocked block) cause h = absurd (let no : false ≡ true = cause in cc)
+begins_settled g store vacuums sets request (Some slot) (Blocked block) cause h = absurd (let no : false ≡ true = cause in cc)
+begins_settled g store vacuums sets request slot fault cause h = h
 
 upkeep_not_begun : (upkeep : Upkeep) (old new : List (Option Op)) → AnswersEvent (KeepsStore upkeep) Begun old new → ⊥
 upkeep_not_begun Forces old new h = h
@@ -127,6 +137,8 @@ module _ {S : Type 0} (g : Ghosts S) (laws : Laws g) (jobs : List Job) (stood ke
           let keeps = λ (h : KeepsHistory g contents was). subst (λ (m : Snapshot S). KeepsHistory g contents m) (λ i. snapshot_of v (t.silent.history_is i) (t.silent.calls_is i)) (r.goes.crash h).keeps in
           subst (λ (x : Answer). Keeps g jobs contents acts calls (kept_then contents acts calls) v start (slice_set pending s None) (records ++ record_of s p x p.from ∷ [])) (sym f.1)
           (keeps_refused g jobs contents acts calls (kept_then contents acts calls) w v sets start pending records k later.durable s p job a.request f.0 idle is a.asks (from ∙ k.fit.explains.count) seen given
+          (begins_settled g w.store (one_vacuums w.slots) w.sets a.request (slice_get w.slots s) f.0
+          (subst (λ (x : Answer). IsCaused (where_begun_at g w.store (one_vacuums w.slots) w.sets a.request (slice_get w.slots s)) x) f.1 (subst (λ (kd : Kind). EventAlways g kd answer w v) a.kind always).causes))
           (law contents (snapshot_of v k.history k.calls) s (asked_by w.sets a.request) f.0 fits within t.not_exists)
           (λ h. (let kept = keeps h in record { own = kept.own; parts = kept.parts; durable = kept.durable })))
       by (inr a) =

@@ -21,7 +21,7 @@ use Rattle.sessions.specs.declared.job.Job.TheVariants.{Scan}
 use Rattle.sessions.specs.declared.record.Record.{Record}
 use Rattle.sessions.specs.declared.record.Pending.{Pending}
 use Rattle.sessions.specs.Jobs.{request_of, upkeep_of, IsRoomOf, IsWithin, IsFull}
-use Rattle.sessions.specs.Kept.{RunsJob, IsSince, Follows, Keeps, record_of}
+use Rattle.sessions.specs.Kept.{RunsJob, IsBlocked, IsSince, Follows, Keeps, record_of}
 use Rattle.sessions.proofs.Keeping.{some_same, follows_now, old_fits, touches_next, touches_none, touches_running, keeps_on, keeps_with}
 use Rattle.sessions.proofs.Telling.{MovesOnTo, EndsTo}
 
@@ -78,10 +78,10 @@ module _ {S : Type 0} (g : Ghosts S) (jobs : List Job) (contents : Entry → Boo
       (λ q e. subst (λ (x : Pending). RunsJob v.sets jobs (length old) calls s x × IsSince records (length (k.history ++ [])) s x.seen x.from) (some_same e) (runs, since))
 
   -- a beginning is refused: its call ended where it began
-  pub keeps_refused : (job : Job) (request : Request) (fault : Fault) → slice_get pending s ≡ Some None → slice_get jobs p.job ≡ Some job → request_of job ≡ Some request → p.from ≡ length k.history → p.seen ≡ length records → p.given.items ≡ []
+  pub keeps_refused : (job : Job) (request : Request) (fault : Fault) → slice_get pending s ≡ Some None → slice_get jobs p.job ≡ Some job → request_of job ≡ Some request → p.from ≡ length k.history → p.seen ≡ length records → p.given.items ≡ [] → (IsBlocked (Refused fault) → ⊥)
       → Fits g contents (snapshot_of v k.history (k.calls ++ refused_call s (asked_by w.sets request) fault (length k.history) ∷ [])) → StaysSafe k.history (k.calls ++ refused_call s (asked_by w.sets request) fault (length k.history) ∷ [])
       → Then (slice_set pending s None) (records ++ record_of s p (Refused fault) p.from ∷ [])
-  keeps_refused job request fault idle is asks from seen given fit safe =
+  keeps_refused job request fault idle is asks from seen given settled fit safe =
       let c = refused_call s (asked_by w.sets request) fault (length k.history) in
       let i = length k.calls in
       let t = touches_next g jobs contents acts old KeptThen w v sets_same start pending records k s c idle fit safe less in
@@ -95,7 +95,7 @@ module _ {S : Type 0} (g : Ghosts S) (jobs : List Job) (contents : Entry → Boo
         job_is = is;
         asks = asks;
         found = get_last k.calls c;
-        is = record { ask_is = rw sets_same refl; session_is = refl; began_is = sym from; given_is = sym given; until_is = sym from; over = λ e. absurd cc; ends = inl refl };
+        is = record { ask_is = rw sets_same refl; session_is = refl; began_is = sym from; given_is = sym given; until_is = sym from; over = λ e. absurd cc; ends = inl refl; settled = settled };
         most = none_within job p.given.items given;
         cut = λ e. absurd cc;
       }))
@@ -175,6 +175,7 @@ module _ {S : Type 0} (g : Ghosts S) (jobs : List Job) (contents : Entry → Boo
           until_is = e.until_is ∙ sym to_is;
           over = e.over;
           ends = e.ends;
+          settled = e.settled;
         };
         most = within_room y.job p y.room;
         cut = cut;

@@ -2,14 +2,10 @@
 use Rattle.std.proofs.Common.{◌≡◌, ◌⊎◌, Bool, true, false, ℕ, List, [], ◌∷◌, ◌++◌, Option, Some, None, slice_get, slice_set, refl, ap, ◌∙◌, subst, inl, inr}
 use Rattle.index_model.specs.Actions.{Action}
 use Rattle.index_model.specs.Calls.{Call}
-use Rattle.index_model.specs.Faults.{HasCause}
 use Rattle.index_model.specs.declared.entry.Entry.{Entry}
-use Rattle.index_model.specs.declared.fault.Fault.{Fault}
-use Rattle.index_model.specs.declared.fault.Fault.TheVariants.{Blocked, NoSession}
-use Rattle.page_action.specs.Causes.{where_forced}
-use Rattle.page_action.specs.States.{Backing, Continues, IsLater}
+use Rattle.page_action.specs.States.{Continues, IsLater}
 use Rattle.page_action.specs.declared.page_store.PageStore.{Ghosts}
-use Rattle.session_calls.specs.Ops.{ends_call, is_last}
+use Rattle.session_calls.specs.Ops.{is_last}
 use Rattle.session_calls.specs.Sessions.{AnswersStep}
 use Rattle.session_calls.specs.declared.answer.Answer.{Answer}
 use Rattle.session_calls.specs.declared.answer.Answer.TheVariants.{Ended}
@@ -19,13 +15,13 @@ use Rattle.schedule.specs.CallLists.{OneCallRuns}
 use Rattle.schedule.specs.TheoremMoments.{StoreAndSlots, Snapshot, snapshot_of}
 use Rattle.schedule.proofs.Keeping.{Laws}
 use Rattle.whole_calls.specs.Going.{CallGoes}
-use Rattle.whole_calls.specs.OneStep.{cut_short, HasStepped, IsGivenUpFor, OneStepGoes}
+use Rattle.whole_calls.specs.OneStep.{HasStepped, IsGivenUpFor, OneStepGoes}
 use Rattle.sessions.specs.declared.job.Job.{Job}
 use Rattle.sessions.specs.declared.record.Record.{Record}
 use Rattle.sessions.specs.declared.record.Pending.{Pending}
 use Rattle.sessions.specs.Kept.{Keeps, KeepsAll, record_of}
 use Rattle.sessions.proofs.Noting.{set_same}
-use Rattle.sessions.proofs.Telling.{IsOfStep, MovesOnTo, EndsTo, step_on, step_last, step_cut}
+use Rattle.sessions.proofs.Telling.{IsOfStep, MovesOnTo, EndsTo, short_ends, step_on, step_last, step_cut}
 use Rattle.sessions.proofs.Happening.{keeps_going, keeps_ended}
 
 -- a step gives no call up by itself
@@ -41,16 +37,6 @@ steps_no_end before after answer h e = never before (subst (λ (a : Answer). Ans
 
 apart : (b : Bool) → b ≡ true → b ≡ false → ⊥
 apart b h k = absurd cc
-
--- a fault of a checkpoint ends a call, and so does the answer that tells it
-fault_ends : (old new : Backing) (fault : Fault) → HasCause (where_forced old new) fault → ends_call fault ≡ true
-fault_ends old new (Blocked block) h = absurd (apart false h refl)
-fault_ends old new NoSession h = absurd (apart false h refl)
-fault_ends old new fault h = refl
-
-short_ends : (old new : Backing) (added : Option ℕ) (fault : Fault) → HasCause (where_forced old new) fault → is_last (cut_short added fault) ≡ true
-short_ends old new None fault h = fault_ends old new fault h
-short_ends old new (Some action) fault h = refl
 
 module _ {S : Type 0} (g : Ghosts S) (laws : Laws g) (one : OneCallRuns g) (jobs : List Job) (stood kept_then : (Entry → Bool) → List Action → List Call → Type 0) (w v : StoreAndSlots S) (steps : Continues g.follows w.store v.store) (sets : v.sets ≡ w.sets)
     (start : ℕ) (pending : List (Option Pending)) (records : List Record) (s : ℕ) (p : Pending) (at : slice_get pending s ≡ Some (Some p)) (answer : Answer) (goes : CallGoes g s (OneStepGoes g s 5 answer) None w v)

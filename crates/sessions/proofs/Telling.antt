@@ -3,9 +3,14 @@ use Rattle.std.proofs.Common.{◌≡◌, ℕ, zero, suc, ◌+◌, Bool, true, fa
 use Rattle.std.proofs.lemmas.List.{append-nil}
 use Rattle.index_model.specs.Actions.{Action, Effect}
 use Rattle.index_model.specs.Calls.{Call, Running}
+use Rattle.index_model.specs.Faults.{HasCause}
 use Rattle.index_model.specs.declared.entry.Entry.{Entry}
+use Rattle.index_model.specs.declared.fault.Fault.{Fault}
+use Rattle.index_model.specs.declared.fault.Fault.TheVariants.{Blocked, NoSession}
+use Rattle.page_action.specs.Causes.{where_forced}
+use Rattle.page_action.specs.States.{Backing}
 use Rattle.page_action.specs.declared.page_store.PageStore.{Ghosts}
-use Rattle.session_calls.specs.Ops.{is_last}
+use Rattle.session_calls.specs.Ops.{ends_call, is_last}
 use Rattle.session_calls.specs.Sessions.{Told, AnswersStep, act_count}
 use Rattle.session_calls.specs.TheoremCalls.{acts_of}
 use Rattle.session_calls.specs.declared.answer.Answer.{Answer}
@@ -17,8 +22,8 @@ use Rattle.schedule.specs.Making.{EventDoes}
 use Rattle.schedule.specs.TheoremKinds.{Move, MovesCall}
 use Rattle.schedule.specs.TheoremMoments.{Snapshot, IsRunningCall}
 use Rattle.schedule.specs.TheoremRuns.{Fits}
-use Rattle.whole_calls.specs.OneStep.{HasStepped, IsGivenUpFor}
-use Rattle.sessions.specs.Kept.{ending_by, HasEndedBy}
+use Rattle.whole_calls.specs.OneStep.{cut_short, HasStepped, IsGivenUpFor}
+use Rattle.sessions.specs.Kept.{ending_by, HasEndedBy, IsBlocked}
 use Rattle.whole_calls.proofs.Tellings.{one_runs, runs_has_call}
 use Rattle.sessions.specs.Doing.{given_behind}
 use Rattle.sessions.proofs.Keeping.{AllBy}
@@ -104,11 +109,27 @@ pub record MovesOnTo {S : Type 0} (number : ℕ) (call : Call) (given : List Ent
   pub to : MovesTo number call given old new
   pub runs : to.after.ending ≡ call.ending
 
+-- the last answer of a call isn't that it is blocked
+pub last_settled : (answer : Answer) → is_last answer ≡ true → IsBlocked answer → ⊥
+last_settled (Refused (Blocked block)) last h = absurd cc
+last_settled answer last h = h
+
+-- a fault of a checkpoint ends a call, and so does the answer that tells it
+fault_ends : (old new : Backing) (fault : Fault) → HasCause (where_forced old new) fault → ends_call fault ≡ true
+fault_ends old new (Blocked block) h = absurd (let no : false ≡ true = h in cc)
+fault_ends old new NoSession h = absurd (let no : false ≡ true = h in cc)
+fault_ends old new fault h = refl
+
+pub short_ends : (old new : Backing) (added : Option ℕ) (fault : Fault) → HasCause (where_forced old new) fault → is_last (cut_short added fault) ≡ true
+short_ends old new None fault h = fault_ends old new fault h
+short_ends old new (Some action) fault h = refl
+
 -- ... and has ended with this answer
 pub record EndsTo {S : Type 0} (number : ℕ) (call : Call) (answer : Answer) (old new : Snapshot S) : Type 0 where
   pub to : MovesTo number call call.given old new
   pub over : to.after.ending ≡ Running → ⊥
   pub ends : HasEndedBy answer to.after
+  pub settled : IsBlocked answer → ⊥
   pub until_is : to.after.until ≡ length new.history
 
 -- the running call of this number has moved with an action of this effect or none, and is told so
@@ -162,6 +183,7 @@ moved_last number call answer old new last h =
       to = record { more = acts_of number h.effect; own = by_call number h.effect; after = h.after; history_is = h.history_is; calls_is = h.calls_is; still = t.0 };
       over = λ runs. ends_last answer last (sym t.1 ∙ runs);
       ends = inl t.1;
+      settled = last_settled answer last;
       until_is = t.2 ∙ sym long;
     }
   where
@@ -190,5 +212,6 @@ step_cut g number call answer old new h = record {
   };
   over = λ e. absurd cc;
   ends = inr (record { fault = h.fault; told = h.answer_is; ending = refl });
+  settled = last_settled answer (ap is_last h.answer_is ∙ short_ends (g.backing old.store) (g.backing new.store) call.added h.fault h.cause);
   until_is = ap (λ (l : List Action). length l) (sym h.history_is);
 }

@@ -5,6 +5,7 @@ use Rattle.index_model.specs.Actions.{Action}
 use Rattle.index_model.specs.Calls.{Ask, Ending, Running, Added as EndsAdded, Finished as EndsFinished, Vacuumed, GivenUp, Failed, Call}
 use Rattle.index_model.specs.declared.entry.Entry.{Entry}
 use Rattle.index_model.specs.declared.fault.Fault.{Fault}
+use Rattle.index_model.specs.declared.fault.Fault.TheVariants.{Blocked}
 use Rattle.page_action.specs.declared.page_store.PageStore.{Ghosts}
 use Rattle.session_calls.specs.TheoremCalls.{DeadSets, asked_by}
 use Rattle.session_calls.specs.Slots.{has_call}
@@ -42,6 +43,11 @@ pub record WasCutShort (answer : Answer) (call : Call) : Type 0 where
   pub told : answer ≡ cut_short call.added fault
   pub ending : call.ending ≡ GivenUp
 
+-- what an answer tells that is blocked
+abbrev pub IsBlocked : Answer → Type 0
+IsBlocked (Refused (Blocked block)) = Unit {0}
+IsBlocked answer = ⊥
+
 -- how a call has ended whose last answer was this
 abbrev pub HasEndedBy : Answer → Call → Type 0
 HasEndedBy answer call = (call.ending ≡ ending_by answer) ⊎ WasCutShort answer call
@@ -55,6 +61,8 @@ pub record IsCallOf (ask : Ask) (r : Record) (call : Call) : Type 0 where
   pub until_is : call.until ≡ r.to
   pub over : call.ending ≡ Running → ⊥
   pub ends : HasEndedBy r.answer call
+  -- one that is blocked goes on, and isn't recorded for it
+  pub settled : IsBlocked r.answer → ⊥
 
 -- the record at a place lists a call, which was asked the record's job; a scan gave no more than its room holds, and was ended by its
 -- worker only where that was full
