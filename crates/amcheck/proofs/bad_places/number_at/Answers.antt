@@ -7,7 +7,7 @@ use Rattle.amcheck.specs.Stops.{IsLeastNumber, IsWrong, spot_at}
 use Rattle.amcheck.specs.WrongSketches.{IsWrongSketch}
 use Rattle.amcheck.proofs.Beyond.{least_told}
 use Rattle.amcheck.proofs.Found.{no_stop, least_where}
-use Rattle.amcheck.proofs.Kept.{page_there}
+use Rattle.damages.proofs.Fitting.{page_there}
 use Rattle.amcheck.specs.declared.stops.Stop.{Stop}
 use Rattle.amcheck.proofs.bad_places.number_at.Goals.{Start}
 use Rattle.amcheck.proofs.bad_places.number_at.Goals as goal

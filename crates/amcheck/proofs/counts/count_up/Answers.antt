@@ -1,7 +1,8 @@
 use Rattle.std.proofs.Common.{◌≡◌, ◌<◌, length, ap, ◌∙◌, arith}
 use Rattle.tree_shape.specs.Nodes.{Node, node_of, node_from, nodes_of}
 use Rattle.amcheck.specs.Reports.{entry_count, one_if_half_dead, one_if_deleted, one_if_flagged}
-use Rattle.amcheck.proofs.Kept.{page_there, total_drop, one_half_dead, one_deleted, one_flagged}
+use Rattle.damages.proofs.Fitting.{page_there}
+use Rattle.amcheck.proofs.Kept.{total_drop, one_half_dead, one_deleted, one_flagged}
 use Rattle.amcheck.proofs.counts.count_up.Goals as goal
 
 pub loop-block-preserved : goal.loop-block-preserved
