@@ -45,7 +45,10 @@ fn keys_in_order_at_each_byte(rt: HostRuntime) {
         assert!(rt; upper.compare(&lower) == Ordering::Greater, "byte {at}");
         let beginning = keyed(&low[..at], 9, 9);
         assert!(rt; beginning.compare(&lower) == Ordering::Less, "{at} bytes");
-        assert!(rt; lower.compare(&beginning) == Ordering::Greater, "{at} bytes");
+        assert!(rt;
+            lower.compare(&beginning) == Ordering::Greater,
+            "{at} bytes"
+        );
     }
 }
 
