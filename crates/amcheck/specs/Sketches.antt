@@ -9,6 +9,7 @@ use Rattle.tree_shape.specs.Nodes.{Node, node_of, node_from}
 use Rattle.amcheck.specs.Reports.{entry_count}
 use Rattle.amcheck.specs.declared.sketches.Sketch.{Sketch}
 
+-- the bound of the second of these downlinks, if there are two and it has one
 abbrev pub second_bound : List Downlink → Option Bound
 second_bound [] = None
 second_bound (i ∷ []) = None

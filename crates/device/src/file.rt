@@ -34,8 +34,8 @@ impl Start for Unknown {
 }
 
 /// A file, which held what `S` says when it was opened. The file's lock is held as long as this value stands, so that no
-/// other one stands for the same file, in this process or another. After a failed write or sync each call answers `Io`, as what the file
-/// holds then is not known: a later sync must not make it look firm.
+/// other one stands for the same file, in this process or another. After a failed write or sync each call answers `Io`, as
+/// what the file holds then is not known: a later sync must not make it look firm.
 #[derive(Drop)]
 pub struct FileDevice<S: Start> {
     file: File,

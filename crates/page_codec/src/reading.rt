@@ -65,7 +65,8 @@ fn key_at(bytes: &[u8]) -> Option<Key>
 fn row_at(bytes: &[u8]) -> Option<RowAddr>
     requires { 6 ≤ length bytes.now }
     ensures found { IfSome result (λ r. IsRow r × Begins (row_bytes (Some r)) bytes.now) }
-    ensures only { (r : Row) → IsRow r → Begins (row_bytes (Some r)) bytes.now → result ≡ Some r }
+    ensures only { (r : Row) → IsRow r → Begins (row_bytes (Some r)) bytes.now
+        → result ≡ Some r }
 {
     let block = u32_at(bytes, 0);
     let offset = u16_at(bytes, 4);
@@ -199,7 +200,8 @@ fn state(byte: u8) -> Option<PageState>
 
 // The link that a number is.
 fn link(number: u32) -> Option<u32>
-    ensures { (link : Option ℕ) → IfSome link IsBlock → number ≡ link_number link → result ≡ link }
+    ensures { (link : Option ℕ) → IfSome link IsBlock → number ≡ link_number link
+        → result ≡ link }
 {
     if number == u32::MAX {
         None
