@@ -5,3 +5,4 @@ pub mod Putting
 pub mod Noting
 pub mod Apart
 pub mod Sound
+pub mod Waiting

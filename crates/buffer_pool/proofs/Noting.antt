@@ -6,11 +6,12 @@ use Rattle.std.proofs.lemmas.Bool.{cases_lt, cases_Bool, ltb-true, ltb-false, le
 use Rattle.std.proofs.lemmas.List.{length-map, map-set, set-get_or, take-append-drop, get_or-take, get_or-drop, get_or_default, length-take, length-drop}
 use Rattle.std.proofs.lemmas.List.Folds.{list_any-append, Any-from_list_any}
 use Rattle.page_codec.specs.declared.page.Page.{Page}
+use Rattle.buffer_pool.specs.Orders.{waiting_in}
 use Rattle.buffer_pool.specs.declared.pool.Pool.{Pool}
 use Rattle.buffer_pool.specs.Frames.{blocks_in, has_block, AreApart, frame_in, act_in, AreChanged}
-use Rattle.buffer_pool.specs.Pools.{most_of, reach_of, count_of, page_at, frame_of, held_page, act_of, changed_of, HasSamePages, IsChanged, IsWritten, AreWritten}
-use Rattle.buffer_pool.proofs.Placing.{as_frame, frame_is}
-use Rattle.buffer_pool.proofs.Changing.{frame_cases, act_at, act_none, act_same, act_other, changed_first, changed_again, changed_act, count_short, has_block-at}
+use Rattle.buffer_pool.specs.Pools.{most_of, reach_of, count_of, page_at, frame_of, held_page, act_of, changed_of, HasSamePages, HasSameChanges, IsChanged, IsWritten, AreWritten}
+use Rattle.buffer_pool.proofs.Placing.{placed_within, as_frame, frame_is}
+use Rattle.buffer_pool.proofs.Changing.{frame_cases, act_at, act_none, act_same, act_other, changed_first, changed_again, changed_act, has_block-at}
 use Rattle.buffer_pool.proofs.Lists.{slice_get-set_same, slice_get-set_other}
 use Rattle.buffer_pool.proofs.Putting.{held_at, place_from, same_frame, same_page}
 
@@ -20,6 +21,10 @@ frame_some (Some at) h = (at, refl)
 
 pub frame_within : (pool : Pool) (block at : ℕ) → frame_of pool block ≡ Some at → at < length pool.pages.items
 frame_within pool block at is = omega (arith, pool.placed.within block at (place_from pool block at is), length-map pool.pages.items (λ (p : Page). p.block))
+
+-- a block with a frame is below the reach
+pub frame_below : (pool : Pool) (block at : ℕ) → frame_of pool block ≡ Some at → block < length pool.places.items
+frame_below pool block at is = placed_within pool.places.items block at (place_from pool block at is)
 
 pub block_there : (pool : Pool) (block at : ℕ) → frame_of pool block ≡ Some at → get_or (blocks_in pool.pages.items) at 0 ≡ block
 block_there pool block at is = pool.placed.same block at (place_from pool block at is)
@@ -36,17 +41,17 @@ unfolding frame_of
 frame_back pool block at is = is
 
 -- a changed block is held
-pub changed_held : (pool : Pool) (block : ℕ) → has_block pool.changed.items block ≡ true → IsSome (frame_of pool block)
+pub changed_held : (pool : Pool) (block : ℕ) → has_block (waiting_in pool.changed) block ≡ true → IsSome (frame_of pool block)
 unfolding frame_of
 changed_held pool block is =
     let blocks = blocks_in pool.pages.items in
     elim (frame_cases (frame_in blocks block)) [
-      | inl e ↦ absurd (omega (arith, changed_act pool.changed.items blocks pool.acts.items block pool.ordered is, act_none blocks pool.acts.items block e))
+      | inl e ↦ absurd (omega (arith, changed_act (waiting_in pool.changed) blocks pool.acts.items block pool.ordered is, act_none blocks pool.acts.items block e))
       | inr p ↦ ap {B = Bool} (λ (o : Option ℕ). is_some o) p.1
     ]
 
 -- and has a place
-pub changed_placed : (pool : Pool) (block : ℕ) → has_block pool.changed.items block ≡ true → (0 < get_or pool.places.items block 0) × (get_or pool.places.items block 0 ≤ length pool.acts.items)
+pub changed_placed : (pool : Pool) (block : ℕ) → has_block (waiting_in pool.changed) block ≡ true → (0 < get_or pool.places.items block 0) × (get_or pool.places.items block 0 ≤ length pool.acts.items)
 changed_placed pool block is =
     let at = frame_some (frame_of pool block) (changed_held pool block is) in
     let place = place_from pool block at.0 at.1 in
@@ -57,13 +62,9 @@ pub held_act : (pool : Pool) (block at : ℕ) → frame_of pool block ≡ Some a
 unfolding act_of frame_of
 held_act pool block at is = act_at (blocks_in pool.pages.items) pool.acts.items block at is
 
-pub changed_some : (pool : Pool) (block : ℕ) → has_block pool.changed.items block ≡ true → 0 < act_of pool block
+pub changed_some : (pool : Pool) (block : ℕ) → has_block (waiting_in pool.changed) block ≡ true → 0 < act_of pool block
 unfolding act_of
-changed_some pool block is = changed_act pool.changed.items (blocks_in pool.pages.items) pool.acts.items block pool.ordered is
-
--- where a clean page is held, there is room for one changed page more
-pub change_fits : (pool : Pool) (at : ℕ) → at < length pool.pages.items → get_or pool.acts.items at 0 ≡ 0 → length pool.changed.items < pool.most
-change_fits pool at less clean = omega (arith, pool.ordered.counted, pool.few, pool.many_acts, count_short pool.acts.items at (omega (arith, less, pool.many_acts)) clean)
+changed_some pool block is = changed_act (waiting_in pool.changed) (blocks_in pool.pages.items) pool.acts.items block pool.ordered is
 
 -- a page of the same block leaves the blocks of the frames as they were
 pub same_blocks : (pages : List Page) (at : ℕ) (page : Page) → get_or (blocks_in pages) at 0 ≡ page.block → blocks_in (set pages at page) ≡ blocks_in pages
@@ -96,10 +97,24 @@ same_pages old new most pages places = record {
   held = λ block. ap (λ (ps : List Page). option_and_then (slice_get ps) (frame_in (blocks_in ps) block)) pages;
 }
 
+-- what is the same twice is the same
+pub pages_both : (a b c : Pool) → HasSamePages a b → HasSamePages b c → HasSamePages a c
+pages_both a b c f s = record {
+  most = s.most ∙ f.most;
+  reach = s.reach ∙ f.reach;
+  count = s.count ∙ f.count;
+  frames = λ at. s.frames at ∙ f.frames at;
+  places = λ block. s.places block ∙ f.places block;
+  held = λ block. s.held block ∙ f.held block;
+}
+
+pub changes_both : (a b c : Pool) → HasSameChanges a b → HasSameChanges b c → HasSameChanges a c
+changes_both a b c f s = record { order = s.order ∙ f.order; acts = λ block. s.acts block ∙ f.acts block }
+
 -- a held page was changed by an act
 pub changed_is : (old new : Pool) (page : Page) (act at before : ℕ) → frame_of old page.block ≡ Some at → before ≡ get_or old.acts.items at 0 → 0 < act
     → new.most ≡ old.most → new.pages.items ≡ set old.pages.items at page → new.acts.items ≡ set old.acts.items at act → new.places.items ≡ old.places.items
-    → new.changed.items ≡ cond (ltb 0 before) old.changed.items (old.changed.items ++ page.block ∷ []) → IsChanged old new page act
+    → (waiting_in new.changed) ≡ cond (ltb 0 before) (waiting_in old.changed) ((waiting_in old.changed) ++ page.block ∷ []) → IsChanged old new page act
 unfolding most_of reach_of count_of page_at act_of changed_of
 changed_is old new page act at before is before_is some most pages acts places changed =
     let blocks = blocks_in old.pages.items in
@@ -109,7 +124,7 @@ changed_is old new page act at before is before_is some most pages acts places c
     let there : slice_get new.pages.items at ≡ Some page = ap (λ (ps : List Page). slice_get ps at) pages ∙ slice_get-set_same old.pages.items at page within in
     let same : blocks_in new.pages.items ≡ blocks = ap blocks_in pages ∙ same_blocks old.pages.items at page (block_there old page.block at is) in
     let now = λ (block : ℕ). ap (λ (bs : List ℕ). act_in bs new.acts.items block) same ∙ ap (λ (xs : List ℕ). act_in blocks xs block) acts in
-    let first : has_block old.changed.items page.block ≡ ltb 0 before = old.ordered.told page.block ∙ ap (ltb 0) (act_at blocks old.acts.items page.block at plain ∙ sym before_is) in
+    let first : has_block (waiting_in old.changed) page.block ≡ ltb 0 before = old.ordered.told page.block ∙ ap (ltb 0) (act_at blocks old.acts.items page.block at plain ∙ sym before_is) in
     record {
       most = most;
       reach = ap (λ (ps : List ℕ). length ps) places;
@@ -122,17 +137,17 @@ changed_is old new page act at before is before_is some most pages acts places c
       changed = now page.block ∙ act_same blocks old.acts.items page.block at act plain (omega (arith, within, old.many_acts));
       acts = λ block other. now block ∙ act_other blocks old.acts.items block at act
           (λ held. other (sym (block_there old block at (frame_back old block at held)) ∙ block_there old page.block at is));
-      order = changed ∙ ap (λ (t : Bool). cond t old.changed.items (old.changed.items ++ page.block ∷ [])) (sym first);
+      order = changed ∙ ap (λ (t : Bool). cond t (waiting_in old.changed) ((waiting_in old.changed) ++ page.block ∷ [])) (sym first);
     }
 
 -- one changed page was written
-pub written_is : (old new : Pool) (place at : ℕ) → place < length old.changed.items → frame_of old (get_or old.changed.items place 0) ≡ Some at
+pub written_is : (old new : Pool) (place at : ℕ) → place < length (waiting_in old.changed) → frame_of old (get_or (waiting_in old.changed) place 0) ≡ Some at
     → new.most ≡ old.most → new.pages.items ≡ old.pages.items → new.places.items ≡ old.places.items → new.acts.items ≡ set old.acts.items at 0
-    → new.changed.items ≡ remove old.changed.items place → IsWritten old new place
+    → (waiting_in new.changed) ≡ remove (waiting_in old.changed) place → IsWritten old new place
 unfolding act_of changed_of
 written_is old new place at less is most pages places acts changed =
     let blocks = blocks_in old.pages.items in
-    let block = get_or old.changed.items place 0 in
+    let block = get_or (waiting_in old.changed) place 0 in
     let now = λ (b : ℕ). ap (λ (ps : List Page). act_in (blocks_in ps) new.acts.items b) pages ∙ ap (λ (xs : List ℕ). act_in blocks xs b) acts in
     record {
       pages = same_pages old new most pages places;
@@ -175,7 +190,7 @@ either_act new old kept same =
 
 -- the first so many changed pages were written
 pub many_written : (old new : Pool) (count : ℕ) → new.most ≡ old.most → new.pages.items ≡ old.pages.items → new.places.items ≡ old.places.items
-    → new.changed.items ≡ drop count old.changed.items
+    → (waiting_in new.changed) ≡ drop count (waiting_in old.changed)
     → ((at : ℕ) → 0 < get_or new.acts.items at 0 → get_or new.acts.items at 0 ≡ get_or old.acts.items at 0) → AreWritten old new count
 unfolding act_of changed_of
 many_written old new count most pages places changed kept =
@@ -185,20 +200,20 @@ many_written old new count most pages places changed kept =
     record {
       pages = same_pages old new most pages places;
       order = changed;
-      written = λ b first. now b ∙ none_below (act_in blocks new.acts.items b) (sym (told b) ∙ take_drop_apart old.changed.items count b old.ordered.apart first);
+      written = λ b first. now b ∙ none_below (act_in blocks new.acts.items b) (sym (told b) ∙ take_drop_apart (waiting_in old.changed) count b old.ordered.apart first);
       others = λ b off. now b ∙ elim (frame_cases (frame_in blocks b)) [
         | inl e ↦ act_none blocks new.acts.items b e ∙ sym (act_none blocks old.acts.items b e)
         | inr p ↦
             act_at blocks new.acts.items b p.0 p.1
             ∙ (either_act (get_or new.acts.items p.0 0) (get_or old.acts.items p.0 0) (kept p.0)
-            (ap (ltb 0) (sym (act_at blocks new.acts.items b p.0 p.1)) ∙ (sym (told b) ∙ (behind_is old.changed.items count b off
+            (ap (ltb 0) (sym (act_at blocks new.acts.items b p.0 p.1)) ∙ (sym (told b) ∙ (behind_is (waiting_in old.changed) count b off
             ∙ (old.ordered.told b ∙ ap (ltb 0) (act_at blocks old.acts.items b p.0 p.1)))))
             ∙ sym (act_at blocks old.acts.items b p.0 p.1))
       ];
     }
 
 -- each of the first so many changed pages has a place
-pub first_placed : (pool : Pool) (count : ℕ) (changed : List ℕ) (k d : ℕ) → changed ≡ pool.changed.items → k < length (take count changed)
+pub first_placed : (pool : Pool) (count : ℕ) (changed : List ℕ) (k d : ℕ) → changed ≡ (waiting_in pool.changed) → k < length (take count changed)
     → (0 < get_or pool.places.items (get_or (take count changed) k d) 0) × (get_or pool.places.items (get_or (take count changed) k d) 0 ≤ length pool.acts.items)
 first_placed pool count changed k d is less =
     let same : get_or (take count changed) k d ≡ get_or changed k d = get_or-take count changed k d (omega (arith, less, length-take count changed)) in

@@ -5,6 +5,7 @@ use Rattle.std.proofs.lemmas.List.{get_or_push, get_or_append_left, length_push,
 use Rattle.std.proofs.lemmas.List.Sums.{sum_by_push}
 use Rattle.std.specs.List.{count_by}
 use Rattle.page_codec.specs.declared.page.Page.{Page}
+use Rattle.buffer_pool.specs.Orders.{waiting_in}
 use Rattle.buffer_pool.specs.declared.pool.Pool.{Pool}
 use Rattle.buffer_pool.specs.Frames.{blocks_in, act_in, ArePlaces, AreChanged}
 use Rattle.buffer_pool.specs.Pools.{most_of, reach_of, count_of, page_at, frame_of, held_page, act_of, changed_of, HasSameChanges, CanBeTaken, IsPut}
@@ -200,7 +201,7 @@ place_of_page pool at page less is =
     ∙ pool.placed.told at (omega (arith, less, length-map pool.pages.items (λ (p : Page). p.block)))
 
 -- the acts of each block stay, and so does all that is told of them
-pub same_changes : (old new : Pool) → new.changed.items ≡ old.changed.items
+pub same_changes : (old new : Pool) → (waiting_in new.changed) ≡ (waiting_in old.changed)
     → ((block : ℕ) → act_in (blocks_in new.pages.items) new.acts.items block ≡ act_in (blocks_in old.pages.items) old.acts.items block) → HasSameChanges old new
 unfolding changed_of act_of
 same_changes old new order acts = record { order = order; acts = acts }
@@ -235,11 +236,11 @@ module _ (pool : Pool) (at : ℕ) (was page : Page) (next : ℕ) (less : at < le
       ∙ given_acts pool.places.items blocks at page.block next pool.placed in_blocks (no_place_from pool page.block absent) within next_is
       pool.acts.items (taken_clean pool at taken less) block
 
-  pub replaced_changed : AreChanged pool.changed.items (blocks_in (set pool.pages.items at page)) pool.acts.items
-  replaced_changed = changed_stays pool.changed.items blocks pool.acts.items (blocks_in (set pool.pages.items at page)) pool.acts.items pool.ordered replaced_acts refl
+  pub replaced_changed : AreChanged (waiting_in pool.changed) (blocks_in (set pool.pages.items at page)) pool.acts.items
+  replaced_changed = changed_stays (waiting_in pool.changed) blocks pool.acts.items (blocks_in (set pool.pages.items at page)) pool.acts.items pool.ordered replaced_acts refl
 
   pub replaced_put : (new : Pool) → new.most ≡ pool.most → new.pages.items ≡ set pool.pages.items at page → new.acts.items ≡ pool.acts.items
-      → new.places.items ≡ replaced → new.changed.items ≡ pool.changed.items → IsPut pool new at page
+      → new.places.items ≡ replaced → (waiting_in new.changed) ≡ (waiting_in pool.changed) → IsPut pool new at page
   replaced_put new most pages acts places changed =
       let by = places ∙ replaced_is in
       let place = λ (block : ℕ). ap (λ (ps : List ℕ). get_or ps block 0) by in
@@ -280,13 +281,13 @@ module _ (pool : Pool) (page : Page) (next : ℕ) (next_is : next ≡ suc (lengt
       ∙ added_acts pool.places.items held page.block next pool.placed (no_place_from pool page.block absent) within next_held
       pool.acts.items (pool.many_acts ∙ sym many_held) block
 
-  pub pushed_changed : AreChanged pool.changed.items (blocks_in (pool.pages.items ++ page ∷ [])) (pool.acts.items ++ 0 ∷ [])
+  pub pushed_changed : AreChanged (waiting_in pool.changed) (blocks_in (pool.pages.items ++ page ∷ [])) (pool.acts.items ++ 0 ∷ [])
   pushed_changed =
-      changed_stays pool.changed.items held pool.acts.items (blocks_in (pool.pages.items ++ page ∷ [])) (pool.acts.items ++ 0 ∷ []) pool.ordered pushed_acts
+      changed_stays (waiting_in pool.changed) held pool.acts.items (blocks_in (pool.pages.items ++ page ∷ [])) (pool.acts.items ++ 0 ∷ []) pool.ordered pushed_acts
       (added_count pool.places.items held page.block next pool.placed (no_place_from pool page.block absent) within next_held pool.acts.items)
 
   pub pushed_put : (new : Pool) → new.most ≡ pool.most → new.pages.items ≡ pool.pages.items ++ page ∷ [] → new.acts.items ≡ pool.acts.items ++ 0 ∷ []
-      → new.places.items ≡ set pool.places.items page.block next → new.changed.items ≡ pool.changed.items → IsPut pool new (length pool.pages.items) page
+      → new.places.items ≡ set pool.places.items page.block next → (waiting_in new.changed) ≡ (waiting_in pool.changed) → IsPut pool new (length pool.pages.items) page
   pushed_put new most pages acts places changed =
       let end = length pool.pages.items in
       let place = λ (block : ℕ). ap (λ (ps : List ℕ). get_or ps block 0) places in

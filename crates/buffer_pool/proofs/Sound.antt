@@ -3,14 +3,15 @@ use Rattle.std.proofs.Common.{◌≡◌, ℕ, zero, suc, ◌<◌, ◌≤◌, Boo
 use Rattle.std.specs.Option.{IsSome, IfSome, IfNone, is_some}
 use Rattle.std.specs.List.{All, position, position_or_len}
 use Rattle.std.proofs.lemmas.Bool.{cases_lt, cases_Bool, lt-ltb, ltb-false, not-false, not-true}
-use Rattle.std.proofs.lemmas.List.{length-map, get_or_default, get_or_read}
+use Rattle.std.proofs.lemmas.List.{length-map, get_or_default}
 use Rattle.std.proofs.lemmas.List.Elements.{All-from_get_or}
 use Rattle.std.proofs.lemmas.List.Folds.{Any-from_list_any}
 use Rattle.std.proofs.lemmas.List.Quantifiers.{position-Some}
 use Rattle.std.proofs.lemmas.List.Sums.{fails_before_first}
 use Rattle.std.proofs.lemmas.Bool.{eqb-true}
-use Rattle.std.proofs.lemmas.Option.{slice_get_within, get_or_from_slice_get, slice_get_read}
+use Rattle.std.proofs.lemmas.Option.{slice_get_within, get_or_from_slice_get}
 use Rattle.page_codec.specs.declared.page.Page.{Page}
+use Rattle.buffer_pool.specs.Orders.{waiting_in}
 use Rattle.buffer_pool.specs.declared.pool.Pool.{Pool}
 use Rattle.buffer_pool.specs.Frames.{blocks_in, has_block, AreApart}
 use Rattle.buffer_pool.specs.Pools.{most_of, reach_of, count_of, blocks_of, page_at, frame_of, held_page, act_of, changed_of, HasSameChanges, HasSamePages, IsPool}
@@ -132,14 +133,14 @@ clean_free pool pinned at less clean off = record {
 }
 
 -- where as many pages are changed as are held, no block's page is clean
-pub none_clean : (pool : Pool) (pinned : List ℕ) → length pool.changed.items ≡ length pool.pages.items → AreCleanPinned pool pinned
+pub none_clean : (pool : Pool) (pinned : List ℕ) → length (waiting_in pool.changed) ≡ length pool.pages.items → AreCleanPinned pool pinned
 none_clean pool pinned full =
     all_blocks pool (λ b. act_of pool b ≡ 0 → has_block pinned b ≡ true) (λ at less clean.
     absurd (omega (
       arith,
       clean,
       held_act pool _ at (frame_of_block pool at less),
-      all_changed pool.changed.items (blocks_in pool.pages.items) pool.acts.items at pool.ordered (omega (arith, full, pool.many_acts)) (omega (arith, less, pool.many_acts)),
+      all_changed (waiting_in pool.changed) (blocks_in pool.pages.items) pool.acts.items at pool.ordered (omega (arith, full, pool.many_acts)) (omega (arith, less, pool.many_acts)),
     )))
 
 -- where each clean frame is pinned, each clean page is
@@ -163,14 +164,14 @@ none_passes p blocks block none is =
 
 -- where each clean page is pinned, and each changed one, each is
 pub all_pinned : (pool : Pool) (pinned : List ℕ) → AreCleanPinned pool pinned
-    → position (λ b. not (has_block pinned b)) pool.changed.items ≡ None → All (λ b. has_block pinned b ≡ true) (blocks_of pool)
+    → position (λ b. not (has_block pinned b)) (waiting_in pool.changed) ≡ None → All (λ b. has_block pinned b ≡ true) (blocks_of pool)
 unfolding blocks_of act_of
 all_pinned pool pinned clean none = λ k d less.
     let blocks = blocks_in pool.pages.items in
     let block = get_or blocks k d in
     elim (cases_lt 0 (act_of pool block)) [
       | inl lt ↦
-          not-false (has_block pinned block) (none_passes (λ b. not (has_block pinned b)) pool.changed.items block none
+          not-false (has_block pinned block) (none_passes (λ b. not (has_block pinned b)) (waiting_in pool.changed) block none
           (pool.ordered.told block ∙ lt-ltb 0 (act_of pool block) lt))
       | inr ge ↦ clean k d less (omega (arith, ge))
     ]
@@ -211,32 +212,31 @@ unfolding count_of most_of
 full_is pool many = omega (arith, many, pool.few)
 
 -- the first of the changed blocks that isn't pinned
-pub oldest_at : (pool : Pool) (pinned changed : List ℕ) (place block : ℕ) → changed ≡ pool.changed.items
-    → position (λ b. not (has_block pinned b)) changed ≡ Some place → block ≡ get_or pool.changed.items place block → has_block (changed_of pool) block ≡ true
+pub oldest_at : (pool : Pool) (pinned changed : List ℕ) (place block : ℕ) → changed ≡ (waiting_in pool.changed)
+    → position (λ b. not (has_block pinned b)) changed ≡ Some place → slice_get (waiting_in pool.changed) place ≡ Some block → has_block (changed_of pool) block ≡ true
 unfolding changed_of
 oldest_at pool pinned changed place block same first is =
     let pass = position-Some (λ b. not (has_block pinned b)) changed place 0 first in
-    let less : place < length pool.changed.items = omega (arith, pass.0, ap (λ (xs : List ℕ). length xs) same) in
-    ap (has_block pool.changed.items) (get_or_read pool.changed.items place block less is 0) ∙ has_block-at pool.changed.items place 0 less
+    let less : place < length (waiting_in pool.changed) = omega (arith, pass.0, ap (λ (xs : List ℕ). length xs) same) in
+    ap (has_block (waiting_in pool.changed)) (sym (get_or_from_slice_get (waiting_in pool.changed) place block 0 is)) ∙ has_block-at (waiting_in pool.changed) place 0 less
 
-pub oldest_is : (pool : Pool) (pinned changed : List ℕ) (place block act : ℕ) → changed ≡ pool.changed.items
-    → position (λ b. not (has_block pinned b)) changed ≡ Some place → block ≡ get_or pool.changed.items place block → act ≡ act_of pool block
+pub oldest_is : (pool : Pool) (pinned changed : List ℕ) (place block act : ℕ) → changed ≡ (waiting_in pool.changed)
+    → position (λ b. not (has_block pinned b)) changed ≡ Some place → slice_get (waiting_in pool.changed) place ≡ Some block → act ≡ act_of pool block
     → pool.most ≤ length pool.pages.items → AreCleanPinned pool pinned → IsOldest pool pinned place block act
 unfolding changed_of
 oldest_is pool pinned changed place block act same first is act_is many clean =
     let pass = position-Some (λ b. not (has_block pinned b)) changed place 0 first in
-    let less : place < length pool.changed.items = omega (arith, pass.0, ap (λ (xs : List ℕ). length xs) same) in
-    let there : block ≡ get_or changed place 0 = get_or_read pool.changed.items place block less is 0 ∙ ap (λ (xs : List ℕ). get_or xs place 0) (sym same) in
+    let there : block ≡ get_or changed place 0 = sym (get_or_from_slice_get (waiting_in pool.changed) place block 0 is) ∙ ap (λ (xs : List ℕ). get_or xs place 0) (sym same) in
     record {
       full = full_is pool many;
       clean = clean;
       first = ap (λ (xs : List ℕ). position (λ b. not (has_block pinned b)) xs) (sym same) ∙ first;
-      at = slice_get_read pool.changed.items (length pool.changed.items) place block refl less is;
+      at = is;
       unpinned = not-true (has_block pinned block) (ap (λ (b : ℕ). not (has_block pinned b)) there ∙ pass.1);
       changed = act_is;
     }
 
-pub none_free : (pool : Pool) (pinned changed : List ℕ) → changed ≡ pool.changed.items → position (λ b. not (has_block pinned b)) changed ≡ None
+pub none_free : (pool : Pool) (pinned changed : List ℕ) → changed ≡ (waiting_in pool.changed) → position (λ b. not (has_block pinned b)) changed ≡ None
     → pool.most ≤ length pool.pages.items → AreCleanPinned pool pinned → AreAllPinned pool pinned
 unfolding most_of blocks_of
 none_free pool pinned changed same none many clean =

@@ -1,3 +1,4 @@
 pub mod Frames
+pub mod Orders
 pub mod Pools
 pub mod Choices

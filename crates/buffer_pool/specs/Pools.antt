@@ -3,6 +3,7 @@ use Rattle.std.specs.Prelude.{◌≡◌, ◌≢◌, ℕ, suc, max, ◌<◌, ◌�
 use Rattle.std.specs.Option.{option_and_then}
 use Rattle.page_codec.specs.declared.page.Page.{Page}
 use Rattle.buffer_pool.specs.Frames.{blocks_in, has_block, AreApart, frame_in, act_in}
+use Rattle.buffer_pool.specs.Orders.{waiting_in}
 use Rattle.buffer_pool.specs.declared.pool.Pool.{Pool}
 
 -- how many pages are held at most
@@ -40,7 +41,7 @@ act_of pool block = act_in (blocks_in pool.pages.items) pool.acts.items block
 
 -- the blocks of the changed pages, in order of first change since they were written last
 unfoldable pub changed_of : Pool → List ℕ
-changed_of pool = pool.changed.items
+changed_of pool = waiting_in pool.changed
 
 -- the same pages in the same frames
 pub record HasSamePages (old new : Pool) : Type 0 where

@@ -1,10 +1,12 @@
 //! Pages are changed by acts, and written.
 
-ghost use Rattle.std.specs.Prelude.{◌≡◌, ◌<◌, ◌≤◌, [], ◌∷◌, ◌++◌, List, ℕ, All, true, suc, nat_lt, if◌then◌else◌, Some, IsSome, IfSome, IfNone, length, drop, slice_get, slice_index, vec_len, vec_capacity};
+ghost use Rattle.std.specs.Prelude.{false, ◌≡◌, ◌<◌, ◌≤◌, [], ◌∷◌, ◌++◌, List, ℕ, All, true, suc, nat_lt, if◌then◌else◌, Some, IsSome, IfSome, IfNone, length, drop, slice_get, slice_index, vec_len, vec_capacity};
 ghost use Rattle.std.specs.Option.{option_map};
 ghost use Rattle.buffer_pool.specs.Frames.{has_block, ArePlaces, AreChanged};
+ghost use Rattle.buffer_pool.specs.Orders.{waiting_in, width_of};
 ghost use Rattle.buffer_pool.specs.Pools.{frame_of, act_of, changed_of, IsChanged, IsWritten, AreWritten};
 
+use crate::order::Order;
 use crate::pool::Pool;
 use page_codec::Page;
 
@@ -32,24 +34,16 @@ fn clean_frames(acts: &mut [u64], places: &[u32], written: &[u32])
     }
 }
 
-// Drops the first so many blocks.
-fn drop_first(changed: &mut Vec<u32>, count: usize)
-    requires { count ≤ vec_len changed.old }
-    ensures items { changed.new.items ≡ drop count changed.old.items }
-    ensures capacity { vec_capacity changed.new ≡ vec_capacity changed.old }
-{
-    changed.drain(..count);
-}
-
 // Puts the block behind the changed ones, unless an act had changed its page before; 0 says that none had.
-fn add_changed(changed: &mut Vec<u32>, block: u32, before: u64)
-    requires room { before ≡ 0 → vec_len changed.old < vec_capacity changed.old }
-    ensures items { changed.new.items ≡ (if nat_lt 0 before then changed.old.items
-        else changed.old.items ++ block ∷ []) }
-    ensures capacity { vec_capacity changed.new ≡ vec_capacity changed.old }
+fn add_changed(changed: &mut Order, block: u32, before: u64)
+    requires below { before ≡ 0 → block < width_of changed.old }
+    requires fresh { before ≡ 0 → has_block (waiting_in changed.old) block ≡ false }
+    ensures order { waiting_in changed.new ≡ (if nat_lt 0 before then waiting_in changed.old
+        else waiting_in changed.old ++ block ∷ []) }
+    ensures width { width_of changed.new ≡ width_of changed.old }
 {
     if before == 0 {
-        changed.push_reserved(block);
+        changed.push(block);
     }
 }
 
@@ -72,7 +66,7 @@ impl Pool {
         if place >= self.changed.len() {
             return None;
         }
-        let block = self.changed[place];
+        let block = self.changed.block_at(place);
         Some((block, self.act(block)))
     }
 
@@ -122,7 +116,7 @@ impl Pool {
         requires place { place < length (changed_of self.old) }
         ensures { IsWritten self.old self.new place }
     {
-        let at = self.frame(self.changed[place]);
+        let at = self.frame(self.changed.block_at(place));
         self.changed.remove(place);
         self.acts[at] = 0;
     }
@@ -133,7 +127,11 @@ impl Pool {
         requires count { count ≤ length (changed_of self.old) }
         ensures { AreWritten self.old self.new count }
     {
-        clean_frames(&mut self.acts, &self.places, &self.changed[..count]);
-        drop_first(&mut self.changed, count);
+        clean_frames(
+            &mut self.acts,
+            &self.places,
+            &self.changed.as_slice()[..count],
+        );
+        self.changed.drop_first(count);
     }
 }

@@ -18,6 +18,49 @@ pub enum Choice {
     AllPinned,
 }
 
+// Whether the page in this frame is clean and isn't pinned.
+fn is_free(acts: &[u64], pages: &[Page], pinned: &[u32], at: usize) -> bool
+    requires acts { at < length acts.now }
+    requires pages { at < length pages.now }
+    ensures clean { result ≡ true → slice_index acts.now at ≡ 0 }
+    ensures unpinned { result ≡ true
+        → has_block pinned.now (slice_index (blocks_in pages.now) at) ≡ false }
+    ensures pinned { result ≡ false → slice_index acts.now at ≡ 0
+        → has_block pinned.now (slice_index (blocks_in pages.now) at) ≡ true }
+{
+    acts[at] == 0 && !pinned.contains(&pages[at].block)
+}
+
+// The first of these frames whose page is clean, isn't pinned, and wasn't looked at since the hand passed it. The hand passes
+// those before it.
+fn unused_between(
+    acts: &[u64],
+    pages: &[Page],
+    pinned: &[u32],
+    looked: &mut [bool],
+    from: usize,
+    to: usize,
+) -> Option<usize>
+    requires acts { to ≤ length acts.now }
+    requires pages { to ≤ length pages.now }
+    requires looked { to ≤ length looked.old }
+    ensures many { length looked.new ≡ length looked.old }
+    ensures within { IfSome result (λ at. at < length acts.now) }
+    ensures clean { IfSome result (λ at. slice_index acts.now at ≡ 0) }
+    ensures unpinned { IfSome result
+        (λ at. has_block pinned.now (slice_index (blocks_in pages.now) at) ≡ false) }
+{
+    for at in from..to {
+        if is_free(acts, pages, pinned, at) {
+            if !looked[at] {
+                return Some(at);
+            }
+            looked[at] = false;
+        }
+    }
+    None
+}
+
 // The first of these frames whose page is clean and isn't pinned.
 fn clean_between(
     acts: &[u64],
@@ -36,7 +79,7 @@ fn clean_between(
         → has_block pinned.now (slice_index (blocks_in pages.now) at) ≡ true) }
 {
     for at in from..to {
-        if acts[at] == 0 && !pinned.contains(&pages[at].block) {
+        if is_free(acts, pages, pinned, at) {
             return Some(at);
         }
     }
@@ -82,16 +125,48 @@ impl Pool {
         if held < self.most as usize {
             return Choice::Free(held);
         }
-        if let Some(at) = self.clean_frame(pinned) {
+        if let Some(at) = self.free_frame(pinned) {
             self.hand = at + 1;
             return Choice::Free(at);
         }
-        match unpinned_place(&self.changed, pinned) {
+        match unpinned_place(self.changed.as_slice(), pinned) {
             Some(place) => {
-                let block = self.changed[place];
+                let block = self.changed.block_at(place);
                 Choice::Oldest(place, block, self.act(block))
             }
             None => Choice::AllPinned,
+        }
+    }
+
+    // A frame whose page is clean and isn't pinned: the first from the hand on that nobody looked at since the hand passed
+    // it, where there is one.
+    fn free_frame(&mut self, pinned: &[u32]) -> Option<usize>
+        ensures found { IfSome result (IsFree self.new pinned.now) }
+        ensures none { IfNone result (AreCleanPinned self.new pinned.now) }
+        ensures pages { HasSamePages self.old self.new }
+        ensures changes { HasSameChanges self.old self.new }
+    {
+        if self.changed.len() == self.pages.len() {
+            return None;
+        }
+        match self.unused_frame(pinned) {
+            Some(at) => Some(at),
+            None => self.clean_frame(pinned),
+        }
+    }
+
+    // The first frame from the hand on whose page is clean, isn't pinned, and wasn't looked at since the hand passed it.
+    fn unused_frame(&mut self, pinned: &[u32]) -> Option<usize>
+        ensures found { IfSome result (IsFree self.new pinned.now) }
+        ensures pages { HasSamePages self.old self.new }
+        ensures changes { HasSameChanges self.old self.new }
+    {
+        let held = self.pages.len();
+        let hand = self.hand.min(held);
+        let looked = &mut self.looked;
+        match unused_between(&self.acts, &self.pages, pinned, looked, hand, held) {
+            Some(at) => Some(at),
+            None => unused_between(&self.acts, &self.pages, pinned, looked, 0, hand),
         }
     }
 
@@ -100,10 +175,11 @@ impl Pool {
         ensures found { IfSome result (IsFree self.now pinned.now) }
         ensures none { IfNone result (AreCleanPinned self.now pinned.now) }
     {
-        let held = self.pages.len();
-        if self.changed.len() == held {
-            return None;
-        }
-        clean_from(&self.acts, &self.pages, pinned, self.hand.min(held))
+        clean_from(
+            &self.acts,
+            &self.pages,
+            pinned,
+            self.hand.min(self.pages.len()),
+        )
     }
 }

@@ -4,6 +4,7 @@
 
 mod changes;
 mod choice;
+mod order;
 mod pool;
 
 pub use choice::Choice;

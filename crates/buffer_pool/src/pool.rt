@@ -2,7 +2,9 @@
 
 ghost use Rattle.std.specs.Prelude.{◌≡◌, ◌≤◌, length, vec_capacity};
 ghost use Rattle.buffer_pool.specs.Frames.{blocks_in, ArePlaces, AreChanged};
+ghost use Rattle.buffer_pool.specs.Orders.{waiting_in, width_of};
 
+use crate::order::Order;
 use index_model::Fault;
 use page_codec::Page;
 use std::alloc::Global;
@@ -17,23 +19,27 @@ pub struct Pool {
     // Of each block 0, or one more than the frame that holds its page.
     pub(crate) places: Vec<u32>,
     // The blocks of the changed pages, in order of first change since they were last written.
-    pub(crate) changed: Vec<u32>,
+    pub(crate) changed: Order,
+    // Of each of these whether somebody looked at it since the hand passed it.
+    pub(crate) looked: Vec<bool>,
     // How many frames there are.
     pub(crate) most: u32,
     // The frame from which on a clean one is looked for.
     pub(crate) hand: usize,
     ghost few: { length pages.items ≤ most },
     ghost many_acts: { length acts.items ≡ length pages.items },
+    ghost many_looked: { length looked.items ≡ length pages.items },
     ghost placed: { ArePlaces places.items (blocks_in pages.items) },
-    ghost ordered: { AreChanged changed.items (blocks_in pages.items) acts.items },
+    ghost ordered: { AreChanged (waiting_in changed) (blocks_in pages.items) acts.items },
+    ghost wide: { width_of changed ≡ length places.items },
     ghost page_room: { most ≤ vec_capacity pages },
     ghost act_room: { most ≤ vec_capacity acts },
-    ghost change_room: { most ≤ vec_capacity changed },
+    ghost look_room: { most ≤ vec_capacity looked },
 }
 
 impl Pool {
-    ghost use Rattle.std.specs.Prelude.{[], ℕ, ◌<◌, None, Some, IfSome, IfNone, IfOk, IfErr};
-    ghost use Rattle.buffer_pool.specs.Pools.{most_of, reach_of, count_of, page_at, frame_of, held_page, changed_of, CanBeTaken, IsPut, IsPool};
+    ghost use Rattle.std.specs.Prelude.{[], ℕ, ◌<◌, None, Some, IfSome, IfNone, IfOk, IfErr, is_some};
+    ghost use Rattle.buffer_pool.specs.Pools.{most_of, reach_of, count_of, page_at, frame_of, held_page, changed_of, CanBeTaken, HasSamePages, HasSameChanges, IsPut, IsPool};
 
     /// A pool of so many frames, for pages of the blocks below `pages`, that holds none. Refused with `NoMemory` where
     /// the room cannot be had.
@@ -52,18 +58,20 @@ impl Pool {
         let Ok(acts) = Vec::with_capacity(alloc, frames as usize) else {
             return Err(Fault::NoMemory);
         };
-        let Ok(changed) = Vec::with_capacity(alloc, frames as usize) else {
+        let Ok(looked) = Vec::with_capacity(alloc, frames as usize) else {
             return Err(Fault::NoMemory);
         };
         let mut places = Vec::new(alloc);
         if places.resize(pages as usize, 0).is_err() {
             return Err(Fault::NoMemory);
         }
+        let changed = Order::new(alloc, pages)?;
         Ok(Pool {
             pages: held,
             acts,
             places,
             changed,
+            looked,
             most: frames,
             hand: 0,
         })
@@ -113,6 +121,22 @@ impl Pool {
         if place == 0 { None } else { Some(place - 1) }
     }
 
+    /// Whether the page of the block is held, by one look. If so, it's noted that somebody looked at it, so that its frame
+    /// isn't among the next to be taken. Any number may be asked for.
+    pub fn look(&mut self, block: u32) -> bool
+        ensures held { result ≡ is_some (frame_of self.old block) }
+        ensures pages { HasSamePages self.old self.new }
+        ensures changes { HasSameChanges self.old self.new }
+    {
+        match self.find(block) {
+            Some(at) => {
+                self.looked[at] = true;
+                true
+            }
+            None => false,
+        }
+    }
+
     /// The page in a frame that is in use.
     #[tactic(auto, unfolding(crate::specs::Pools::count_of, crate::specs::Pools::page_at))]
     pub fn page(&self, at: usize) -> &Page
@@ -151,6 +175,7 @@ impl Pool {
         let old = self.pages[at].block as usize;
         self.places[old] = 0;
         self.places[block] = at as u32 + 1;
+        self.looked[at] = false;
         page.copy_to(&mut self.pages[at]);
     }
 
@@ -165,5 +190,6 @@ impl Pool {
         self.places[page.block as usize] = self.pages.len() as u32 + 1;
         self.pages.push_reserved(page.copy());
         self.acts.push_reserved(0);
+        self.looked.push_reserved(false);
     }
 }

@@ -1,13 +1,20 @@
 -- What is written for a frame.
-use Rattle.std.proofs.Common.{◌≡◌, ℕ, List, inl, inr, ◌∙◌}
-use Rattle.buffer_pool.specs.Pools.{changed_of}
+use Rattle.std.proofs.Common.{◌≡◌, ℕ, zero, suc, ◌+◌, ◌<◌, ◌≤◌, ◌/◌, true, false, Some, List, [], ◌∷◌, ◌++◌, length, take, drop, slice_get, get_or, inl, inr, refl, sym, ap, subst, ◌∙◌, arith}
+use Rattle.std.specs.Prelude.{All, remove}
+use Rattle.std.proofs.lemmas.Bool.{cases_eq, ne_eqb}
+use Rattle.std.proofs.lemmas.List.{length-append, length-take, take-append-drop, append_assoc}
+use Rattle.std.proofs.lemmas.List.Elements.{All-cons, All-append}
+use Rattle.buffer_pool.specs.Choices.{IsOldest}
+use Rattle.buffer_pool.specs.Frames.{has_block}
+use Rattle.buffer_pool.specs.Pools.{most_of, act_of, changed_of, HasSamePages, HasSameChanges}
 use Rattle.buffer_pool.specs.declared.pool.Pool.{Pool}
-use Rattle.page_store.specs.Taking.{WritesLeast}
+use Rattle.page_store.specs.Taking.{IsWrittenNext, AreWrittenAhead, IsWrittenOver, WritesLeast}
+use Rattle.page_store.proofs.Pooling.{first_has, later_has, has_at}
 
 -- what was written stays so, where nothing else is
-pub writes_on : (pinned : List ℕ) (old mid new : Pool) → WritesLeast pinned old mid → changed_of new ≡ changed_of mid → WritesLeast pinned old new
-writes_on pinned old mid new (inl none) same = inl (same ∙ none)
-writes_on pinned old mid new (inr over) same = inr (record {
+pub writes_on : (pinned : List ℕ) (before after : ℕ) (old mid new : Pool) → WritesLeast pinned before after old mid → changed_of new ≡ changed_of mid → WritesLeast pinned before after old new
+writes_on pinned before after old mid new (inl none) same = inl (same ∙ none)
+writes_on pinned before after old mid new (inr over) same = inr (record {
   chosen = over.chosen;
   pages = over.pages;
   changes = over.changes;
@@ -15,5 +22,141 @@ writes_on pinned old mid new (inr over) same = inr (record {
   block = over.block;
   act = over.act;
   oldest = over.oldest;
-  order = same ∙ over.order;
+  front = over.front;
+  more = over.more;
+  rest = over.rest;
+  was = over.was;
+  left = same ∙ over.left;
+  few = over.few;
+  each = over.each;
+  forced = over.forced;
 })
+
+-- behind these blocks this one comes first of the rest
+next_of : (front rest : List ℕ) (b : ℕ) → slice_get (front ++ rest) (length front) ≡ Some b → (r : List ℕ) × (rest ≡ b ∷ r)
+next_of [] [] b at = absurd cc
+next_of [] (x ∷ rest) b at = (rest, (let same : x ≡ b = cc in ap (λ (y : ℕ). y ∷ rest) same))
+next_of (x ∷ front) rest b at = next_of front rest b at
+
+remove_next : (front rest : List ℕ) (b : ℕ) → remove (front ++ b ∷ rest) (length front) ≡ front ++ rest
+remove_next [] rest b = refl
+remove_next (x ∷ front) rest b = ap (λ (l : List ℕ). x ∷ l) (remove_next front rest b)
+
+-- what is left where one was removed behind these, is all without it
+put_back : (xs front rest : List ℕ) (b : ℕ) → slice_get xs (length front) ≡ Some b → remove xs (length front) ≡ front ++ rest → xs ≡ front ++ b ∷ rest
+put_back [] front rest b at left = absurd cc
+put_back (x ∷ xs) [] rest b at left = cc
+put_back (x ∷ xs) (f ∷ front) rest b at left =
+    let same : x ≡ f = cc in
+    let others : remove xs (length front) ≡ front ++ rest = cc in
+    let all = put_back xs front rest b at others in
+    cc
+
+has_more : (front rest : List ℕ) (x b : ℕ) → has_block (front ++ rest) b ≡ true → has_block (front ++ x ∷ rest) b ≡ true
+has_more [] rest x b h = later_has x b rest h
+has_more (y ∷ front) rest x b h = elim (cases_eq y b) [
+  | inl same ↦ first_has y b (front ++ x ∷ rest) same
+  | inr ne ↦ later_has y b (front ++ x ∷ rest) (has_more front rest x b (sym (rw (ne_eqb y b ne) refl) ∙ h))
+]
+
+-- what stands between is there
+has_between : (front more rest : List ℕ) (k d : ℕ) → k < length more → has_block (front ++ (more ++ rest)) (get_or more k d) ≡ true
+has_between [] [] rest k d less = absurd (omega (arith, less))
+has_between [] (x ∷ more) rest zero d less = first_has x x (more ++ rest) refl
+has_between [] (x ∷ more) rest (suc k) d less = later_has x (get_or more k d) (more ++ rest) (has_between [] more rest k d (omega (arith, less)))
+has_between (f ∷ front) more rest k d less = later_has f (get_or more k d) (front ++ (more ++ rest)) (has_between front more rest k d less)
+
+-- So many pages were written behind so many of the order, one after the other.
+pub record Goes (pinned : List ℕ) (durable place count : ℕ) (old new : Pool) : Type 0 where
+  pub front : List ℕ
+  pub more : List ℕ
+  pub rest : List ℕ
+  pub behind : length front ≡ place
+  pub was : changed_of old ≡ front ++ (more ++ rest)
+  pub left : changed_of new ≡ front ++ rest
+  pub many : length more ≡ count
+  pub each : All (λ b. (has_block pinned b ≡ false) × (act_of old b ≤ durable)) more
+  pub few : (b : ℕ) → act_of new b ≤ act_of old b
+  pub same : (b : ℕ) → has_block (changed_of new) b ≡ true → act_of new b ≡ act_of old b
+
+pub goes_none : (pinned : List ℕ) (durable place : ℕ) (pool : Pool) → place ≤ length (changed_of pool) → Goes pinned durable place 0 pool pool
+goes_none pinned durable place pool within = record {
+  front = take place (changed_of pool);
+  more = [];
+  rest = drop place (changed_of pool);
+  behind = omega (arith, length-take place (changed_of pool), within);
+  was = sym (take-append-drop place (changed_of pool));
+  left = sym (take-append-drop place (changed_of pool));
+  many = refl;
+  each = λ k d less. absurd (omega (arith, less));
+  few = λ b. omega arith;
+  same = λ b among. refl;
+}
+
+module _ (pinned : List ℕ) (durable place count : ℕ) (old mid : Pool) (g : Goes pinned durable place count old mid) where
+  pub goes_next : (new : Pool) → IsWrittenNext pinned durable place mid new → Goes pinned durable place (count + 1) old new
+  goes_next new n =
+      let at : slice_get (g.front ++ g.rest) (length g.front) ≡ Some n.block =
+      subst (λ (k : ℕ). slice_get (g.front ++ g.rest) k ≡ Some n.block) (sym g.behind) (subst (λ (l : List ℕ). slice_get l place ≡ Some n.block) g.left n.at) in
+      let next = next_of g.front g.rest n.block at in
+      let order : changed_of mid ≡ g.front ++ n.block ∷ next.0 = g.left ∙ ap (λ (l : List ℕ). g.front ++ l) next.1 in
+      let left : changed_of new ≡ g.front ++ next.0 =
+      n.written.order ∙ (ap (λ (l : List ℕ). remove l place) order ∙ (ap (remove (g.front ++ n.block ∷ next.0)) (sym g.behind) ∙ remove_next g.front next.0 n.block)) in
+      record {
+        front = g.front;
+        more = g.more ++ n.block ∷ [];
+        rest = next.0;
+        behind = g.behind;
+        was = g.was ∙ (ap (λ (l : List ℕ). g.front ++ (g.more ++ l)) next.1 ∙ ap (λ (l : List ℕ). g.front ++ l) (sym (append_assoc g.more (n.block ∷ []) next.0)));
+        left = left;
+        many = omega (arith, length-append g.more (n.block ∷ []), g.many);
+        each = All-append (λ b. (has_block pinned b ≡ false) × (act_of old b ≤ durable)) g.more (n.block ∷ []) g.each
+            (All-cons (λ b. (has_block pinned b ≡ false) × (act_of old b ≤ durable)) n.block [] (n.unpinned, omega (arith, g.same n.block (has_at (changed_of mid) place n.block n.at), n.early))
+            (λ k d less. absurd (omega (arith, less))));
+        few = λ b. elim (cases_eq b (get_or (changed_of mid) place 0)) [
+          | inl here ↦ omega (arith, ap (act_of new) here ∙ n.written.written)
+          | inr ne ↦ omega (arith, n.written.others b ne, g.few b)
+        ];
+        same = λ b among. n.others b among ∙ g.same b (ap (λ (l : List ℕ). has_block l b) order ∙ has_more g.front next.0 n.block b (sym (ap (λ (l : List ℕ). has_block l b) left) ∙ among));
+      }
+
+  pub ahead_of : count ≤ most_of old / 4 → AreWrittenAhead pinned durable place old mid
+  ahead_of few = record {
+    front = g.front;
+    more = g.more;
+    rest = g.rest;
+    behind = g.behind;
+    was = g.was;
+    left = g.left;
+    few = omega (arith, g.many, few);
+    each = g.each;
+  }
+
+-- the first one was written, and some behind it
+pub over_of : (pinned : List ℕ) (before after place block act : ℕ) (old chosen mid new : Pool) → HasSamePages old chosen → HasSameChanges old chosen → IsOldest chosen pinned place block act
+    → changed_of mid ≡ remove (changed_of chosen) place → most_of mid ≡ most_of chosen → ((b : ℕ) → has_block (changed_of mid) b ≡ true → act_of mid b ≡ act_of chosen b) → (act ≤ before → after ≡ before)
+    → AreWrittenAhead pinned after place mid new → IsWrittenOver pinned before after old new
+over_of pinned before after place block act old chosen mid new pages changes oldest order most acts forced ahead = record {
+  chosen = chosen;
+  pages = pages;
+  changes = changes;
+  place = place;
+  block = block;
+  act = act;
+  oldest = oldest;
+  front = ahead.front;
+  more = ahead.more;
+  rest = ahead.rest;
+  was = sym changes.order
+      ∙ put_back (changed_of chosen) ahead.front (ahead.more ++ ahead.rest) block
+      (subst (λ (k : ℕ). slice_get (changed_of chosen) k ≡ Some block) (sym ahead.behind) oldest.at)
+      (subst (λ (k : ℕ). remove (changed_of chosen) k ≡ ahead.front ++ (ahead.more ++ ahead.rest)) (sym ahead.behind) (sym order ∙ ahead.was));
+  left = ahead.left;
+  few = subst (λ (n : ℕ). length ahead.more ≤ n / 4) (most ∙ pages.most) ahead.few;
+  each = λ k d less.
+      let one = ahead.each k d less in
+      let b = get_or ahead.more k d in
+      let there : has_block (changed_of mid) b ≡ true = ap (λ (l : List ℕ). has_block l b) ahead.was ∙ has_between ahead.front ahead.more ahead.rest k d less in
+      (one.0, omega (arith, one.1, acts b there, changes.acts b));
+  forced = forced;
+}

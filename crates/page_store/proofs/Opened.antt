@@ -1,5 +1,6 @@
 -- Pages as they were opened are an own device's.
-use Rattle.std.proofs.Common.{◌≡◌, ℕ, ◌≤◌, true, List, [], ◌∷◌, length, refl, sym, subst, arith}
+use Rattle.std.proofs.Common.{◌≡◌, ℕ, ◌+◌, ◌-◌, ◌*◌, ◌/◌, ◌<◌, ◌≤◌, true, List, [], ◌∷◌, length, inl, inr, refl, sym, subst, arith}
+use Rattle.std.proofs.lemmas.Bool.{cases_lt}
 use Rattle.page_codec.specs.declared.page.Page.{Page}
 use Rattle.page_action.specs.Stored.{AreStored}
 use Rattle.redo_log.specs.Kept.{limits_of}
@@ -51,3 +52,14 @@ module _ (held : Held) (stored : AreStored (limits_of held.log) 0 held.history.s
       subst (λ (as' : List (List Page)). IsOwn (record held { history = record held.history { acts = as' } })) (sym (none_of_length held.history.acts fresh))
       (subst (λ (n : ℕ). IsOwn (record held { history = from_start; acts = n })) (sym none)
       (subst (λ (n : ℕ). IsOwn (record held { history = from_start; acts = 0; durable = n })) (sym none_durable) (own_opened stands)))
+
+-- where the log is empty, its room is the whole
+pub room_is : (at waits room bytes : ℕ) → at ≡ 0 → waits ≡ 0 → ((n : ℕ) → 0 < n → n ≤ room → at + (6 + 4096 * (waits + n)) ≤ bytes)
+    → ((n : ℕ) → room < n → at + (6 + 4096 * (waits + n)) ≤ bytes → ⊥) → room ≡ (bytes - 6) / 4096
+room_is at waits room bytes none idle fit no_more = elim (cases_lt room ((bytes - 6) / 4096)) [
+  | inl less ↦ absurd (no_more ((bytes - 6) / 4096) less (omega (arith, none, idle, less)))
+  | inr most ↦ elim (cases_lt ((bytes - 6) / 4096) room) [
+    | inl more ↦ omega (arith, none, idle, more, fit room (omega (arith, more)) (omega arith))
+    | inr least ↦ omega (arith, most, least)
+  ]
+]

@@ -53,7 +53,7 @@ impl<D: Device> LoggedPages<D> {
     }
 
     // Writes the page of a block whose last act is durable to its place. Refused with `Io`.
-    fn write_home(&mut self, block: u32) -> Result<(), Fault>
+    pub(crate) fn write_home(&mut self, block: u32) -> Result<(), Fault>
         requires alive { is_stopped self.old.log ≡ false }
         requires changed { 0 < act_of self.old.pool block }
         requires durable { act_of self.old.pool block ≤ self.old.durable }
@@ -84,6 +84,7 @@ impl<D: Device> LoggedPages<D> {
         ensures quiet { IsQuiet D.Device self.old self.new }
         ensures pool { self.new.pool ≡ self.old.pool }
         ensures durable { OnOk result (act ≤ self.new.durable) }
+        ensures forced { act ≤ self.old.durable → self.new.durable ≡ self.old.durable }
         ensures alive { OnOk result (is_stopped self.new.log ≡ false) }
         ensures cause { IoOrStopped result (is_stopped self.old.log)
             (D.failures self.old.device) (D.failures self.new.device) }
@@ -109,6 +110,7 @@ impl<D: Device> LoggedPages<D> {
         ensures quiet { IsQuiet D.Device self.old self.new }
         ensures written { OnOk result (IsWritten self.old.pool self.new.pool place) }
         ensures refused { OnErr result (self.new.pool ≡ self.old.pool) }
+        ensures forced { act ≤ self.old.durable → self.new.durable ≡ self.old.durable }
         ensures alive { OnOk result (is_stopped self.new.log ≡ false) }
         ensures cause { IoOrStopped result (is_stopped self.old.log)
             (D.failures self.old.device) (D.failures self.new.device) }
@@ -120,7 +122,7 @@ impl<D: Device> LoggedPages<D> {
     }
 
     // Notes that the page of this block, at this place of the order, stands at its place.
-    fn note_written(&mut self, place: usize, block: u32)
+    pub(crate) fn note_written(&mut self, place: usize, block: u32)
         requires at { slice_get (changed_of self.old.pool) place ≡ Some block }
         requires home { (page : Page) → held_page self.old.pool block ≡ Some page
             → Has (Rattle.device_layout.specs.Layout.place self.old.limits block) (page_bytes page)
@@ -129,6 +131,7 @@ impl<D: Device> LoggedPages<D> {
         ensures written { IsWritten self.old.pool self.new.pool place }
         ensures log { self.new.log ≡ self.old.log }
         ensures device { self.new.device ≡ self.old.device }
+        ensures durable { self.new.durable ≡ self.old.durable }
     {
         self.pool.law();
         self.pool.note_written(place);

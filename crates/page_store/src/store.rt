@@ -175,7 +175,7 @@ impl<D: Device> PageStore for Store<D> {
         if block >= self.held.used {
             return Err(Fault::PageDamaged(block));
         }
-        if self.held.holds(block) {
+        if self.held.look(block) {
             return Ok(());
         }
         let pinned = self.calls.pinned();

@@ -1,14 +1,15 @@
 //! Pages are brought into memory, in the place of others where there is no room.
 
-ghost use Rattle.std.specs.Prelude.{◌≡◌, ◌≢◌, ◌<◌, ◌≤◌, Some, None, Err, OnErr, IfOk, IfErr, OnOk, IsSome, ℕ, true, false, length, remove, slice_get, All};
+ghost use Rattle.std.specs.Prelude.{◌≡◌, ◌≢◌, ◌<◌, ◌≤◌, Some, None, Err, OnErr, IfOk, IfErr, OnOk, IsSome, is_some, ℕ, true, false, length, remove, slice_get, All};
 ghost use Rattle.buffer_pool.specs.Choices.{IsChoice};
 ghost use Rattle.buffer_pool.specs.Frames.{has_block};
 ghost use Rattle.buffer_pool.specs.Pools.{most_of, act_of, changed_of, frame_of, CanBeTaken, HasSamePages, HasSameChanges, IsPut};
+ghost use Rattle.device.specs.Disk.{CountsFailures};
 ghost use Rattle.page_action.specs.Stored.{IsStored, AreActable};
 ghost use Rattle.redo_log.specs.Kept.{IoOrStopped, is_stopped};
 ghost use Rattle.page_store.specs.Histories.{pages_now};
 ghost use Rattle.page_store.specs.Quiet.{IsQuiet};
-ghost use Rattle.page_store.specs.Taking.{KeepsFrames, WritesLeast, FrameFails, TakingFails, FetchFails};
+ghost use Rattle.page_store.specs.Taking.{KeepsFrames, WritesLeast, IsWrittenNext, AreWrittenAhead, FrameFails, TakingFails, FetchFails};
 ghost use Rattle.page_store.specs.Writing.{ReadingFails};
 ghost use Rattle.page_codec.specs.declared.page.Page.{Page};
 
@@ -28,8 +29,23 @@ impl<D: Device> LoggedPages<D> {
         ensures changes { HasSameChanges self.old.pool self.new.pool }
         ensures log { self.new.log ≡ self.old.log }
         ensures device { self.new.device ≡ self.old.device }
+        ensures durable { self.new.durable ≡ self.old.durable }
     {
         self.pool.choose(pinned)
+    }
+
+    /// Whether the page of this block is in memory. If so, it's noted that somebody looked at it.
+    pub fn look(&mut self, block: u32) -> bool
+        ensures held { result ≡ is_some (frame_of self.old.pool block) }
+        ensures quiet { IsQuiet D.Device self.old self.new }
+        ensures same { HasSamePages self.old.pool self.new.pool }
+        ensures changes { HasSameChanges self.old.pool self.new.pool }
+        ensures log { self.new.log ≡ self.old.log }
+        ensures device { self.new.device ≡ self.old.device }
+        ensures durable { self.new.durable ≡ self.old.durable }
+        ensures room { self.new.room ≡ self.old.room }
+    {
+        self.pool.look(block)
     }
 
     // The frame of a changed page, which is written before. Refused with `Io` and `Stopped`.
@@ -42,6 +58,9 @@ impl<D: Device> LoggedPages<D> {
         ensures order { OnOk result
             (changed_of self.new.pool ≡ remove (changed_of self.old.pool) place) }
         ensures refused { OnErr result (changed_of self.new.pool ≡ changed_of self.old.pool) }
+        ensures forced { act ≤ self.old.durable → self.new.durable ≡ self.old.durable }
+        ensures acts { OnOk result ((b : ℕ) → has_block (changed_of self.new.pool) b ≡ true
+            → act_of self.new.pool b ≡ act_of self.old.pool b) }
         ensures frame { IfOk result (λ at. frame_of self.old.pool block ≡ Some at) }
         ensures free { IfOk result (CanBeTaken self.new.pool) }
         ensures alive { OnOk result (is_stopped self.new.log ≡ false) }
@@ -57,11 +76,65 @@ impl<D: Device> LoggedPages<D> {
         }
     }
 
+    // Writes the changed page at this place of their order, if one is there that isn't pinned and whose acts are durable:
+    // whether it did. Refused with `Io`; the page is changed then as before.
+    fn write_next(&mut self, place: usize, pinned: &[u32]) -> Result<bool, Fault>
+        requires alive { is_stopped self.old.log ≡ false }
+        ensures quiet { IsQuiet D.Device self.old self.new }
+        ensures same { HasSamePages self.old.pool self.new.pool }
+        ensures written { IfOk result (λ did. did ≡ true
+            → IsWrittenNext pinned.now self.old.durable place self.old.pool self.new.pool) }
+        ensures not { IfOk result (λ did. did ≡ false → self.new.pool ≡ self.old.pool) }
+        ensures refused { OnErr result (self.new.pool ≡ self.old.pool) }
+        ensures durable { self.new.durable ≡ self.old.durable }
+        ensures log { self.new.log ≡ self.old.log }
+        ensures failures { CountsFailures result
+            (D.failures self.old.device) (D.failures self.new.device) }
+    {
+        let Some((block, act)) = self.pool.changed_at(place) else {
+            return Ok(false);
+        };
+        if act > self.durable || pinned.contains(&block) {
+            return Ok(false);
+        }
+        self.write_home(block)?;
+        self.note_written(place, block);
+        self.pool.law();
+        Ok(true)
+    }
+
+    // Writes the changed pages behind so many of their order, until one is pinned or has acts that aren't durable, at most a
+    // quarter of what there are frames: so that clean ones are there for the pages that are read next. Refused with `Io`.
+    fn write_ahead(&mut self, place: usize, pinned: &[u32]) -> Result<(), Fault>
+        requires alive { is_stopped self.old.log ≡ false }
+        requires place { place ≤ length (changed_of self.old.pool) }
+        ensures quiet { IsQuiet D.Device self.old self.new }
+        ensures same { HasSamePages self.old.pool self.new.pool }
+        ensures ahead { AreWrittenAhead pinned.now self.old.durable place
+            self.old.pool self.new.pool }
+        ensures acts { (b : ℕ) → act_of self.new.pool b ≤ act_of self.old.pool b }
+        ensures durable { self.new.durable ≡ self.old.durable }
+        ensures log { self.new.log ≡ self.old.log }
+        ensures failures { CountsFailures result
+            (D.failures self.old.device) (D.failures self.new.device) }
+    {
+        let most = self.pool.frames() / 4;
+        let mut count = 0;
+        while count < most {
+            if !self.write_next(place, pinned)? {
+                return Ok(());
+            }
+            count += 1;
+        }
+        Ok(())
+    }
+
     // A frame for another page, where the pages of these blocks are pinned: where no clean one is there, the oldest changed
-    // page is written before. Refused with `NoFrame`, `Io` and `Stopped`.
+    // page is written before, and some behind it. Refused with `NoFrame`, `Io` and `Stopped`.
     fn free_frame(&mut self, pinned: &[u32]) -> Result<usize, Fault>
         ensures quiet { IsQuiet D.Device self.old self.new }
-        ensures writes { WritesLeast pinned.now self.old.pool self.new.pool }
+        ensures writes { WritesLeast pinned.now self.old.durable self.new.durable
+            self.old.pool self.new.pool }
         ensures same { HasSamePages self.old.pool self.new.pool }
         ensures free { IfOk result (CanBeTaken self.new.pool) }
         ensures unpinned { IfOk result (λ at. (block : ℕ) → has_block pinned.now block ≡ true
@@ -75,7 +148,11 @@ impl<D: Device> LoggedPages<D> {
         self.pool.law();
         match choice {
             Choice::Free(at) => Ok(at),
-            Choice::Oldest(place, block, act) => self.write_over(place, block, act),
+            Choice::Oldest(place, block, act) => {
+                let at = self.write_over(place, block, act)?;
+                self.write_ahead(place, pinned)?;
+                Ok(at)
+            }
             Choice::AllPinned => Err(Fault::NoFrame),
         }
     }
@@ -94,6 +171,7 @@ impl<D: Device> LoggedPages<D> {
         ensures pool { IsPut self.old.pool self.new.pool at self.old.decoded.value }
         ensures log { self.new.log ≡ self.old.log }
         ensures device { self.new.device ≡ self.old.device }
+        ensures durable { self.new.durable ≡ self.old.durable }
     {
         self.pool.law();
         self.pool.put(at, &self.decoded);
@@ -107,6 +185,7 @@ impl<D: Device> LoggedPages<D> {
         ensures quiet { IsQuiet D.Device self.old self.new }
         ensures pool { self.new.pool ≡ self.old.pool }
         ensures log { self.new.log ≡ self.old.log }
+        ensures durable { self.new.durable ≡ self.old.durable }
         ensures stored { OnOk result (IsStored self.old.limits block self.new.decoded.value) }
         ensures right { OnOk result (D.is_honest self.new.device ≡ true
             → slice_get (pages_now self.old.history) block ≡ Some self.new.decoded.value) }
@@ -124,8 +203,9 @@ impl<D: Device> LoggedPages<D> {
     pub fn fetch(&mut self, block: u32, pinned: &[u32]) -> Result<(), Fault>
         requires used { block < self.old.used }
         ensures quiet { IsQuiet D.Device self.old self.new }
-        // At most one page is written to its place for it.
-        ensures writes { WritesLeast pinned.now self.old.pool self.new.pool }
+        // No page is written to its place for it where a frame is free.
+        ensures writes { WritesLeast pinned.now self.old.durable self.new.durable
+            self.old.pool self.new.pool }
         ensures has { OnOk result (IsSome (frame_of self.new.pool block)) }
         ensures kept { KeepsFrames pinned.now self.old.pool self.new.pool }
         ensures alive { OnOk result

@@ -1,5 +1,6 @@
-use Rattle.std.proofs.Common.{◌+◌, ◌++◌, ◌∷◌, ◌∙◌, ap, [], ℕ, List, set, refl, sym, subst, arith}
+use Rattle.std.proofs.Common.{◌+◌, ◌++◌, ◌∷◌, ◌∙◌, ap, [], ℕ, List, set, length-set, refl, sym, subst, arith}
 use Rattle.page_codec.specs.declared.page.Page.{Page}
+use Rattle.buffer_pool.specs.Orders.{waiting_in}
 use Rattle.buffer_pool.specs.Frames.{blocks_in, ArePlaces, AreChanged}
 use Rattle.buffer_pool.specs.Pools.{count_of, reach_of}
 use Rattle.buffer_pool.proofs.Putting.{pushed_placed, pushed_changed, pushed_put}
@@ -19,8 +20,8 @@ unfolding reach_of
 invariant_of-self-clause-ordered c =
     let pool = c.args.self.now in
     let came = c.push_reserved.ensures.items ∙ ap (λ (p : Page). pool.pages.items ++ p ∷ []) c.copy.ensures in
-    subst (λ (pages : List Page). AreChanged pool.changed.items (blocks_in pages) c.push_reserved-2.new.self.items) (sym came)
-    (subst (λ (acts : List ℕ). AreChanged pool.changed.items (blocks_in (pool.pages.items ++ c.args.page.now ∷ [])) acts) (sym c.push_reserved-2.ensures.items)
+    subst (λ (pages : List Page). AreChanged (waiting_in pool.changed) (blocks_in pages) c.push_reserved-2.new.self.items) (sym came)
+    (subst (λ (acts : List ℕ). AreChanged (waiting_in pool.changed) (blocks_in (pool.pages.items ++ c.args.page.now ∷ [])) acts) (sym c.push_reserved-2.ensures.items)
     (pushed_changed pool c.args.page.now (c.len.result + 1) (omega arith) c.requires.absent c.requires.reach))
 
 pub returns : goal.returns
@@ -28,3 +29,8 @@ unfolding count_of reach_of
 returns c =
     pushed_put c.args.self.now c.args.page.now (c.len.result + 1) (omega arith) c.requires.absent c.requires.reach
     _ refl (c.push_reserved.ensures.items ∙ ap (λ (p : Page). c.args.self.now.pages.items ++ p ∷ []) c.copy.ensures) c.push_reserved-2.ensures.items refl refl
+
+pub invariant_of-self-clause-wide : goal.invariant_of-self-clause-wide
+invariant_of-self-clause-wide c =
+    let places = c.args.self.now.places.items in
+    c.args.self.now.wide ∙ sym (length-set places c.args.page.now.block (c.len.result + 1))

@@ -1,7 +1,7 @@
 use Rattle.std.proofs.Common.{◌∙◌, refl, sym, arith}
-use Rattle.buffer_pool.specs.Pools.{most_of}
+use Rattle.buffer_pool.specs.Pools.{most_of, count_of}
 use Rattle.buffer_pool.proofs.Putting.{same_changes}
-use Rattle.buffer_pool.proofs.Noting.{same_pages}
+use Rattle.buffer_pool.proofs.Noting.{same_pages, pages_both, changes_both}
 use Rattle.buffer_pool.proofs.Sound.{unused_free, free_stays, oldest_at, oldest_is, none_free}
 use Rattle.buffer_pool.proofs.pool.Pool.choose.Goals as goal
 
@@ -14,28 +14,30 @@ overflow_add-self c = omega (arith, c.in-Some.ensures.found.taken.within)
 
 pub returns-in-Some-clause-choice : goal.returns-in-Some-clause-choice
 returns-in-Some-clause-choice c =
-    free_stays c.args.self.now _ c.args.pinned.now c.in-Some.at
-    (same_pages c.args.self.now _ refl refl refl) (same_changes c.args.self.now _ refl (λ b. refl)) c.in-Some.ensures.found
+    free_stays c.free_frame.new.self _ c.args.pinned.now c.in-Some.at
+    (same_pages c.free_frame.new.self _ refl refl refl) (same_changes c.free_frame.new.self _ refl (λ b. refl)) c.in-Some.ensures.found
 
 pub returns-in-Some-clause-pages : goal.returns-in-Some-clause-pages
-returns-in-Some-clause-pages c = same_pages c.args.self.now _ refl refl refl
+returns-in-Some-clause-pages c = pages_both c.args.self.now c.free_frame.new.self _ c.free_frame.ensures.pages (same_pages c.free_frame.new.self _ refl refl refl)
 
 pub returns-in-Some-clause-changes : goal.returns-in-Some-clause-changes
-returns-in-Some-clause-changes c = same_changes c.args.self.now _ refl (λ b. refl)
+returns-in-Some-clause-changes c = changes_both c.args.self.now c.free_frame.new.self _ c.free_frame.ensures.changes (same_changes c.free_frame.new.self _ refl (λ b. refl))
 
 pub act-requires : goal.act-requires
 act-requires c = record {
-  changed = oldest_at c.args.self.now c.args.pinned.now c.deref.result.now c.in-Some-unpinned_place.place c.index-block.result.now
-      c.deref.ensures.value (sym c.unpinned_place.ensures ∙ c.in-Some-unpinned_place.is) c.index-block.ensures;
+  changed = oldest_at c.free_frame.new.self c.args.pinned.now c.as_slice.result.now c.in-Some-unpinned_place.place c.block_at-block.result
+      c.as_slice.ensures (sym c.unpinned_place.ensures ∙ c.in-Some-unpinned_place.is) c.block_at-block.ensures;
 }
 
 pub returns-in-Some-unpinned_place-clause-choice : goal.returns-in-Some-unpinned_place-clause-choice
+unfolding most_of count_of
 returns-in-Some-unpinned_place-clause-choice c =
-    oldest_is c.args.self.now c.args.pinned.now c.deref.result.now c.in-Some-unpinned_place.place c.index-block.result.now c.act.result
-    c.deref.ensures.value (sym c.unpinned_place.ensures ∙ c.in-Some-unpinned_place.is) c.index-block.ensures c.act.ensures.act
-    (omega arith) c.in_default.ensures.none
+    oldest_is c.free_frame.new.self c.args.pinned.now c.as_slice.result.now c.in-Some-unpinned_place.place c.block_at-block.result c.act.result
+    c.as_slice.ensures (sym c.unpinned_place.ensures ∙ c.in-Some-unpinned_place.is) c.block_at-block.ensures c.act.ensures.act
+    (omega (arith, c.free_frame.ensures.pages.most, c.free_frame.ensures.pages.count)) c.in_default.ensures.none
 
 pub returns-in-None-clause-choice : goal.returns-in-None-clause-choice
+unfolding most_of count_of
 returns-in-None-clause-choice c =
-    none_free c.args.self.now c.args.pinned.now c.deref.result.now c.deref.ensures.value (sym c.unpinned_place.ensures ∙ c.in-None.is)
-    (omega arith) c.in_default.ensures.none
+    none_free c.free_frame.new.self c.args.pinned.now c.as_slice.result.now c.as_slice.ensures (sym c.unpinned_place.ensures ∙ c.in-None.is)
+    (omega (arith, c.free_frame.ensures.pages.most, c.free_frame.ensures.pages.count)) c.in_default.ensures.none

@@ -1,9 +1,5 @@
-use Rattle.std.proofs.Common.{arith}
-use Rattle.buffer_pool.proofs.Sound.{none_clean, found_free, found_none}
+use Rattle.buffer_pool.proofs.Sound.{found_free, found_none}
 use Rattle.buffer_pool.proofs.pool.Pool.clean_frame.Goals as goal
-
-pub returns-then-len-held-clause-none : goal.returns-then-len-held-clause-none
-returns-then-len-held-clause-none c = none_clean c.args.self.now c.args.pinned.now (omega arith)
 
 pub returns-clause-found : goal.returns-clause-found
 returns-clause-found c =

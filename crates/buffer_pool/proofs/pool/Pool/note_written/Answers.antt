@@ -1,5 +1,6 @@
 use Rattle.std.proofs.Common.{◌≡◌, ◌∙◌, ℕ, List, Some, sym, ap, refl, subst, set, length-set, get_or, arith}
-use Rattle.std.proofs.lemmas.List.{get_or_read}
+use Rattle.std.proofs.lemmas.Option.{get_or_from_slice_get}
+use Rattle.buffer_pool.specs.Orders.{waiting_in}
 use Rattle.buffer_pool.specs.Frames.{blocks_in, has_block, AreChanged}
 use Rattle.buffer_pool.specs.Pools.{changed_of, frame_of}
 use Rattle.buffer_pool.proofs.Changing.{has_block-at, changed_less}
@@ -10,12 +11,12 @@ pub frame-at-requires : goal.frame-at-requires
 unfolding changed_of
 frame-at-requires c =
     let pool = c.args.self.now in
-    let block = c.index.result.now in
-    let is = get_or_read pool.changed.items c.args.place block c.requires.place c.index.ensures 0 in
-    record { held = changed_held pool block (ap (has_block pool.changed.items) is ∙ has_block-at pool.changed.items c.args.place 0 c.requires.place) }
+    let block = c.block_at.result in
+    let is = sym (get_or_from_slice_get (waiting_in pool.changed) c.args.place block 0 c.block_at.ensures) in
+    record { held = changed_held pool block (ap (has_block (waiting_in pool.changed)) is ∙ has_block-at (waiting_in pool.changed) c.args.place 0 c.requires.place) }
 
 pub index_mut-requires : goal.index_mut-requires
-index_mut-requires c = omega (arith, c.args.self.now.many_acts, frame_within c.args.self.now c.index.result.now c.frame-at.result c.frame-at.ensures)
+index_mut-requires c = omega (arith, c.args.self.now.many_acts, frame_within c.args.self.now c.block_at.result c.frame-at.result c.frame-at.ensures)
 
 pub invariant_of-self-clause-many_acts : goal.invariant_of-self-clause-many_acts
 invariant_of-self-clause-many_acts c = length-set c.args.self.now.acts.items c.frame-at.result 0 ∙ c.args.self.now.many_acts
@@ -26,16 +27,16 @@ invariant_of-self-clause-ordered c =
     let pool = c.args.self.now in
     let at = c.frame-at.result in
     let blocks = blocks_in pool.pages.items in
-    let is = get_or_read pool.changed.items c.args.place c.index.result.now c.requires.place c.index.ensures 0 in
-    let held : frame_of pool (get_or pool.changed.items c.args.place 0) ≡ Some at = ap (frame_of pool) (sym is) ∙ c.frame-at.ensures in
-    subst (λ (xs : List ℕ). AreChanged xs blocks (set pool.acts.items at 0)) (sym c.remove.ensures.items)
-    (changed_less pool.changed.items blocks pool.acts.items c.args.place at pool.ordered c.requires.place
+    let is = sym (get_or_from_slice_get (waiting_in pool.changed) c.args.place c.block_at.result 0 c.block_at.ensures) in
+    let held : frame_of pool (get_or (waiting_in pool.changed) c.args.place 0) ≡ Some at = ap (frame_of pool) (sym is) ∙ c.frame-at.ensures in
+    subst (λ (xs : List ℕ). AreChanged xs blocks (set pool.acts.items at 0)) (sym c.remove.ensures.waiting)
+    (changed_less (waiting_in pool.changed) blocks pool.acts.items c.args.place at pool.ordered c.requires.place
     (frame_plain pool _ at held) (omega (arith, pool.many_acts, frame_within pool _ at c.frame-at.ensures)))
 
 pub returns : goal.returns
 unfolding changed_of
 returns c =
     let pool = c.args.self.now in
-    let is = get_or_read pool.changed.items c.args.place c.index.result.now c.requires.place c.index.ensures 0 in
+    let is = sym (get_or_from_slice_get (waiting_in pool.changed) c.args.place c.block_at.result 0 c.block_at.ensures) in
     written_is pool _ c.args.place c.frame-at.result c.requires.place (ap (frame_of pool) (sym is) ∙ c.frame-at.ensures)
-    refl refl refl refl c.remove.ensures.items
+    refl refl refl refl c.remove.ensures.waiting

@@ -1,7 +1,8 @@
-use Rattle.std.proofs.Common.{subst, ap, ◌∙◌}
+use Rattle.std.proofs.Common.{ℕ, subst, sym, ap, ◌∙◌}
 use Rattle.buffer_pool.specs.Pools.{IsPut, changed_of}
 use Rattle.buffer_pool.specs.declared.pool.Pool.{Pool}
 use Rattle.page_store.specs.Quiet.{IsQuiet}
+use Rattle.page_store.specs.Taking.{WritesLeast}
 use Rattle.page_store.proofs.Frames.{kept_put}
 use Rattle.page_store.proofs.Evicting.{writes_on}
 use Rattle.page_store.proofs.Quieting.{quiet_same, quiet_both}
@@ -30,5 +31,6 @@ returns-then-holds-clause-quiet g c = quiet_same g.D.Device c.args.self.now
 
 pub returns-clause-writes : goal.returns-clause-writes
 returns-clause-writes g c =
-    writes_on c.args.pinned.now c.args.self.now.pool c.free_frame.new.self.pool c.put.new.self.pool c.free_frame.ensures.writes
+    writes_on c.args.pinned.now c.args.self.now.durable c.put.new.self.durable c.args.self.now.pool c.free_frame.new.self.pool c.put.new.self.pool
+    (subst (λ (n : ℕ). WritesLeast c.args.pinned.now c.args.self.now.durable n c.args.self.now.pool c.free_frame.new.self.pool) (sym (c.put.ensures.durable ∙ c.read.ensures.durable)) c.free_frame.ensures.writes)
     (c.put.ensures.pool.changes.order ∙ ap changed_of c.read.ensures.pool)

@@ -1,11 +1,11 @@
-use Rattle.std.proofs.Common.{◌≤◌, ◌∙◌, List, length, refl, subst, sym, ap, arith}
-use Rattle.redo_log.specs.Kept.{end_with}
+use Rattle.std.proofs.Common.{◌<◌, ◌≤◌, ◌∙◌, ℕ, List, length, refl, subst, sym, ap, arith}
+use Rattle.redo_log.specs.Kept.{end_with, waiting_count}
 use Rattle.index_model.specs.declared.limits.Limits.{Limits}
 use Rattle.page_codec.specs.declared.page.Page.{Page}
 use Rattle.page_action.specs.Stored.{AreStored}
 use Rattle.device_layout.specs.Layout.{place}
 use Rattle.page_store.specs.Writing.{HoldsPages}
-use Rattle.page_store.proofs.Opened.{is_own}
+use Rattle.page_store.proofs.Opened.{is_own, room_is}
 use Rattle.page_store.proofs.Keeping.{holds_opened, none_changed, pages_opened}
 use Rattle.page_store.proofs.logged_pages.LoggedPages.new.Goals as goal
 
@@ -31,3 +31,11 @@ invariant_of-result-clause-holds g c =
 pub invariant_of-result-clause-fits : goal.invariant_of-result-clause-fits
 invariant_of-result-clause-fits g c =
     λ alive some. subst (λ (l : Limits). end_with c.args.log c.room-room.result ≤ l.log_bytes) c.requires.log_limits (c.room-room.ensures.fit c.room-room.result some (omega arith))
+
+pub returns-clause-closed : goal.returns-clause-closed
+returns-clause-closed g c = λ empty.
+    let log = c.args.log in
+    let fits = subst (λ (l : Limits). (n : ℕ) → 0 < n → n ≤ c.room-room.result → end_with log n ≤ l.log_bytes) c.requires.log_limits c.room-room.ensures.fit in
+    let room = room_is log.at (waiting_count log) c.room-room.result c.args.limits.log_bytes empty c.requires.idle fits
+    (subst (λ (l : Limits). (n : ℕ) → c.room-room.result < n → end_with log n ≤ l.log_bytes → ⊥) c.requires.log_limits c.room-room.ensures.no_more) in
+    record { room = room; promised = room }

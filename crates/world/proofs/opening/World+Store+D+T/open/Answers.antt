@@ -1,4 +1,6 @@
 use Rattle.std.proofs.Common.{arith, inl, inr, sym, ap, subst, ◌∙◌, ⊎_elim, IsTrue}
+use Rattle.device.specs.Moments.{Goes}
+use Rattle.page_store.specs.Restart.{LeavesPages}
 use Rattle.page_store.specs.Stores.{state_of, device_of}
 use Rattle.tree_acts.specs.TheoremTree.{IsTree}
 use Rattle.schedule.specs.Snapshots.{IsUnused}
@@ -34,3 +36,15 @@ returns-in-Err-clause-begins g c honest frames from to limits pages index tree =
 pub returns-in-Err-clause-cause : goal.returns-in-Err-clause-cause
 returns-in-Err-clause-cause g c =
     ⊎_elim (λ failed. inr (inr (inl failed))) (λ refused. inr (inr (inr refused.0))) c.in-Err.ensures.cause
+
+pub returns-in-Ok-new-clause-moments : goal.returns-in-Ok-new-clause-moments
+returns-in-Ok-new-clause-moments g c honest limits pages index =
+    let same = ap (device_of g.D.Device) c.in-Ok-new.ensures.store in
+    subst (λ (d : g.row.D.Denot). Goes (LeavesPages limits pages) (g.D.Device.trace c.args.device) (g.D.Device.trace d)) (sym same)
+    (c.in-Ok.ensures.moments (subst (λ (d : g.row.D.Denot). IsTrue (g.D.Device.is_honest d)) same honest) limits pages index)
+
+pub returns-in-Err-new-clause-moments : goal.returns-in-Err-new-clause-moments
+returns-in-Err-new-clause-moments g c honest limits pages index =
+    let same = c.into_device.ensures ∙ ap (device_of g.D.Device) c.in-Err-new.ensures.given_back in
+    subst (λ (d : g.row.D.Denot). Goes (LeavesPages limits pages) (g.D.Device.trace c.args.device) (g.D.Device.trace d)) (sym same)
+    (c.in-Ok.ensures.moments (subst (λ (d : g.row.D.Denot). IsTrue (g.D.Device.is_honest d)) same honest) limits pages index)
