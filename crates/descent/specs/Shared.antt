@@ -1,11 +1,13 @@
 -- A tree that many sessions share: what the steps of one session's call do to it, and what the others may rely on meanwhile.
-use Rattle.std.specs.Prelude.{◌≡◌, ◌≢◌, ◌⊎◌, ℕ, zero, suc, ◌+◌, ◌≤◌, ◌<◌, ◌||◌, ◌&&◌, not, Bool, true, false, nat_lt, nat_le, Option, Some, None, length, slice_get}
+use Rattle.std.specs.Prelude.{◌≡◌, ◌≢◌, ◌⊎◌, ℕ, zero, suc, ◌+◌, ◌≤◌, ◌<◌, ◌||◌, ◌&&◌, not, Bool, true, false, nat_lt, nat_le, Option, Some, None, if◌then◌else◌, ◌==◌, List, [], ◌∷◌, map, length, slice_get}
+use Rattle.std.specs.List.{list_any}
 use Rattle.index_model.specs.Actions.{Effect, Add, Remove, Shape}
 use Rattle.index_model.specs.Faults.{Circumstances}
 use Rattle.index_model.specs.declared.bound.Bound.{Bound}
 use Rattle.latch_table.specs.Holdings.{holding_of, is_held_by_another}
 use Rattle.latch_table.specs.declared.mode.Mode.TheVariants.{Shared, Exclusive}
-use Rattle.page_action.specs.Causes.{nothing_wrong, has_failed, is_at_end, pinned_blocks, count_apart}
+use Rattle.page_codec.specs.declared.page.Page.{Page}
+use Rattle.page_action.specs.Causes.{nothing_wrong, has_failed, is_at_end, where_acted, pinned_blocks, count_apart}
 use Rattle.page_action.specs.Reuse.{is_reusable}
 use Rattle.page_action.specs.States.{State, Backing, with_table}
 use Rattle.tree_shape.specs.Nodes.{nodes_of}
@@ -147,16 +149,58 @@ abbrev pub is_out_of_blocks : State → Bool
 is_out_of_blocks st =
     nat_le st.limits.pages (length st.pages) && not (any_is_reusable st (length st.pages))
 
--- Why a step is refused that reads pages of a tree, and may do an act of so many images, and needs so many frames beside
+-- the first number below this one that is so, or else this one
+abbrev pub first_below : (ℕ → Bool) → ℕ → ℕ
+first_below is zero = zero
+first_below is (suc n) =
+    if nat_lt (first_below is n) n
+    then first_below is n
+    else (if is n then n else suc n)
+
+-- the block that a new page takes: the lowest reusable one, or else the next unused one
+abbrev pub fresh_block : State → ℕ
+fresh_block st = first_below (is_reusable st) (length st.pages)
+
+-- how many of these blocks have no image that waits in the log
+abbrev pub count_new : List ℕ → List ℕ → ℕ
+count_new waiting [] = 0
+count_new waiting (block ∷ blocks) =
+    if list_any (λ b. b == block) waiting
+    then count_new waiting blocks
+    else suc (count_new waiting blocks)
+
+-- there is no room for one image of each of these blocks: no more are promised, and those of them that don't wait are more than
+-- there is room for
+abbrev pub lacks_room : Backing → Backing → List ℕ → Bool
+lacks_room old new blocks =
+    nat_le old.promised (length blocks) && nat_lt new.room (count_new new.waiting blocks)
+
+-- why an act of these pages isn't done
+abbrev pub where_acting : State → Backing → Backing → List Page → Circumstances
+where_acting st old new changed = record (where_acted st old new changed) {
+  log_is_full = lacks_room old new (map (λ page. page.block) changed);
+}
+
+-- how many frames a step needs that writes these blocks: one where it only reads
+abbrev pub frames_for : List ℕ → ℕ
+frames_for [] = 1
+frames_for (block ∷ blocks) = suc (length blocks)
+
+-- the block of a sibling, if there is one
+abbrev pub sibling : Option ℕ → List ℕ
+sibling None = []
+sibling (Some block) = block ∷ []
+
+-- Why a step is refused that reads pages of a tree, and may do an act that writes these blocks, and needs so many frames beside
 -- those that are pinned; and whether it may take a block, and split the root.
-abbrev pub where_working : State → Backing → Backing → ℕ → ℕ → ℕ → Bool → Bool → Circumstances
+abbrev pub where_working : State → Backing → Backing → ℕ → List ℕ → ℕ → Bool → Bool → Circumstances
 where_working st old new session images frames takes splits = record nothing_wrong {
   device_failed = has_failed old new;
   is_stopped = old.stopped || is_at_end st.acts;
   is_held_by_another = λ b. is_held_by_another st.table session b Shared
       || is_held_by_another st.table session b Exclusive;
   no_block_is_free = takes && is_out_of_blocks st;
-  log_is_full = nat_lt 0 images && nat_le old.promised images;
+  log_is_full = lacks_room old new images;
   frames_are_pinned = nat_lt st.frames (frames + count_apart (pinned_blocks st.table));
   root_is_at_31 = splits && nat_le 31 (root_level st.pages);
 }

@@ -1,6 +1,6 @@
 //! Reading a page for a session.
 
-ghost use Rattle.std.specs.Prelude.{◌≡◌, ◌<◌, ◌≤◌, true, false, Err, IfOk, IfErr, OnOk, OnErr, Some, Bool, ℕ, length, slice_get};
+ghost use Rattle.std.specs.Prelude.{◌≡◌, ◌<◌, ◌≤◌, true, false, Err, IfOk, IfErr, OnOk, OnErr, Some, Bool, ℕ, List, length, slice_get};
 ghost use Rattle.index_model.specs.Faults.{HasCause};
 ghost use Rattle.latch_table.specs.Holdings.{HasRoom, is_held_by_another};
 ghost use Rattle.page_action.specs.States.{State, Continues};
@@ -34,7 +34,7 @@ pub fn look<S: PageStore>(store: &mut S, session: Session, block: u32) -> Result
     ensures faults { IfErr result (HasCause where_reading_any) }
     ensures works { (S.backing store.new).honest ≡ true
         → HasRoom (S.state store.old).table session → block < length (S.state store.old).pages
-        → (images frames : ℕ) (takes splits : Bool) → 1 ≤ frames
+        → (images : List ℕ) (frames : ℕ) (takes splits : Bool) → 1 ≤ frames
         → IfErr result (HasCause (where_working (S.state store.old) (S.backing store.old)
         (S.backing store.new) session images frames takes splits)) }
 {
@@ -91,7 +91,7 @@ pub fn look_to_change<S: PageStore>(
     ensures faults { IfErr result (HasCause where_reading_any) }
     ensures cause { (S.backing store.new).honest ≡ true
         → HasRoom (S.state store.old).table session → block < length (S.state store.old).pages
-        → (images frames : ℕ) (takes splits : Bool) → 1 ≤ frames
+        → (images : List ℕ) (frames : ℕ) (takes splits : Bool) → 1 ≤ frames
         → IfErr result (HasCause (where_working (S.state store.old) (S.backing store.old)
         (S.backing store.new) session images frames takes splits)) }
 {
@@ -132,7 +132,7 @@ pub fn look_at_both<S: PageStore>(
     ensures cause { (S.backing store.new).honest ≡ true
         → HasRoom (S.state store.old).table session → first < length (S.state store.old).pages
         → second < length (S.state store.old).pages
-        → (images frames : ℕ) (takes splits : Bool) → 1 ≤ frames
+        → (images : List ℕ) (frames : ℕ) (takes splits : Bool) → 1 ≤ frames
         → IfErr result (HasCause (where_working (S.state store.old) (S.backing store.old)
         (S.backing store.new) session images frames takes splits)) }
 {

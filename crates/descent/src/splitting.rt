@@ -1,15 +1,14 @@
 //! What a split needs beside the page.
 
-ghost use Rattle.std.specs.Prelude.{◌≡◌, ◌<◌, ◌≤◌, ◌+◌, true, false, Err, IfOk, IfErr, OnOk, OnErr, Bool, ℕ, suc, length};
+ghost use Rattle.std.specs.Prelude.{◌≡◌, ◌<◌, ◌≤◌, ◌+◌, true, false, Err, IfOk, IfErr, OnOk, OnErr, Bool, ℕ, List, suc, length};
 ghost use Rattle.index_model.specs.Faults.{HasCause};
 ghost use Rattle.latch_table.specs.Holdings.{HasRoom, is_held_by_another};
 ghost use Rattle.page_codec.specs.Grammar.{IsBlock};
-ghost use Rattle.page_action.specs.Causes.{where_acted};
 ghost use Rattle.page_action.specs.Reuse.{IsFresh};
 ghost use Rattle.page_action.specs.Room.{KeepsRoom};
 ghost use Rattle.page_action.specs.States.{Continues, after_act};
 ghost use Rattle.page_action.specs.Stored.{AreActable};
-ghost use Rattle.descent.specs.Shared.{where_working, where_reading_any, where_writing_any, where_splitting_any};
+ghost use Rattle.descent.specs.Shared.{where_working, where_acting, where_reading_any, where_writing_any, where_splitting_any};
 ghost use Rattle.descent.specs.Splitting.{RightIsMendable, RightIsStored, RightIsFound};
 
 use crate::reading::{ask_for, look_to_change};
@@ -37,7 +36,7 @@ pub fn read_right<S: PageStore>(
     ensures faults { IfErr result (HasCause where_reading_any) }
     ensures cause { (S.backing store.new).honest ≡ true
         → HasRoom (S.state store.old).table session → RightIsMendable (S.state store.old) right
-        → (images frames : ℕ) (takes splits : Bool) → 1 ≤ frames
+        → (images : List ℕ) (frames : ℕ) (takes splits : Bool) → 1 ≤ frames
         → IfErr result (HasCause (where_working (S.state store.old) (S.backing store.old)
         (S.backing store.new) session images frames takes splits)) }
 {
@@ -62,7 +61,7 @@ pub fn take_block<S: PageStore>(store: &mut S, session: Session) -> Result<u32, 
     ensures block { 0 < length (S.state store.old).pages → IfOk result IsBlock }
     ensures faults { IfErr result (HasCause where_splitting_any) }
     ensures cause { HasRoom (S.state store.old).table session
-        → (images frames : ℕ) (splits : Bool)
+        → (images : List ℕ) (frames : ℕ) (splits : Bool)
         → IfErr result (HasCause (where_working (S.state store.old) (S.backing store.old)
         (S.backing store.new) session images frames true splits)) }
 {
@@ -90,7 +89,7 @@ pub fn act_on<S: PageStore>(store: &mut S, pages: &[Page]) -> Result<u64, Fault>
     ensures faults { IfErr result (HasCause where_writing_any) }
     ensures cause { AreActable (S.state store.old).limits
         (length (S.state store.old).pages) pages.now
-        → IfErr result (HasCause (where_acted (S.state store.old) (S.backing store.old)
+        → IfErr result (HasCause (where_acting (S.state store.old) (S.backing store.old)
         (S.backing store.new) pages.now)) }
 {
     if let Some(block) = find_misplaced(pages, store.used(), store.limits()) {

@@ -34,7 +34,7 @@ use Rattle.descent.proofs.Tables.{any_excluded}
 use Rattle.descent.proofs.Working.{working_later, read_pinned_cause}
 use Rattle.std.specs.Prelude.{IfOk, IfErr, OnErr}
 use Rattle.split_finish.specs.Targets.{OnlyTargetsAreFlagged, is_among_targets}
-use Rattle.insert_split.specs.Inserts.{leaf_held, IsLeafFor, InsertFits, InsertStands, InsertSteps, IsToCome, count_halved, images_at, frames_at, takes_block_at, targets_at, IsLeft, where_inserting}
+use Rattle.insert_split.specs.Inserts.{leaf_held, IsLeafFor, InsertFits, InsertStands, InsertSteps, IsToCome, blocks_halved, images_at, frames_at, takes_block_at, targets_at, IsLeft, where_inserting}
 use Rattle.insert_split.specs.Straight.{straight_steps}
 use Rattle.insert_split.specs.Turns.{EntryPut, PutsEntry, PlaceRefused}
 use Rattle.insert_split.specs.declared.insert.InsertAt.{InsertAt}
@@ -114,23 +114,23 @@ not_the_leaf st session other block order held differ alone =
     true_false (sym (any_excluded (holding_of st.table other).latches block Exclusive alone) ∙ free)
 
 -- how many images and frames a leaf takes that is full, or isn't, and whether a block
-pub full_is : (st : State) (block : ℕ) (page : Page) → slice_get st.pages block ≡ Some page → st.limits.items ≤ length (entries_of page.items) → (images_at st (Holds block) ≡ suc (count_halved page.right)) × (frames_at st (Holds block) ≡ count_halved page.right) × (takes_block_at st (Holds block) ≡ true)
+pub full_is : (st : State) (block : ℕ) (page : Page) → slice_get st.pages block ≡ Some page → st.limits.items ≤ length (entries_of page.items) → (images_at st (Holds block) ≡ block ∷ blocks_halved st page.right) × (frames_at st (Holds block) ≡ length (blocks_halved st page.right)) × (takes_block_at st (Holds block) ≡ true)
 full_is st block page found le =
     let full = le-leb st.limits.items (length (entries_of page.items)) le in
     (rw (found, full) refl, rw (found, full) refl, rw (found, full) refl)
 
-pub roomy_is : (st : State) (block : ℕ) (page : Page) → slice_get st.pages block ≡ Some page → length (entries_of page.items) < st.limits.items → (images_at st (Holds block) ≡ 1) × (frames_at st (Holds block) ≡ 0) × (takes_block_at st (Holds block) ≡ false)
+pub roomy_is : (st : State) (block : ℕ) (page : Page) → slice_get st.pages block ≡ Some page → length (entries_of page.items) < st.limits.items → (images_at st (Holds block) ≡ block ∷ []) × (frames_at st (Holds block) ≡ 0) × (takes_block_at st (Holds block) ≡ false)
 roomy_is st block page found lt =
     let roomy = lt-leb st.limits.items (length (entries_of page.items)) lt in
     (rw (found, roomy) refl, rw (found, roomy) refl, rw (found, roomy) refl)
 
-pub holding_cause : (st : State) (old new : Backing) (op : InsertOp) (block images frames : ℕ) (takes : Bool) (fault : Fault) → op.at ≡ Holds block
+pub holding_cause : (st : State) (old new : Backing) (op : InsertOp) (block : ℕ) (images : List ℕ) (frames : ℕ) (takes : Bool) (fault : Fault) → op.at ≡ Holds block
     → (images_at st (Holds block) ≡ images) × (frames_at st (Holds block) ≡ frames) × (takes_block_at st (Holds block) ≡ takes)
     → HasCause (where_working st old new op.session images frames takes false) fault → HasCause (where_inserting st old new op.session op.entry op.at) fault
 holding_cause st old new op block images frames takes fault at_is counts h =
     subst (λ (a : InsertAt). HasCause (where_inserting st old new op.session op.entry a) fault) (sym at_is)
     (as_inserting st old new op.session op.entry (Holds block) (images_at st (Holds block)) (frames_at st (Holds block)) (takes_block_at st (Holds block)) false fault refl
-    (subst (λ (n : ℕ). HasCause (where_working st old new op.session n (frames_at st (Holds block)) (takes_block_at st (Holds block)) false) fault) (sym counts.0)
+    (subst (λ (blocks : List ℕ). HasCause (where_working st old new op.session blocks (frames_at st (Holds block)) (takes_block_at st (Holds block)) false) fault) (sym counts.0)
     (subst (λ (n : ℕ). HasCause (where_working st old new op.session images n (takes_block_at st (Holds block)) false) fault) (sym counts.1)
     (subst (λ (b : Bool). HasCause (where_working st old new op.session images frames b false) fault) (sym counts.2) h))))
 
@@ -150,7 +150,7 @@ pub puts : {S : Type 0} (g : Ghosts S) (op : InsertOp) (old mid new : S) (block 
     → (g.backing old).failures ≤ (g.backing mid).failures → ((g.backing mid).stopped ≡ true → (g.backing old).stopped ≡ true) → (g.backing mid).promised ≡ (g.backing old).promised
     → is_among (entries_of page.items) op.entry ≡ false → length (entries_of page.items) < (g.state old).limits.items
     → IfOk result (PutsEntry page op.entry (g.state mid) (g.state new)) → OnErr result (g.state new ≡ g.state mid)
-    → (has_pin (pinned_blocks (g.state mid).table) page.block ≡ true → IfErr result (HasCause (where_working (g.state mid) (g.backing mid) (g.backing new) op.session 1 0 false false)))
+    → (has_pin (pinned_blocks (g.state mid).table) page.block ≡ true → IfErr result (HasCause (where_working (g.state mid) (g.backing mid) (g.backing new) op.session (page.block ∷ []) 0 false false)))
     → InsertSteps g op op old new result
 puts g op old mid new block page (Ok Going) steps same alive at_is block_is found le later promised absent room told refused cause = absurd told
 puts g op old mid new block page (Ok (Added action unfinished)) steps same alive at_is block_is found le later promised absent room told refused cause = record {
@@ -218,9 +218,10 @@ puts g op old mid new block page (Err fault) steps same alive at_is block_is fou
     let there = leaf_there st op block at_is fits in
     let pin : has_pin (pinned_blocks (g.state mid).table) page.block ≡ true =
     subst (λ (s : State). has_pin (pinned_blocks s.table) page.block ≡ true) (sym same) (subst (λ (b : ℕ). has_pin (pinned_blocks st.table) b ≡ true) (sym block_is) (pinned_leaf st.table op.session block there.0)) in
-    holding_cause st (g.backing old) (g.backing new) op block 1 0 false fault at_is (roomy_is st block page (found honest) room)
-    (working_later st (g.backing old) (g.backing mid) (g.backing new) op.session 1 0 false false fault le later promised
-    (subst (λ (s : State). HasCause (where_working s (g.backing mid) (g.backing new) op.session 1 0 false false) fault) same (cause pin))))
+    holding_cause st (g.backing old) (g.backing new) op block (block ∷ []) 0 false fault at_is (roomy_is st block page (found honest) room)
+    (working_later st (g.backing old) (g.backing mid) (g.backing new) op.session (block ∷ []) 0 false false fault le later promised
+    (subst (λ (b : ℕ). HasCause (where_working st (g.backing mid) (g.backing new) op.session (b ∷ []) 0 false false) fault) block_is
+    (subst (λ (s : State). HasCause (where_working s (g.backing mid) (g.backing new) op.session (page.block ∷ []) 0 false false) fault) same (cause pin)))))
   where
     st : State
     st = g.state old

@@ -1,5 +1,5 @@
 -- The pages of an act that splits a leaf may be written.
-use Rattle.std.proofs.Common.{◌≡◌, ◌≢◌, ℕ, suc, ◌+◌, ◌<◌, ◌≤◌, true, Option, Some, None, [], ◌∷◌, ◌++◌, map, length, refl, sym, subst, ◌∙◌, arith}
+use Rattle.std.proofs.Common.{◌≡◌, ◌≢◌, ℕ, ◌+◌, ◌<◌, ◌≤◌, true, Option, Some, None, List, [], ◌∷◌, ◌++◌, map, length, refl, sym, subst, ◌∙◌, arith}
 use Rattle.index_model.specs.declared.entry.Entry.{Entry}
 use Rattle.index_model.specs.declared.limits.Limits.{Limits}
 use Rattle.page_codec.specs.Edits.{entries_of, HasEntries}
@@ -19,8 +19,8 @@ use Rattle.page_action.specs.Causes.{pinned_blocks, count_apart}
 use Rattle.descent.proofs.Mended.{fresh_apart, RightMay, right_may}
 use Rattle.descent.proofs.Working.{apart_pinned}
 use Rattle.tree_acts.proofs.Overlays.{inside}
+use Rattle.descent.specs.Shared.{sibling}
 use Rattle.descent.specs.Splitting.{RightIsStored, mended_to}
-use Rattle.insert_split.specs.Inserts.{count_halved}
 use Rattle.insert_split.specs.Turns.{IsSplittable}
 
 -- a leaf has as many items as entries
@@ -65,26 +65,19 @@ halves_may st session e page left half right fits may some left_page half_page l
     beside : RightMay st page.block half.block right
     beside = right_may st session page.block half.block page.right right fits.few fresh block fits.mendable fits.apart stored
 
--- beside the leaf one page is written at least
-pub halved_some : (right : Option ℕ) → 1 ≤ count_halved right
-halved_some None = omega arith
-halved_some (Some right) = omega arith
+-- the blocks of the pages of such an act
+pub halved_are : (st : State) (session at new : ℕ) (left half : Page) (block : Option ℕ) (right : Option Page) → left.block ≡ at → half.block ≡ new → RightIsStored st session block right
+    → map (λ (page : Page). page.block) (left ∷ half ∷ mended_to half.block right) ≡ at ∷ new ∷ sibling block
+halved_are st session at new left half None None one two stored = rw (one, two) refl
+halved_are st session at new left half None (Some page) one two stored = absurd stored
+halved_are st session at new left half (Some b) None one two stored = absurd stored
+halved_are st session at new left half (Some b) (Some page) one two stored = rw (one, two, stored.0.block_is) refl
 
--- such an act has an image of each page beside the leaf and one of the leaf, and needs a frame for each of them where the leaf is
--- pinned
-pub few_changed : (st : State) (session : ℕ) (left half : Page) (new : ℕ) (block : Option ℕ) (right : Option Page) → RightIsStored st session block right
-    → length (left ∷ half ∷ mended_to new right) ≤ suc (count_halved block)
-few_changed st session left half new None None stored = omega arith
-few_changed st session left half new None (Some page) stored = absurd stored
-few_changed st session left half new (Some b) None stored = absurd stored
-few_changed st session left half new (Some b) (Some page) stored = omega arith
-
-pub frames_for : (st : State) (session : ℕ) (left half : Page) (new : ℕ) (block : Option ℕ) (right : Option Page) → RightIsStored st session block right → has_pin (pinned_blocks st.table) left.block ≡ true
-    → count_apart (map (λ (page : Page). page.block) (left ∷ half ∷ mended_to new right) ++ pinned_blocks st.table) ≤ count_halved block + count_apart (pinned_blocks st.table)
-frames_for st session left half new None None stored pin = (let k = apart_pinned left.block (half.block ∷ []) (pinned_blocks st.table) pin in omega (arith, k))
-frames_for st session left half new None (Some page) stored pin = absurd stored
-frames_for st session left half new (Some b) None stored pin = absurd stored
-frames_for st session left half new (Some b) (Some page) stored pin = apart_pinned left.block (half.block ∷ page.block ∷ []) (pinned_blocks st.table) pin
+-- where the leaf is pinned, it needs a frame for each page beside it
+pub frames_beside : (st : State) (at : ℕ) (beside blocks : List ℕ) → blocks ≡ at ∷ beside → has_pin (pinned_blocks st.table) at ≡ true
+    → count_apart (blocks ++ pinned_blocks st.table) ≤ length beside + count_apart (pinned_blocks st.table)
+frames_beside st at beside blocks is pin =
+    subst (λ (bs : List ℕ). count_apart (bs ++ pinned_blocks st.table) ≤ length beside + count_apart (pinned_blocks st.table)) (sym is) (apart_pinned at beside (pinned_blocks st.table) pin)
 
 -- a leaf with one entry more
 pub put_may : (limits : Limits) (used : ℕ) (page after : Page) → IsStored limits page.block page → page.block < used → used ≤ limits.pages → IsPage after → HasEntries after.items

@@ -38,7 +38,7 @@ use Rattle.split_finish.specs.Targets.{OnlyTargetsAreFlagged, is_among_targets, 
 use Rattle.split_finish.specs.declared.finish.FinishOp.{FinishOp}
 use Rattle.split_finish.specs.declared.finish.Target.{Target}
 use Rattle.split_finish.proofs.Parting.{mends_right}
-use Rattle.insert_split.specs.Inserts.{leaf_held, count_halved, InsertFits, InsertSteps, targets_at}
+use Rattle.insert_split.specs.Inserts.{leaf_held, blocks_halved, InsertFits, InsertSteps, targets_at}
 use Rattle.insert_split.specs.Turns.{IsSplittable, SplitsLeaf}
 use Rattle.insert_split.specs.declared.insert.InsertAt.{InsertAt}
 use Rattle.insert_split.specs.declared.insert.InsertAt.TheVariants.{Holding as Holds}
@@ -115,7 +115,7 @@ pub splits : {S : Type 0} (g : Ghosts S) (before after : InsertOp) (old mid new 
     → IfOk result (λ step. step ≡ Going) → OnOk result (SplitsLeaf (g.backing new).honest page before after (g.state mid) (g.state new))
     → OnErr result (g.state new ≡ g.state mid) → OnErr result (after ≡ before)
     → ((g.backing new).honest ≡ true → HasRoom (g.state mid).table before.session → IsSplittable (g.state mid) page → has_pin (pinned_blocks (g.state mid).table) page.block ≡ true
-    → IfErr result (HasCause (where_working (g.state mid) (g.backing mid) (g.backing new) before.session (suc (count_halved page.right)) (count_halved page.right) true false)))
+    → IfErr result (HasCause (where_working (g.state mid) (g.backing mid) (g.backing new) before.session (page.block ∷ blocks_halved (g.state mid) page.right) (length (blocks_halved (g.state mid) page.right)) true false)))
     → InsertSteps g before after old new result
 splits g before after old mid new block page (Ok Going) steps same alive at_is block_is found stored few le later promised absent full going told refused kept cause = record {
   steps = steps;
@@ -253,12 +253,16 @@ splits g before after old mid new block page (Err fault) steps same alive at_is 
     let right = right_of page.right refl at_page live fits.start (entry_aim before.entry) place order.tree in
     let fits_split : IsSplittable st page = record { found = at_page; stored = stored; few = few; mendable = right.0; apart = right.1 } in
     let pin : has_pin (pinned_blocks st.table) page.block ≡ true = subst (λ (b : ℕ). has_pin (pinned_blocks st.table) b ≡ true) (sym block_is) (pinned_leaf st.table before.session block there.0) in
-    holding_cause st (g.backing old) (g.backing new) before block (suc (count_halved page.right)) (count_halved page.right) true fault at_is (full_is st block page (found honest) full)
-    (working_later st (g.backing old) (g.backing mid) (g.backing new) before.session (suc (count_halved page.right)) (count_halved page.right) true false fault le later promised
-    (subst (λ (s : State). HasCause (where_working s (g.backing mid) (g.backing new) before.session (suc (count_halved page.right)) (count_halved page.right) true false) fault) same
+    holding_cause st (g.backing old) (g.backing new) before block (block ∷ beside st) (length (beside st)) true fault at_is (full_is st block page (found honest) full)
+    (working_later st (g.backing old) (g.backing mid) (g.backing new) before.session (block ∷ beside st) (length (beside st)) true false fault le later promised
+    (subst (λ (b : ℕ). HasCause (where_working st (g.backing mid) (g.backing new) before.session (b ∷ beside st) (length (beside st)) true false) fault) block_is
+    (subst (λ (s : State). HasCause (where_working s (g.backing mid) (g.backing new) before.session (page.block ∷ beside s) (length (beside s)) true false) fault) same
     (cause honest (subst (λ (s : State). HasRoom s.table before.session) (sym same) (room_held st before.session block there.0)) (subst (λ (s : State). IsSplittable s page) (sym same) fits_split)
-    (subst (λ (s : State). has_pin (pinned_blocks s.table) page.block ≡ true) (sym same) pin))))))
+    (subst (λ (s : State). has_pin (pinned_blocks s.table) page.block ≡ true) (sym same) pin)))))))
   where
+    beside : State → List ℕ
+    beside s = blocks_halved s page.right
+
     st : State
     st = g.state old
 

@@ -1,5 +1,5 @@
 -- An insert that comes to its leaf, and takes it.
-use Rattle.std.proofs.Common.{◌≡◌, ℕ, suc, ◌<◌, true, false, Option, Some, None, Result, Ok, Err, ◌∷◌, length, slice_get, refl, sym, ap, subst, inr, ◌∙◌, arith}
+use Rattle.std.proofs.Common.{[], ◌≡◌, ℕ, suc, ◌<◌, true, false, Option, Some, None, Result, Ok, Err, ◌∷◌, length, slice_get, refl, sym, ap, subst, inr, ◌∙◌, arith}
 use Rattle.index_model.specs.Faults.{HasCause}
 use Rattle.index_model.specs.declared.fault.Fault.{Fault}
 use Rattle.index_model.specs.declared.fault.Fault.TheVariants.{Blocked}
@@ -158,7 +158,7 @@ takes g before after old mid new page way (Err fault) steps same backing alive a
     why honest order fits held =
         subst (HasCause (where_inserting st (g.backing old) (g.backing new) before.session before.entry before.at)) (sym held.0)
         (reading_cause st (g.backing old) (g.backing new) before way (Blocked page.block) at_is
-        (held_cause st (g.backing old) (g.backing new) before.session 0 1 false false page.block Exclusive (inr refl)
+        (held_cause st (g.backing old) (g.backing new) before.session [] 1 false false page.block Exclusive (inr refl)
         (subst (λ (s : State). is_held_by_another s.table before.session page.block Exclusive ≡ true) same held.1)))
 
 -- the page that a search ends at may hold the entry

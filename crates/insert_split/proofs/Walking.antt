@@ -1,5 +1,5 @@
 -- An insert on its way to its leaf.
-use Rattle.std.proofs.Common.{◌≡◌, ℕ, ◌<◌, ◌≤◌, Bool, true, false, not, Option, Some, None, List, length, slice_get, refl, sym, subst, inl, inr, ◌∙◌, arith}
+use Rattle.std.proofs.Common.{[], ◌≡◌, ℕ, ◌<◌, ◌≤◌, Bool, true, false, not, Option, Some, None, List, length, slice_get, refl, sym, subst, inl, inr, ◌∙◌, arith}
 use Rattle.index_model.specs.Faults.{HasCause}
 use Rattle.index_model.specs.Order.{IsUpTo, bound_of}
 use Rattle.index_model.specs.declared.bound.Bound.{Bound}
@@ -45,7 +45,7 @@ pub room_free : (st : State) (session : ℕ) → holding_of st.table session ≡
 room_free st session free = subst (λ (h : Holding). length h.latches < 8) (sym free) (omega arith)
 
 -- the causes of a step that only reads are those of an insert there
-pub as_inserting : (st : State) (old new : Backing) (session : ℕ) (e : Entry) (at : InsertAt) (images frames : ℕ) (takes splits : Bool) (fault : Fault)
+pub as_inserting : (st : State) (old new : Backing) (session : ℕ) (e : Entry) (at : InsertAt) (images : List ℕ) (frames : ℕ) (takes splits : Bool) (fault : Fault)
     → where_inserting st old new session e at ≡ record (where_working st old new session images frames takes splits) { entry_was_there = (where_inserting st old new session e at).entry_was_there }
     → HasCause (where_working st old new session images frames takes splits) fault → HasCause (where_inserting st old new session e at) fault
 as_inserting st old new session e at images frames takes splits fault same h = rw same (by fault h)
@@ -89,8 +89,8 @@ pub to_come_there : (op : InsertOp) (way : Way) → op.at ≡ At way → IsToCom
 to_come_there op way at_is h = subst (λ (a : InsertAt). IsToCome a op.added) at_is h
 
 pub reading_cause : (st : State) (old new : Backing) (op : InsertOp) (way : Way) (fault : Fault) → op.at ≡ At way
-    → HasCause (where_working st old new op.session 0 1 false false) fault → HasCause (where_inserting st old new op.session op.entry op.at) fault
-reading_cause st old new op way fault at_is h = rw at_is (as_inserting st old new op.session op.entry (At way) 0 1 false false fault refl h)
+    → HasCause (where_working st old new op.session [] 1 false false) fault → HasCause (where_inserting st old new op.session op.entry op.at) fault
+reading_cause st old new op way fault at_is h = rw at_is (as_inserting st old new op.session op.entry (At way) [] 1 false false fault refl h)
 
 true_false : true ≡ false → ⊥
 true_false h = cc

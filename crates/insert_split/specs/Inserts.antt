@@ -17,7 +17,7 @@ use Rattle.tree_shape.specs.Walks.{entry_aim, is_within}
 use Rattle.tree_acts.specs.Trees.{HasPlace}
 use Rattle.tree_acts.specs.Ways.{AreWhole}
 use Rattle.descent.specs.Onward.{IsOnWay, walk_length, way_left}
-use Rattle.descent.specs.Shared.{IsInOrder, Does, IsOneStep, is_flagged, where_working, where_splitting_any}
+use Rattle.descent.specs.Shared.{IsInOrder, Does, IsOneStep, is_flagged, fresh_block, sibling, where_working, where_splitting_any}
 use Rattle.split_finish.specs.Finishes.{images_of, frames_of, takes_block_of}
 use Rattle.split_finish.specs.Targets.{targets_of, OnlyTargetsAreFlagged, FinishFits, finish_left}
 use Rattle.split_finish.specs.Turns.{splits_root_of}
@@ -89,29 +89,29 @@ abbrev pub is_full_page : ℕ → Option Page → Bool
 is_full_page items None = false
 is_full_page items (Some page) = nat_le items (length (entries_of page.items))
 
--- how many pages are written beside a leaf with this right sibling that is split: its right half, and the sibling
-abbrev pub count_halved : Option ℕ → ℕ
-count_halved None = 1
-count_halved (Some right) = 2
+-- the blocks that are written beside a leaf with this right sibling that is split: its right half, and the sibling
+abbrev pub blocks_halved : State → Option ℕ → List ℕ
+blocks_halved st right = fresh_block st ∷ sibling right
 
--- how many pages are written beside the leaf on which an entry is put
-abbrev pub count_put : ℕ → Option Page → ℕ
-count_put items None = 0
-count_put items (Some page) =
-    if nat_le items (length (entries_of page.items)) then count_halved page.right else 0
+-- the blocks that are written beside the leaf on which an entry is put
+abbrev pub blocks_beside : State → Option Page → List ℕ
+blocks_beside st None = []
+blocks_beside st (Some page) =
+    if nat_le st.limits.items (length (entries_of page.items))
+    then blocks_halved st page.right else []
 
--- how many images the act of a step has
-abbrev pub images_at : State → InsertAt → ℕ
-images_at st Start = 0
-images_at st (At way) = 0
-images_at st (Holds block) = suc (count_put st.limits.items (slice_get st.pages block))
+-- the blocks that the act of a step writes
+abbrev pub images_at : State → InsertAt → List ℕ
+images_at st Start = []
+images_at st (At way) = []
+images_at st (Holds block) = block ∷ blocks_beside st (slice_get st.pages block)
 images_at st (Finishing op) = images_of st op.target op.at
 
 -- ... and how many frames it needs, beside that of the leaf that it has pinned
 abbrev pub frames_at : State → InsertAt → ℕ
 frames_at st Start = 1
 frames_at st (At way) = 1
-frames_at st (Holds block) = count_put st.limits.items (slice_get st.pages block)
+frames_at st (Holds block) = length (blocks_beside st (slice_get st.pages block))
 frames_at st (Finishing op) = frames_of st op.target op.at
 
 -- ... whether it takes a block: to split a full leaf, or to finish a split

@@ -1,19 +1,19 @@
 //! Room on a leaf: a place on it, or two halves of it.
 
-ghost use Rattle.std.specs.Prelude.{◌≡◌, ◌≤◌, ◌<◌, ◌+◌, ◌∷◌, true, false, suc, ℕ, Some, None, IfSome, IfNone, IfOk, IfErr, OnOk, OnErr, length, slice_get};
+ghost use Rattle.std.specs.Prelude.{◌≡◌, ◌≤◌, ◌<◌, ◌+◌, [], ◌∷◌, true, false, suc, ℕ, Some, None, IfSome, IfNone, IfOk, IfErr, OnOk, OnErr, length, slice_get};
 ghost use Rattle.index_model.specs.Faults.{HasCause};
 ghost use Rattle.index_model.specs.Order.{is_among};
 ghost use Rattle.latch_table.specs.Holdings.{HasRoom, has_pin};
 ghost use Rattle.page_codec.specs.Edits.{entries_of};
 ghost use Rattle.page_codec.specs.Grammar.{IsPage};
 ghost use Rattle.page_codec.specs.Spelling.{count_of};
-ghost use Rattle.page_action.specs.Causes.{where_acted, pinned_blocks};
+ghost use Rattle.page_action.specs.Causes.{pinned_blocks};
 ghost use Rattle.page_action.specs.States.{Continues, after_act};
 ghost use Rattle.page_action.specs.Stored.{AreActable, IsStored};
 ghost use Rattle.tree_shape.specs.Leaf.{IsPlaceOf, MayHold};
-ghost use Rattle.descent.specs.Shared.{where_working};
+ghost use Rattle.descent.specs.Shared.{where_acting, where_working};
 ghost use Rattle.descent.specs.Splitting.{mended_to};
-ghost use Rattle.insert_split.specs.Inserts.{where_inserting_any, count_halved};
+ghost use Rattle.insert_split.specs.Inserts.{where_inserting_any, blocks_halved};
 ghost use Rattle.insert_split.specs.Turns.{PlaceRefused, PutsEntry, SplitsLeaf, IsSplittable};
 
 use crate::insert::{InsertAt, InsertOp, InsertStep};
@@ -63,7 +63,7 @@ fn act_on_halves<S: PageStore>(
     ensures faults { IfErr result (HasCause where_inserting_any) }
     ensures cause { AreActable (S.state store.old).limits (length (S.state store.old).pages)
         (left ∷ half ∷ mended_to half.block right)
-        → IfErr result (HasCause (where_acted (S.state store.old) (S.backing store.old)
+        → IfErr result (HasCause (where_acting (S.state store.old) (S.backing store.old)
         (S.backing store.new) (left ∷ half ∷ mended_to half.block right))) }
 {
     match right {
@@ -98,7 +98,7 @@ impl InsertOp {
         ensures faults { IfErr result (HasCause where_inserting_any) }
         ensures cause { has_pin (pinned_blocks (S.state store.old).table) page.old.block ≡ true
             → IfErr result (HasCause (where_working (S.state store.old) (S.backing store.old)
-            (S.backing store.new) self.now.session 1 0 false false)) }
+            (S.backing store.new) self.now.session (page.old.block ∷ []) 0 false false)) }
     {
         put(page, at, self.entry);
         match store.act(slice::from_ref(page)) {
@@ -136,8 +136,9 @@ impl InsertOp {
             → IsSplittable (S.state store.old) page
             → has_pin (pinned_blocks (S.state store.old).table) page.block ≡ true
             → IfErr result (HasCause (where_working (S.state store.old) (S.backing store.old)
-            (S.backing store.new) self.old.session (suc (count_halved page.right))
-            (count_halved page.right) true false)) }
+            (S.backing store.new) self.old.session
+            (page.block ∷ blocks_halved (S.state store.old) page.right)
+            (length (blocks_halved (S.state store.old) page.right)) true false)) }
     {
         let right = match read_right(store, self.session, page.right) {
             Ok(right) => right,

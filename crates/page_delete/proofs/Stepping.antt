@@ -35,7 +35,7 @@ use Rattle.vacuum.proofs.Causes.{or_more}
 use Rattle.page_delete.specs.Cleanups.{IsUnderway, CleanupFits, CleanupSteps, where_cleaning}
 use Rattle.page_delete.specs.Counts.{IsEmptyAt, IsFoundEmpty, come_to, IsCleaned, AllIsCleaned, deleted_in}
 use Rattle.page_delete.specs.Ops.{is_counted_out, cleanup_stats, turned_to, gone_past, gone_past_deleted, TurnsAt, unlinks, tries, passes}
-use Rattle.page_delete.specs.Needs.{count_judged, count_unlinked_at, count_written, where_trying}
+use Rattle.page_delete.specs.Needs.{blocks_judged, blocks_unlinked_at, blocks_written, where_trying}
 use Rattle.page_delete.specs.Parts.{IsTried, DeletesOn, AreInUse, LeafDies, IsSpared, IsInUse, PageGoes, IsNotDead, left_to, left_root, left_page, left_answer}
 use Rattle.page_delete.specs.Spares.{IsAlone, IsSought, IsSparing, EditsALeaf}
 use Rattle.page_delete.specs.Turns.{TurnsFrom}
@@ -62,7 +62,7 @@ or_there false true c h = refl
 or_there false false c h = h
 
 -- what keeps an act from being done keeps the cleanup from its step
-pub working_cause : (st : State) (old new : Backing) (op : CleanupOp) (fault : Fault) → HasCause (where_trying st old new op.session (count_written op.at op.cursor st)) fault → HasCause (where_cleaning st old new op) fault
+pub working_cause : (st : State) (old new : Backing) (op : CleanupOp) (fault : Fault) → HasCause (where_trying st old new op.session (blocks_written op.at op.cursor st)) fault → HasCause (where_cleaning st old new op) fault
 working_cause st old new op Stopped h = or_more old.stopped (is_at_end st.acts) (is_counted_out op) h
 working_cause st old new op fault h = h
 
@@ -160,7 +160,7 @@ moves g before after old new steps same session none alive less stepped cleans s
 }
 
 -- ... or with one
-pub acts : {S : Type 0} (g : Ghosts S) (written : State → ℕ) (sure : State → Type 0) (change : State → State → Type 0) (reason : State → Type 0) (before after : CleanupOp) (old new : S) → IsTried g before.session written sure change reason old new (Ok true) → after.session ≡ before.session → (g.backing old).stopped ≡ false
+pub acts : {S : Type 0} (g : Ghosts S) (written : State → List ℕ) (sure : State → Type 0) (change : State → State → Type 0) (reason : State → Type 0) (before after : CleanupOp) (old new : S) → IsTried g before.session written sure change reason old new (Ok true) → after.session ≡ before.session → (g.backing old).stopped ≡ false
     → cleanup_left (g.state old).limits.pages (length (g.state old).pages) after.cursor after.at < cleanup_left (g.state old).limits.pages (length (g.state old).pages) before.cursor before.at
     → TurnsFrom before.at (g.state old) before (Some Shape) after
     → (IsInOrder (g.state old) → (fits : CleanupFits (g.state old) before) → DeletesOn before.session (g.state old) (g.state new) → IsUnderway (g.state new) fits.start after.cursor after.at)
@@ -202,13 +202,13 @@ acts g written sure change reason before after old new tried session alive less 
 }
 
 -- a part that may do one act is refused
-pub try_refused : {S : Type 0} (g : Ghosts S) (written : State → ℕ) (sure : State → Type 0) (change : State → State → Type 0) (reason : State → Type 0) (op : CleanupOp) (old new : S) (fault : Fault) → IsTried g op.session written sure change reason old new (Err fault) → (g.backing old).stopped ≡ false
-    → written (g.state old) ≡ count_written op.at op.cursor (g.state old)
+pub try_refused : {S : Type 0} (g : Ghosts S) (written : State → List ℕ) (sure : State → Type 0) (change : State → State → Type 0) (reason : State → Type 0) (op : CleanupOp) (old new : S) (fault : Fault) → IsTried g op.session written sure change reason old new (Err fault) → (g.backing old).stopped ≡ false
+    → written (g.state old) ≡ blocks_written op.at op.cursor (g.state old)
     → (IsInOrder (g.state old) → CleanupFits (g.state old) op → sure (g.state old)) → CleanupSteps g op op old new (Err fault)
 try_refused g written sure change reason op old new fault tried alive same there =
     refuses g op old new fault tried.steps tried.refused (λ h. runs_no_more (g.backing old).stopped alive h)
     (λ honest order fits. working_cause (g.state old) (g.backing old) (g.backing new) op fault
-    (subst (λ (n : ℕ). HasCause (where_trying (g.state old) (g.backing old) (g.backing new) op.session n) fault) same (tried.cause honest order (has_room (g.state old) op fits) (there order fits))))
+    (subst (λ (n : List ℕ). HasCause (where_trying (g.state old) (g.backing old) (g.backing new) op.session n) fault) same (tried.cause honest order (has_room (g.state old) op fits) (there order fits))))
 
 -- the leaf is judged
 module _ {S : Type 0} (g : Ghosts S) (before : CleanupOp) (high : Bound) (parent : ℕ) (old new : S) (at : before.at ≡ Judge high parent) (alive : (g.backing old).stopped ≡ false) where
@@ -229,9 +229,9 @@ module _ {S : Type 0} (g : Ghosts S) (before : CleanupOp) (high : Bound) (parent
   found_empty : IsCleaned (g.state old) before → IsEmptyAt (g.state old) before.cursor × (state_in (g.state old) before.cursor ≢ HalfDead)
   found_empty h = subst (IsFoundEmpty (g.state old) before.cursor) at h.empty
 
-  pub leaf_dies : IsTried g before.session count_judged (AreInUse before.cursor parent) (LeafDies before.cursor) (IsSpared before.session before.cursor parent) old new (Ok true) → CleanupSteps g before (turned_to before Unlink) old new (Ok Going)
+  pub leaf_dies : IsTried g before.session (blocks_judged before.cursor parent) (AreInUse before.cursor parent) (LeafDies before.cursor) (IsSpared before.session before.cursor parent) old new (Ok true) → CleanupSteps g before (turned_to before Unlink) old new (Ok Going)
   leaf_dies tried =
-      acts g count_judged (AreInUse before.cursor parent) (LeafDies before.cursor) (IsSpared before.session before.cursor parent) before (turned_to before Unlink) old new tried refl alive
+      acts g (blocks_judged before.cursor parent) (AreInUse before.cursor parent) (LeafDies before.cursor) (IsSpared before.session before.cursor parent) before (turned_to before Unlink) old new tried refl alive
       (subst (λ (a : CleanupAt). cleanup_left most used before.cursor Unlink < cleanup_left most used before.cursor a) (sym at) (judge_unlinks most used before.cursor high parent))
       (subst (λ (a : CleanupAt). TurnsFrom a (g.state old) before (Some Shape) (turned_to before Unlink)) (sym at) (inl (refl, refl)))
       (λ order fits d. (d.own fits.start fits.running).trails 0 before.cursor 0 (under fits).0)
@@ -239,7 +239,7 @@ module _ {S : Type 0} (g : Ghosts S) (before : CleanupOp) (high : Bound) (parent
       (λ h moved. cleaned_dying (g.state old) (g.state new) before h (come_within (g.state old) before (Judge high parent) at h) tried.used moved (found_empty h).0)
       (λ order h moved edit. spared_dying (g.state old) (g.state new) before high parent at tried.used h moved edit)
 
-  pub leaf_spared : IsTried g before.session count_judged (AreInUse before.cursor parent) (LeafDies before.cursor) (IsSpared before.session before.cursor parent) old new (Ok false) → CleanupSteps g before (gone_past before 0) old new (Ok Going)
+  pub leaf_spared : IsTried g before.session (blocks_judged before.cursor parent) (AreInUse before.cursor parent) (LeafDies before.cursor) (IsSpared before.session before.cursor parent) old new (Ok false) → CleanupSteps g before (gone_past before 0) old new (Ok Going)
   leaf_spared tried =
       moves g before (gone_past before 0) old new tried.steps (tried.stays refl) refl refl alive
       (subst (λ (a : CleanupAt). cleanup_left most used (suc before.cursor) Look < cleanup_left most used before.cursor a) (sym at) (judge_passes most used before.cursor high parent))
@@ -266,9 +266,9 @@ module _ {S : Type 0} (g : Ghosts S) (before : CleanupOp) (old new : S) (at : be
   not_dead : IsNotDead before.cursor (g.state old) → state_in (g.state old) before.cursor ≢ HalfDead
   not_dead none = never_dead (g.state old).pages before.cursor none
 
-  pub page_goes : IsTried g before.session (count_unlinked_at before.cursor) (IsInUse before.cursor) (PageGoes before.cursor) (IsNotDead before.cursor) old new (Ok true) → CleanupSteps g before (gone_past_deleted before) old new (Ok Going)
+  pub page_goes : IsTried g before.session (blocks_unlinked_at before.cursor) (IsInUse before.cursor) (PageGoes before.cursor) (IsNotDead before.cursor) old new (Ok true) → CleanupSteps g before (gone_past_deleted before) old new (Ok Going)
   page_goes tried =
-      acts g (count_unlinked_at before.cursor) (IsInUse before.cursor) (PageGoes before.cursor) (IsNotDead before.cursor) before (gone_past_deleted before) old new tried refl alive
+      acts g (blocks_unlinked_at before.cursor) (IsInUse before.cursor) (PageGoes before.cursor) (IsNotDead before.cursor) before (gone_past_deleted before) old new tried refl alive
       (subst (λ (a : CleanupAt). cleanup_left (g.state old).limits.pages (length (g.state old).pages) (suc before.cursor) Look < cleanup_left (g.state old).limits.pages (length (g.state old).pages) before.cursor a) (sym at) (unlink_passes (g.state old).limits.pages (length (g.state old).pages) before.cursor))
       (subst (λ (a : CleanupAt). TurnsFrom a (g.state old) before (Some Shape) (gone_past_deleted before)) (sym at) (inl (refl, refl)))
       (λ order fits d. tt)
@@ -276,7 +276,7 @@ module _ {S : Type 0} (g : Ghosts S) (before : CleanupOp) (old new : S) (at : be
       (λ h moved. cleaned_deleted (g.state old) (g.state new) before h (come_within (g.state old) before Unlink at h) tried.used moved (subst (IsFoundEmpty (g.state old) before.cursor) at h.empty))
       (λ order h moved edit. spared_deleted (g.state old) (g.state new) before order.tree at tried.used h moved edit)
 
-  pub page_stays : IsTried g before.session (count_unlinked_at before.cursor) (IsInUse before.cursor) (PageGoes before.cursor) (IsNotDead before.cursor) old new (Ok false) → CleanupSteps g before (gone_past before 0) old new (Ok Going)
+  pub page_stays : IsTried g before.session (blocks_unlinked_at before.cursor) (IsInUse before.cursor) (PageGoes before.cursor) (IsNotDead before.cursor) old new (Ok false) → CleanupSteps g before (gone_past before 0) old new (Ok Going)
   page_stays tried =
       moves g before (gone_past before 0) old new tried.steps (tried.stays refl) refl refl alive
       (subst (λ (a : CleanupAt). cleanup_left (g.state old).limits.pages (length (g.state old).pages) (suc before.cursor) Look < cleanup_left (g.state old).limits.pages (length (g.state old).pages) before.cursor a) (sym at) (unlink_passes (g.state old).limits.pages (length (g.state old).pages) before.cursor))

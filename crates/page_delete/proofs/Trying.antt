@@ -1,5 +1,5 @@
 -- Parts of a step that may do one act.
-use Rattle.std.proofs.Common.{◌≡◌, eqb, eq-eqb, ℕ, ◌≤◌, Bool, true, false, List, length, slice_get, Option, Some, None, Result, Ok, Err, OnErr, IfErr, refl, sym, ap, subst, ◌∙◌}
+use Rattle.std.proofs.Common.{◌≡◌, eqb, eq-eqb, ℕ, ◌≤◌, Bool, true, false, List, length, Option, Some, None, Result, Ok, Err, OnErr, IfErr, refl, sym, ap, subst, ◌∙◌}
 use Rattle.std.specs.Option.{option_eq}
 use Rattle.index_model.specs.Faults.{HasCause}
 use Rattle.index_model.specs.declared.fault.Fault.{Fault}
@@ -9,10 +9,10 @@ use Rattle.page_action.specs.States.{State, Continues, IsLater, after_act}
 use Rattle.page_action.specs.declared.page_store.PageStore.{Ghosts}
 use Rattle.tree_acts.specs.Deletions.{StartsAreBelow}
 use Rattle.tree_acts.specs.Leaves.{WasLeaf}
-use Rattle.descent.specs.Shared.{IsInOrder, IsOneStep}
+use Rattle.descent.specs.Shared.{IsInOrder, IsOneStep, frames_for}
 use Rattle.descent.proofs.Acting.{one_act, one_nothing}
 use Rattle.descent.proofs.Working.{working_later}
-use Rattle.page_delete.specs.Needs.{frames_for, where_trying}
+use Rattle.page_delete.specs.Needs.{where_trying}
 use Rattle.page_delete.specs.Parts.{IsCandidate, IsTaken, IsTakenLeft, DeletesOn, PinnedLeavesStay, IsTried}
 
 -- two answers are the same
@@ -46,13 +46,13 @@ read_on g old mid steps same alive promised later = record { steps = steps; stat
 
 module _ {S : Type 0} (g : Ghosts S) (session : ℕ) where
   -- why a later part is refused, from before the reading
-  pub cause_later : (old mid new : S) (written : ℕ) (fault : Fault) → HasRead g old mid → HasCause (where_trying (g.state mid) (g.backing mid) (g.backing new) session written) fault
+  pub cause_later : (old mid new : S) (written : List ℕ) (fault : Fault) → HasRead g old mid → HasCause (where_trying (g.state mid) (g.backing mid) (g.backing new) session written) fault
       → HasCause (where_trying (g.state old) (g.backing old) (g.backing new) session written) fault
   cause_later old mid new written fault r h =
       working_later (g.state old) (g.backing old) (g.backing mid) (g.backing new) session written (frames_for written) false false fault r.failures r.alive r.promised
       (subst (λ (st : State). HasCause (where_trying st (g.backing mid) (g.backing new) session written) fault) r.state h)
 
-  module _ (written : State → ℕ) (sure : State → Type 0) (change : State → State → Type 0) (reason : State → Type 0) where
+  module _ (written : State → List ℕ) (sure : State → Type 0) (change : State → State → Type 0) (reason : State → Type 0) where
     -- ... behind a reading
     pub tried_later : (old mid new : S) (result : Result Bool Fault) → HasRead g old mid → IsTried g session written sure change reason mid new result → IsTried g session written sure change reason old new result
     tried_later old mid new result r t = record {

@@ -15,7 +15,7 @@ use Rattle.tree_acts.specs.Trees.{HasPlace, HasTrail}
 use Rattle.descent.specs.Onward.{IsOnWay}
 use Rattle.descent.specs.Shared.{IsInOrder, CleansUp, IsOneStep}
 use Rattle.page_delete.specs.Counts.{IsCleaned, CleansOn, CountsDeleted}
-use Rattle.page_delete.specs.Needs.{count_written, where_trying}
+use Rattle.page_delete.specs.Needs.{blocks_written, where_trying}
 use Rattle.page_delete.specs.Ops.{is_counted_out, cleanup_stats}
 use Rattle.page_delete.specs.Parts.{PinnedLeavesStay}
 use Rattle.page_delete.specs.Spares.{IsAlone, IsSparing, SparesOn}
@@ -55,7 +55,7 @@ pub record CleanupFits (st : State) (op : CleanupOp) : Type 0 where
 -- why a step of a cleanup is refused, on pages that are a tree and a device that keeps its model
 abbrev pub where_cleaning : State → Backing → Backing → CleanupOp → Circumstances
 where_cleaning st old new op = record (where_trying st old new op.session
-    (count_written op.at op.cursor st)) {
+    (blocks_written op.at op.cursor st)) {
       is_stopped = old.stopped || (is_at_end st.acts || is_counted_out op);
     }
 

@@ -1,50 +1,40 @@
 -- What a step of a cleanup needs, by what it finds.
-use Rattle.std.specs.Prelude.{ℕ, zero, suc, false, Option, Some, None, slice_get}
+use Rattle.std.specs.Prelude.{ℕ, false, Option, Some, None, List, [], ◌∷◌, ◌++◌, slice_get}
 use Rattle.index_model.specs.Faults.{Circumstances}
 use Rattle.page_codec.specs.declared.page.Page.{Page}
 use Rattle.page_codec.specs.declared.page.PageState.{PageState}
 use Rattle.page_codec.specs.declared.page.PageState.TheVariants.{Live, HalfDead, Deleted}
 use Rattle.page_action.specs.States.{State, Backing}
-use Rattle.descent.specs.Shared.{where_working}
+use Rattle.descent.specs.Shared.{sibling, frames_for, where_working}
 use Rattle.page_delete.specs.declared.steps.CleanupAt.{CleanupAt}
 use Rattle.page_delete.specs.declared.steps.CleanupAt.TheVariants.{Look, Start, Down, Judge, Unlink}
 
--- how many pages are written where a page with this left sibling is unlinked: it, and its siblings
-abbrev pub count_between : Option ℕ → ℕ
-count_between None = 2
-count_between (Some left) = 3
+-- the blocks that are written where a half-dead page of this block is unlinked from these siblings: its own and theirs
+abbrev pub blocks_unlinked : PageState → ℕ → Option ℕ → Option ℕ → List ℕ
+blocks_unlinked Live block left right = []
+blocks_unlinked HalfDead block left right = sibling left ++ block ∷ sibling right
+blocks_unlinked Deleted block left right = []
 
--- ... if it is half-dead
-abbrev pub count_unlinked : PageState → Option ℕ → ℕ
-count_unlinked Live left = 0
-count_unlinked HalfDead left = count_between left
-count_unlinked Deleted left = 0
+abbrev pub blocks_unlinked_of : ℕ → Option Page → List ℕ
+blocks_unlinked_of block None = []
+blocks_unlinked_of block (Some page) = blocks_unlinked page.state block page.left page.right
 
-abbrev pub count_unlinked_of : Option Page → ℕ
-count_unlinked_of None = 0
-count_unlinked_of (Some page) = count_unlinked page.state page.left
+abbrev pub blocks_unlinked_at : ℕ → State → List ℕ
+blocks_unlinked_at block st = blocks_unlinked_of block (slice_get st.pages block)
 
-abbrev pub count_unlinked_at : ℕ → State → ℕ
-count_unlinked_at block st = count_unlinked_of (slice_get st.pages block)
+-- the blocks that are written where a leaf is made half-dead: its own and its parent's
+abbrev pub blocks_judged : ℕ → ℕ → State → List ℕ
+blocks_judged leaf parent st = leaf ∷ parent ∷ []
 
--- how many pages are written where a leaf is made half-dead: it, and its parent
-abbrev pub count_judged : State → ℕ
-count_judged st = 2
+-- the blocks that a step writes that stands there, at most
+abbrev pub blocks_written : CleanupAt → ℕ → State → List ℕ
+blocks_written Look cursor st = []
+blocks_written (Start high) cursor st = []
+blocks_written (Down high way) cursor st = []
+blocks_written (Judge high parent) cursor st = blocks_judged cursor parent st
+blocks_written Unlink cursor st = blocks_unlinked_at cursor st
 
--- how many pages a step writes that stands there, at most
-abbrev pub count_written : CleanupAt → ℕ → State → ℕ
-count_written Look cursor st = 0
-count_written (Start high) cursor st = 0
-count_written (Down high way) cursor st = 0
-count_written (Judge high parent) cursor st = count_judged st
-count_written Unlink cursor st = count_unlinked_at cursor st
-
--- it needs a frame for each, or one for the page that it reads
-abbrev pub frames_for : ℕ → ℕ
-frames_for zero = 1
-frames_for (suc written) = suc written
-
--- why a step is refused that writes so many pages at most
-abbrev pub where_trying : State → Backing → Backing → ℕ → ℕ → Circumstances
+-- why a step is refused that writes these blocks at most
+abbrev pub where_trying : State → Backing → Backing → ℕ → List ℕ → Circumstances
 where_trying st old new session written =
     where_working st old new session written (frames_for written) false false

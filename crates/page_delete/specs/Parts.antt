@@ -128,9 +128,9 @@ PinnedLeavesStay session old new =
     → has_pin (holding_of old.table other).pins block ≡ true → WasLeaf new.pages block
 
 -- A part of a step that may do one act, by which a leaf goes on its way out of the tree: it answers whether it did. Where it
--- did not, nothing is changed, and there is a reason; nor where it is refused, and on pages in order there is a cause, by how
--- many pages it writes. Leaves that others have pinned stay.
-pub record IsTried {S : Type 0} (g : Ghosts S) (session : ℕ) (written : State → ℕ)
+-- did not, nothing is changed, and there is a reason; nor where it is refused, and on pages in order there is a cause, by
+-- which pages it writes. Leaves that others have pinned stay.
+pub record IsTried {S : Type 0} (g : Ghosts S) (session : ℕ) (written : State → List ℕ)
     (sure : State → Type 0) (change : State → State → Type 0) (reason : State → Type 0)
     (old new : S) (result : Result Bool Fault) : Type 0 where
   pub steps : Continues g.follows old new

@@ -1,6 +1,6 @@
 //! An empty leaf is tested, and made half-dead.
 
-ghost use Rattle.std.specs.Prelude.{◌≡◌, ◌<◌, ◌≤◌, ◌↔◌, IsTrue, ℕ, suc, true, false, Some, None, IfOk, IfErr, IfSome, IfNone, OnOk, length, slice_get};
+ghost use Rattle.std.specs.Prelude.{◌≡◌, ◌<◌, ◌≤◌, ◌↔◌, IsTrue, ℕ, [], ◌∷◌, suc, true, false, Some, None, IfOk, IfErr, IfSome, IfNone, OnOk, length, slice_get};
 ghost use Rattle.index_model.specs.Faults.{HasCause};
 ghost use Rattle.latch_table.specs.Holdings.{HasRoom};
 ghost use Rattle.page_action.specs.States.{Continues};
@@ -8,7 +8,7 @@ ghost use Rattle.tree_shape.specs.LinkPlaces.{child_at};
 ghost use Rattle.tree_acts.specs.Deletions.{IsWholeAt};
 ghost use Rattle.descent.specs.Shared.{where_working, where_writing_any};
 ghost use Rattle.page_delete.specs.Judging.{IsHandingOn};
-ghost use Rattle.page_delete.specs.Needs.{count_judged};
+ghost use Rattle.page_delete.specs.Needs.{blocks_judged};
 ghost use Rattle.page_delete.specs.Parts.{SiblingsLink, SiblingsAllow, SiblingsAnswer, CandidateAnswers, IsCandidate, IsTaken, IsTried, AreInUse, LeafDies, IsSpared, LinksRight, LinksLeft, IsLiveAt};
 
 use crate::looking::glance;
@@ -36,8 +36,9 @@ fn candidate<S: PageStore>(
     ensures faults { IfErr result (HasCause where_writing_any) }
     ensures cause { (S.backing store.new).honest ≡ true
         → block < length (S.state store.old).pages
-        → IfErr result (HasCause (where_working (S.state store.old) (S.backing store.old)
-        (S.backing store.new) session 2 2 false false)) }
+        → (first second : ℕ) → IfErr result (HasCause (where_working (S.state store.old)
+        (S.backing store.old) (S.backing store.new) session (first ∷ second ∷ [])
+        2 false false)) }
 {
     match ask_for(store, session, block, Mode::Cleanup) {
         Ok(()) => {}
@@ -65,8 +66,9 @@ fn left_is_whole<S: PageStore>(store: &mut S, session: Session, leaf: &Page) -> 
         → HasRoom (S.state store.old).table session
         → ((l : ℕ) → leaf.now.left ≡ Some l
         → LinksRight (S.state store.old).pages l leaf.now.block)
-        → IfErr result (HasCause (where_working (S.state store.old) (S.backing store.old)
-        (S.backing store.new) session 2 2 false false)) }
+        → (first second : ℕ) → IfErr result (HasCause (where_working (S.state store.old)
+        (S.backing store.old) (S.backing store.new) session (first ∷ second ∷ [])
+        2 false false)) }
 {
     let Some(left) = leaf.left else {
         return Ok(true);
@@ -102,8 +104,9 @@ fn right_is_live<S: PageStore>(
     ensures cause { (S.backing store.new).honest ≡ true
         → HasRoom (S.state store.old).table session
         → LinksLeft (S.state store.old).pages right leaf.now.block
-        → IfErr result (HasCause (where_working (S.state store.old) (S.backing store.old)
-        (S.backing store.new) session 2 2 false false)) }
+        → (first second : ℕ) → IfErr result (HasCause (where_working (S.state store.old)
+        (S.backing store.old) (S.backing store.new) session (first ∷ second ∷ [])
+        2 false false)) }
 {
     match glance(store, session, right) {
         Ok(seen) if seen.left == Some(leaf.block) => Ok(is_live(seen.state)),
@@ -130,8 +133,9 @@ fn siblings_allow<S: PageStore>(
     ensures cause { (S.backing store.new).honest ≡ true
         → HasRoom (S.state store.old).table session
         → SiblingsLink (S.state store.old).pages leaf.now
-        → IfErr result (HasCause (where_working (S.state store.old) (S.backing store.old)
-        (S.backing store.new) session 2 2 false false)) }
+        → (first second : ℕ) → IfErr result (HasCause (where_working (S.state store.old)
+        (S.backing store.old) (S.backing store.new) session (first ∷ second ∷ [])
+        2 false false)) }
 {
     let Some(right) = leaf.right else {
         return Ok(None);
@@ -191,8 +195,8 @@ fn put_to_death<S: PageStore>(
         parent.block parent }
     requires place { IsHandingOn parent leaf.block right at }
     requires inside { length (S.state store.old).pages ≤ (S.state store.old).limits.pages }
-    ensures all { IsTried S.PageStore session count_judged (AreInUse leaf.block parent.block)
-        (LeafDies leaf.block) (IsSpared session leaf.block parent.block)
+    ensures all { IsTried S.PageStore session (blocks_judged leaf.block parent.block)
+        (AreInUse leaf.block parent.block) (LeafDies leaf.block) (IsSpared session leaf.block parent.block)
         store.old store.new result }
     ensures faults { IfErr result (HasCause where_writing_any) }
 {
@@ -218,8 +222,8 @@ fn try_parent<S: PageStore>(
         leaf.block leaf }
     requires right { (S.backing store.old).honest ≡ true
         → SiblingsAllow (S.state store.old).pages leaf right }
-    ensures all { IsTried S.PageStore session count_judged (AreInUse leaf.block parent)
-        (LeafDies leaf.block) (IsSpared session leaf.block parent) store.old store.new result }
+    ensures all { IsTried S.PageStore session (blocks_judged leaf.block parent)
+        (AreInUse leaf.block parent) (LeafDies leaf.block) (IsSpared session leaf.block parent) store.old store.new result }
     ensures faults { IfErr result (HasCause where_writing_any) }
 {
     let page = match look_to_change(store, session, parent) {
@@ -241,8 +245,8 @@ fn try_beside<S: PageStore>(
 ) -> Result<bool, Fault>
     requires leaf { IsCandidate (S.state store.old) (S.backing store.old).honest session
         leaf.block leaf }
-    ensures all { IsTried S.PageStore session count_judged (AreInUse leaf.block parent)
-        (LeafDies leaf.block) (IsSpared session leaf.block parent) store.old store.new result }
+    ensures all { IsTried S.PageStore session (blocks_judged leaf.block parent)
+        (AreInUse leaf.block parent) (LeafDies leaf.block) (IsSpared session leaf.block parent) store.old store.new result }
     ensures faults { IfErr result (HasCause where_writing_any) }
 {
     match siblings_allow(store, session, &leaf) {
@@ -255,7 +259,7 @@ fn try_beside<S: PageStore>(
 impl CleanupOp {
     // Makes the leaf at the cursor half-dead, if it is to be: whether it did.
     pub fn try_leaf<S: PageStore>(&self, store: &mut S, parent: u32) -> Result<bool, Fault>
-        ensures all { IsTried S.PageStore self.now.session count_judged
+        ensures all { IsTried S.PageStore self.now.session (blocks_judged self.now.cursor parent)
             (AreInUse self.now.cursor parent) (LeafDies self.now.cursor)
             (IsSpared self.now.session self.now.cursor parent) store.old store.new result }
         ensures faults { IfErr result (HasCause where_writing_any) }

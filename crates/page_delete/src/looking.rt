@@ -1,6 +1,6 @@
 //! Looks at the siblings of a page.
 
-ghost use Rattle.std.specs.Prelude.{◌≡◌, ◌<◌, true, false, IfOk, IfErr, OnOk, length};
+ghost use Rattle.std.specs.Prelude.{◌≡◌, ◌<◌, ℕ, [], ◌∷◌, true, false, IfOk, IfErr, OnOk, length};
 ghost use Rattle.index_model.specs.Faults.{HasCause};
 ghost use Rattle.latch_table.specs.Holdings.{HasRoom};
 ghost use Rattle.page_action.specs.States.{Continues};
@@ -37,8 +37,9 @@ pub fn glance<S: PageStore>(store: &mut S, session: Session, block: u32) -> Resu
     ensures faults { IfErr result (HasCause where_writing_any) }
     ensures cause { (S.backing store.new).honest ≡ true
         → HasRoom (S.state store.old).table session → block < length (S.state store.old).pages
-        → IfErr result (HasCause (where_working (S.state store.old) (S.backing store.old)
-        (S.backing store.new) session 2 2 false false)) }
+        → (first second : ℕ) → IfErr result (HasCause (where_working (S.state store.old)
+        (S.backing store.old) (S.backing store.new) session (first ∷ second ∷ [])
+        2 false false)) }
 {
     match look(store, session, block) {
         Ok(()) => {}

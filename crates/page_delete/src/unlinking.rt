@@ -1,15 +1,14 @@
 //! A half-dead page is unlinked and deleted.
 
-ghost use Rattle.std.specs.Prelude.{◌≡◌, ◌≤◌, ◌<◌, ℕ, true, false, Some, IfOk, IfErr, OnOk, OnErr, length};
+ghost use Rattle.std.specs.Prelude.{◌≡◌, ◌≤◌, ◌<◌, ℕ, List, true, false, Some, IfOk, IfErr, OnOk, OnErr, length};
 ghost use Rattle.index_model.specs.Faults.{HasCause};
 ghost use Rattle.latch_table.specs.Holdings.{HasRoom};
-ghost use Rattle.page_action.specs.Causes.{where_acted};
 ghost use Rattle.page_action.specs.States.{Continues, after_act};
 ghost use Rattle.page_action.specs.Stored.{AreActable};
 ghost use Rattle.page_codec.specs.declared.page.PageState.TheVariants.{HalfDead};
 ghost use Rattle.tree_shape.specs.Deletion.{as_deleted};
-ghost use Rattle.descent.specs.Shared.{where_writing_any};
-ghost use Rattle.page_delete.specs.Needs.{where_trying, count_unlinked_at};
+ghost use Rattle.descent.specs.Shared.{where_acting, where_writing_any};
+ghost use Rattle.page_delete.specs.Needs.{where_trying, blocks_unlinked_at};
 ghost use Rattle.page_delete.specs.Parts.{HalfDeadAnswers, IsTaken, IsTakenLeft, IsTakenRight, IsTried, IsInUse, PageGoes, IsNotDead, LinksRight, LinksLeft, unlinked};
 
 use crate::steps::CleanupOp;
@@ -46,7 +45,7 @@ fn take_left<S: PageStore>(
         → HasRoom (S.state store.old).table session
         → ((l : ℕ) → page.now.left ≡ Some l
         → LinksRight (S.state store.old).pages l page.now.block)
-        → (written : ℕ) → IfErr result (HasCause (where_trying (S.state store.old)
+        → (written : List ℕ) → IfErr result (HasCause (where_trying (S.state store.old)
         (S.backing store.old) (S.backing store.new) session written)) }
 {
     let Some(block) = page.left else {
@@ -79,7 +78,7 @@ fn take_right<S: PageStore>(
     ensures cause { (S.backing store.new).honest ≡ true
         → HasRoom (S.state store.old).table session
         → LinksLeft (S.state store.old).pages block page.now.block
-        → (written : ℕ) → IfErr result (HasCause (where_trying (S.state store.old)
+        → (written : List ℕ) → IfErr result (HasCause (where_trying (S.state store.old)
         (S.backing store.old) (S.backing store.new) session written)) }
 {
     match look_to_change(store, session, block) {
@@ -107,7 +106,7 @@ fn act_between<S: PageStore>(
     ensures faults { IfErr result (HasCause where_writing_any) }
     ensures cause { AreActable (S.state store.old).limits (length (S.state store.old).pages)
         (unlinked left page.now right number)
-        → IfErr result (HasCause (where_acted (S.state store.old) (S.backing store.old)
+        → IfErr result (HasCause (where_acting (S.state store.old) (S.backing store.old)
         (S.backing store.new) (unlinked left page.now right number))) }
 {
     let gone = deleted_page(page, number);
@@ -140,7 +139,7 @@ fn unlink_between<S: PageStore>(
     requires right { IsTakenRight (S.state store.old) (S.backing store.old).honest session page
         right.block right }
     requires inside { length (S.state store.old).pages ≤ (S.state store.old).limits.pages }
-    ensures all { IsTried S.PageStore session (count_unlinked_at page.block) (IsInUse page.block)
+    ensures all { IsTried S.PageStore session (blocks_unlinked_at page.block) (IsInUse page.block)
         (PageGoes page.block) (IsNotDead page.block) store.old store.new result }
     ensures faults { IfErr result (HasCause where_writing_any) }
 {
@@ -165,7 +164,7 @@ fn unlink_right<S: PageStore>(
     requires right_is { page.right ≡ Some right }
     requires left { IsTakenLeft (S.state store.old) (S.backing store.old).honest session page
         page.left left }
-    ensures all { IsTried S.PageStore session (count_unlinked_at page.block) (IsInUse page.block)
+    ensures all { IsTried S.PageStore session (blocks_unlinked_at page.block) (IsInUse page.block)
         (PageGoes page.block) (IsNotDead page.block) store.old store.new result }
     ensures faults { IfErr result (HasCause where_writing_any) }
 {
@@ -186,7 +185,7 @@ fn unlink_dead<S: PageStore>(
         page.block page }
     requires dead { page.state ≡ HalfDead }
     requires right_is { page.right ≡ Some right }
-    ensures all { IsTried S.PageStore session (count_unlinked_at page.block) (IsInUse page.block)
+    ensures all { IsTried S.PageStore session (blocks_unlinked_at page.block) (IsInUse page.block)
         (PageGoes page.block) (IsNotDead page.block) store.old store.new result }
     ensures faults { IfErr result (HasCause where_writing_any) }
 {
@@ -199,7 +198,7 @@ fn unlink_dead<S: PageStore>(
 impl CleanupOp {
     // Unlinks the page at the cursor, if it is half-dead: whether it did.
     pub fn try_unlink<S: PageStore>(&self, store: &mut S) -> Result<bool, Fault>
-        ensures all { IsTried S.PageStore self.now.session (count_unlinked_at self.now.cursor)
+        ensures all { IsTried S.PageStore self.now.session (blocks_unlinked_at self.now.cursor)
             (IsInUse self.now.cursor) (PageGoes self.now.cursor) (IsNotDead self.now.cursor)
             store.old store.new result }
         ensures faults { IfErr result (HasCause where_writing_any) }

@@ -1,5 +1,5 @@
 -- Why an event is refused, in the theorem's words: each cause that an operation tells is one of these.
-use Rattle.std.proofs.Common.{◌≡◌, ◌≢◌, ℕ, zero, suc, ◌+◌, ◌<◌, ◌≤◌, ◌&&◌, ◌||◌, ◌==◌, not, Bool, true, false, Option, Some, None, List, [], ◌∷◌, length, slice_get, slice_index, refl, sym, ap, subst, arith, inl, inr, ◌∙◌}
+use Rattle.std.proofs.Common.{◌≡◌, ◌≢◌, ℕ, zero, suc, ◌+◌, ◌<◌, ◌≤◌, ◌&&◌, ◌||◌, ◌==◌, not, Bool, true, false, Option, Some, None, List, [], ◌∷◌, ◌++◌, length, slice_get, slice_index, refl, sym, ap, subst, arith, inl, inr, ◌∙◌}
 use Rattle.std.specs.Prelude.{nat_lt, nat_le, map, if◌then◌else◌}
 use Rattle.std.proofs.lemmas.Bool.{true≢false, false≢true, and_parts, or_cases, or_parts, eqb-true, eq-eqb, ltb-true, leb-true, leb-false, cases_eq}
 use Rattle.index_model.specs.Calls.{Ask, AskInsert, AskScan, AskBulkDelete, AskCleanup}
@@ -22,17 +22,18 @@ use Rattle.page_codec.specs.declared.page.PageState.{PageState}
 use Rattle.page_codec.specs.declared.page.PageState.TheVariants.{Live, HalfDead, Deleted}
 use Rattle.tree_shape.specs.Chains.{IsIn}
 use Rattle.tree_shape.specs.Nodes.{node_from, nodes_of, links_of}
-use Rattle.descent.specs.Shared.{any_is_reusable, is_out_of_blocks}
+use Rattle.descent.specs.Shared.{any_is_reusable, is_out_of_blocks, fresh_block, count_new, lacks_room, frames_for, sibling}
 use Rattle.descent.specs.Ways.{level_with, level_of, root_level}
-use Rattle.split_finish.specs.Finishes.{count_linked, count_parted, images_of, frames_of, is_to_link, is_to_grow}
+use Rattle.split_finish.specs.Finishes.{blocks_linked, images_of, frames_of, is_to_link, is_to_grow}
 use Rattle.split_finish.specs.declared.finish.FinishAt.{FinishAt}
 use Rattle.split_finish.specs.declared.finish.FinishAt.TheVariants.{Start as FinishStart, Down, Link, Root}
 use Rattle.split_finish.specs.declared.finish.Target.{Target}
-use Rattle.insert_split.specs.Inserts.{count_halved, count_put, images_at, frames_at, takes_block_at, splits_root_at}
+use Rattle.insert_split.specs.Inserts.{blocks_halved, blocks_beside, images_at, frames_at, takes_block_at, splits_root_at}
 use Rattle.insert_split.specs.declared.insert.InsertAt.{InsertAt}
 use Rattle.insert_split.specs.declared.insert.InsertAt.TheVariants.{Start, At, Holding as Holds, Finishing}
-use Rattle.vacuum.specs.BulkDeletes.{is_full_count, is_counted_out, has_dead}
-use Rattle.page_delete.specs.Needs.{count_between, count_unlinked, count_unlinked_of, count_written, frames_for}
+use Rattle.vacuum.specs.Ops.{next_block}
+use Rattle.vacuum.specs.BulkDeletes.{is_full_count, is_counted_out, has_dead, block_if}
+use Rattle.page_delete.specs.Needs.{blocks_unlinked, blocks_unlinked_of, blocks_written}
 use Rattle.page_delete.specs.declared.steps.CleanupAt.{CleanupAt}
 use Rattle.page_delete.specs.declared.steps.CleanupAt.TheVariants.{Look, Start as CleanupStart, Down as CleanupDown, Judge, Unlink}
 use Rattle.page_delete.specs.Ops.{is_last_number, is_counted_out as is_cleanup_full}
@@ -203,83 +204,86 @@ tall pages h = of (slice_get pages 0) h
         by (Downlinks v) k = k
 
 -- what a step writes and needs is no more than this
-parted_few : (right : Option ℕ) → count_parted right ≤ 4
-parted_few None = omega arith
-parted_few (Some right) = omega arith
+parted_few : (parent new target : ℕ) (right : Option ℕ) → length (parent ∷ new ∷ sibling right ++ target ∷ []) ≤ 4
+parted_few parent new target None = omega arith
+parted_few parent new target (Some right) = omega arith
 
-linked_few : (items : ℕ) (parent : Option Page) → count_linked items parent ≤ 4
-linked_few items None = omega arith
-linked_few items (Some page) = by (nat_le items (length (links_of page.items)))
+linked_few : (st : State) (target : Target) (parent : ℕ) (page : Option Page) → length (blocks_linked st target parent page) ≤ 4
+linked_few st target parent None = omega arith
+linked_few st target parent (Some page) = by (nat_le st.limits.items (length (links_of page.items)))
   where
-    by : (b : Bool) → (if b then count_parted page.right else 2) ≤ 4
-    by true = parted_few page.right
+    by : (b : Bool) → length (if b then parent ∷ fresh_block st ∷ sibling page.right ++ target.block ∷ [] else parent ∷ target.block ∷ []) ≤ 4
+    by true = parted_few parent (fresh_block st) target.block page.right
     by false = omega arith
 
-one_or_other : (c : Bool) (n m : ℕ) → n ≤ 4 → m ≤ 4 → (if c then n else m) ≤ 4
-one_or_other true n m few other = few
-one_or_other false n m few other = other
+one_or_none : (c : Bool) (blocks : List ℕ) → length blocks ≤ 4 → length (if c then blocks else []) ≤ 4
+one_or_none true blocks few = few
+one_or_none false blocks few = omega arith
 
-images_few : (st : State) (target : Target) (at : FinishAt) → images_of st target at ≤ 4
+images_few : (st : State) (target : Target) (at : FinishAt) → length (images_of st target at) ≤ 4
 images_few st target FinishStart = omega arith
 images_few st target (Down way) = omega arith
 images_few st target (Link way) =
-    one_or_other (is_to_link st target way) (count_linked st.limits.items (slice_get st.pages way.block)) 0 (linked_few st.limits.items (slice_get st.pages way.block)) (omega arith)
-images_few st target Root = one_or_other (is_to_grow st target) 3 0 (omega arith) (omega arith)
+    one_or_none (is_to_link st target way) (blocks_linked st target way.block (slice_get st.pages way.block)) (linked_few st target way.block (slice_get st.pages way.block))
+images_few st target Root = one_or_none (is_to_grow st target) (fresh_block st ∷ 0 ∷ target.block ∷ []) (omega arith)
+
+pub frames_for_few : (most : ℕ) (images : List ℕ) → 1 ≤ most → length images ≤ most → frames_for images ≤ most
+frames_for_few most [] some few = some
+frames_for_few most (block ∷ images) some few = few
 
 pub frames_few : (st : State) (target : Target) (at : FinishAt) → frames_of st target at ≤ 4
-frames_few st target FinishStart = omega arith
-frames_few st target (Down way) = omega arith
-frames_few st target (Link way) =
-    one_or_other (is_to_link st target way) (count_linked st.limits.items (slice_get st.pages way.block)) 1 (linked_few st.limits.items (slice_get st.pages way.block)) (omega arith)
-frames_few st target Root = one_or_other (is_to_grow st target) 3 1 (omega arith) (omega arith)
+frames_few st target at = frames_for_few 4 (images_of st target at) (omega arith) (images_few st target at)
 
-between_few : (left : Option ℕ) → count_between left ≤ 3
-between_few None = omega arith
-between_few (Some left) = omega arith
+between_few : (block : ℕ) (left right : Option ℕ) → length (sibling left ++ block ∷ sibling right) ≤ 3
+between_few block None None = omega arith
+between_few block None (Some right) = omega arith
+between_few block (Some left) None = omega arith
+between_few block (Some left) (Some right) = omega arith
 
-unlinked_few : (state : PageState) (left : Option ℕ) → count_unlinked state left ≤ 3
-unlinked_few Live left = omega arith
-unlinked_few HalfDead left = between_few left
-unlinked_few Deleted left = omega arith
+unlinked_few : (state : PageState) (block : ℕ) (left right : Option ℕ) → length (blocks_unlinked state block left right) ≤ 3
+unlinked_few Live block left right = omega arith
+unlinked_few HalfDead block left right = between_few block left right
+unlinked_few Deleted block left right = omega arith
 
-unlinked_of_few : (page : Option Page) → count_unlinked_of page ≤ 3
-unlinked_of_few None = omega arith
-unlinked_of_few (Some page) = unlinked_few page.state page.left
+unlinked_of_few : (block : ℕ) (page : Option Page) → length (blocks_unlinked_of block page) ≤ 3
+unlinked_of_few block None = omega arith
+unlinked_of_few block (Some page) = unlinked_few page.state block page.left page.right
 
-pub written_few : (at : CleanupAt) (cursor : ℕ) (st : State) → count_written at cursor st ≤ 3
+pub written_few : (at : CleanupAt) (cursor : ℕ) (st : State) → length (blocks_written at cursor st) ≤ 3
 written_few Look cursor st = omega arith
 written_few (CleanupStart high) cursor st = omega arith
 written_few (CleanupDown high way) cursor st = omega arith
 written_few (Judge high parent) cursor st = omega arith
-written_few Unlink cursor st = unlinked_of_few (slice_get st.pages cursor)
+written_few Unlink cursor st = unlinked_of_few cursor (slice_get st.pages cursor)
 
-pub frames_for_few : (written : ℕ) → written ≤ 3 → frames_for written ≤ 3
-frames_for_few zero few = omega arith
-frames_for_few (suc written) few = few
+halved_few : (st : State) (right : Option ℕ) → length (blocks_halved st right) ≤ 2
+halved_few st None = omega arith
+halved_few st (Some right) = omega arith
 
-halved_few : (right : Option ℕ) → count_halved right ≤ 2
-halved_few None = omega arith
-halved_few (Some right) = omega arith
-
-pub put_few : (items : ℕ) (page : Option Page) → count_put items page ≤ 2
-put_few items None = omega arith
-put_few items (Some page) = by (nat_le items (length (entries_of page.items)))
+pub put_few : (st : State) (page : Option Page) → length (blocks_beside st page) ≤ 2
+put_few st None = omega arith
+put_few st (Some page) = by (nat_le st.limits.items (length (entries_of page.items)))
   where
-    by : (b : Bool) → (if b then count_halved page.right else 0) ≤ 2
-    by true = halved_few page.right
+    by : (b : Bool) → length (if b then blocks_halved st page.right else []) ≤ 2
+    by true = halved_few st page.right
     by false = omega arith
 
-pub insert_images_few : (st : State) (at : InsertAt) → images_at st at ≤ 4
+pub insert_images_few : (st : State) (at : InsertAt) → length (images_at st at) ≤ 4
 insert_images_few st Start = omega arith
 insert_images_few st (At way) = omega arith
-insert_images_few st (Holds block) = (let k = put_few st.limits.items (slice_get st.pages block) in omega (arith, k))
+insert_images_few st (Holds block) = (let k = put_few st (slice_get st.pages block) in omega (arith, k))
 insert_images_few st (Finishing op) = images_few st op.target op.at
 
 insert_frames_few : (st : State) (at : InsertAt) → frames_at st at ≤ 4
 insert_frames_few st Start = omega arith
 insert_frames_few st (At way) = omega arith
-insert_frames_few st (Holds block) = (let k = put_few st.limits.items (slice_get st.pages block) in omega (arith, k))
+insert_frames_few st (Holds block) = (let k = put_few st (slice_get st.pages block) in omega (arith, k))
 insert_frames_few st (Finishing op) = frames_few st op.target op.at
+
+-- a bulk delete writes one block, or none
+pub block_few : (writes : Bool) (block : ℕ) → length (block_if writes block) ≤ 1
+block_few true block = omega arith
+block_few false block = omega arith
 
 module _ {S : Type 0} (g : Ghosts S) (old : Snapshot S) (new : S) where
   -- these circumstances, where each is so, are a reason for a step of a call that was asked this
@@ -337,12 +341,11 @@ module _ {S : Type 0} (g : Ghosts S) (old : Snapshot S) (new : S) where
       let few : count_apart (pinned_blocks (g.state old.store).table) ≤ length (pinned_blocks (g.state old.store).table) = apart_few (pinned_blocks (g.state old.store).table) in
       omega arith
 
-  few_images : (images : ℕ) → images ≤ 4 → (nat_lt 0 images && nat_le (g.backing old.store).promised images) ≡ true → (g.backing old.store).promised ≤ 4
-  few_images images le h = let few : (g.backing old.store).promised ≤ images = leb-true (g.backing old.store).promised images (and_parts (nat_lt 0 images) (nat_le (g.backing old.store).promised images) h).1 in omega arith
-
-  -- ... of one that writes a page, or none
-  one_image : (writes : Bool) → (writes && nat_le (g.backing old.store).promised 1) ≡ true → (nat_lt 0 1 && nat_le (g.backing old.store).promised 1) ≡ true
-  one_image writes h = (and_parts writes (nat_le (g.backing old.store).promised 1) h).1
+  few_images : (images : List ℕ) → length images ≤ 4 → lacks_room (g.backing old.store) (g.backing new) images ≡ true → (g.backing old.store).promised ≤ 4
+  few_images images le h =
+      let few : (g.backing old.store).promised ≤ length images =
+      leb-true (g.backing old.store).promised (length images) (and_parts (nat_le (g.backing old.store).promised (length images)) (nat_lt (g.backing new).room (count_new (g.backing new).waiting images)) h).0 in
+      omega arith
 
   pub step_fails : (sets : DeadSets) (op : Op) (fault : Fault) → HasCause (where_stepped sets op (g.state old.store) (g.backing old.store) (g.backing new)) fault
       → MoveFails g Steps (session_of op) (asked_of sets op) op old new fault
@@ -392,7 +395,8 @@ module _ {S : Type 0} (g : Ghosts S) (old : Snapshot S) (new : S) where
     held = λ b k. held_for_cleanup (g.state old.store).table op.session b _ k;
     entry = λ k. absurd (false≢true k);
     block = λ k. absurd (false≢true k);
-    log = λ k. few_images 1 (omega arith) (one_image (has_dead (set_at sets set) (g.state old.store) op) k);
+    log = λ k. (let one = block_few (has_dead (set_at sets set) (g.state old.store) op) (next_block op.cursor op.back) in
+        few_images (block_if (has_dead (set_at sets set) (g.state old.store) op) (next_block op.cursor op.back)) (omega (arith, one)) k);
     frames = λ k. few_frames 1 (omega arith) k;
     vacuum = false≢true;
     session_is = false≢true;
@@ -419,8 +423,8 @@ module _ {S : Type 0} (g : Ghosts S) (old : Snapshot S) (new : S) where
     ];
     entry = λ k. absurd (false≢true k);
     block = λ k. absurd (false≢true k);
-    log = λ k. (let few = written_few op.at op.cursor (g.state old.store) in few_images (count_written op.at op.cursor (g.state old.store)) (omega (arith, few)) k);
-    frames = λ k. (let frames = frames_for_few (count_written op.at op.cursor (g.state old.store)) (written_few op.at op.cursor (g.state old.store)) in few_frames (frames_for (count_written op.at op.cursor (g.state old.store))) (omega (arith, frames)) k);
+    log = λ k. (let few = written_few op.at op.cursor (g.state old.store) in few_images (blocks_written op.at op.cursor (g.state old.store)) (omega (arith, few)) k);
+    frames = λ k. (let frames = frames_for_few 3 (blocks_written op.at op.cursor (g.state old.store)) (omega arith) (written_few op.at op.cursor (g.state old.store)) in few_frames (frames_for (blocks_written op.at op.cursor (g.state old.store))) (omega (arith, frames)) k);
     vacuum = false≢true;
     session_is = false≢true;
     busy = false≢true;

@@ -1,24 +1,23 @@
 -- What the acts by which splits are finished leave to the call.
-use Rattle.std.proofs.Common.{◌≡◌, ℕ, suc, ◌≤◌, ◌==◌, if◌then◌else◌, Bool, true, false, Some, None, Ok, Err, List, length, slice_get, refl, sym, ap, subst, inr, ◌∙◌, arith}
+use Rattle.std.proofs.Common.{◌≡◌, ℕ, suc, ◌==◌, if◌then◌else◌, Bool, true, false, Some, None, Ok, Err, List, map, slice_get, refl, sym, ap, subst, inr, ◌∙◌, arith}
 use Rattle.std.proofs.lemmas.Bool.{eq-eqb}
 use Rattle.index_model.specs.Actions.{Shape}
 use Rattle.index_model.specs.Faults.{HasCause}
 use Rattle.index_model.specs.declared.fault.Fault.{Fault}
 use Rattle.page_codec.specs.declared.page.Page.{Page}
-use Rattle.page_action.specs.Causes.{where_acted}
 use Rattle.page_action.specs.States.{State, Backing, Continues, after_act}
 use Rattle.page_action.specs.declared.page_store.PageStore.{Ghosts}
 use Rattle.tree_shape.specs.Walks.{bound_aim}
 use Rattle.tree_shape.proofs.Fits.{bound_falls}
 use Rattle.tree_acts.specs.Acts.{TreeLasts}
 use Rattle.tree_acts.specs.Flags.{FlagsMove}
-use Rattle.descent.specs.Shared.{IsInOrder, Does, is_flagged}
+use Rattle.descent.specs.Shared.{IsInOrder, Does, is_flagged, where_acting}
 use Rattle.descent.proofs.Acting.{one_act}
 use Rattle.descent.proofs.Working.{act_cause_of}
 use Rattle.split_finish.specs.Targets.{FinishFits, IsTarget}
 use Rattle.split_finish.specs.Turns.{Popped}
 use Rattle.split_finish.specs.Turns.{splits_root_of}
-use Rattle.split_finish.specs.Finishes.{FinishStepped, images_of, frames_of, takes_block_of}
+use Rattle.split_finish.specs.Finishes.{FinishStepped, images_of, takes_block_of}
 use Rattle.split_finish.specs.Acting.{FinishActs}
 use Rattle.split_finish.specs.declared.finish.FinishOp.{FinishOp}
 use Rattle.split_finish.specs.declared.finish.FinishStep.{FinishStep}
@@ -90,14 +89,14 @@ clears old new old_backing new_backing op after Done fits does table running las
 }
 
 -- the act is refused
-pub act_refused : {S : Type 0} (g : Ghosts S) (op : FinishOp) (old new : S) (fault : Fault) (changed : List Page) (most : ℕ) → Continues g.follows old new → g.state new ≡ g.state old
-    → 1 ≤ length changed → length changed ≤ most → ((g.backing new).honest ≡ true → (images_of (g.state old) op.target op.at ≡ most) × (frames_of (g.state old) op.target op.at ≡ most))
-    → ((g.backing new).honest ≡ true → IsInOrder (g.state old) → FinishFits (g.state old) op → HasCause (where_acted (g.state old) (g.backing old) (g.backing new) changed) fault)
+pub act_refused : {S : Type 0} (g : Ghosts S) (op : FinishOp) (old new : S) (fault : Fault) (changed : List Page) → Continues g.follows old new → g.state new ≡ g.state old
+    → ((g.backing new).honest ≡ true → map (λ (page : Page). page.block) changed ≡ images_of (g.state old) op.target op.at)
+    → ((g.backing new).honest ≡ true → IsInOrder (g.state old) → FinishFits (g.state old) op → HasCause (where_acting (g.state old) (g.backing old) (g.backing new) changed) fault)
     → FinishActs g op op old new (Err fault)
-act_refused g op old new fault changed most steps same some few needs cause =
+act_refused g op old new fault changed steps same are cause =
     acts_not g op old new fault steps same (λ honest order fits.
-    let need = needs honest in
-    rw (need.0, need.1) (act_cause_of (g.state old) (g.backing old) (g.backing old) (g.backing new) op.session most (takes_block_of (g.state old) op.target op.at) (splits_root_of (g.state old) op.target op.at) changed fault (omega arith) (λ h. h) refl some few (cause honest order fits)))
+    act_cause_of (g.state old) (g.backing old) (g.backing old) (g.backing new) op.session (images_of (g.state old) op.target op.at) (takes_block_of (g.state old) op.target op.at)
+    (splits_root_of (g.state old) op.target op.at) changed fault (omega arith) (λ h. h) refl (are honest) (cause honest order fits))
 
 pub popped_session : (op after : FinishOp) (step : FinishStep) → Popped op after step → after.session ≡ op.session
 popped_session op after Going popped = popped.session

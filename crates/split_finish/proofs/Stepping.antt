@@ -1,5 +1,5 @@
 -- Steps that read and change nothing but the call, and those that act behind their readings.
-use Rattle.std.proofs.Common.{◌≡◌, ℕ, suc, ◌*◌, ◌<◌, ◌≤◌, ◌||◌, ◌&&◌, nat_le, nat_lt, Bool, true, false, None, Result, Ok, Err, refl, sym, ap, subst, inl, ◌∙◌, arith}
+use Rattle.std.proofs.Common.{◌≡◌, ℕ, suc, ◌*◌, ◌<◌, ◌≤◌, ◌||◌, Bool, true, false, None, Result, Ok, Err, refl, sym, ap, subst, inl, ◌∙◌, arith}
 use Rattle.std.proofs.lemmas.Bool.{ltb-true, lt-ltb}
 use Rattle.std.specs.Prelude.{OnErr}
 use Rattle.index_model.specs.Faults.{HasCause}
@@ -10,6 +10,7 @@ use Rattle.page_action.specs.States.{State, Backing, Continues}
 use Rattle.page_action.specs.declared.page_store.PageStore.{Ghosts}
 use Rattle.descent.specs.Shared.{IsInOrder, IsOneStep, is_flagged}
 use Rattle.descent.proofs.Acting.{one_nothing, nothing_else}
+use Rattle.descent.proofs.Working.{no_room_later}
 use Rattle.descent.specs.Onward.{walk_length}
 use Rattle.split_finish.specs.Targets.{FinishFits, OnlyTargetsAreFlagged, targets_of, finish_left}
 use Rattle.split_finish.specs.Turns.{Turned, where_turned}
@@ -131,7 +132,7 @@ pub earlier_cause : (st : State) (first second third : Backing) (session : ℕ) 
 earlier_cause st first second third session target at Io le alive promised h =
     (let k : second.failures < third.failures = ltb-true second.failures third.failures h in lt-ltb first.failures third.failures (omega arith))
 earlier_cause st first second third session target at Stopped le alive promised h = or_first second.stopped (is_at_end st.acts) first.stopped alive h
-earlier_cause st first second third session target at LogFull le alive promised h = subst (λ (n : ℕ). (nat_lt 0 (images_of st target at) && nat_le n (images_of st target at)) ≡ true) promised h
+earlier_cause st first second third session target at LogFull le alive promised h = no_room_later first second third (images_of st target at) promised h
 earlier_cause st first second third session target at NoFrame le alive promised h = h
 earlier_cause st first second third session target at TooTall le alive promised h = h
 earlier_cause st first second third session target at IndexFull le alive promised h = h

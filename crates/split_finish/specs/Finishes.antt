@@ -1,5 +1,5 @@
 -- What a step does by which splits are finished.
-use Rattle.std.specs.Prelude.{◌≡◌, ◌⊎◌, ℕ, suc, ◌*◌, ◌<◌, ◌≤◌, ◌&&◌, ◌==◌, nat_lt, nat_le, if◌then◌else◌, Bool, true, false, Option, Some, None, Result, Ok, Err, OnErr, length, slice_get}
+use Rattle.std.specs.Prelude.{◌≡◌, ◌⊎◌, ℕ, suc, ◌*◌, ◌<◌, ◌≤◌, ◌&&◌, ◌==◌, nat_lt, nat_le, if◌then◌else◌, Bool, true, false, Option, Some, None, Result, Ok, Err, OnErr, List, [], ◌∷◌, ◌++◌, length, slice_get}
 use Rattle.index_model.specs.Actions.{Effect, Shape}
 use Rattle.index_model.specs.Faults.{Circumstances, HasCause}
 use Rattle.index_model.specs.declared.fault.Fault.{Fault}
@@ -8,7 +8,7 @@ use Rattle.page_codec.specs.declared.page.Page.{Page}
 use Rattle.page_action.specs.States.{State, Backing, Continues}
 use Rattle.page_action.specs.declared.page_store.PageStore.{Ghosts}
 use Rattle.tree_shape.specs.Nodes.{links_of, nodes_of}
-use Rattle.descent.specs.Shared.{IsInOrder, Does, IsOneStep, is_flagged, where_working}
+use Rattle.descent.specs.Shared.{IsInOrder, Does, IsOneStep, is_flagged, fresh_block, sibling, frames_for, where_working}
 use Rattle.descent.specs.Ways.{root_level}
 use Rattle.descent.specs.declared.way.Way.{Way}
 use Rattle.descent.specs.Onward.{walk_length}
@@ -49,17 +49,13 @@ abbrev pub is_full_parent : ℕ → Option Page → Bool
 is_full_parent items None = false
 is_full_parent items (Some page) = nat_le items (length (links_of page.items))
 
--- how many pages are written where a page with this right sibling is split for a downlink: its halves, the sibling, and the
--- page whose split is finished
-abbrev pub count_parted : Option ℕ → ℕ
-count_parted None = 3
-count_parted (Some right) = 4
-
--- how many pages are written where a downlink is put on the page: the page, and the one whose split is finished
-abbrev pub count_linked : ℕ → Option Page → ℕ
-count_linked items None = 2
-count_linked items (Some page) =
-    if nat_le items (length (links_of page.items)) then count_parted page.right else 2
+-- the blocks that are written where the target's downlink is put on this page: that of the page, and of the target, whose split
+-- is finished; where it is full, of its right half and its right sibling too
+abbrev pub blocks_linked : State → Target → ℕ → Option Page → List ℕ
+blocks_linked st target parent None = parent ∷ target.block ∷ []
+blocks_linked st target parent (Some page) = if nat_le st.limits.items (length (links_of page.items))
+    then parent ∷ fresh_block st ∷ sibling page.right ++ target.block ∷ []
+    else parent ∷ target.block ∷ []
 
 -- a step puts the target's downlink on the page of this way: the target is as its page says, and the page is ready for it
 abbrev pub is_to_link : State → Target → Way → Bool
@@ -71,21 +67,18 @@ abbrev pub is_to_grow : State → Target → Bool
 is_to_grow st target = is_as_read (nodes_of st.pages) target
     && (root_level st.pages == target.level) && nat_lt target.level 31
 
--- how many images the act of a step has, that stands there with this newest target
-abbrev pub images_of : State → Target → FinishAt → ℕ
-images_of st target Start = 0
-images_of st target (Down way) = 0
+-- the blocks that the act of a step writes, that stands there with this newest target
+abbrev pub images_of : State → Target → FinishAt → List ℕ
+images_of st target Start = []
+images_of st target (Down way) = []
 images_of st target (Link way) = if is_to_link st target way
-    then count_linked st.limits.items (slice_get st.pages way.block) else 0
-images_of st target Root = if is_to_grow st target then 3 else 0
+    then blocks_linked st target way.block (slice_get st.pages way.block) else []
+images_of st target Root =
+    if is_to_grow st target then fresh_block st ∷ 0 ∷ target.block ∷ [] else []
 
--- ... and how many frames it needs: one where it only reads
+-- ... and how many frames it needs
 abbrev pub frames_of : State → Target → FinishAt → ℕ
-frames_of st target Start = 1
-frames_of st target (Down way) = 1
-frames_of st target (Link way) = if is_to_link st target way
-    then count_linked st.limits.items (slice_get st.pages way.block) else 1
-frames_of st target Root = if is_to_grow st target then 3 else 1
+frames_of st target at = frames_for (images_of st target at)
 
 -- ... and whether it takes a block: to split a full parent, or the root
 abbrev pub takes_block_of : State → Target → FinishAt → Bool

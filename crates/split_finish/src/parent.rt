@@ -2,11 +2,10 @@
 
 ghost use Rattle.std.specs.Prelude.{◌≡◌, ◌≤◌, ◌<◌, true, Some, None, suc, ℕ, IfSome, IfNone, IfOk, IfErr, OnOk, OnErr, length};
 ghost use Rattle.index_model.specs.Faults.{HasCause};
-ghost use Rattle.page_action.specs.Causes.{where_acted};
 ghost use Rattle.page_action.specs.States.{Continues, after_act};
 ghost use Rattle.page_action.specs.Stored.{AreActable};
 ghost use Rattle.tree_shape.specs.Nodes.{links_of};
-ghost use Rattle.descent.specs.Shared.{where_splitting_any};
+ghost use Rattle.descent.specs.Shared.{where_acting, where_splitting_any};
 ghost use Rattle.descent.specs.Splitting.{RightIsStored, RightIsFound};
 ghost use Rattle.split_finish.specs.Acting.{IsLinkPlace, MeetsParent, FinishActs};
 ghost use Rattle.split_finish.specs.Parting.{halves_and};
@@ -53,7 +52,7 @@ fn act_on_halves<S: PageStore>(
     ensures faults { IfErr result (HasCause where_splitting_any) }
     ensures cause { AreActable (S.state store.old).limits (length (S.state store.old).pages)
         (halves_and left half right page)
-        → IfErr result (HasCause (where_acted (S.state store.old) (S.backing store.old)
+        → IfErr result (HasCause (where_acting (S.state store.old) (S.backing store.old)
         (S.backing store.new) (halves_and left half right page))) }
 {
     match right {

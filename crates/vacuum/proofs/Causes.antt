@@ -1,5 +1,5 @@
 -- Why a step of a bulk delete is refused.
-use Rattle.std.proofs.Common.{◌≡◌, ℕ, ◌<◌, ◌≤◌, inl, inr, Bool, true, false, ◌||◌, ◌&&◌, nat_le, refl, subst, arith}
+use Rattle.std.proofs.Common.{◌≡◌, ℕ, ◌<◌, ◌≤◌, inl, inr, Bool, true, false, ◌||◌, List, [], refl, arith}
 use Rattle.std.proofs.lemmas.Bool.{or_cases, ltb-true, lt-ltb}
 use Rattle.index_model.specs.Faults.{HasCause}
 use Rattle.index_model.specs.Row.{Row}
@@ -10,6 +10,7 @@ use Rattle.latch_table.specs.declared.mode.Mode.TheVariants.{Shared, Exclusive}
 use Rattle.page_action.specs.Causes.{is_at_end}
 use Rattle.page_action.specs.States.{State, Backing}
 use Rattle.descent.specs.Shared.{where_working}
+use Rattle.descent.proofs.Working.{no_room_later, room_for_none}
 use Rattle.vacuum.specs.BulkDeletes.{where_taking, where_deleting, is_counted_out}
 use Rattle.vacuum.specs.declared.steps.BulkDeleteOp.{BulkDeleteOp}
 use Rattle.vacuum.proofs.Holding.{held_for_cleanup}
@@ -30,25 +31,25 @@ or_there false true c h = refl
 or_there false false c h = h
 
 -- a page isn't read
-pub reading_cause : (dead : Row → Bool) (st : State) (old new : Backing) (op : BulkDeleteOp) (fault : Fault) → HasCause (where_working st old new op.session 0 1 false false) fault → HasCause (where_deleting dead st old new op) fault
+pub reading_cause : (dead : Row → Bool) (st : State) (old new : Backing) (op : BulkDeleteOp) (fault : Fault) → HasCause (where_working st old new op.session [] 1 false false) fault → HasCause (where_deleting dead st old new op) fault
 reading_cause dead st old new op Io h = h
 reading_cause dead st old new op Stopped h = or_more old.stopped (is_at_end st.acts) (is_counted_out op) h
 reading_cause dead st old new op (Blocked b) h = elim (or_cases (is_held_by_another st.table op.session b Shared) (is_held_by_another st.table op.session b Exclusive) h) [
   | inl shared ↦ held_for_cleanup st.table op.session b Shared shared
   | inr alone ↦ held_for_cleanup st.table op.session b Exclusive alone
 ]
-reading_cause dead st old new op LogFull h = absurd (let k : false ≡ true = h in cc)
+reading_cause dead st old new op LogFull h = absurd (room_for_none old new h)
 reading_cause dead st old new op fault h = h
 
 -- what is a cause where a page was read before is one from before that
-pub taking_later : (writes : Bool) (st : State) (first second third : Backing) (op : BulkDeleteOp) (fault : Fault) → first.failures ≤ second.failures → (second.stopped ≡ true → first.stopped ≡ true)
-    → second.promised ≡ first.promised → HasCause (where_taking writes st second third op) fault → HasCause (where_taking writes st first third op) fault
-taking_later writes st first second third op Io le alive promised h =
+pub taking_later : (images : List ℕ) (st : State) (first second third : Backing) (op : BulkDeleteOp) (fault : Fault) → first.failures ≤ second.failures → (second.stopped ≡ true → first.stopped ≡ true)
+    → second.promised ≡ first.promised → HasCause (where_taking images st second third op) fault → HasCause (where_taking images st first third op) fault
+taking_later images st first second third op Io le alive promised h =
     let k : second.failures < third.failures = ltb-true second.failures third.failures h in
     lt-ltb first.failures third.failures (omega (arith, le, k))
-taking_later writes st first second third op Stopped le alive promised h = or_later first.stopped second.stopped (is_at_end st.acts || is_counted_out op) alive h
-taking_later writes st first second third op LogFull le alive promised h = subst (λ (n : ℕ). (writes && nat_le n 1) ≡ true) promised h
-taking_later writes st first second third op fault le alive promised h = h
+taking_later images st first second third op Stopped le alive promised h = or_later first.stopped second.stopped (is_at_end st.acts || is_counted_out op) alive h
+taking_later images st first second third op LogFull le alive promised h = no_room_later first second third images promised h
+taking_later images st first second third op fault le alive promised h = h
 
 -- a counter is at its end, or the log had stopped
 pub counted_out_cause : (dead : Row → Bool) (st : State) (old new : Backing) (op : BulkDeleteOp) → is_counted_out op ≡ true → HasCause (where_deleting dead st old new op) Stopped

@@ -1,5 +1,5 @@
 -- What a bulk delete knows between its steps, and what a step of it does.
-use Rattle.std.specs.Prelude.{◌≡◌, ◌≢◌, ℕ, ◌+◌, ◌<◌, ◌≤◌, ◌||◌, ◌&&◌, nat_lt, nat_le, Bool, true, false, Option, Some, None, Result, Ok, Err, OnErr, List, [], ◌∷◌, length, slice_get}
+use Rattle.std.specs.Prelude.{◌≡◌, ◌≢◌, ℕ, ◌+◌, ◌<◌, ◌≤◌, ◌||◌, nat_lt, Bool, true, false, Option, Some, None, Result, Ok, Err, OnErr, List, [], ◌∷◌, length, slice_get}
 use Rattle.index_model.specs.Actions.{Effect, Remove}
 use Rattle.index_model.specs.Faults.{Circumstances, HasCause}
 use Rattle.index_model.specs.Order.{is_among}
@@ -16,7 +16,7 @@ use Rattle.page_action.specs.States.{State, Backing, Continues}
 use Rattle.page_action.specs.declared.page_store.PageStore.{Ghosts}
 use Rattle.tree_acts.specs.Leaves.{IsLeafAt}
 use Rattle.tree_acts.specs.Trees.{HasTrail}
-use Rattle.descent.specs.Shared.{IsInOrder, Does, IsOneStep}
+use Rattle.descent.specs.Shared.{IsInOrder, Does, IsOneStep, lacks_room}
 use Rattle.vacuum.specs.Counts.{stats_of, entries_below, IsCounted}
 use Rattle.vacuum.specs.Ops.{dead_entries, next_block}
 use Rattle.vacuum.specs.Sweeping.{DueIsToCome}
@@ -64,20 +64,26 @@ dead_at dead st block = dead_of dead (slice_get st.pages block)
 abbrev pub has_dead : (Row → Bool) → State → BulkDeleteOp → Bool
 has_dead dead st op = nat_lt 0 (length (dead_at dead st (next_block op.cursor op.back)))
 
--- why a step of a bulk delete is refused that writes a page, or none
-abbrev pub where_taking : Bool → State → Backing → Backing → BulkDeleteOp → Circumstances
-where_taking writes st old new op = record nothing_wrong {
+-- the block, if it is written
+abbrev pub block_if : Bool → ℕ → List ℕ
+block_if true block = block ∷ []
+block_if false block = []
+
+-- why a step of a bulk delete is refused that writes these blocks
+abbrev pub where_taking : List ℕ → State → Backing → Backing → BulkDeleteOp → Circumstances
+where_taking images st old new op = record nothing_wrong {
   device_failed = has_failed old new;
   is_stopped = old.stopped || (is_at_end st.acts || is_counted_out op);
   is_held_by_another = λ b. is_held_by_another st.table op.session b Cleanup;
-  log_is_full = writes && nat_le old.promised 1;
+  log_is_full = lacks_room old new images;
   frames_are_pinned = nat_lt st.frames (1 + count_apart (pinned_blocks st.table));
 }
 
 -- why a step of a bulk delete of this set of rows is refused, on pages that are a tree and a device that keeps its model: it
 -- writes the page that it reads where that has dead entries
 abbrev pub where_deleting : (Row → Bool) → State → Backing → Backing → BulkDeleteOp → Circumstances
-where_deleting dead st old new op = where_taking (has_dead dead st op) st old new op
+where_deleting dead st old new op =
+    where_taking (block_if (has_dead dead st op) (next_block op.cursor op.back)) st old new op
 
 -- a page is read: its dead entries are removed in one act
 pub record BulkDeleteGoesOn (dead : Row → Bool) (old new : State) (before after : BulkDeleteOp)

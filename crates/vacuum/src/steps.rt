@@ -53,7 +53,7 @@ pub enum BulkDeleteStep {
 
 impl BulkDeleteOp {
     ghost use Rattle.vacuum.specs.Ops.{fresh_bulk_delete, next_block, last_read, moves_of};
-    ghost use Rattle.vacuum.specs.BulkDeletes.{BulkDeleteSteps, is_counted_out, where_taking};
+    ghost use Rattle.vacuum.specs.BulkDeletes.{BulkDeleteSteps, is_counted_out, block_if, where_taking};
     ghost use Rattle.vacuum.specs.Turns.{TurnsTo, TurnsNoMore, gone_on, written};
 
     /// A bulk delete before its first step.
@@ -181,8 +181,8 @@ impl BulkDeleteOp {
         ensures refused { OnErr result (S.state store.new ≡ S.state store.old) }
         ensures faults { IfErr result (HasCause where_writing_any) }
         ensures cause { HasRoom (S.state store.old).table self.now.session
-            → IfErr result (HasCause (where_taking changed (S.state store.old)
-            (S.backing store.old) (S.backing store.new) self.now)) }
+            → IfErr result (HasCause (where_taking (block_if changed page.now.block)
+            (S.state store.old) (S.backing store.old) (S.backing store.new) self.now)) }
     {
         match ask_for(store, self.session, page.block, Mode::Cleanup) {
             Ok(()) => {}

@@ -11,7 +11,7 @@ use Rattle.latch_table.specs.declared.mode.Mode.TheVariants.{Shared, Exclusive, 
 use Rattle.latch_table.proofs.Tables.{is_held_by_another-by}
 use Rattle.page_action.specs.Contents.{entry_on_live_leaf}
 use Rattle.page_action.specs.Causes.{nothing_wrong, where_forced, has_failed, is_at_end, pinned_blocks, count_apart}
-use Rattle.descent.specs.Shared.{is_out_of_blocks}
+use Rattle.descent.specs.Shared.{is_out_of_blocks, count_new, lacks_room, frames_for}
 use Rattle.descent.specs.Ways.{root_level}
 use Rattle.split_finish.specs.Finishes.{frames_of}
 use Rattle.insert_split.specs.Inserts.{InsertFits, InsertStands, leaf_held, images_at, frames_at, takes_block_at, splits_root_at, where_inserting}
@@ -20,10 +20,11 @@ use Rattle.insert_split.specs.declared.insert.InsertAt.TheVariants.{Start, At, H
 use Rattle.insert_split.specs.declared.insert.InsertOp.{InsertOp}
 use Rattle.scan.specs.Scans.{ScanFits, leaf_pinned, pins_of, where_scanning}
 use Rattle.scan.specs.declared.steps.ScanOp.{ScanOp}
-use Rattle.vacuum.specs.BulkDeletes.{BulkDeleteFits, where_deleting, is_counted_out, has_dead}
+use Rattle.vacuum.specs.Ops.{next_block}
+use Rattle.vacuum.specs.BulkDeletes.{BulkDeleteFits, where_deleting, is_counted_out, has_dead, block_if}
 use Rattle.vacuum.specs.declared.steps.BulkDeleteOp.{BulkDeleteOp}
 use Rattle.page_delete.specs.Cleanups.{CleanupFits, where_cleaning}
-use Rattle.page_delete.specs.Needs.{count_written, frames_for}
+use Rattle.page_delete.specs.Needs.{blocks_written}
 use Rattle.page_delete.specs.Ops.{is_counted_out as is_cleanup_full}
 use Rattle.page_delete.specs.declared.steps.CleanupOp.{CleanupOp}
 use Rattle.session_calls.specs.Sessions.{start_number, after_call, StepIsRefused, RefusalChangesNothing, UnfinishedChangesNothing}
@@ -32,7 +33,7 @@ use Rattle.whole_calls.proofs.Words.{Effect, Ask, AskInsert, AskScan, AskBulkDel
 use Rattle.whole_calls.specs.Refusing.{others_run, another_runs, is_full_vacuum, where_gone, where_inserted, is_tall, where_asked, where_called, has_no_block}
 use Rattle.whole_calls.proofs.Blocks.{blocks_behind, blocks_same}
 use Rattle.whole_calls.proofs.Tellings.{runs_in_slot, runs_has_call, one_runs, true_false}
-use Rattle.schedule.proofs.Causes.{insert_images_few, put_few, frames_few, written_few, frames_for_few}
+use Rattle.schedule.proofs.Causes.{insert_images_few, put_few, frames_few, written_few, frames_for_few, block_few}
 use Rattle.schedule.proofs.Fitting.{beyond_of, running_of}
 
 pub or_left : (a b : Bool) → a ≡ true → (a || b) ≡ true
@@ -177,10 +178,10 @@ pins_own (holding ∷ table) (suc session) none =
 -- the room for an act
 
 -- where that room was made, an act is no cause
-enough : (least_room promised images : ℕ) → (5 ≤ least_room → 5 ≤ promised) → images ≤ 4 → (nat_lt 0 images && nat_le promised images) ≡ true → nat_lt least_room 5 ≡ true
-enough least_room promised images room few full = by_bool (nat_lt least_room 5) (λ no_less. absurd (
-    let k : 5 ≤ promised = room (at_least least_room no_less) in
-    let m : promised ≤ images = leb-true promised images (and_parts (nat_lt 0 images) (nat_le promised images) full).1 in
+enough : (least_room : ℕ) (old new : Backing) (images : List ℕ) → (5 ≤ least_room → 5 ≤ old.promised) → length images ≤ 4 → lacks_room old new images ≡ true → nat_lt least_room 5 ≡ true
+enough least_room old new images room few full = by_bool (nat_lt least_room 5) (λ no_less. absurd (
+    let k : 5 ≤ old.promised = room (at_least least_room no_less) in
+    let m : old.promised ≤ length images = leb-true old.promised (length images) (and_parts (nat_le old.promised (length images)) (nat_lt new.room (count_new new.waiting images)) full).0 in
     omega (arith, k, m, few)))
   where
     at_least : (n : ℕ) → nat_lt n 5 ≡ false → 5 ≤ n
@@ -256,7 +257,7 @@ module _ {S : Type 0} (g : Ghosts S) (start : Entry → Bool) (session least_roo
   insert_frames of n e Start is stands h = pins_cause 1 1 nothing_held (subst (λ (s : ℕ). holding_of st.table s ≡ nothing_held) is stands) (omega arith) (omega arith) h
   insert_frames of n e (At way) is stands h = pins_cause 1 1 nothing_held (subst (λ (s : ℕ). holding_of st.table s ≡ nothing_held) is stands.0) (omega arith) (omega arith) h
   insert_frames of n e (Holds block) is stands h =
-      pins_cause (frames_at st (Holds block)) 3 (leaf_held block) (subst (λ (s : ℕ). holding_of st.table s ≡ leaf_held block) is stands.0) (let k = put_few st.limits.items (slice_get st.pages block) in omega (arith, k)) (omega arith) h
+      pins_cause (frames_at st (Holds block)) 3 (leaf_held block) (subst (λ (s : ℕ). holding_of st.table s ≡ leaf_held block) is stands.0) (let k = put_few st (slice_get st.pages block) in omega (arith, k)) (omega arith) h
   insert_frames of n e (Finishing op) is stands h =
       pins_cause (frames_of st op.target op.at) 4 nothing_held (subst (λ (s : ℕ). holding_of st.table s ≡ nothing_held) (stands.0 ∙ is) stands.1.free) few (omega arith) h
     where
@@ -272,7 +273,7 @@ module _ {S : Type 0} (g : Ghosts S) (start : Entry → Bool) (session least_roo
     | inr alone ↦ held_cause b Exclusive (subst (λ (s : ℕ). is_held_by_another st.table s b Exclusive ≡ true) is alone)
   ]
   inserting was_there used_up tall op is f blocks root IndexFull h = blocks h
-  inserting was_there used_up tall op is f blocks root LogFull h = enough least_room (g.backing x.store).promised (images_at st op.at) room (insert_images_few st op.at) h
+  inserting was_there used_up tall op is f blocks root LogFull h = enough least_room (g.backing x.store) (g.backing y.store) (images_at st op.at) room (insert_images_few st op.at) h
   inserting was_there used_up tall op is f blocks root NoFrame h = insert_frames op.session f.start op.entry op.at is f.stands h
   inserting was_there used_up tall op is f blocks root TooTall h = root h
   inserting was_there used_up tall op is f blocks root fault h = h
@@ -301,7 +302,9 @@ module _ {S : Type 0} (g : Ghosts S) (start : Entry → Bool) (session least_roo
   deleting : (dead : Row → Bool) (op : BulkDeleteOp) → op.session ≡ session → BulkDeleteFits st op → (fault : Fault) → HasCause (where_deleting dead st (g.backing x.store) (g.backing y.store) op) fault → HasCause (where_gone g session least_room (is_counted_out op) (here_at x) y.store) fault
   deleting dead op is f Stopped h = counts_cause (g.backing x.store).stopped (has_failed (g.backing x.store) (g.backing y.store)) (is_counted_out op) h
   deleting dead op is f (Blocked b) h = held_cause b Cleanup (subst (λ (s : ℕ). is_held_by_another st.table s b Cleanup ≡ true) is h)
-  deleting dead op is f LogFull h = enough least_room (g.backing x.store).promised 1 room (omega arith) (and_parts (has_dead dead st op) (nat_le (g.backing x.store).promised 1) h).1
+  deleting dead op is f LogFull h =
+      (let one = block_few (has_dead dead st op) (next_block op.cursor op.back) in
+      enough least_room (g.backing x.store) (g.backing y.store) (block_if (has_dead dead st op) (next_block op.cursor op.back)) room (omega (arith, one)) h)
   deleting dead op is f NoFrame h = pins_cause 1 1 nothing_held (subst (λ (s : ℕ). holding_of st.table s ≡ nothing_held) is f.held) (omega arith) (omega arith) h
   deleting dead op is f fault h = h
 
@@ -311,11 +314,11 @@ module _ {S : Type 0} (g : Ghosts S) (start : Entry → Bool) (session least_roo
     | inl shared ↦ held_cause b Shared (subst (λ (s : ℕ). is_held_by_another st.table s b Shared ≡ true) is shared)
     | inr alone ↦ held_cause b Exclusive (subst (λ (s : ℕ). is_held_by_another st.table s b Exclusive ≡ true) is alone)
   ]
-  cleaning op is f LogFull h = (let few = written_few op.at op.cursor st in enough least_room (g.backing x.store).promised (count_written op.at op.cursor st) room (omega (arith, few)) h)
-  cleaning op is f NoFrame h = pins_cause (frames_for (count_written op.at op.cursor st)) 3 nothing_held (subst (λ (s : ℕ). holding_of st.table s ≡ nothing_held) is f.held) few (omega arith) h
+  cleaning op is f LogFull h = (let few = written_few op.at op.cursor st in enough least_room (g.backing x.store) (g.backing y.store) (blocks_written op.at op.cursor st) room (omega (arith, few)) h)
+  cleaning op is f NoFrame h = pins_cause (frames_for (blocks_written op.at op.cursor st)) 3 nothing_held (subst (λ (s : ℕ). holding_of st.table s ≡ nothing_held) is f.held) few (omega arith) h
     where
-      few : frames_for (count_written op.at op.cursor st) + 0 ≤ 3
-      few = (let k = frames_for_few (count_written op.at op.cursor st) (written_few op.at op.cursor st) in omega (arith, k))
+      few : frames_for (blocks_written op.at op.cursor st) + 0 ≤ 3
+      few = (let k = frames_for_few 3 (blocks_written op.at op.cursor st) (omega arith) (written_few op.at op.cursor st) in omega (arith, k))
   cleaning op is f fault h = h
 
   -- a refused step leaves the pages as they were, and each block as free as it was

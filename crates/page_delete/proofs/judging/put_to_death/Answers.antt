@@ -5,8 +5,8 @@ use Rattle.std.proofs.Common.{[], ◌∷◌, ◌≤◌}
 use Rattle.page_codec.specs.Spelling.{count_of}
 use Rattle.page_action.specs.Stored.{AreActable}
 use Rattle.tree_shape.specs.Nodes.{links_of}
-use Rattle.descent.proofs.Working.{act_cause_of}
-use Rattle.page_delete.specs.Needs.{count_judged}
+use Rattle.descent.proofs.Working.{act_cause_of, two_are}
+use Rattle.page_delete.specs.Needs.{blocks_judged}
 use Rattle.page_delete.specs.Parts.{DeletesOn, IsCandidate, IsTaken, AreInUse, LeafDies, IsSpared, PinnedLeavesStay}
 use Rattle.page_delete.proofs.Moving.{dying_moves}
 use Rattle.page_delete.proofs.Pinned.{pinned_dying}
@@ -52,7 +52,7 @@ returns-in-Ok-clause-all g c =
     let old = g.S.PageStore.state c.args.store.now in
     let leaf_used : c.mark_half_dead.new.page.block < length old.pages = subst (λ (p : Page). p.block < length old.pages) (sym c.mark_half_dead.ensures.only) c.requires.leaf.used in
     let parent_used : c.hand_on_link.new.page.block < length old.pages = subst (λ (b : ℕ). b < length old.pages) (sym c.hand_on_link.ensures.block) c.requires.parent.used in
-    tried_acted g.S.PageStore c.args.session count_judged (AreInUse c.args.leaf.block c.args.parent.block) (LeafDies c.args.leaf.block) (IsSpared c.args.session c.args.leaf.block c.args.parent.block) c.args.store.now c.act_on.new.store
+    tried_acted g.S.PageStore c.args.session (blocks_judged c.args.leaf.block c.args.parent.block) (AreInUse c.args.leaf.block c.args.parent.block) (LeafDies c.args.leaf.block) (IsSpared c.args.session c.args.leaf.block c.args.parent.block) c.args.store.now c.act_on.new.store
     (c.mark_half_dead.new.page ∷ c.hand_on_link.new.page ∷ []) c.act_on.ensures.steps c.in-Ok.ensures.done
     (ap (λ (s : State). length s.pages) c.in-Ok.ensures.done ∙ used_dying old c.mark_half_dead.new.page c.hand_on_link.new.page leaf_used parent_used)
     (λ h. let honest = was_honest g at h in
@@ -73,8 +73,10 @@ pub returns-in-Err-clause-all : goal.returns-in-Err-clause-all
 returns-in-Err-clause-all g c =
     let at = (goal.at.returns-in-Err-clause-all g c).After-act_on in
     let old = g.S.PageStore.state c.args.store.now in
-    tried_refused g.S.PageStore c.args.session count_judged (AreInUse c.args.leaf.block c.args.parent.block) (LeafDies c.args.leaf.block) (IsSpared c.args.session c.args.leaf.block c.args.parent.block) c.args.store.now c.act_on.new.store c.in-Err.fault
+    tried_refused g.S.PageStore c.args.session (blocks_judged c.args.leaf.block c.args.parent.block) (AreInUse c.args.leaf.block c.args.parent.block) (LeafDies c.args.leaf.block) (IsSpared c.args.session c.args.leaf.block c.args.parent.block) c.args.store.now c.act_on.new.store c.in-Err.fault
     c.act_on.ensures.steps c.in-Err.ensures.refused
     (λ h order room there.
-    act_cause_of old (g.S.PageStore.backing c.args.store.now) (g.S.PageStore.backing c.args.store.now) (g.S.PageStore.backing c.act_on.new.store) c.args.session 2 false false
-    (c.mark_half_dead.new.page ∷ c.hand_on_link.new.page ∷ []) c.in-Err.fault (omega arith) (λ s. s) refl (omega arith) (omega arith) (c.in-Err.ensures.cause (may g at (was_honest g at h))))
+    act_cause_of old (g.S.PageStore.backing c.args.store.now) (g.S.PageStore.backing c.args.store.now) (g.S.PageStore.backing c.act_on.new.store) c.args.session
+    (c.args.leaf.block ∷ c.args.parent.block ∷ []) false false (c.mark_half_dead.new.page ∷ c.hand_on_link.new.page ∷ []) c.in-Err.fault (omega arith) (λ s. s) refl
+    (two_are c.mark_half_dead.new.page.block c.hand_on_link.new.page.block c.args.leaf.block c.args.parent.block (ap (λ (p : Page). p.block) c.mark_half_dead.ensures.only) c.hand_on_link.ensures.block)
+    (c.in-Err.ensures.cause (may g at (was_honest g at h))))

@@ -1,4 +1,4 @@
-use Rattle.std.proofs.Common.{◌≡◌, true, false, sym, subst, ◌∙◌}
+use Rattle.std.proofs.Common.{◌≡◌, [], ◌∷◌, true, false, sym, subst, ◌∙◌}
 use Rattle.latch_table.specs.Holdings.{HasRoom}
 use Rattle.page_action.specs.States.{State, IsLater}
 use Rattle.page_delete.specs.Parts.{IsLiveAt, LinksLeft}
@@ -33,11 +33,14 @@ returns-in-Ok-2-2-clause-answer g c honest right allow =
     clash : true ≡ false → ⊥
     clash e = cc
 
+pub returns-in-Err-clause-cause : goal.returns-in-Err-clause-cause
+returns-in-Err-clause-cause g c honest room links one other = c.in-Err.ensures.cause honest room links.left one other
+
 pub returns-in-Err-right_is_live-clause-cause : goal.returns-in-Err-right_is_live-clause-cause
-returns-in-Err-right_is_live-clause-cause g c honest room links =
+returns-in-Err-right_is_live-clause-cause g c honest room links one other =
     let old = g.S.PageStore.state c.args.store.now in
     let reading = read_on g.S.PageStore c.args.store.now c.left_is_whole.new.store c.left_is_whole.ensures.steps c.left_is_whole.ensures.state c.in-Ok.ensures.alive c.left_is_whole.ensures.promised
     (g.met.S.PageStore.laws.follows_later _ _ (c.left_is_whole.ensures.steps _ (g.met.S.PageStore.laws.follows_same _))) in
-    cause_later g.S.PageStore c.args.session c.args.store.now c.left_is_whole.new.store c.right_is_live.new.store 2 c.in-Err-right_is_live.fault reading
+    cause_later g.S.PageStore c.args.session c.args.store.now c.left_is_whole.new.store c.right_is_live.new.store (one ∷ other ∷ []) c.in-Err-right_is_live.fault reading
     (c.in-Err-right_is_live.ensures.cause honest (subst (λ (st : State). HasRoom st.table c.args.session) (sym c.left_is_whole.ensures.state) room)
-    (subst (λ (st : State). LinksLeft st.pages c.in-Some.right c.args.leaf.now.block) (sym c.left_is_whole.ensures.state) (links.right c.in-Some.right c.in-Some.is)))
+    (subst (λ (st : State). LinksLeft st.pages c.in-Some.right c.args.leaf.now.block) (sym c.left_is_whole.ensures.state) (links.right c.in-Some.right c.in-Some.is)) one other)

@@ -1,9 +1,9 @@
-use Rattle.std.proofs.Common.{◌≡◌, ℕ, true, false, sym, ap, subst, ◌∙◌, arith}
+use Rattle.std.proofs.Common.{◌≡◌, ℕ, [], ◌∷◌, true, false, sym, ap, subst, ◌∙◌, arith}
 use Rattle.page_codec.specs.declared.page.Page.{Page}
 use Rattle.page_action.specs.States.{State, IsLater}
 use Rattle.vacuum.proofs.Lasting.{same_page}
 use Rattle.page_delete.specs.Judging.{IsHandingOn}
-use Rattle.page_delete.specs.Needs.{count_judged}
+use Rattle.page_delete.specs.Needs.{blocks_judged}
 use Rattle.page_delete.specs.Parts.{SiblingsAllow, AreInUse, LeafDies, IsSpared, IsTried}
 use Rattle.page_delete.proofs.Siblings.{some_is}
 use Rattle.page_delete.proofs.Trying.{HasRead, read_on, tried_later, tried_refused, tried_nothing, candidate_later}
@@ -28,21 +28,21 @@ put_to_death-requires-clause-right g c h = subst (λ (st : State). SiblingsAllow
 
 pub returns-in-Err-clause-all : goal.returns-in-Err-clause-all
 returns-in-Err-clause-all g c =
-    tried_refused g.S.PageStore c.args.session count_judged (AreInUse c.args.leaf.block c.args.parent) (LeafDies c.args.leaf.block) (IsSpared c.args.session c.args.leaf.block c.args.parent) c.args.store.now c.look_to_change.new.store c.in-Err.fault
-    c.look_to_change.ensures.steps c.look_to_change.ensures.state (λ h order room there. c.in-Err.ensures.cause h room there.1 2 2 false false (omega arith))
+    tried_refused g.S.PageStore c.args.session (blocks_judged c.args.leaf.block c.args.parent) (AreInUse c.args.leaf.block c.args.parent) (LeafDies c.args.leaf.block) (IsSpared c.args.session c.args.leaf.block c.args.parent) c.args.store.now c.look_to_change.new.store c.in-Err.fault
+    c.look_to_change.ensures.steps c.look_to_change.ensures.state (λ h order room there. c.in-Err.ensures.cause h room there.1 (c.args.leaf.block ∷ c.args.parent ∷ []) 2 false false (omega arith))
 
 pub returns-in-Some-clause-all : goal.returns-in-Some-clause-all
 returns-in-Some-clause-all g c =
     let block_is : c.in-Ok.page.block ≡ c.args.parent = c.in-Ok.ensures.stored.block_is in
-    tried_later g.S.PageStore c.args.session count_judged (AreInUse c.args.leaf.block c.args.parent) (LeafDies c.args.leaf.block) (IsSpared c.args.session c.args.leaf.block c.args.parent) c.args.store.now c.look_to_change.new.store c.put_to_death.new.store c.put_to_death.result
+    tried_later g.S.PageStore c.args.session (blocks_judged c.args.leaf.block c.args.parent) (AreInUse c.args.leaf.block c.args.parent) (LeafDies c.args.leaf.block) (IsSpared c.args.session c.args.leaf.block c.args.parent) c.args.store.now c.look_to_change.new.store c.put_to_death.new.store c.put_to_death.result
     (reads g (goal.at.returns-in-Some-clause-all g c).After-look_to_change c.in-Ok.ensures.alive c.look_to_change.ensures.room.promised)
-    (subst (λ (b : ℕ). IsTried g.S.PageStore c.args.session count_judged (AreInUse c.args.leaf.block b) (LeafDies c.args.leaf.block) (IsSpared c.args.session c.args.leaf.block b) c.look_to_change.new.store c.put_to_death.new.store c.put_to_death.result) block_is c.put_to_death.ensures.all)
+    (subst (λ (b : ℕ). IsTried g.S.PageStore c.args.session (blocks_judged c.args.leaf.block b) (AreInUse c.args.leaf.block b) (LeafDies c.args.leaf.block) (IsSpared c.args.session c.args.leaf.block b) c.look_to_change.new.store c.put_to_death.new.store c.put_to_death.result) block_is c.put_to_death.ensures.all)
 
 pub returns-in-None-clause-all : goal.returns-in-None-clause-all
 returns-in-None-clause-all g c =
     let at = (goal.at.returns-in-None-clause-all g c).After-look_to_change in
     let old = g.S.PageStore.state c.args.store.now in
-    tried_nothing g.S.PageStore c.args.session count_judged (AreInUse c.args.leaf.block c.args.parent) (LeafDies c.args.leaf.block) (IsSpared c.args.session c.args.leaf.block c.args.parent) c.args.store.now c.look_to_change.new.store
+    tried_nothing g.S.PageStore c.args.session (blocks_judged c.args.leaf.block c.args.parent) (AreInUse c.args.leaf.block c.args.parent) (LeafDies c.args.leaf.block) (IsSpared c.args.session c.args.leaf.block c.args.parent) c.args.store.now c.look_to_change.new.store
     c.look_to_change.ensures.steps c.look_to_change.ensures.state
     (λ h room die.
     let honest = was_honest g at h in

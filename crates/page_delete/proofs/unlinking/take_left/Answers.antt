@@ -1,8 +1,8 @@
 use Rattle.std.proofs.Common.{false, ap, ◌∙◌}
 use Rattle.page_codec.specs.declared.page.Page.{Page}
 use Rattle.tree_acts.proofs.Overlays.{inside}
-use Rattle.page_delete.specs.Needs.{frames_for}
-use Rattle.page_delete.proofs.Needs.{frames_some}
+use Rattle.descent.specs.Shared.{frames_for}
+use Rattle.descent.proofs.Working.{frames_some}
 use Rattle.vacuum.proofs.Lasting.{same_page}
 use Rattle.page_delete.proofs.Trying.{same_link}
 use Rattle.page_delete.proofs.unlinking.take_left.Goals as goal

@@ -1,7 +1,7 @@
 use Rattle.std.proofs.Common.{false}
 use Rattle.tree_acts.proofs.Overlays.{inside}
-use Rattle.page_delete.specs.Needs.{frames_for}
-use Rattle.page_delete.proofs.Needs.{frames_some}
+use Rattle.descent.specs.Shared.{frames_for}
+use Rattle.descent.proofs.Working.{frames_some}
 use Rattle.page_delete.proofs.unlinking.take_right.Goals as goal
 
 pub returns-in-Err-clause-cause : goal.returns-in-Err-clause-cause

@@ -1,15 +1,14 @@
-use Rattle.std.proofs.Common.{◌≡◌, ℕ, Bool, true, false, length, refl, sym, ap, subst, ◌∙◌, arith}
-use Rattle.index_model.specs.Faults.{HasCause}
+use Rattle.std.proofs.Common.{◌≡◌, ℕ, Bool, true, false, map, length, refl, sym, ap, subst, ◌∙◌, arith}
+use Rattle.page_codec.specs.declared.page.Page.{Page}
 use Rattle.page_action.specs.States.{State, IsLater, after_act}
 use Rattle.page_action.specs.Stored.{AreActable}
 use Rattle.descent.proofs.Working.{act_cause_of}
-use Rattle.descent.specs.Shared.{where_working}
-use Rattle.page_delete.specs.Needs.{count_between, count_unlinked_at, where_trying}
+use Rattle.page_delete.specs.Needs.{blocks_unlinked_at}
 use Rattle.page_delete.specs.Parts.{DeletesOn, IsTaken, IsTakenLeft, IsTakenRight, IsInUse, PageGoes, IsNotDead, PinnedLeavesStay, unlinked}
 use Rattle.page_delete.proofs.Moving.{unlinking_moves}
 use Rattle.page_delete.proofs.Pinned.{pinned_unlinking}
 use Rattle.page_delete.proofs.Trying.{tried_acted, tried_refused}
-use Rattle.page_delete.proofs.Needs.{between_some, dead_count, frames_between, unlinked_count}
+use Rattle.page_delete.proofs.Needs.{dead_blocks, unlinked_are}
 use Rattle.page_delete.proofs.Deleting.{does_unlink, may_unlink, used_unlinking}
 use Rattle.page_delete.proofs.unlinking.unlink_between.Given.{Over}
 use Rattle.page_delete.proofs.unlinking.unlink_between.Goals.{After-act_between}
@@ -39,7 +38,7 @@ pub returns-in-Ok-clause-all : goal.returns-in-Ok-clause-all
 returns-in-Ok-clause-all g c =
     let at = (goal.at.returns-in-Ok-clause-all g c).After-act_between in
     let old = g.S.PageStore.state c.args.store.now in
-    tried_acted g.S.PageStore c.args.session (count_unlinked_at c.args.page.block) (IsInUse c.args.page.block) (PageGoes c.args.page.block) (IsNotDead c.args.page.block) c.args.store.now c.act_between.new.store
+    tried_acted g.S.PageStore c.args.session (blocks_unlinked_at c.args.page.block) (IsInUse c.args.page.block) (PageGoes c.args.page.block) (IsNotDead c.args.page.block) c.args.store.now c.act_between.new.store
     (unlinked c.args.left c.args.page c.args.right c.begun-number.result) c.act_between.ensures.steps c.in-Ok.ensures.done
     (ap (λ (s : State). length s.pages) c.in-Ok.ensures.done
     ∙ used_unlinking old c.args.session _ c.args.page c.args.right c.begun-number.result c.args.left c.requires.page.used c.requires.right.taken.used c.requires.left)
@@ -59,16 +58,16 @@ pub returns-in-Err-clause-all : goal.returns-in-Err-clause-all
 returns-in-Err-clause-all g c =
     let at = (goal.at.returns-in-Err-clause-all g c).After-act_between in
     let old = g.S.PageStore.state c.args.store.now in
-    tried_refused g.S.PageStore c.args.session (count_unlinked_at c.args.page.block) (IsInUse c.args.page.block) (PageGoes c.args.page.block) (IsNotDead c.args.page.block) c.args.store.now c.act_between.new.store c.in-Err.fault
+    tried_refused g.S.PageStore c.args.session (blocks_unlinked_at c.args.page.block) (IsInUse c.args.page.block) (PageGoes c.args.page.block) (IsNotDead c.args.page.block) c.args.store.now c.act_between.new.store c.in-Err.fault
     c.act_between.ensures.steps c.in-Err.ensures.refused
     (λ h order room there.
     let honest = was_honest g at h in
-    let left = c.args.page.left in
-    let count = unlinked_count old (g.S.PageStore.backing c.args.store.now).honest c.args.session c.begun-number.result c.args.page c.args.right left c.args.left c.requires.left in
-    subst (λ (n : ℕ). HasCause (where_trying old (g.S.PageStore.backing c.args.store.now) (g.S.PageStore.backing c.act_between.new.store) c.args.session n) c.in-Err.fault) (sym (dead_count old c.args.page (c.requires.page.found honest) c.requires.dead))
-    (subst (λ (n : ℕ). HasCause (where_working old (g.S.PageStore.backing c.args.store.now) (g.S.PageStore.backing c.act_between.new.store) c.args.session (count_between left) n false false) c.in-Err.fault) (sym (frames_between left))
-    (act_cause_of old (g.S.PageStore.backing c.args.store.now) (g.S.PageStore.backing c.args.store.now) (g.S.PageStore.backing c.act_between.new.store) c.args.session (count_between left) false false (unlinked c.args.left c.args.page c.args.right c.begun-number.result) c.in-Err.fault (omega arith) (λ s. s) refl
-    (let few = between_some left in omega (arith, count, few)) (omega (arith, count))
+    let images = blocks_unlinked_at c.args.page.block old in
+    let are : map (λ (page : Page). page.block) (unlinked c.args.left c.args.page c.args.right c.begun-number.result) ≡ images =
+    unlinked_are old (g.S.PageStore.backing c.args.store.now).honest c.args.session c.begun-number.result c.args.page c.args.right c.args.page.left c.args.page.right c.args.left c.requires.right_is c.requires.left
+    ∙ sym (dead_blocks old c.args.page (c.requires.page.found honest) c.requires.dead) in
+    act_cause_of old (g.S.PageStore.backing c.args.store.now) (g.S.PageStore.backing c.args.store.now) (g.S.PageStore.backing c.act_between.new.store) c.args.session images false false
+    (unlinked c.args.left c.args.page c.args.right c.begun-number.result) c.in-Err.fault (omega arith) (λ s. s) refl are
     (c.in-Err.ensures.cause
     (may_unlink old c.args.session c.args.page c.args.right order (page_taken g at honest) c.requires.dead c.requires.right_is (right_taken g at honest) c.requires.inside c.begun-number.result
-    c.begun-number.type_inv c.args.left (left_taken g at honest))))))
+    c.begun-number.type_inv c.args.left (left_taken g at honest))))

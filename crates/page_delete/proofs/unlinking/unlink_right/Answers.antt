@@ -1,6 +1,6 @@
 use Rattle.std.proofs.Common.{◌≡◌, Bool, true, subst}
 use Rattle.page_action.specs.States.{IsLater}
-use Rattle.page_delete.specs.Needs.{count_unlinked_at}
+use Rattle.page_delete.specs.Needs.{blocks_unlinked_at}
 use Rattle.page_delete.specs.Parts.{IsTaken, IsInUse, PageGoes, IsNotDead}
 use Rattle.page_delete.proofs.Trying.{HasRead, read_on, tried_later, tried_refused, taken_later, left_later}
 use Rattle.page_delete.proofs.Deleting.{dead_links}
@@ -26,13 +26,13 @@ unlink_between-requires-clause-left g c = left_later _ _ _ _ c.args.session c.ar
 
 pub returns-in-Ok-clause-all : goal.returns-in-Ok-clause-all
 returns-in-Ok-clause-all g c =
-    tried_later g.S.PageStore c.args.session (count_unlinked_at c.args.page.block) (IsInUse c.args.page.block) (PageGoes c.args.page.block) (IsNotDead c.args.page.block) c.args.store.now c.take_right.new.store c.unlink_between.new.store c.unlink_between.result
+    tried_later g.S.PageStore c.args.session (blocks_unlinked_at c.args.page.block) (IsInUse c.args.page.block) (PageGoes c.args.page.block) (IsNotDead c.args.page.block) c.args.store.now c.take_right.new.store c.unlink_between.new.store c.unlink_between.result
     (reads g (goal.at.returns-in-Ok-clause-all g c).After-take_right c.in-Ok.ensures.alive) c.unlink_between.ensures.all
 
 pub returns-in-Err-clause-all : goal.returns-in-Err-clause-all
 returns-in-Err-clause-all g c =
     let st = g.S.PageStore.state c.args.store.now in
-    tried_refused g.S.PageStore c.args.session (count_unlinked_at c.args.page.block) (IsInUse c.args.page.block) (PageGoes c.args.page.block) (IsNotDead c.args.page.block) c.args.store.now c.take_right.new.store c.in-Err.fault c.take_right.ensures.steps c.take_right.ensures.state
+    tried_refused g.S.PageStore c.args.session (blocks_unlinked_at c.args.page.block) (IsInUse c.args.page.block) (PageGoes c.args.page.block) (IsNotDead c.args.page.block) c.args.store.now c.take_right.new.store c.in-Err.fault c.take_right.ensures.steps c.take_right.ensures.state
     (λ h order room there.
     let page = subst (λ (k : Bool). IsTaken st k c.args.session c.args.page.block c.args.page) (was_honest g (goal.at.returns-in-Err-clause-all g c).After-take_right h) c.requires.page in
-    c.in-Err.ensures.cause h room ((dead_links st c.args.session c.args.page order page c.requires.dead).right c.args.right c.requires.right_is) (count_unlinked_at c.args.page.block st))
+    c.in-Err.ensures.cause h room ((dead_links st c.args.session c.args.page order page c.requires.dead).right c.args.right c.requires.right_is) (blocks_unlinked_at c.args.page.block st))

@@ -1,27 +1,27 @@
-use Rattle.std.proofs.Common.{arith, ◌≡◌, ◌<◌, true, false, Option, ℕ, Some, List, ◌∷◌, length, suc, ap, sym, subst, ◌∙◌}
+use Rattle.std.proofs.Common.{arith, ◌≡◌, ◌<◌, true, false, Option, ℕ, Some, List, ◌∷◌, map, length, suc, ap, sym, subst, ◌∙◌}
 use Rattle.index_model.specs.Faults.{HasCause}
 use Rattle.latch_table.specs.Holdings.{HasRoom, released, unpinned, is_held_by_another}
 use Rattle.page_codec.specs.declared.page.Page.{Page}
-use Rattle.page_action.specs.Causes.{where_acted, pinned_blocks}
 use Rattle.page_action.specs.States.{State, Backing, IsLater, with_table, after_act}
 use Rattle.page_action.specs.Stored.{AreActable}
 use Rattle.page_action.specs.Reuse.{IsFresh}
 use Rattle.page_codec.specs.Grammar.{IsBlock}
-use Rattle.latch_table.specs.Holdings.{has_pin}
 use Rattle.latch_table.specs.declared.mode.Mode.TheVariants.{Exclusive}
 use Rattle.tree_shape.specs.Edits.{LeafHalves}
 use Rattle.tree_shape.specs.Nodes.{node_of}
 use Rattle.insert_split.specs.declared.insert.InsertAt.TheVariants.{Finishing}
 use Rattle.insert_split.specs.declared.insert.InsertOp.{InsertOp}
-use Rattle.descent.specs.Shared.{where_working}
+use Rattle.descent.specs.Shared.{fresh_block, where_acting, where_working}
 use Rattle.descent.specs.Splitting.{mended_to}
-use Rattle.descent.proofs.Working.{working_later, act_cause}
-use Rattle.insert_split.specs.Inserts.{count_halved}
-use Rattle.insert_split.proofs.Halving.{halves_may, halved_some, few_changed, frames_for}
+use Rattle.descent.proofs.Working.{working_later, act_cause, fresh_is}
+use Rattle.insert_split.specs.Inserts.{blocks_halved}
+use Rattle.insert_split.proofs.Halving.{halves_may, halved_are, frames_beside}
 use Rattle.insert_split.proofs.insert.InsertOp.split.Goals as goal
 
 pub returns-in-Err-clause-cause : goal.returns-in-Err-clause-cause
-returns-in-Err-clause-cause g c honest room fits pinned = c.in-Err.ensures.cause honest room fits.mendable (suc (count_halved c.args.page.right)) (count_halved c.args.page.right) true false (halved_some c.args.page.right)
+returns-in-Err-clause-cause g c honest room fits pinned =
+    let beside : List ℕ = blocks_halved (g.S.PageStore.state c.args.store.now) c.args.page.right in
+    c.in-Err.ensures.cause honest room fits.mendable (c.args.page.block ∷ beside) (length beside) true false (omega arith)
 
 pub returns-in-Err-take_block-clause-cause : goal.returns-in-Err-take_block-clause-cause
 returns-in-Err-take_block-clause-cause g c honest room fits pinned =
@@ -32,9 +32,11 @@ returns-in-Err-take_block-clause-cause g c honest room fits pinned =
     let third : Backing = g.S.PageStore.backing c.take_block.new.store in
     let same = c.read_right.ensures.state in
     let later : IsLater first second = g.met.S.PageStore.laws.follows_later _ _ (c.read_right.ensures.steps _ (g.met.S.PageStore.laws.follows_same _)) in
-    working_later st first second third session (suc (count_halved c.args.page.right)) (count_halved c.args.page.right) true false c.in-Err-take_block.fault later.failures c.in-Ok.ensures.alive c.read_right.ensures.room.promised
-    (subst (λ (s : State). HasCause (where_working s second third session (suc (count_halved c.args.page.right)) (count_halved c.args.page.right) true false) c.in-Err-take_block.fault) same
-    (c.in-Err-take_block.ensures.cause (subst (λ (s : State). HasRoom s.table session) (sym same) room) (suc (count_halved c.args.page.right)) (count_halved c.args.page.right) false))
+    let beside : List ℕ = blocks_halved st c.args.page.right in
+    let images : List ℕ = c.args.page.block ∷ beside in
+    working_later st first second third session images (length beside) true false c.in-Err-take_block.fault later.failures c.in-Ok.ensures.alive c.read_right.ensures.room.promised
+    (subst (λ (s : State). HasCause (where_working s second third session images (length beside) true false) c.in-Err-take_block.fault) same
+    (c.in-Err-take_block.ensures.cause (subst (λ (s : State). HasRoom s.table session) (sym same) room) images (length beside) false))
 
 pub returns-in-Ok-act_on_halves-clause-splits : goal.returns-in-Ok-act_on_halves-clause-splits
 returns-in-Ok-act_on_halves-clause-splits g c =
@@ -104,12 +106,13 @@ returns-in-Err-act_on_halves-clause-cause g c honest room fits pinned =
     let may : AreActable st.limits (length st.pages) changed = halves_may st session c.args.self.now.entry c.args.page left half right fits c.requires.may c.requires.some
     c.split_leaf-half.ensures.left_page c.split_leaf-half.ensures.right_page c.split_leaf-half.ensures.left_leaf c.split_leaf-half.ensures.right_leaf
     c.split_leaf-half.ensures.kept c.split_leaf-half.ensures.moved left_block fresh block c.in-Ok.ensures.stored in
-    let why : HasCause (where_acted st second third changed) c.in-Err-act_on_halves.fault =
-    subst (λ (b : Backing). HasCause (where_acted st b third changed) c.in-Err-act_on_halves.fault) c.take_block.ensures.backing
-    (subst (λ (s : State). HasCause (where_acted s (g.S.PageStore.backing c.take_block.new.store) third changed) c.in-Err-act_on_halves.fault) same
+    let why : HasCause (where_acting st second third changed) c.in-Err-act_on_halves.fault =
+    subst (λ (b : Backing). HasCause (where_acting st b third changed) c.in-Err-act_on_halves.fault) c.take_block.ensures.backing
+    (subst (λ (s : State). HasCause (where_acting s (g.S.PageStore.backing c.take_block.new.store) third changed) c.in-Err-act_on_halves.fault) same
     (c.in-Err-act_on_halves.ensures.cause (subst (λ (s : State). AreActable s.limits (length s.pages) changed) (sym same) may))) in
     let later : IsLater first second = g.met.S.PageStore.laws.follows_later _ _ (c.read_right.ensures.steps _ (g.met.S.PageStore.laws.follows_same _)) in
-    act_cause st first second third session (suc (count_halved c.args.page.right)) (count_halved c.args.page.right) true false changed c.in-Err-act_on_halves.fault later.failures c.in-Ok.ensures.alive c.read_right.ensures.room.promised
-    (omega arith) (few_changed st session left half half.block c.args.page.right right c.in-Ok.ensures.stored)
-    (frames_for st session left half half.block c.args.page.right right c.in-Ok.ensures.stored (subst (λ (b : ℕ). has_pin (pinned_blocks st.table) b ≡ true) (sym left_block) pinned))
-    why
+    let beside : List ℕ = blocks_halved st c.args.page.right in
+    let are : map (λ (page : Page). page.block) changed ≡ c.args.page.block ∷ beside = halved_are st session c.args.page.block (fresh_block st) left half c.args.page.right right left_block
+    (sym (fresh_is st half.block fresh)) c.in-Ok.ensures.stored in
+    act_cause st first second third session (c.args.page.block ∷ beside) (length beside) true false changed c.in-Err-act_on_halves.fault later.failures c.in-Ok.ensures.alive c.read_right.ensures.room.promised
+    are (frames_beside st c.args.page.block beside (map (λ (page : Page). page.block) changed) are pinned) why

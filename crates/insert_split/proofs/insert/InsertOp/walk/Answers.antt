@@ -1,4 +1,4 @@
-use Rattle.std.proofs.Common.{arith, ◌≡◌, ℕ, suc, ◌+◌, ◌≤◌, ◌<◌, Some, Ok, true, false, refl, sym, ap, subst, ◌∙◌, length, slice_get}
+use Rattle.std.proofs.Common.{[], arith, ◌≡◌, ℕ, suc, ◌+◌, ◌≤◌, ◌<◌, Some, Ok, true, false, refl, sym, ap, subst, ◌∙◌, length, slice_get}
 use Rattle.page_action.specs.States.{State, IsLater, with_table}
 use Rattle.page_action.specs.Stored.{IsStored}
 use Rattle.descent.specs.Onward.{LeadsOnward, LeavesLess, way_left}
@@ -45,7 +45,7 @@ returns-in-Err-clause-all g c =
     let stands = on_way st c.args.self.now c.args.way c.requires.at fits in
     let used = place_in_use st order.tree fits.start c.args.way.level (entry_aim c.args.self.now.entry) true c.args.way.block stands.1.place in
     reading_cause st (g.S.PageStore.backing c.args.store.now) (g.S.PageStore.backing c.look.new.store) c.args.self.now c.args.way c.in-Err.fault c.requires.at
-    (c.in-Err.ensures.works honest (room_free st c.args.self.now.session stands.0) used.1 0 1 false false (omega arith)))
+    (c.in-Err.ensures.works honest (room_free st c.args.self.now.session stands.0) used.1 [] 1 false false (omega arith)))
 
 pub returns-then-is_unfinished-clause-all : goal.returns-then-is_unfinished-clause-all
 returns-then-is_unfinished-clause-all g c =

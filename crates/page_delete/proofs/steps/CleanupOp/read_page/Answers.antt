@@ -1,10 +1,10 @@
-use Rattle.std.proofs.Common.{◌≡◌, ℕ, ◌≤◌, true, false, Some, length, slice_get, sym, ap, subst, ◌∙◌, arith}
+use Rattle.std.proofs.Common.{◌≡◌, ℕ, List, [], ◌≤◌, true, false, Some, length, slice_get, sym, ap, subst, ◌∙◌, arith}
 use Rattle.index_model.specs.declared.limits.Limits.{Limits}
 use Rattle.page_action.specs.States.{State}
 use Rattle.descent.specs.Onward.{LeavesLess}
 use Rattle.index_model.specs.Faults.{HasCause}
 use Rattle.page_delete.specs.Cleanups.{IsUnderway}
-use Rattle.page_delete.specs.Needs.{count_written, where_trying}
+use Rattle.page_delete.specs.Needs.{blocks_written, where_trying}
 use Rattle.page_delete.specs.declared.steps.CleanupAt.{CleanupAt}
 use Rattle.page_delete.proofs.Siblings.{trail_in_use}
 use Rattle.page_delete.proofs.Stepping.{descends, refuses, working_cause, has_room}
@@ -17,9 +17,9 @@ returns-in-Err-clause-all g c =
     (λ honest order fits.
     let u = subst (IsUnderway old fits.start c.args.self.now.cursor) c.requires.at fits.at in
     working_cause old (g.S.PageStore.backing c.args.store.now) (g.S.PageStore.backing c.look.new.store) c.args.self.now c.in-Err.fault
-    (let none : 0 ≡ count_written c.args.self.now.at c.args.self.now.cursor old = ap (λ (a : CleanupAt). count_written a c.args.self.now.cursor old) (sym c.requires.at) in
-    subst (λ (n : ℕ). HasCause (where_trying old (g.S.PageStore.backing c.args.store.now) (g.S.PageStore.backing c.look.new.store) c.args.self.now.session n) c.in-Err.fault) none
-    (c.in-Err.ensures.works honest (has_room old c.args.self.now fits) (trail_in_use old fits.start c.args.way.level c.args.way.block c.args.way.moves order.tree u.1.trail) 0 1 false false (omega arith))))
+    (let none : [] ≡ blocks_written c.args.self.now.at c.args.self.now.cursor old = ap (λ (a : CleanupAt). blocks_written a c.args.self.now.cursor old) (sym c.requires.at) in
+    subst (λ (n : List ℕ). HasCause (where_trying old (g.S.PageStore.backing c.args.store.now) (g.S.PageStore.backing c.look.new.store) c.args.self.now.session n) c.in-Err.fault) none
+    (c.in-Err.ensures.works honest (has_room old c.args.self.now fits) (trail_in_use old fits.start c.args.way.level c.args.way.block c.args.way.moves order.tree u.1.trail) [] 1 false false (omega arith))))
   where
     clash : false ≡ true → ⊥
     clash e = cc

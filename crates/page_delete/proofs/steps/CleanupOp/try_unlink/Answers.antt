@@ -1,7 +1,8 @@
 use Rattle.std.proofs.Common.{◌≡◌, ℕ, true, false, subst}
 use Rattle.page_action.specs.States.{IsLater}
-use Rattle.page_delete.specs.Needs.{count_unlinked_at, frames_for}
-use Rattle.page_delete.proofs.Needs.{frames_some}
+use Rattle.page_delete.specs.Needs.{blocks_unlinked_at}
+use Rattle.descent.specs.Shared.{frames_for}
+use Rattle.descent.proofs.Working.{frames_some}
 use Rattle.page_delete.specs.Parts.{IsInUse, PageGoes, IsNotDead, IsTried}
 use Rattle.page_delete.proofs.Trying.{HasRead, read_on, tried_later, tried_refused}
 use Rattle.page_delete.proofs.steps.CleanupOp.try_unlink.Given.{Over}
@@ -20,14 +21,14 @@ was_honest g c h =
 pub returns-in-Err-clause-all : goal.returns-in-Err-clause-all
 returns-in-Err-clause-all g c =
     let before = c.args.self.now in
-    tried_refused g.S.PageStore before.session (count_unlinked_at before.cursor) (IsInUse before.cursor) (PageGoes before.cursor) (IsNotDead before.cursor) c.args.store.now c.look_to_change.new.store c.in-Err.fault
-    c.look_to_change.ensures.steps c.look_to_change.ensures.state (λ h order room there. c.in-Err.ensures.cause h room there (count_unlinked_at before.cursor (g.S.PageStore.state c.args.store.now)) (frames_for (count_unlinked_at before.cursor (g.S.PageStore.state c.args.store.now))) false false
-    (frames_some (count_unlinked_at before.cursor (g.S.PageStore.state c.args.store.now))))
+    tried_refused g.S.PageStore before.session (blocks_unlinked_at before.cursor) (IsInUse before.cursor) (PageGoes before.cursor) (IsNotDead before.cursor) c.args.store.now c.look_to_change.new.store c.in-Err.fault
+    c.look_to_change.ensures.steps c.look_to_change.ensures.state (λ h order room there. c.in-Err.ensures.cause h room there (blocks_unlinked_at before.cursor (g.S.PageStore.state c.args.store.now)) (frames_for (blocks_unlinked_at before.cursor (g.S.PageStore.state c.args.store.now))) false false
+    (frames_some (blocks_unlinked_at before.cursor (g.S.PageStore.state c.args.store.now))))
 
 pub returns-in-Some-clause-all : goal.returns-in-Some-clause-all
 returns-in-Some-clause-all g c =
     let before = c.args.self.now in
     let block_is : c.in-Ok.page.block ≡ before.cursor = c.in-Ok.ensures.stored.block_is in
-    tried_later g.S.PageStore before.session (count_unlinked_at before.cursor) (IsInUse before.cursor) (PageGoes before.cursor) (IsNotDead before.cursor) c.args.store.now c.look_to_change.new.store c.unlink_dead.new.store c.unlink_dead.result
+    tried_later g.S.PageStore before.session (blocks_unlinked_at before.cursor) (IsInUse before.cursor) (PageGoes before.cursor) (IsNotDead before.cursor) c.args.store.now c.look_to_change.new.store c.unlink_dead.new.store c.unlink_dead.result
     (reads g (goal.at.returns-in-Some-clause-all g c).After-look_to_change c.in-Ok.ensures.alive c.look_to_change.ensures.room.promised)
-    (subst (λ (b : ℕ). IsTried g.S.PageStore before.session (count_unlinked_at b) (IsInUse b) (PageGoes b) (IsNotDead b) c.look_to_change.new.store c.unlink_dead.new.store c.unlink_dead.result) block_is c.unlink_dead.ensures.all)
+    (subst (λ (b : ℕ). IsTried g.S.PageStore before.session (blocks_unlinked_at b) (IsInUse b) (PageGoes b) (IsNotDead b) c.look_to_change.new.store c.unlink_dead.new.store c.unlink_dead.result) block_is c.unlink_dead.ensures.all)

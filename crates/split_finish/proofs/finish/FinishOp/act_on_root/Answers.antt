@@ -1,7 +1,10 @@
-use Rattle.std.proofs.Common.{◌≡◌, ◌≤◌, length, ap, subst, ◌∙◌, arith}
+use Rattle.std.proofs.Common.{◌≤◌, map, sym, ap, subst, ◌∙◌}
+use Rattle.page_codec.specs.declared.page.Page.{Page}
 use Rattle.page_action.specs.States.{State, IsLater}
-use Rattle.split_finish.specs.Finishes.{images_of, frames_of}
-use Rattle.split_finish.proofs.Needs.{root_takes}
+use Rattle.descent.specs.Shared.{fresh_block}
+use Rattle.descent.proofs.Working.{fresh_is}
+use Rattle.split_finish.specs.Finishes.{images_of}
+use Rattle.split_finish.proofs.Needs.{root_takes, three_are}
 use Rattle.split_finish.proofs.Doing.{acts_done, act_refused, popped_session}
 use Rattle.split_finish.proofs.Growing.{grows, may_grow_all}
 use Rattle.split_finish.proofs.finish.FinishOp.act_on_root.Goals as goal
@@ -26,11 +29,15 @@ returns-in-Err-clause-all g c =
     let st : State = g.S.PageStore.state c.args.store.now in
     let later : IsLater (g.S.PageStore.backing c.args.store.now) (g.S.PageStore.backing c.act_on.new.store) =
     g.met.S.PageStore.laws.follows_later _ _ (c.act_on.ensures.steps _ (g.met.S.PageStore.laws.follows_same _)) in
-    act_refused g.S.PageStore op c.args.store.now c.act_on.new.store c.in-Err.fault c.grown-pages.result 3 c.act_on.ensures.steps c.in-Err.ensures.refused
-    (let k : length c.grown-pages.result ≡ 3 = ap length c.grown-pages.ensures.pages_are in omega arith) (let k : length c.grown-pages.result ≡ 3 = ap length c.grown-pages.ensures.pages_are in omega arith)
+    let are = c.grown-pages.ensures in
+    let meets = c.requires.meets in
+    act_refused g.S.PageStore op c.args.store.now c.act_on.new.store c.in-Err.fault c.grown-pages.result c.act_on.ensures.steps c.in-Err.ensures.refused
     (λ honest.
-    let need = root_takes st op c.args.meta c.args.page (c.requires.meets.read_meta.found (later.honest honest)) (c.requires.meets.read.found (later.honest honest)) c.requires.meets.ready in
-    (ap (images_of st op.target) c.requires.meets.at ∙ need.0, ap (frames_of st op.target) c.requires.meets.at ∙ need.1))
+    ap (map (λ (page : Page). page.block)) are.pages_are
+    ∙ three_are are.root.block are.meta_after.block are.page_after.block (fresh_block st) 0 op.target.block (are.root_block ∙ sym (fresh_is st c.args.fresh c.requires.fresh))
+    (are.meta_block ∙ meets.read_meta.stored.block_is) (are.clear.block_is ∙ meets.read.stored.block_is)
+    ∙ sym (ap (images_of st op.target) meets.at
+    ∙ root_takes st op c.args.meta c.args.page (meets.read_meta.found (later.honest honest)) (meets.read.found (later.honest honest)) meets.ready))
     (λ honest order fits. c.in-Err.ensures.cause (may_grow_all st op (g.S.PageStore.backing c.args.store.now).honest c.args.meta c.args.page c.args.new c.args.fresh c.grown-pages.result order fits (later.honest honest)
     c.requires.meets.read_meta c.requires.meets.read c.requires.meets.ready c.requires.right c.requires.fresh c.requires.block c.requires.free
     (g.met.S.PageStore.laws.few c.args.store.now)

@@ -1,6 +1,8 @@
-use Rattle.std.proofs.Common.{◌≡◌, length, ap, ◌∙◌, arith}
+use Rattle.std.proofs.Common.{map, sym, ap, ◌∙◌}
+use Rattle.page_codec.specs.declared.page.Page.{Page}
 use Rattle.page_action.specs.States.{State, IsLater}
-use Rattle.split_finish.specs.Finishes.{images_of, frames_of}
+use Rattle.split_finish.specs.Finishes.{images_of}
+use Rattle.descent.proofs.Working.{two_are}
 use Rattle.split_finish.proofs.Doing.{acts_done, act_refused, popped_session}
 use Rattle.split_finish.proofs.Needs.{roomy_link}
 use Rattle.split_finish.proofs.Linking.{links, may_link_all}
@@ -24,10 +26,13 @@ returns-in-Err-clause-all g c =
     let st : State = g.S.PageStore.state c.args.store.now in
     let later : IsLater (g.S.PageStore.backing c.args.store.now) (g.S.PageStore.backing c.act_on.new.store) =
     g.met.S.PageStore.laws.follows_later _ _ (c.act_on.ensures.steps _ (g.met.S.PageStore.laws.follows_same _)) in
-    act_refused g.S.PageStore op c.args.store.now c.act_on.new.store c.in-Err.fault c.linked-pages.result 2 c.act_on.ensures.steps c.in-Err.ensures.refused
-    (let k : length c.linked-pages.result ≡ 2 = ap length c.linked-pages.ensures.pages_are in omega arith) (let k : length c.linked-pages.result ≡ 2 = ap length c.linked-pages.ensures.pages_are in omega arith)
+    let are = c.linked-pages.ensures in
+    let meets = c.requires.meets in
+    act_refused g.S.PageStore op c.args.store.now c.act_on.new.store c.in-Err.fault c.linked-pages.result c.act_on.ensures.steps c.in-Err.ensures.refused
     (λ honest.
-    let need = roomy_link st op c.requires.meets.way c.args.page c.args.parent (c.requires.meets.read.found (later.honest honest)) (c.requires.meets.read_parent.found (later.honest honest)) c.requires.meets.ready c.requires.room in
-    (ap (images_of st op.target) c.requires.meets.at ∙ need.0, ap (frames_of st op.target) c.requires.meets.at ∙ need.1))
+    ap (map (λ (page : Page). page.block)) are.pages_are
+    ∙ two_are are.parent_after.block are.page_after.block meets.way.block op.target.block (are.block_is ∙ meets.read_parent.stored.block_is) (are.clear.block_is ∙ meets.read.stored.block_is)
+    ∙ sym (ap (images_of st op.target) meets.at
+    ∙ roomy_link st op meets.way c.args.page c.args.parent (meets.read.found (later.honest honest)) (meets.read_parent.found (later.honest honest)) meets.ready c.requires.room))
     (λ honest order fits. c.in-Err.ensures.cause (may_link_all st op (g.S.PageStore.backing c.args.store.now).honest c.requires.meets.way c.args.page c.args.parent c.args.new c.linked-pages.result order fits (later.honest honest)
     c.requires.meets.at c.requires.meets.read c.requires.meets.read_parent c.requires.meets.ready c.requires.right (g.met.S.PageStore.laws.few c.args.store.now) c.requires.room c.linked-pages.ensures))

@@ -1,4 +1,4 @@
-use Rattle.std.proofs.Common.{◌≤◌, ℕ, true, false, length, slice_get, sym, ap, subst, ◌∙◌, arith}
+use Rattle.std.proofs.Common.{[], ◌≤◌, ℕ, true, false, length, slice_get, sym, ap, subst, ◌∙◌, arith}
 use Rattle.index_model.specs.Faults.{HasCause}
 use Rattle.page_action.specs.States.{State}
 use Rattle.tree_acts.proofs.Telling.{place_inside}
@@ -29,4 +29,4 @@ returns-in-Err-clause-all g c =
     (λ honest order fits.
     let on = subst (FinishStands st fits.start op.target) c.requires fits.stands in
     subst (λ (a : FinishAt). HasCause (where_finishing st (g.S.PageStore.backing c.args.store.now) (g.S.PageStore.backing c.look.new.store) op.session op.target a) c.in-Err.fault) (sym c.requires)
-    (c.in-Err.ensures.works honest (has_room st op fits) (place_inside st fits.start c.args.way.level _ true c.args.way.block order.tree on.place) 0 1 false false (omega arith)))
+    (c.in-Err.ensures.works honest (has_room st op fits) (place_inside st fits.start c.args.way.level _ true c.args.way.block order.tree on.place) [] 1 false false (omega arith)))

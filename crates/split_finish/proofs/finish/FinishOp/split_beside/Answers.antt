@@ -1,22 +1,22 @@
-use Rattle.std.proofs.Common.{arith, ◌≡◌, ◌<◌, ◌≤◌, Bool, true, false, ℕ, length, ap, sym, subst, ◌∙◌, refl}
+use Rattle.std.proofs.Common.{arith, ◌≡◌, ◌<◌, ◌≤◌, Bool, true, false, ℕ, map, length, ap, sym, subst, ◌∙◌, refl}
 use Rattle.index_model.specs.Faults.{HasCause}
 use Rattle.latch_table.specs.Holdings.{is_held_by_another}
 use Rattle.latch_table.specs.declared.mode.Mode.TheVariants.{Exclusive}
 use Rattle.page_codec.specs.Grammar.{IsBlock}
 use Rattle.page_codec.specs.Spelling.{count_of}
 use Rattle.page_codec.specs.declared.page.Page.{Page}
-use Rattle.page_action.specs.Causes.{where_acted}
 use Rattle.page_action.specs.Reuse.{IsFresh}
 use Rattle.page_action.specs.States.{State, Backing, IsLater, after_act}
 use Rattle.page_action.specs.Stored.{AreActable}
 use Rattle.tree_acts.proofs.Overlays.{inside}
-use Rattle.descent.proofs.Working.{act_cause_of}
-use Rattle.descent.specs.Shared.{where_working}
-use Rattle.split_finish.specs.Finishes.{images_of, frames_of, count_parted, where_finishing}
+use Rattle.descent.proofs.Working.{act_cause_of, fresh_is}
+use Rattle.descent.specs.Shared.{fresh_block, where_acting, where_working}
+use Rattle.split_finish.specs.Finishes.{images_of, frames_of, takes_block_of, where_finishing}
 use Rattle.split_finish.specs.Parting.{halves_and}
+use Rattle.split_finish.specs.Turns.{splits_root_of}
 use Rattle.split_finish.specs.declared.finish.FinishAt.{FinishAt}
 use Rattle.split_finish.specs.declared.finish.FinishAt.TheVariants.{Link}
-use Rattle.split_finish.proofs.Needs.{full_link, parted_count}
+use Rattle.split_finish.proofs.Needs.{full_link, parted_are}
 use Rattle.split_finish.proofs.Parting.{PartsParent, parts, parts_may, beside_parent, split_as_read}
 use Rattle.split_finish.proofs.Standing.{has_room}
 use Rattle.split_finish.proofs.Stepping.{acts_not}
@@ -32,7 +32,7 @@ returns-in-Err-clause-all g c =
     subst (λ (a : FinishAt). HasCause (where_finishing st (g.S.PageStore.backing c.args.store.now) (g.S.PageStore.backing c.take_block.new.store) op.session op.target a) c.in-Err.fault) (sym c.requires.meets.at)
     (subst (λ (b : Bool). HasCause (where_working st (g.S.PageStore.backing c.args.store.now) (g.S.PageStore.backing c.take_block.new.store) op.session (images_of st op.target (Link way)) (frames_of st op.target (Link way)) b false) c.in-Err.fault)
     (let sound = subst (λ (b : Backing). b.honest ≡ true) c.take_block.ensures.backing honest in
-    sym (full_link st op way c.args.page c.args.parent (c.requires.meets.read.found sound) (c.requires.meets.read_parent.found sound) c.requires.meets.ready c.requires.no_room).2)
+    sym (full_link st op way c.args.page c.args.parent (c.requires.meets.read.found sound) (c.requires.meets.read_parent.found sound) c.requires.meets.ready c.requires.no_room).1)
     (c.in-Err.ensures.cause (has_room st op fits) (images_of st op.target (Link way)) (frames_of st op.target (Link way)) false)))
 
 pub split_links-half-requires-clause-block : goal.split_links-half-requires-clause-block
@@ -106,12 +106,15 @@ returns-in-Err-act_on_halves-clause-all g c =
     c.split_links-half.ensures.kept c.split_links-half.ensures.moved (subst IsBlock (sym is_new) (c.in-Ok.ensures.block some_pages))
     (c.clear_split.ensures.page c.requires.meets.read.stored.storable.admitted) (subst (λ (p : Page). count_of p.items ≤ st.limits.items) (sym c.clear_split.ensures.only) c.requires.meets.read.stored.storable.few)
     beside.mendable beside.apart_parent beside.apart_page in
-    let why : HasCause (where_acted st first third (halves_and left half c.args.right clear)) c.in-Err-act_on_halves.fault =
-    subst (λ (b : Backing). HasCause (where_acted st b third (halves_and left half c.args.right clear)) c.in-Err-act_on_halves.fault) c.take_block.ensures.backing
-    (subst (λ (s : State). HasCause (where_acted s (g.S.PageStore.backing c.take_block.new.store) third (halves_and left half c.args.right clear)) c.in-Err-act_on_halves.fault) same
+    let why : HasCause (where_acting st first third (halves_and left half c.args.right clear)) c.in-Err-act_on_halves.fault =
+    subst (λ (b : Backing). HasCause (where_acting st b third (halves_and left half c.args.right clear)) c.in-Err-act_on_halves.fault) c.take_block.ensures.backing
+    (subst (λ (s : State). HasCause (where_acting s (g.S.PageStore.backing c.take_block.new.store) third (halves_and left half c.args.right clear)) c.in-Err-act_on_halves.fault) same
     (c.in-Err-act_on_halves.ensures.cause (subst (λ (s : State). AreActable s.limits (length s.pages) (halves_and left half c.args.right clear)) (sym same) may))) in
     let need = full_link st op c.requires.meets.way c.args.page c.args.parent (c.requires.meets.read.found (later.honest honest)) (c.requires.meets.read_parent.found (later.honest honest)) c.requires.meets.ready c.requires.no_room in
-    let count : length (halves_and left half c.args.right clear) ≡ count_parted c.args.parent.right = parted_count st op.session left half clear c.args.parent.right c.args.right c.requires.beside in
-    subst (λ (a : FinishAt). HasCause (where_finishing st first third op.session op.target a) c.in-Err-act_on_halves.fault) (sym c.requires.meets.at)
-    (rw (need.0, need.1, need.2) (act_cause_of st first first third op.session (count_parted c.args.parent.right) true false (halves_and left half c.args.right clear) c.in-Err-act_on_halves.fault (omega arith) (λ h. h) refl
-    (omega arith) (omega (arith, count)) why)))
+    let are : map (λ (page : Page). page.block) (halves_and left half c.args.right clear) ≡ images_of st op.target op.at =
+    parted_are st op.session c.requires.meets.way.block (fresh_block st) op.target.block left half clear c.args.parent.right c.args.right
+    (c.split_links-half.ensures.left_block ∙ c.requires.meets.read_parent.stored.block_is) (is_new ∙ sym (fresh_is st c.in-Ok.fresh c.in-Ok.ensures.fresh))
+    (ap (λ (p : Page). p.block) c.clear_split.ensures.only ∙ c.requires.meets.read.stored.block_is) c.requires.beside
+    ∙ sym (ap (images_of st op.target) c.requires.meets.at ∙ need.0) in
+    act_cause_of st first first third op.session (images_of st op.target op.at) (takes_block_of st op.target op.at) (splits_root_of st op.target op.at) (halves_and left half c.args.right clear)
+    c.in-Err-act_on_halves.fault (omega arith) (λ h. h) refl are why)

@@ -1,4 +1,4 @@
-use Rattle.std.proofs.Common.{◌≡◌, ◌<◌, ℕ, [], ◌∷◌, Bool, true, false, nat_lt, Some, length, slice_get, refl, sym, ap, subst, ◌∙◌, arith}
+use Rattle.std.proofs.Common.{◌≡◌, ◌<◌, ℕ, List, [], ◌∷◌, Bool, true, false, nat_lt, Some, length, slice_get, refl, sym, ap, subst, ◌∙◌, arith}
 use Rattle.index_model.specs.Faults.{HasCause}
 use Rattle.index_model.specs.declared.limits.Limits.{Limits}
 use Rattle.latch_table.specs.Holdings.{HasRoom, is_held_by_another}
@@ -6,8 +6,8 @@ use Rattle.latch_table.specs.declared.mode.Mode.TheVariants.{Cleanup}
 use Rattle.page_codec.specs.declared.page.Page.{Page}
 use Rattle.page_action.specs.States.{State, IsLater}
 use Rattle.page_action.specs.Stored.{IsStored, AreActable}
-use Rattle.vacuum.specs.BulkDeletes.{where_taking}
-use Rattle.vacuum.specs.Ops.{last_read, moves_of}
+use Rattle.vacuum.specs.BulkDeletes.{block_if, has_dead, where_taking}
+use Rattle.vacuum.specs.Ops.{last_read, moves_of, next_block}
 use Rattle.vacuum.specs.Turns.{TurnsTo, TurnsNoMore, written}
 use Rattle.vacuum.proofs.Causes.{reading_cause, taking_later}
 use Rattle.vacuum.proofs.Reading.{refuses, passes, takes, next_in_use, has_room, never_too_far, writes_dead}
@@ -32,7 +32,7 @@ returns-in-Err-clause-all g c =
     (λ h. absurd (let k : false ≡ true = sym c.requires.alive ∙ h in cc))
     (λ honest order fits.
     reading_cause (g.T.DeadRows.is_in c.args.dead.now) old (g.S.PageStore.backing c.args.store.now) (g.S.PageStore.backing c.look.new.store) before c.in-Err.fault
-    (c.in-Err.ensures.works honest (has_room old before fits) (subst (λ (b : ℕ). b < length old.pages) c.requires.at (next_in_use old before order.tree fits c.requires.inside)) 0 1 false false (omega arith)))
+    (c.in-Err.ensures.works honest (has_room old before fits) (subst (λ (b : ℕ). b < length old.pages) c.requires.at (next_in_use old before order.tree fits c.requires.inside)) [] 1 false false (omega arith)))
 
 pub returns-then-not-is_live_leaf-clause-all : goal.returns-then-not-is_live_leaf-clause-all
 returns-then-not-is_live_leaf-clause-all g c =
@@ -76,13 +76,20 @@ returns-in-Err-take-clause-all g c =
     (λ first h. c.take.ensures.steps first (c.look.ensures.steps first h)) (c.in-Err-take.ensures.refused ∙ c.look.ensures.state)
     (λ h. absurd (let k : false ≡ true = sym c.requires.alive ∙ h in cc))
     (λ honest order fits.
-    subst (λ (writes : Bool). HasCause (where_taking writes old (g.S.PageStore.backing c.args.store.now) (g.S.PageStore.backing c.take.new.store) before) c.in-Err-take.fault)
-    (writes_dead (g.T.DeadRows.is_in c.args.dead.now) old before c.args.block c.view-page.result.now c.sweep-swept.result c.requires.at
-    (found g (goal.at.returns-in-Err-take-clause-all g c).After-view-page (since.honest honest)) leaf.0 leaf.1 c.sweep-swept.ensures.swept)
-    (taking_later (nat_lt 0 c.sweep-swept.result.gone) old (g.S.PageStore.backing c.args.store.now) (g.S.PageStore.backing c.look.new.store) (g.S.PageStore.backing c.take.new.store) before c.in-Err-take.fault
-    later.failures c.in-Ok.ensures.alive c.look.ensures.room.promised
-    (subst (λ (st : State). HasCause (where_taking (nat_lt 0 c.sweep-swept.result.gone) st (g.S.PageStore.backing c.look.new.store) (g.S.PageStore.backing c.take.new.store) before) c.in-Err-take.fault) c.look.ensures.state
-    (c.in-Err-take.ensures.cause (subst (λ (st : State). HasRoom st.table before.session) (sym c.look.ensures.state) (has_room old before fits))))))
+    let dead = g.T.DeadRows.is_in c.args.dead.now in
+    let images : List ℕ = block_if (nat_lt 0 c.sweep-swept.result.gone) c.sweep-swept.result.after.block in
+    let first = g.S.PageStore.backing c.args.store.now in
+    let second = g.S.PageStore.backing c.look.new.store in
+    let third = g.S.PageStore.backing c.take.new.store in
+    let at_view = (goal.at.returns-in-Err-take-clause-all g c).After-view-page in
+    let block : c.sweep-swept.result.after.block ≡ next_block before.cursor before.back =
+    ap (λ (p : Page). p.block) c.sweep-swept.ensures.swept.after_is ∙ (stored g at_view).block_is ∙ sym c.requires.at in
+    subst (λ (b : ℕ). HasCause (where_taking (block_if (has_dead dead old before) b) old first third before) c.in-Err-take.fault) block
+    (subst (λ (writes : Bool). HasCause (where_taking (block_if writes c.sweep-swept.result.after.block) old first third before) c.in-Err-take.fault)
+    (writes_dead dead old before c.args.block c.view-page.result.now c.sweep-swept.result c.requires.at (found g at_view (since.honest honest)) leaf.0 leaf.1 c.sweep-swept.ensures.swept)
+    (taking_later images old first second third before c.in-Err-take.fault later.failures c.in-Ok.ensures.alive c.look.ensures.room.promised
+    (subst (λ (st : State). HasCause (where_taking images st second third before) c.in-Err-take.fault) c.look.ensures.state
+    (c.in-Err-take.ensures.cause (subst (λ (st : State). HasRoom st.table before.session) (sym c.look.ensures.state) (has_room old before fits)))))))
 
 pub returns-clause-all : goal.returns-clause-all
 returns-clause-all g c =
