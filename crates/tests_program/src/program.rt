@@ -1,5 +1,6 @@
 //! What no clause says: the texts that the program prints, and how it ends.
 
+mod both_forms;
 mod caller;
 mod checks;
 mod commands;
@@ -9,9 +10,13 @@ mod deletes;
 mod examples;
 mod files;
 mod help;
+mod help_of_run;
 mod in_a_file;
 mod inserts;
+mod jobs;
 mod lines;
+mod long_chains;
+mod many_jobs;
 mod plain;
 mod rows;
 mod scans;

@@ -2,7 +2,19 @@
 #![tactic(auto)]
 
 #[cfg(test)]
+mod blocked;
+#[cfg(test)]
 mod dead;
+#[cfg(test)]
+mod hands;
+#[cfg(test)]
+mod indexes;
+#[cfg(test)]
+mod judge;
+#[cfg(test)]
+mod judged;
+#[cfg(test)]
+mod lists;
 #[cfg(test)]
 mod plain;
 #[cfg(test)]

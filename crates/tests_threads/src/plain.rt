@@ -41,8 +41,8 @@ fn page(block: u32, right: Option<u32>, items: Items) -> Page {
     }
 }
 
-// The pages of an index without entries, four items a page.
-fn pages(alloc: Global) -> Result<MapStore, Fault> {
+/// The pages of an index without entries, four items a page.
+pub fn pages(alloc: Global) -> Result<MapStore, Fault> {
     let limits = Limits {
         items: 4,
         pages: 4_096,

@@ -16,7 +16,7 @@ fn entry(key: u8) -> Entry {
 }
 
 /// The root is split, and its call given up before a new root is made.
-fn left_split(alloc: Global) -> Result<plain::Memory, Fault> {
+pub fn left_split(alloc: Global) -> Result<plain::Memory, Fault> {
     let mut world = plain::in_memory(alloc, plain::made(alloc)?)?;
     for key in [0x61, 0x62, 0x63, 0x64] {
         plain::put(&mut world, entry(key))?;

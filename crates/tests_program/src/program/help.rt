@@ -11,7 +11,7 @@ use std::test::*;
 const PLAY: [&str; 3] = ["btidx", "play", "--help"];
 
 /// What stands behind a heading, up to the next empty line.
-fn part<'a>(help: &'a str, heading: &str) -> &'a str {
+pub fn part<'a>(help: &'a str, heading: &str) -> &'a str {
     match help.split_once(heading) {
         Some((_, rest)) => before_blank(rest),
         None => "",
@@ -26,7 +26,7 @@ fn before_blank(text: &str) -> &str {
 }
 
 /// The first column of a line, and what stands behind it. The line begins with two spaces, and the column ends with two.
-fn columns(line: &str) -> Option<(&str, &str)> {
+pub fn columns(line: &str) -> Option<(&str, &str)> {
     let text = line.strip_prefix("  ")?;
     if text.starts_with(" ") {
         return None;
@@ -41,7 +41,7 @@ fn columns(line: &str) -> Option<(&str, &str)> {
 fn example(word: &str, choice: usize) -> &str {
     match word {
         "S" => "1",
-        "N" => "3",
+        "N" | "ROOM" => "3",
         "KEY" | "FROM" => "61",
         "BELOW" => "*",
         "ROW" | ".." => "(0,1)",
@@ -50,7 +50,7 @@ fn example(word: &str, choice: usize) -> &str {
 }
 
 /// A line of this form.
-fn filled(alloc: Global, form: &str, choice: usize) -> Result<String, AllocError> {
+pub fn filled(alloc: Global, form: &str, choice: usize) -> Result<String, AllocError> {
     let mut text = String::new(alloc);
     for word in form.split_whitespace() {
         if !text.is_empty() {
@@ -98,7 +98,7 @@ fn number_read(text: &[u8]) -> Option<usize> {
     }
 }
 
-fn set(seen: &mut [bool], place: usize) {
+pub fn set(seen: &mut [bool], place: usize) {
     if let Some(is_seen) = seen.get_mut(place) {
         *is_seen = true;
     }
@@ -150,7 +150,7 @@ fn are_capitals(word: &str) -> bool {
 }
 
 /// Whether a form is that of a printed line.
-fn is_form_of(form: &str, line: &str) -> bool {
+pub fn is_form_of(form: &str, line: &str) -> bool {
     let mut words = line.split_whitespace();
     for shown in form.split_whitespace() {
         let Some(word) = words.next() else {

@@ -1,0 +1,125 @@
+//! Calls without their contracts. A test looks at the answers alone, and what a call promises would be carried, call by call, to
+//! the end of the test that makes it.
+
+use access_method::{Index, Inserted};
+use amcheck::{CheckFault, Report, check_parents_one};
+use device::{Device, FileDevice, Unknown};
+use index_model::{Entry, Fault, Key, Limits, Range, RowAddr};
+use page_store::Store;
+use std::alloc::Global;
+use std::fs::File;
+use std::rt::Files;
+
+/// An index in a file.
+pub type InFile = Index<Store<FileDevice<Unknown>>>;
+
+/// A new file of so many bytes.
+pub fn create(
+    rt: &impl Files<File = File>,
+    path: &str,
+    len: u64,
+) -> Result<FileDevice<Unknown>, Fault> {
+    FileDevice::create(rt, path, len)
+}
+
+/// A file that is there.
+pub fn open(rt: &impl Files<File = File>, path: &str) -> Result<FileDevice<Unknown>, Fault> {
+    FileDevice::open(rt, path)
+}
+
+/// The four bytes from there on. Refused with `DeviceTooSmall` where they lie behind the length that the file had.
+pub fn four_at(device: &mut FileDevice<Unknown>, at: u64) -> Result<[u8; 4], Fault> {
+    let mut bytes = [9; 4];
+    if device.len() < 4 || at > device.len() - 4 {
+        return Err(Fault::DeviceTooSmall);
+    }
+    device.read_at(at, &mut bytes)?;
+    Ok(bytes)
+}
+
+/// Writes four bytes there. Refused as [`four_at`].
+pub fn put_at(device: &mut FileDevice<Unknown>, at: u64, bytes: [u8; 4]) -> Result<(), Fault> {
+    if device.len() < 4 || at > device.len() - 4 {
+        return Err(Fault::DeviceTooSmall);
+    }
+    device.write_at(at, &bytes)
+}
+
+pub fn sync(device: &mut FileDevice<Unknown>) -> Result<(), Fault> {
+    device.sync()
+}
+
+pub fn len(device: &FileDevice<Unknown>) -> u64 {
+    device.len()
+}
+
+/// Makes an empty index on a file.
+pub fn make(device: &mut FileDevice<Unknown>, limits: &Limits) -> Result<(), Fault> {
+    recovery::create(device, limits)
+}
+
+/// Opens the index in a file, with 16 frames.
+pub fn open_index(
+    rt: &impl Files<File = File>,
+    alloc: Global,
+    path: &str,
+) -> Result<InFile, Fault> {
+    match Index::open(alloc, open(rt, path)?, 16) {
+        Ok(index) => Ok(index),
+        Err(refused) => Err(refused.fault),
+    }
+}
+
+/// The entry of this number: a key of two bytes, and a row.
+pub fn entry(number: u16) -> Entry {
+    Entry {
+        key: Key::new(&number.to_be_bytes()).unwrap_or(Key::EMPTY),
+        row: RowAddr::new(u32::from(number), 1).unwrap_or_default(),
+    }
+}
+
+pub fn insert(index: &mut InFile, entry: Entry) -> Result<Inserted, Fault> {
+    index.aminsert(entry)
+}
+
+pub fn commit(index: &mut InFile) -> Result<u64, Fault> {
+    index.commit()
+}
+
+pub fn checkpoint(index: &mut InFile) -> Result<u64, Fault> {
+    index.checkpoint()
+}
+
+/// How many entries a scan of all gives, 1,000 at most.
+pub fn count(index: &mut InFile) -> Result<u32, Fault> {
+    let all = Range {
+        from: None,
+        below: None,
+    };
+    let token = index.ambeginscan(all)?;
+    let mut given = 0u32;
+    for _ in 0..1_000 {
+        if index.amgettuple(token)?.is_none() {
+            break;
+        }
+        given = given.saturating_add(1);
+    }
+    index.amendscan(token)?;
+    Ok(given)
+}
+
+/// What the verifier answers of the index in a file.
+pub fn verify(
+    rt: &impl Files<File = File>,
+    alloc: Global,
+    path: &str,
+) -> Result<Report, CheckFault> {
+    let device = match open(rt, path) {
+        Ok(device) => device,
+        Err(fault) => return Err(CheckFault::Refused(fault)),
+    };
+    match recovery::open(alloc, device, 16) {
+        Ok(mut store) => check_parents_one(alloc, &mut store),
+        Err(refused) => Err(CheckFault::Refused(refused.fault)),
+    }
+}

@@ -1,0 +1,28 @@
+use Rattle.std.proofs.Common.{◌≡◌, ◌+◌, ◌++◌, ◌∷◌, [], List, Option, None, slice_get, sym, ap, ◌∙◌, arith}
+use Rattle.worker_seats.specs.declared.seating.SeatView.{SeatView}
+use Rattle.worker_seats.specs.Seats.{keeper_of}
+use Rattle.sessions.specs.declared.record.Pending.{Pending}
+use Rattle.sessions.specs.Notes.{jobs_of}
+use Rattle.sessions.proofs.Hiring.{jobs_of_snoc, none_snoc}
+use Rattle.tests_threads.proofs.hands.seated.Goals as goal
+
+pub loop-w-preserved : goal.loop-w-preserved
+loop-w-preserved g c =
+    let i = c.loop-w.invariant in
+    let pending = c.loop-w.pending in
+    let items = c.push_reserved.ensures.items in (
+      (
+        c.open-seat.ensures.of,
+        c.open-seat.ensures.keeper ∙ ap (λ (x : SeatView). keeper_of [] (x.running ++ None ∷ [])) i.0.1 ∙ ap (keeper_of []) (sym (ap jobs_of items ∙ jobs_of_snoc pending.items None)),
+      ),
+      (omega (arith, c.split_off-share.ensures.parts_left, i.1.0), omega (arith, c.split_off-share.ensures.amount_left, i.1.1)),
+      (
+        c.push_reserved.ensures.len ∙ ap (λ n. n + 1) i.2.0,
+        c.push_reserved.ensures.capacity ∙ i.2.1,
+        (λ k p e. none_snoc pending.items i.2.2 k p (ap (λ (xs : List (Option Pending)). slice_get xs k) (sym items) ∙ e)),
+      ),
+      (
+        c.push_reserved-in-loop-w.ensures.len ∙ ap (λ n. n + 1) i.3.0,
+        c.push_reserved-in-loop-w.ensures.capacity ∙ i.3.1,
+      ),
+    )

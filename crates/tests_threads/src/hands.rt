@@ -1,0 +1,421 @@
+//! Workers whose events are done one by one, in an order that is picked: what `run_jobs` does with threads, done by hand.
+
+ghost use Rattle.std.specs.Prelude.{◌≡◌, ◌≤◌, ◌<◌, ◌+◌, ◌↔◌, [], ℕ, Bool, List, None, Some, true, length, slice_get, vec_len, vec_capacity};
+ghost use Rattle.index_model.specs.Actions.{Action};
+ghost use Rattle.index_model.specs.Calls.{Call};
+ghost use Rattle.index_model.specs.declared.entry.Entry.{Entry as OneEntry};
+ghost use Rattle.worker_seats.specs.Seats.{keeper_of, known_by};
+ghost use Rattle.world.specs.Worlds.{WorldFits, WorldKeeps, inside};
+ghost use Rattle.sessions.specs.Finishing.{AreIdle, handed_of};
+ghost use Rattle.sessions.specs.Handed.{ComesOf};
+ghost use Rattle.sessions.specs.Jobs.{room_of};
+ghost use Rattle.sessions.specs.Standing.{Stands};
+
+use index_model::{DeadRows, Fault};
+use page_action::PageStore;
+use session_calls::Answer;
+use sessions::{Job, Jobs, Pending, Record, Shared, Turn, first};
+use std::alloc::Global;
+use std::marker::Brand;
+use std::process::Abort;
+use std::sync::Wait;
+use std::sync::ledger::Blank;
+use std::test::{Fail, *};
+use worker_seats::{Seat, SeatCell, SeatPass, make_cell, open};
+use world::World;
+
+/// What a worker does.
+#[derive(Clone, Copy, Debug)]
+pub enum Act {
+    /// It begins the job of this number.
+    Begin(u32),
+    Step,
+    Next,
+    End,
+}
+
+/// What it is told.
+#[derive(Clone, Copy, Debug, PartialEq, Eq)]
+pub enum Told {
+    Begun,
+    Going,
+    /// By the action of this number.
+    Added(u64),
+    /// At this block.
+    Blocked(u32),
+    Ready(u32),
+    Gave,
+    /// So many entries were removed.
+    Finished(u64),
+    Forced(u64),
+    Done,
+    Ended,
+    /// There was nothing to do.
+    Nothing,
+    Other,
+}
+
+/// A worker, what it does, what it is told then, and the place of the record, if that is made.
+pub type Line = (usize, Act, Told, Option<u64>);
+
+// A worker whose session runs nothing.
+#[derive(Drop)]
+struct Resting<J: Jobs> {
+    seat: Seat<J>,
+    ghost rests: { (known_by seat.pass).job ≡ None },
+}
+
+// A worker whose session runs a job.
+#[derive(Drop)]
+struct Running<J: Jobs> {
+    seat: Seat<J>,
+    job: u32,
+    ghost runs: { (known_by seat.pass).job ≡ Some job },
+}
+
+#[derive(Drop)]
+enum Hand<J: Jobs> {
+    Rests(Resting<J>),
+    Runs(Running<J>),
+}
+
+// A worker behind an event, what it was told, and the place of the record, if one was made.
+#[derive(Drop)]
+struct Done<J: Jobs> {
+    hand: Hand<J>,
+    told: Told,
+    place: Option<u64>,
+}
+
+fn told_by(answer: &Answer) -> Told {
+    match answer {
+        Answer::Begun => Told::Begun,
+        Answer::Going => Told::Going,
+        Answer::Added { action, .. } => Told::Added(*action),
+        Answer::Refused(Fault::Blocked(block)) => Told::Blocked(*block),
+        Answer::Ready(count) => Told::Ready(*count),
+        Answer::Gave(Some(_)) => Told::Gave,
+        Answer::Finished(stats) => Told::Finished(stats.tuples_removed),
+        Answer::Forced(action) => Told::Forced(*action),
+        Answer::Done => Told::Done,
+        Answer::Ended => Told::Ended,
+        _ => Told::Other,
+    }
+}
+
+fn room(job: &Job) -> u32
+    ensures { result ≡ room_of job.now }
+{
+    match job {
+        Job::Scan { room, .. } => *room,
+        _ => 0,
+    }
+}
+
+fn rests<J: Jobs>(seat: Seat<J>, told: Told, place: u64) -> Done<J>
+    requires rests { (known_by seat.pass).job ≡ None }
+{
+    Done {
+        hand: Hand::Rests(Resting { seat }),
+        told,
+        place: Some(place),
+    }
+}
+
+fn runs<J: Jobs>(seat: Seat<J>, job: u32, told: Told) -> Done<J>
+    requires runs { (known_by seat.pass).job ≡ Some job }
+{
+    Done {
+        hand: Hand::Runs(Running { seat, job }),
+        told,
+        place: None,
+    }
+}
+
+fn begin<S: PageStore, T: DeadRows + Drop, J: Jobs, R: Wait>(
+    rt: &R,
+    alloc: Global,
+    cell: &SeatCell,
+    shared: &mut Shared<S, T, J>,
+    jobs: &[Job],
+    resting: Resting<J>,
+    job: u32,
+) -> Result<Done<J>, Fault>
+    requires cell { cell.now.table.shared.table_id ≡ J.seats }
+    requires jobs { J.jobs ≡ jobs.now }
+{
+    let Resting { seat } = resting;
+    if shared.history.len() >= shared.history.capacity() {
+        return Err(Fault::NoMemory);
+    }
+    let Some(asked) = jobs.get(job as usize) else {
+        return Err(Fault::NoSession);
+    };
+    let Ok(given) = Vec::with_capacity(alloc, room(asked) as usize) else {
+        return Err(Fault::NoMemory);
+    };
+    let Turn {
+        seat,
+        answer,
+        place,
+    } = shared.begin(rt, cell, seat, job, *asked, given);
+    match place {
+        None => Ok(runs(seat, job, told_by(&answer))),
+        Some(place) => Ok(rests(seat, told_by(&answer), place)),
+    }
+}
+
+fn step<S: PageStore, T: DeadRows + Drop, J: Jobs, R: Wait>(
+    rt: &R,
+    cell: &SeatCell,
+    shared: &mut Shared<S, T, J>,
+    running: Running<J>,
+) -> Result<Done<J>, Fault>
+    requires cell { cell.now.table.shared.table_id ≡ J.seats }
+{
+    let Running { seat, job } = running;
+    if shared.history.len() >= shared.history.capacity() {
+        return Err(Fault::NoMemory);
+    }
+    let Turn {
+        seat,
+        answer,
+        place,
+    } = shared.step(rt, cell, seat, job);
+    match place {
+        None => Ok(runs(seat, job, told_by(&answer))),
+        Some(place) => Ok(rests(seat, told_by(&answer), place)),
+    }
+}
+
+fn next<S: PageStore, T: DeadRows + Drop, J: Jobs, R: Wait>(
+    rt: &R,
+    cell: &SeatCell,
+    shared: &mut Shared<S, T, J>,
+    running: Running<J>,
+) -> Done<J>
+    requires cell { cell.now.table.shared.table_id ≡ J.seats }
+{
+    let Running { seat, job } = running;
+    let (seat, answer) = shared.next(rt, cell, seat, job);
+    let told = match answer {
+        None => Told::Nothing,
+        Some(answer) => told_by(&answer),
+    };
+    runs(seat, job, told)
+}
+
+fn end<S: PageStore, T: DeadRows + Drop, J: Jobs, R: Wait>(
+    rt: &R,
+    cell: &SeatCell,
+    shared: &mut Shared<S, T, J>,
+    jobs: &[Job],
+    running: Running<J>,
+) -> Result<Done<J>, Fault>
+    requires cell { cell.now.table.shared.table_id ≡ J.seats }
+    requires jobs { J.jobs ≡ jobs.now }
+{
+    let Running { seat, job } = running;
+    if shared.history.len() >= shared.history.capacity() {
+        return Err(Fault::NoMemory);
+    }
+    let Some(asked) = jobs.get(job as usize) else {
+        return Err(Fault::NoSession);
+    };
+    let (seat, place) = shared.end(rt, cell, seat, job, *asked);
+    match place {
+        None => Ok(runs(seat, job, Told::Nothing)),
+        Some(place) => Ok(rests(seat, Told::Ended, place)),
+    }
+}
+
+// One event of a worker. Refused with `NoSession` for one that its session isn't ready for.
+fn act_one<S: PageStore, T: DeadRows + Drop, J: Jobs, R: Wait>(
+    rt: &R,
+    alloc: Global,
+    cell: &SeatCell,
+    shared: &mut Shared<S, T, J>,
+    jobs: &[Job],
+    hand: Hand<J>,
+    what: Act,
+) -> Result<Done<J>, Fault>
+    requires cell { cell.now.table.shared.table_id ≡ J.seats }
+    requires jobs { J.jobs ≡ jobs.now }
+{
+    match hand {
+        Hand::Rests(resting) => match what {
+            Act::Begin(job) => begin(rt, alloc, cell, shared, jobs, resting, job),
+            _ => Err(Fault::NoSession),
+        },
+        Hand::Runs(running) => match what {
+            Act::Step => step(rt, cell, shared, running),
+            Act::Next => Ok(next(rt, cell, shared, running)),
+            Act::End => end(rt, cell, shared, jobs, running),
+            Act::Begin(_) => Err(Fault::NoSession),
+        },
+    }
+}
+
+// Does each event, and compares what the worker is told. No event without a place makes a record.
+fn act_all<S: PageStore, T: DeadRows + Drop, J: Jobs>(
+    rt: &(impl Abort + Print + Eprint + Wait),
+    alloc: Global,
+    cell: &SeatCell,
+    shared: &mut Shared<S, T, J>,
+    jobs: &[Job],
+    hands: &mut Vec<Option<Hand<J>>>,
+    lines: &[Line],
+) -> Result<(), Fail>
+    requires cell { cell.now.table.shared.table_id ≡ J.seats }
+    requires jobs { J.jobs ≡ jobs.now }
+{
+    let mut records = 0usize;
+    for (number, line) in lines.iter().enumerate() {
+        let (worker, what, wanted, place) = *line;
+        let Some(mine) = hands.as_mut_slice().get_mut(worker) else {
+            return Err(Fail::from(Fault::NoSession));
+        };
+        let Some(hand) = mine.take() else {
+            return Err(Fail::from(Fault::NoSession));
+        };
+        let Done {
+            hand,
+            told,
+            place: at,
+        } = act_one(rt, alloc, cell, shared, jobs, hand, what)?;
+        assert_eq!(rt; told, wanted, "line {number}");
+        assert_eq!(rt; at, place, "line {number}");
+        if at.is_some() {
+            records = records.saturating_add(1);
+        }
+        assert_eq!(rt; shared.history.len(), records, "line {number}");
+        *mine = Some(hand);
+    }
+    Ok(())
+}
+
+// Whether no session has a call.
+fn is_idle<S: PageStore, T: DeadRows + Drop>(world: &World<S, T>) -> bool
+    ensures { result ≡ true → AreIdle world.now.calls.slots.items }
+{
+    for session in 0..world.sessions() {
+        if world.is_running(session) {
+            return false;
+        }
+    }
+    true
+}
+
+// What lies under the lock as so many workers begin, and the workers, whose sessions run nothing.
+fn seated<S: PageStore, T: DeadRows + Drop, J: Jobs>(
+    cell: &SeatCell,
+    mut keeper: SeatPass,
+    blank: Blank,
+    world: World<S, T>,
+    history: Vec<Record>,
+    mut pending: Vec<Option<Pending>>,
+    mut hands: Vec<Option<Hand<J>>>,
+    workers: u32,
+) -> (Shared<S, T, J>, Vec<Option<Hand<J>>>)
+    requires name { blank.name ≡ J.name }
+    requires parts { blank.parts ≡ J.parts }
+    requires all { blank.parts ≡ 65 }
+    requires seats { cell.now.table.shared.table_id ≡ J.seats }
+    requires workers { J.workers ≡ workers }
+    requires handed { ComesOf S.PageStore J.handed (S.state world.store).acts
+        (inside T.DeadRows world) }
+    requires stood { Stands S.PageStore J.stood J.kept_then (inside T.DeadRows world) }
+    requires keeper { keeper.table_id ≡ cell.now.table.shared.table_id }
+    requires knows { known_by keeper ≡ keeper_of [] [] }
+    requires few { workers ≤ 64 }
+    requires sessions { workers ≤ length world.calls.slots.items }
+    requires rests { AreIdle world.calls.slots.items }
+    requires history { history.items ≡ [] }
+    requires pending { (pending.items ≡ []) × (workers ≤ vec_capacity pending) }
+    requires hands { (hands.items ≡ []) × (workers ≤ vec_capacity hands) }
+{
+    let (book, mut all) = blank.open::<J>();
+    for w in 0..workers {
+        let share = all.split_off(1, 0);
+        let seat = open(cell, &mut keeper, share, w);
+        pending.push_reserved(None);
+        hands.push_reserved(Some(Hand::Rests(Resting { seat })));
+    }
+    (first(world, history, pending, book, keeper), hands)
+}
+
+// Does the events, where the type of what lies under the lock tells of the jobs. Answers the records.
+fn act_named<
+    S: PageStore + Drop,
+    T: DeadRows + Drop,
+    J: Jobs,
+    R: Abort + AllocGlobal + Print + Eprint + Wait,
+>(
+    rt: &R,
+    cell: &SeatCell,
+    keeper: SeatPass,
+    blank: Blank,
+    world: World<S, T>,
+    jobs: &[Job],
+    workers: u32,
+    lines: &[Line],
+) -> Result<Vec<Record>, Fail>
+    requires name { blank.name ≡ J.name }
+    requires parts { blank.parts ≡ J.parts }
+    requires all { blank.parts ≡ 65 }
+    requires seats { cell.now.table.shared.table_id ≡ J.seats }
+    requires jobs { J.jobs ≡ jobs.now }
+    requires workers { J.workers ≡ workers }
+    requires handed { J.handed ≡ handed_of S.PageStore T.DeadRows world }
+    requires stood { (contents : OneEntry → Bool) (history : List Action) (calls : List Call)
+        → J.stood contents history calls
+        ↔ WorldFits S.PageStore T.DeadRows world contents history calls }
+    requires kept_then { (contents : OneEntry → Bool) (history : List Action) (calls : List Call)
+        → J.kept_then contents history calls
+        ↔ WorldKeeps S.PageStore T.DeadRows world contents history calls }
+    requires keeper { keeper.table_id ≡ cell.now.table.shared.table_id }
+    requires knows { known_by keeper ≡ keeper_of [] [] }
+    requires few { workers ≤ 64 }
+    requires sessions { workers ≤ length world.calls.slots.items }
+    requires rests { AreIdle world.calls.slots.items }
+{
+    let history = Vec::with_capacity(rt.alloc(), lines.len())?;
+    let pending = Vec::with_capacity(rt.alloc(), workers as usize)?;
+    let hands = Vec::with_capacity(rt.alloc(), workers as usize)?;
+    let (mut shared, mut hands) = seated::<S, T, J>(
+        cell, keeper, blank, world, history, pending, hands, workers,
+    );
+    act_all(rt, rt.alloc(), cell, &mut shared, jobs, &mut hands, lines)?;
+    let Shared {
+        world: _,
+        start: _,
+        history,
+        pending: _,
+        book: _,
+        keeper: _,
+    } = shared;
+    Ok(history)
+}
+
+/// Does the events of so many workers on the world, each under no lock, as there is one thread; compares what each is told, and
+/// answers the records.
+pub fn act_by_hand<
+    S: PageStore + Drop,
+    T: DeadRows + Drop,
+    R: Abort + AllocGlobal + Print + Eprint + Wait,
+>(
+    rt: &R,
+    world: World<S, T>,
+    jobs: &[Job],
+    workers: u32,
+    lines: &[Line],
+) -> Result<Vec<Record>, Fail> {
+    if workers > 64 || workers > world.sessions() || !is_idle(&world) {
+        return Err(Fail::from(Fault::BadLimits));
+    }
+    let Some((cell, keeper)) = make_cell(rt.alloc()) else {
+        return Err(Fail::from(Fault::NoMemory));
+    };
+    let blank = Blank::new(65);
+    act_named::<S, T, Brand, R>(rt, &cell, keeper, blank, world, jobs, workers, lines)
+}

@@ -1,0 +1,60 @@
+//! Indexes on devices in memory, with their sets of dead rows.
+
+use crate::dead::Blocks;
+use crate::plain::ALL;
+use device::MemDevice;
+use device_layout::needed_len;
+use index_model::{Entry, Fault, Limits};
+use page_store::Store;
+use recovery::create;
+use schedule::Event;
+use session_calls::Answer;
+use std::alloc::Global;
+use std::test::Fail;
+use world::World;
+
+/// An index on a device in memory.
+pub type InMemory = World<Store<MemDevice>, Blocks>;
+
+/// The world of the index on a device, with so many sessions. The sets of dead rows are those of block 1 and of block 2.
+pub fn opened(alloc: Global, device: MemDevice, sessions: u32) -> Result<InMemory, Fail> {
+    let mut sets = Vec::new(alloc);
+    for block in 1..3 {
+        sets.push(Blocks {
+            from: block,
+            to: block,
+        })?;
+    }
+    match World::open(alloc, device, 64, sessions, sets) {
+        Ok(world) => Ok(world),
+        Err(not_opened) => Err(Fail::from(not_opened.fault)),
+    }
+}
+
+/// A new one.
+pub fn made(alloc: Global, limits: &Limits, sessions: u32) -> Result<InMemory, Fail> {
+    let mut device = MemDevice::new(alloc, needed_len(limits))?;
+    create(&mut device, limits)?;
+    opened(alloc, device, sessions)
+}
+
+/// All entries, by a scan of session 0.
+pub fn all_entries(alloc: Global, world: &mut InMemory) -> Result<Vec<Entry>, Fail> {
+    let mut entries = Vec::new(alloc);
+    if let Answer::Refused(fault) = world.one(Event::Scan(0, ALL)) {
+        return Err(Fail::from(fault));
+    }
+    for _ in 0..1_000_000 {
+        match world.one(Event::Next(0)) {
+            Answer::Gave(Some(entry)) => entries.push(entry)?,
+            Answer::Gave(None) => match world.one(Event::Step(0)) {
+                Answer::Done => return Ok(entries),
+                Answer::Refused(fault) => return Err(Fail::from(fault)),
+                _ => {}
+            },
+            Answer::Refused(fault) => return Err(Fail::from(fault)),
+            _ => {}
+        }
+    }
+    Ok(entries)
+}

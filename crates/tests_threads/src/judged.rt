@@ -1,0 +1,266 @@
+//! Runs over devices in memory, of which a plain judge hears all.
+
+use crate::dead::Blocks;
+use crate::indexes::{InMemory, all_entries, made, opened};
+use crate::judge::{Addition, additions, are_right, are_those_added, count, has_each_once};
+use crate::lists::{Dice, entry, mixed, range, shuffled};
+use amcheck::check_parents_one;
+use device::{CrashImage, MemDevice};
+use index_model::{Entry, Fault, Limits};
+use page_store::Store;
+use schedule::Event;
+use session_calls::Answer;
+use sessions::{Finished, Gate, Job, NoGate, Record, run_jobs};
+use std::alloc::{AllocError, Global};
+use std::process::Abort;
+use std::sync::Wait;
+use std::test::{Fail, *};
+use std::thread::Threads;
+
+/// The keys of all jobs here have numbers below this.
+const KEYS: usize = 1_024;
+
+/// What a run leaves of an index in memory.
+type Done = Finished<Store<MemDevice>, Blocks>;
+
+/// Runs these jobs, and looks at all that they told. Answers what was added, too.
+fn ran<G: Gate + Sync>(
+    rt: &(impl Abort + AllocGlobal + Print + Eprint + Threads + Wait + Sync),
+    world: InMemory,
+    jobs: &[Job],
+    workers: u32,
+    gate: &G,
+) -> Result<(Done, Vec<Option<Addition>>), Fail> {
+    let start = world.actions();
+    let done = match run_jobs(rt, rt.alloc(), world, jobs, workers, gate) {
+        Ok(done) => done,
+        Err(not_run) => return Err(Fail::from(not_run.fault)),
+    };
+    assert_eq!(rt; done.start, start);
+    let once = has_each_once(
+        rt.alloc(),
+        jobs.len(),
+        done.history.as_slice(),
+        done.receipts.as_slice(),
+        done.calls.as_slice(),
+    )?;
+    assert!(rt; once);
+    assert_eq!(rt; done.calls.len(), workers as usize);
+    let added = additions(rt.alloc(), jobs, done.history.as_slice(), KEYS)?;
+    assert!(rt; are_right(jobs, done.history.as_slice(), added.as_slice(), start));
+    for session in 0..workers {
+        assert!(rt; !done.world.is_running(session));
+    }
+    Ok((done, added))
+}
+
+const LIMITS: Limits = Limits {
+    items: 4,
+    pages: 4_096,
+    log_bytes: 1_048_576,
+};
+
+/// A thousand jobs of eight workers: inserts, scans, two bulk deletes and a cleanup.
+fn a_thousand_jobs(
+    rt: &(impl Abort + AllocGlobal + Print + Eprint + Threads + Wait + Sync),
+    seed: u64,
+) -> Result<(), Fail> {
+    let jobs = mixed(rt.alloc(), 898, &mut Dice::new(seed))?;
+    assert_eq!(rt; jobs.len(), 1_000);
+    let world = made(rt.alloc(), &LIMITS, 8)?;
+    let (done, added) = ran(rt, world, jobs.as_slice(), 8, &NoGate)?;
+    assert_eq!(rt; done.start, 0);
+    let mut world = done.world;
+    let entries = all_entries(rt.alloc(), &mut world)?;
+    assert!(rt; are_those_added(entries.as_slice(), added.as_slice()));
+    let mut store = world.into_store();
+    assert!(rt; check_parents_one(rt.alloc(), &mut store).is_ok());
+    Ok(())
+}
+
+// Four thousand jobs, in four runs: a test has a minute, also beside other work.
+
+#[test]
+fn first_thousand(rt: HostRuntime) -> Result<(), Fail> {
+    a_thousand_jobs(&rt, 1)
+}
+
+#[test]
+fn second_thousand(rt: HostRuntime) -> Result<(), Fail> {
+    a_thousand_jobs(&rt, 2)
+}
+
+#[test]
+fn third_thousand(rt: HostRuntime) -> Result<(), Fail> {
+    a_thousand_jobs(&rt, 3)
+}
+
+#[test]
+fn fourth_thousand(rt: HostRuntime) -> Result<(), Fail> {
+    a_thousand_jobs(&rt, 4)
+}
+
+/// Eight workers that insert into one leaf wait for each other's latches, and each job is done once.
+#[test]
+fn one_leaf(rt: HostRuntime) -> Result<(), Fail> {
+    let limits = Limits {
+        items: 50,
+        pages: 8,
+        log_bytes: 65_536,
+    };
+    for seed in 0..8u32 {
+        let numbers = shuffled(rt.alloc(), 48, seed)?;
+        let mut jobs = Vec::new(rt.alloc());
+        for number in numbers.as_slice() {
+            jobs.push(Job::Insert(entry(*number, 0)))?;
+        }
+        let world = made(rt.alloc(), &limits, 8)?;
+        let (done, added) = ran(&rt, world, jobs.as_slice(), 8, &NoGate)?;
+        assert_eq!(rt; count(added.as_slice()), 48);
+        assert_eq!(rt; done.world.actions(), 48);
+    }
+    Ok(())
+}
+
+/// A scan with room for exactly what there is has finished; one with room for less is cut.
+#[test]
+fn rooms_of_scans(rt: HostRuntime) -> Result<(), Fail> {
+    let mut jobs = Vec::new(rt.alloc());
+    for number in 0..9 {
+        jobs.push(Job::Insert(entry(number, 0)))?;
+    }
+    for room in [9, 8, 1, 10] {
+        jobs.push(Job::Scan {
+            range: range(0, 100),
+            room,
+        })?;
+    }
+    let world = made(rt.alloc(), &LIMITS, 1)?;
+    let (done, _) = ran(&rt, world, jobs.as_slice(), 1, &NoGate)?;
+    for (place, (is_cut, count)) in [(false, 9), (true, 8), (true, 1), (false, 9)]
+        .iter()
+        .enumerate()
+    {
+        let Some(record) = done.history.get(place.saturating_add(9)) else {
+            return Err(Fail::from(Fault::PageDamaged(0)));
+        };
+        assert!(rt; record.given.len() == *count);
+        assert!(rt; matches!(&record.answer, Answer::Ended) == *is_cut);
+        assert!(rt; matches!(&record.answer, Answer::Done) != *is_cut);
+    }
+    Ok(())
+}
+
+/// Whether each entry that was added by then is among these.
+fn are_kept(entries: &[Entry], added: &[Option<Addition>], durable: u64) -> bool {
+    added.iter().all(|one| match one {
+        Some(one) => one.action > durable || entries.contains(&one.entry),
+        None => true,
+    })
+}
+
+/// A scan, and then sixty inserts, with a commit behind each third.
+fn committed_inserts(alloc: Global) -> Result<Vec<Job>, AllocError> {
+    let mut jobs = Vec::new(alloc);
+    jobs.push(Job::Scan {
+        range: range(0, 100),
+        room: 100,
+    })?;
+    for number in 0..60 {
+        jobs.push(Job::Insert(entry(number, 0)))?;
+        if number % 3 == 2 {
+            jobs.push(Job::Commit)?;
+        }
+    }
+    Ok(jobs)
+}
+
+/// The number of the last action that a commit acknowledged.
+fn last_forced(history: &[Record]) -> u64 {
+    let mut durable = 0u64;
+    for record in history {
+        if let Answer::Forced(action) = &record.answer {
+            durable = durable.max(*action);
+        }
+    }
+    durable
+}
+
+/// How many jobs were refused since a device call failed.
+fn count_failed(history: &[Record]) -> usize {
+    history
+        .iter()
+        .filter(|record| matches!(&record.answer, Answer::Refused(Fault::Io)))
+        .count()
+}
+
+/// Runs the jobs on four workers, while the nth device call fails: whatever was acknowledged is there behind each kind of crash.
+/// Answers how many jobs were refused since it failed.
+fn fails_at(
+    rt: &(impl Abort + AllocGlobal + Print + Eprint + Threads + Wait + Sync),
+    jobs: &[Job],
+    n: u64,
+) -> Result<usize, Fail> {
+    let limits = Limits {
+        items: 4,
+        pages: 128,
+        log_bytes: 65_536,
+    };
+    let mut world = made(rt.alloc(), &limits, 4)?;
+    world.fail_at(n);
+    let (done, added) = ran(rt, world, jobs, 4, &NoGate)?;
+    let durable = last_forced(done.history.as_slice());
+    for image in [CrashImage::Keep, CrashImage::Drop, CrashImage::Tear] {
+        let device = done.world.crash(rt.alloc(), image)?;
+        let mut world = opened(rt.alloc(), device, 1)?;
+        let entries = all_entries(rt.alloc(), &mut world)?;
+        assert!(rt;
+            are_kept(entries.as_slice(), added.as_slice(), durable),
+            "{n}"
+        );
+        assert!(rt; entries.len() <= 60);
+    }
+    Ok(count_failed(done.history.as_slice()))
+}
+
+/// A device call fails under threads: each of the first eleven calls, and then each sixth.
+#[test]
+fn a_device_call_fails(rt: HostRuntime) -> Result<(), Fail> {
+    let jobs = committed_inserts(rt.alloc())?;
+    let mut failed = 0usize;
+    for n in (1..12u64).chain((12..80).step_by(6)) {
+        failed = failed.saturating_add(fails_at(&rt, jobs.as_slice(), n)?);
+    }
+    assert!(rt; failed >= 10, "{failed}");
+    Ok(())
+}
+
+/// What isn't run: too many workers before a call that runs, and the world comes back as it was.
+#[test]
+fn not_run(rt: HostRuntime) -> Result<(), Fail> {
+    let jobs = [Job::Insert(entry(1, 0))];
+    let mut world = made(rt.alloc(), &LIMITS, 4)?;
+    for workers in [0, 5, 65] {
+        match run_jobs(&rt, rt.alloc(), world, &jobs, workers, &NoGate) {
+            Ok(_) => return Err(Fail::from(Fault::Exists)),
+            Err(not_run) => {
+                assert!(rt; not_run.fault == Fault::BadLimits);
+                world = not_run.world;
+            }
+        }
+    }
+    assert!(rt; matches!(world.one(Event::Insert(3, entry(2, 0))), Answer::Begun));
+    for (workers, fault) in [(5, Fault::BadLimits), (1, Fault::SessionBusy)] {
+        match run_jobs(&rt, rt.alloc(), world, &jobs, workers, &NoGate) {
+            Ok(_) => return Err(Fail::from(Fault::Exists)),
+            Err(not_run) => {
+                assert!(rt; not_run.fault == fault);
+                world = not_run.world;
+            }
+        }
+    }
+    assert!(rt; matches!(world.abandon(3), Answer::Ended));
+    let (done, _) = ran(&rt, world, &jobs, 4, &NoGate)?;
+    assert_eq!(rt; done.history.len(), 1);
+    Ok(())
+}
