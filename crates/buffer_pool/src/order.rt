@@ -7,7 +7,7 @@ use index_model::Fault;
 use indexmap::IndexSet;
 use std::alloc::Global;
 
-/// Some of the blocks below a number, in an order. It takes no memory once it is made, since its map never loses a key: those
+/// Some of the blocks below a number, in an order. It takes no memory once it is made, since its set never loses a key: those
 /// that wait stand side by side somewhere in it.
 #[derive(Drop)]
 pub(crate) struct Order {
@@ -83,7 +83,7 @@ impl Order {
         }
     }
 
-    // Where those that wait stand at the end of the map, moves them to its beginning.
+    // Where those that wait stand at the end of the set, moves them to its beginning.
     fn make_room(&mut self)
         requires few { length (waiting_in self.old) < width_of self.old }
         ensures waiting { waiting_in self.new ≡ waiting_in self.old }
@@ -95,7 +95,7 @@ impl Order {
         }
     }
 
-    // Moves those that wait to the beginning of the map.
+    // Moves those that wait to the beginning of the set.
     fn move_to_front(&mut self)
         ensures waiting { waiting_in self.new ≡ waiting_in self.old }
         ensures width { width_of self.new ≡ width_of self.old }

@@ -22,8 +22,8 @@ pub record IsWrittenNext (pinned : List ℕ) (durable place : ℕ) (old new : Po
   pub written : IsWritten old new place
   pub others : (b : ℕ) → has_block (changed_of new) b ≡ true → act_of new b ≡ act_of old b
 
--- Of the changed pages those behind so many were written, until one is pinned or has acts that weren't durable: at most a quarter
--- of what there are frames.
+-- Of the changed pages some right behind so many were written, of which none is pinned, and whose acts were durable already: at most
+-- a quarter of what there are frames.
 pub record AreWrittenAhead (pinned : List ℕ) (durable place : ℕ) (old new : Pool) : Type 0 where
   pub front : List ℕ
   pub more : List ℕ
