@@ -1,6 +1,7 @@
 -- Why an event is refused, in the theorem's words: each cause that an operation tells is one of these.
 use Rattle.std.proofs.Common.{◌≡◌, ◌≢◌, ℕ, zero, suc, ◌+◌, ◌<◌, ◌≤◌, ◌&&◌, ◌||◌, ◌==◌, not, Bool, true, false, Option, Some, None, List, [], ◌∷◌, ◌++◌, length, slice_get, slice_index, refl, sym, ap, subst, arith, inl, inr, ◌∙◌}
 use Rattle.std.specs.Prelude.{nat_lt, nat_le, map, if◌then◌else◌}
+use Rattle.std.specs.List.{list_any}
 use Rattle.std.proofs.lemmas.Bool.{true≢false, false≢true, and_parts, or_cases, or_parts, eqb-true, eq-eqb, ltb-true, leb-true, leb-false, cases_eq}
 use Rattle.index_model.specs.Calls.{Ask, AskInsert, AskScan, AskBulkDelete, AskCleanup}
 use Rattle.index_model.specs.Faults.{Circumstances, HasCause}
@@ -280,6 +281,15 @@ insert_frames_few st (At way) = omega arith
 insert_frames_few st (Holds block) = (let k = put_few st (slice_get st.pages block) in omega (arith, k))
 insert_frames_few st (Finishing op) = frames_few st op.target op.at
 
+-- no more of these blocks are new than there are
+few_new : (waiting blocks : List ℕ) → count_new waiting blocks ≤ length blocks
+few_new waiting [] = omega arith
+few_new waiting (block ∷ blocks) = by (list_any (λ b. b == block) waiting) (few_new waiting blocks)
+  where
+    by : (waits : Bool) → count_new waiting blocks ≤ length blocks → (if waits then count_new waiting blocks else suc (count_new waiting blocks)) ≤ suc (length blocks)
+    by true le = omega (arith, le)
+    by false le = omega (arith, le)
+
 -- a bulk delete writes one block, or none
 pub block_few : (writes : Bool) (block : ℕ) → length (block_if writes block) ≤ 1
 block_few true block = omega arith
@@ -341,11 +351,14 @@ module _ {S : Type 0} (g : Ghosts S) (old : Snapshot S) (new : S) where
       let few : count_apart (pinned_blocks (g.state old.store).table) ≤ length (pinned_blocks (g.state old.store).table) = apart_few (pinned_blocks (g.state old.store).table) in
       omega arith
 
-  few_images : (images : List ℕ) → length images ≤ 4 → lacks_room (g.backing old.store) (g.backing new) images ≡ true → (g.backing old.store).promised ≤ 4
+  few_images : (images : List ℕ) → length images ≤ 4 → lacks_room (g.backing old.store) (g.backing new) images ≡ true
+      → ((g.backing old.store).promised ≤ 4) × ((g.backing new).room < 4)
   few_images images le h =
-      let few : (g.backing old.store).promised ≤ length images =
-      leb-true (g.backing old.store).promised (length images) (and_parts (nat_le (g.backing old.store).promised (length images)) (nat_lt (g.backing new).room (count_new (g.backing new).waiting images)) h).0 in
-      omega arith
+      let both = and_parts (nat_le (g.backing old.store).promised (length images)) (nat_lt (g.backing new).room (count_new (g.backing new).waiting images)) h in
+      let few : (g.backing old.store).promised ≤ length images = leb-true (g.backing old.store).promised (length images) both.0 in
+      let full : (g.backing new).room < count_new (g.backing new).waiting images = ltb-true (g.backing new).room (count_new (g.backing new).waiting images) both.1 in
+      let new_few : count_new (g.backing new).waiting images ≤ length images = few_new (g.backing new).waiting images in
+      (omega (arith, few, le), omega (arith, full, new_few, le))
 
   pub step_fails : (sets : DeadSets) (op : Op) (fault : Fault) → HasCause (where_stepped sets op (g.state old.store) (g.backing old.store) (g.backing new)) fault
       → MoveFails g Steps (session_of op) (asked_of sets op) op old new fault

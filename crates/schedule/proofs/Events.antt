@@ -45,7 +45,7 @@ use Rattle.schedule.proofs.Keeping.{no_growth}
 use Rattle.schedule.proofs.Leaves.{leaf_same, leaves_same, lows_relied, lows_still}
 use Rattle.schedule.proofs.Lists.{get_set_same, get_set_other, length_set, get_within, get_append_some, get_append_new, get_append_cases, same_some}
 use Rattle.schedule.proofs.Owners.{told_durable, acts_few}
-use Rattle.schedule.proofs.Vacuums.{before_vacuum, before_sweep, calm_request, none_runs, vacuums_still, sweep_begins, cleanup_begins}
+use Rattle.schedule.proofs.Vacuums.{before_vacuum, before_sweep, calm_request, none_runs, vacuums_still, sweep_begins, cleanup_begins, set_is}
 use Rattle.schedule.proofs.Meaning.{does_of}
 use Rattle.schedule.proofs.Fitting.{fits_from, beyond_of, matches_of, running_of}
 
@@ -70,16 +70,12 @@ stays_be : {S : Type 0} (g : Ghosts S) (kind : Kind) (old new : Snapshot S) → 
 stays_be g kind old new same slots = leaves_be g kind old new (ap (λ (st : State). st.limits) same) (ap (λ (st : State). st.frames) same) (λ quiet. ap (λ (st : State). st.pages) same)
     (λ session of other apart. ap (λ (s : List (Option Op)). slice_get s other) slots)
 
--- what a session runs after its slot is set
-slot_set : (slots : List (Option Op)) (session : ℕ) (slot : Option Op) → session < length slots → slot_of (slice_set slots session slot) session ≡ slot
-slot_set slots session slot within = ap (λ (o : Option (Option Op)). unwrap_or o None) (get_set_same slots session slot within)
-
 -- the slot of one session is set: what holds of what it ran and runs
 pub at_slots : (slots : List (Option Op)) (session : ℕ) (before slot : Option Op) (P : Option Op → Option Op → Type 0) → slice_get slots session ≡ Some before → P before slot
     → P (slot_of slots session) (slot_of (slice_set slots session slot) session)
 at_slots slots session before slot P found h =
     let was : slot_of slots session ≡ before = ap (λ (o : Option (Option Op)). unwrap_or o None) found in
-    let is : slot_of (slice_set slots session slot) session ≡ slot = slot_set slots session slot (get_within slots session before found) in
+    let is : slot_of (slice_set slots session slot) session ≡ slot = set_is slots session slot (get_within slots session before found) in
     subst (λ (x : Option Op). P x (slot_of (slice_set slots session slot) session)) (sym was) (subst (λ (x : Option Op). P before x) (sym is) h)
 
 -- the other slots stay
@@ -462,7 +458,7 @@ module _ {S : Type 0} (g : Ghosts S) (start : Entry → Bool) (old : Snapshot S)
           (inl (record { told = refl; history_is = refl; calls_is = refl; others = begins.others }));
       grows = no_growth old.history;
       caused = tt;
-      followed = λ told. subst (λ (x : Option Op). HasSteps (g.state old.store) (g.state store) request x) (sym (slot_set old.slots session (Some op) (get_within old.slots session None free))) counts;
+      followed = λ told. subst (λ (x : Option Op). HasSteps (g.state old.store) (g.state store) request x) (sym (set_is old.slots session (Some op) (get_within old.slots session None free))) counts;
       leaves = λ other block page apart there pinned. leaf_same (g.state old.store) (g.state store) same_pages block page there;
       lows = lows_still (g.state old.store) (g.state store) same_pages;
       quiet = leaves_be g (BeginsCall session request) old begun (ap (λ (st : State). st.limits) state ∙ request_limits (asks_sweep request) session (g.state old.store)) (ap (λ (st : State). st.frames) state ∙ request_frames (asks_sweep request) session (g.state old.store))

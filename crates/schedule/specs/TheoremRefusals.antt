@@ -44,9 +44,9 @@ HasFullCount (Bulk set op) = (18446744073709551565 < op.left) ⊎ (1844674407370
 HasFullCount (Cleanup op) = (18446744073709551565 < op.left) ⊎ (op.cursor ≡ 4294967295) ⊎ (op.deleted ≡ 4294967295)
 
 -- Why a call that was asked this is refused at a move, or leaves a split unfinished. At a step: a device call failed in it; the log
--- failed before, or a count is at its end; another session stands in the way; the entry is there; no block can be had; four images,
--- the most that a step writes, may be more than the log has room for; four pages, the most that it looks at, may be more than the
--- frames that are not pinned; the root is on level 31. Asking for the next entry: the call is no scan.
+-- failed before, or a count is at its end; another session stands in the way; the entry is there; no block can be had; no more than
+-- four images, the most that a step writes, are promised, and the log has no room for four; four pages, the most that it looks at,
+-- may be more than the frames that are not pinned; the root is on level 31. Asking for the next entry: the call is no scan.
 abbrev pub MoveFails : {S : Type 0} → Ghosts S → Move → ℕ → Ask → Op → Snapshot S → S → Fault → Type 0
 MoveFails g Steps session ask op old new Io = (g.backing old.store).failures < (g.backing new).failures
 MoveFails g Steps session ask op old new Stopped =
@@ -56,7 +56,7 @@ MoveFails g Steps session (AskInsert e) op old new Exists = entry_on_live_leaf (
 MoveFails g Steps session (AskInsert e) op old new IndexFull = HasNoBlock (g.state old.store)
 MoveFails g Steps session (AskInsert e) op old new TooTall = 31 ≤ (nodes_of (g.state old.store).pages 0).level
 MoveFails g Steps session (AskScan range) op old new LogFull = ⊥
-MoveFails g Steps session ask op old new LogFull = (g.backing old.store).promised ≤ 4
+MoveFails g Steps session ask op old new LogFull = ((g.backing old.store).promised ≤ 4) × ((g.backing new).room < 4)
 MoveFails g Steps session ask op old new NoFrame = (g.state old.store).frames < 4 + length (pinned_blocks (g.state old.store).table)
 MoveFails g Takes session (AskScan range) op old new NoSession = ⊥
 MoveFails g Takes session ask op old new NoSession = Unit {0}

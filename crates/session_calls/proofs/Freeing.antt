@@ -60,11 +60,11 @@ module _ (session : ℕ) (old new : State) (pages : new.pages ≡ old.pages) (co
   free_all : free_count old session (length old.pages) ≡ reusable_in new
   free_all = free_many (length old.pages) ∙ ap (λ (l : List Page). reusable_count new (length l)) (sym pages)
 
-go_counted : (v : Bool) (session : ℕ) (st : State) → (let_go v session st).counted ≡ st.counted
+pub go_counted : (v : Bool) (session : ℕ) (st : State) → (let_go v session st).counted ≡ st.counted
 go_counted true session st = refl
 go_counted false session st = refl
 
-go_running : (v : Bool) (session : ℕ) (st : State) → (let_go v session st).running ≡ slice_set st.running session None
+pub go_running : (v : Bool) (session : ℕ) (st : State) → (let_go v session st).running ≡ slice_set st.running session None
 go_running true session st = refl
 go_running false session st = refl
 

@@ -17,4 +17,4 @@ pub mod Counting
 pub mod Hindering
 pub mod RunningOn
 mod Refusing
-mod Freeing
+pub mod Freeing

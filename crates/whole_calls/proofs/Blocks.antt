@@ -5,8 +5,9 @@ use Rattle.page_action.specs.Reuse.{is_deleted, others_began_after, is_reusable}
 use Rattle.descent.specs.Shared.{any_is_reusable, is_out_of_blocks}
 use Rattle.insert_split.specs.declared.insert.InsertOp.{InsertOp}
 use Rattle.session_calls.specs.Ops.{is_sweep}
-use Rattle.session_calls.specs.Sessions.{start_number, let_go, after_call, after_slot}
+use Rattle.session_calls.specs.Sessions.{start_number, after_call, after_slot}
 use Rattle.session_calls.specs.declared.op.Op.TheVariants.{Insert}
+use Rattle.session_calls.proofs.Freeing.{go_running, go_counted}
 use Rattle.schedule.proofs.Fitting.{running_of}
 use Rattle.whole_calls.proofs.Words.{Entry, Limits, State, Ghosts, Page, session_of, Op, Snapshot, Fits, slot_of, SlotRuns}
 use Rattle.whole_calls.specs.Refusing.{with_number, has_no_block}
@@ -39,18 +40,9 @@ set_own [] i = refl
 set_own (z ∷ zs) zero = refl
 set_own (z ∷ zs) (suc i) = ap (λ (l : List (Option ℕ)). z ∷ l) (set_own zs i)
 
--- a call that ends lets its start number go, and no deletion number
-let_go_counted : (v : Bool) (session : ℕ) (st : State) → (let_go v session st).counted ≡ st.counted
-let_go_counted true session st = refl
-let_go_counted false session st = refl
-
-let_go_running : (v : Bool) (session : ℕ) (st : State) → (let_go v session st).running ≡ slice_set st.running session None
-let_go_running true session st = refl
-let_go_running false session st = refl
-
 pub given_up_counted : (slot : Option Op) (st new : State) → new ≡ after_slot slot st → new.counted ≡ st.counted
 given_up_counted None st new is = ap (λ (x : State). x.counted) is
-given_up_counted (Some op) st new is = ap (λ (x : State). x.counted) is ∙ let_go_counted (is_sweep op) (session_of op) st
+given_up_counted (Some op) st new is = ap (λ (x : State). x.counted) is ∙ go_counted (is_sweep op) (session_of op) st
 
 -- but for its own
 pub given_up_numbers : {S : Type 0} (g : Ghosts S) (start : Entry → Bool) (session : ℕ) (now : Snapshot S) (new : State) → Fits g start now → new ≡ after_slot (slot_of now.slots session) (g.state now.store)
@@ -69,7 +61,7 @@ given_up_numbers {S} g start session now new fits is number = of (slice_get now.
     of (Some (Some op)) at =
         let runs : SlotRuns g start now session op = running_of fits session (Some op) at in
         ap (λ (x : State). slice_set x.running session number) (ended (Some (Some op)) at)
-        ∙ ap (λ (l : List (Option ℕ)). slice_set l session number) (let_go_running (is_sweep op) (session_of op) (g.state now.store))
+        ∙ ap (λ (l : List (Option ℕ)). slice_set l session number) (go_running (is_sweep op) (session_of op) (g.state now.store))
         ∙ ap (λ (s : ℕ). slice_set (slice_set (g.state now.store).running s None) session number) (runs.runs.session ∙ runs.is.session_is)
         ∙ set_twice (g.state now.store).running session None number
 
