@@ -21,27 +21,50 @@ impl DeadRows for Blocks {
     }
 }
 
-/// The blocks of the set at this place: one each, and behind them all.
+/// The sets of the scripts, behind the others.
+const SCRIPTED: [Blocks; 3] = [
+    Blocks { from: 4, to: 6 },
+    Blocks { from: 1, to: 3 },
+    Blocks { from: 9, to: 10 },
+];
+
+/// The blocks of the set at this place: one each, and behind them all; then those of the scripts.
 fn set_at(space: Space, place: u32) -> Blocks {
     if place < space.rows {
-        Blocks {
+        return Blocks {
             from: place,
             to: place,
-        }
+        };
+    }
+    let all = Blocks {
+        from: 0,
+        to: space.rows,
+    };
+    if place == space.rows {
+        return all;
+    }
+    let behind = place.saturating_sub(space.rows).saturating_sub(1);
+    match SCRIPTED.get(behind as usize) {
+        Some(set) => *set,
+        None => all,
+    }
+}
+
+/// The place of the last set.
+fn last(space: Space) -> u32 {
+    if space.scripted {
+        space.rows.saturating_add(3)
     } else {
-        Blocks {
-            from: 0,
-            to: space.rows,
-        }
+        space.rows
     }
 }
 
 fn listed(alloc: Global, space: Space) -> Result<Vec<Blocks>, AllocError> {
     let mut sets = Vec::new(alloc);
-    for place in 0..space.rows {
+    for place in 0..last(space) {
         sets.push(set_at(space, place))?;
     }
-    sets.push(set_at(space, space.rows))?;
+    sets.push(set_at(space, last(space)))?;
     Ok(sets)
 }
 
@@ -59,7 +82,7 @@ pub fn rows_of(
     space: Space,
     place: u32,
 ) -> Result<Option<Vec<RowAddr>>, AllocError> {
-    if place > space.rows {
+    if place > last(space) {
         return Ok(None);
     }
     let set = set_at(space, place);

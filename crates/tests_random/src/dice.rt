@@ -18,6 +18,8 @@ pub struct Space {
     pub forces: u32,
     /// Whether there are bulk deletes and cleanups.
     pub deletes: bool,
+    /// Whether there are the sets of the scripts, behind the others.
+    pub scripted: bool,
 }
 
 /// Gives numbers that look random.

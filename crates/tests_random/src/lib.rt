@@ -3,11 +3,19 @@
 #![tactic(auto)]
 
 #[cfg(test)]
+mod behind;
+#[cfg(test)]
 mod crashes;
 #[cfg(test)]
 mod dead;
 #[cfg(test)]
 mod dice;
+#[cfg(test)]
+mod failed_calls;
+#[cfg(test)]
+mod failing;
+#[cfg(test)]
+mod gates;
 #[cfg(test)]
 mod judge;
 #[cfg(test)]
@@ -20,6 +28,8 @@ mod past;
 mod plain;
 #[cfg(test)]
 mod runs;
+#[cfg(test)]
+mod scripts;
 #[cfg(test)]
 mod small;
 #[cfg(test)]

@@ -92,7 +92,7 @@ fn agree<S: PageStore>(run: Run, world: &World<S, Blocks>, judge: &Judge, answer
 }
 
 /// Does one event: its answer, or None where that is wrong, or what it has done.
-fn one<S: PageStore>(
+pub fn one<S: PageStore>(
     run: Run,
     world: &mut World<S, Blocks>,
     judge: &mut Judge,
@@ -147,7 +147,7 @@ fn goes_on<S: PageStore>(
 
 /// Begins a call of session 0, which alone has one, and runs it to its end: whether all of it is right, and nothing
 /// blocks it.
-fn runs_alone<S: PageStore>(
+pub fn runs_alone<S: PageStore>(
     run: Run,
     world: &mut World<S, Blocks>,
     judge: &mut Judge,

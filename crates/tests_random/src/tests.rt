@@ -63,6 +63,7 @@ fn roomy(alloc: Global, sessions: u32, items: u32) -> Run {
             rows: 4,
             forces: 1,
             deletes: true,
+            scripted: false,
         },
     }
 }
@@ -82,6 +83,7 @@ fn high(alloc: Global, sessions: u32) -> Run {
             rows: 5,
             forces: 1,
             deletes: false,
+            scripted: false,
         },
     }
 }
@@ -101,6 +103,7 @@ fn narrow(alloc: Global, sessions: u32, pages: u32) -> Run {
             rows: 4,
             forces: 9,
             deletes: true,
+            scripted: false,
         },
     }
 }
@@ -259,6 +262,7 @@ fn wide(alloc: Global, sessions: u32) -> Run {
             rows: 5,
             forces: 1,
             deletes: true,
+            scripted: false,
         },
     }
 }

@@ -1,10 +1,7 @@
-//! Tests over a device, and nothing else: stores that are made, opened and crash; calls of a world and of an index of one user;
-//! and indexes of whose bytes one is altered. They stand in one crate, because each crate with tests over the stack is proved
-//! with them, and compiles all of it.
+//! Tests over a device, and nothing else: stores that are made, opened and crash; calls of a world and of an index of one user.
+//! They stand in one crate, because each crate with tests over the stack is proved with them, and compiles all of it.
 #![tactic(auto)]
 
-#[cfg(test)]
-mod altered;
 #[cfg(test)]
 mod dead;
 #[cfg(test)]

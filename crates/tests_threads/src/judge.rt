@@ -232,3 +232,19 @@ pub fn are_those_added(entries: &[Entry], added: &[Option<Addition>]) -> bool {
         && are_ascending(entries)
         && entries.iter().all(|entry| is_dead(entry.row) || is_added(added, entry, u64::MAX))
 }
+
+/// Whether the action of this number or one before added it.
+fn is_by(one: &Option<Addition>, by: u64) -> bool {
+    match one {
+        Some(one) => one.action <= by,
+        None => false,
+    }
+}
+
+/// Whether these are just the entries that the actions up to this one added. None is removed.
+pub fn are_those_by(entries: &[Entry], added: &[Option<Addition>], by: u64) -> bool {
+    let count = added.iter().filter(|one| is_by(one, by)).count();
+    entries.len() == count
+        && are_ascending(entries)
+        && entries.iter().all(|entry| is_added(added, entry, by))
+}

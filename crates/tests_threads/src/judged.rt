@@ -1,17 +1,16 @@
 //! Runs over devices in memory, of which a plain judge hears all.
 
 use crate::dead::Blocks;
-use crate::indexes::{InMemory, all_entries, made, opened};
+use crate::indexes::{InMemory, all_entries, made};
 use crate::judge::{Addition, additions, are_right, are_those_added, count, has_each_once};
 use crate::lists::{Dice, entry, mixed, range, shuffled};
 use amcheck::check_parents_one;
-use device::{CrashImage, MemDevice};
-use index_model::{Entry, Fault, Limits};
+use device::MemDevice;
+use index_model::{Fault, Limits};
 use page_store::Store;
 use schedule::Event;
 use session_calls::Answer;
-use sessions::{Finished, Gate, Job, NoGate, Record, run_jobs};
-use std::alloc::{AllocError, Global};
+use sessions::{Finished, Gate, Job, NoGate, run_jobs};
 use std::process::Abort;
 use std::sync::Wait;
 use std::test::{Fail, *};
@@ -21,10 +20,10 @@ use std::thread::Threads;
 const KEYS: usize = 1_024;
 
 /// What a run leaves of an index in memory.
-type Done = Finished<Store<MemDevice>, Blocks>;
+pub type Done = Finished<Store<MemDevice>, Blocks>;
 
 /// Runs these jobs, and looks at all that they told. Answers what was added, too.
-fn ran<G: Gate + Sync>(
+pub fn ran<G: Gate + Sync>(
     rt: &(impl Abort + AllocGlobal + Print + Eprint + Threads + Wait + Sync),
     world: InMemory,
     jobs: &[Job],
@@ -148,90 +147,6 @@ fn rooms_of_scans(rt: HostRuntime) -> Result<(), Fail> {
         assert!(rt; matches!(&record.answer, Answer::Ended) == *is_cut);
         assert!(rt; matches!(&record.answer, Answer::Done) != *is_cut);
     }
-    Ok(())
-}
-
-/// Whether each entry that was added by then is among these.
-fn are_kept(entries: &[Entry], added: &[Option<Addition>], durable: u64) -> bool {
-    added.iter().all(|one| match one {
-        Some(one) => one.action > durable || entries.contains(&one.entry),
-        None => true,
-    })
-}
-
-/// A scan, and then sixty inserts, with a commit behind each third.
-fn committed_inserts(alloc: Global) -> Result<Vec<Job>, AllocError> {
-    let mut jobs = Vec::new(alloc);
-    jobs.push(Job::Scan {
-        range: range(0, 100),
-        room: 100,
-    })?;
-    for number in 0..60 {
-        jobs.push(Job::Insert(entry(number, 0)))?;
-        if number % 3 == 2 {
-            jobs.push(Job::Commit)?;
-        }
-    }
-    Ok(jobs)
-}
-
-/// The number of the last action that a commit acknowledged.
-fn last_forced(history: &[Record]) -> u64 {
-    let mut durable = 0u64;
-    for record in history {
-        if let Answer::Forced(action) = &record.answer {
-            durable = durable.max(*action);
-        }
-    }
-    durable
-}
-
-/// How many jobs were refused since a device call failed.
-fn count_failed(history: &[Record]) -> usize {
-    history
-        .iter()
-        .filter(|record| matches!(&record.answer, Answer::Refused(Fault::Io)))
-        .count()
-}
-
-/// Runs the jobs on four workers, while the nth device call fails: whatever was acknowledged is there behind each kind of crash.
-/// Answers how many jobs were refused since it failed.
-fn fails_at(
-    rt: &(impl Abort + AllocGlobal + Print + Eprint + Threads + Wait + Sync),
-    jobs: &[Job],
-    n: u64,
-) -> Result<usize, Fail> {
-    let limits = Limits {
-        items: 4,
-        pages: 128,
-        log_bytes: 65_536,
-    };
-    let mut world = made(rt.alloc(), &limits, 4)?;
-    world.fail_at(n);
-    let (done, added) = ran(rt, world, jobs, 4, &NoGate)?;
-    let durable = last_forced(done.history.as_slice());
-    for image in [CrashImage::Keep, CrashImage::Drop, CrashImage::Tear] {
-        let device = done.world.crash(rt.alloc(), image)?;
-        let mut world = opened(rt.alloc(), device, 1)?;
-        let entries = all_entries(rt.alloc(), &mut world)?;
-        assert!(rt;
-            are_kept(entries.as_slice(), added.as_slice(), durable),
-            "{n}"
-        );
-        assert!(rt; entries.len() <= 60);
-    }
-    Ok(count_failed(done.history.as_slice()))
-}
-
-/// A device call fails under threads: each of the first eleven calls, and then each sixth.
-#[test]
-fn a_device_call_fails(rt: HostRuntime) -> Result<(), Fail> {
-    let jobs = committed_inserts(rt.alloc())?;
-    let mut failed = 0usize;
-    for n in (1..12u64).chain((12..80).step_by(6)) {
-        failed = failed.saturating_add(fails_at(&rt, jobs.as_slice(), n)?);
-    }
-    assert!(rt; failed >= 10, "{failed}");
     Ok(())
 }
 

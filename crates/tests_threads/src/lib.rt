@@ -6,6 +6,8 @@ mod blocked;
 #[cfg(test)]
 mod dead;
 #[cfg(test)]
+mod failed_calls;
+#[cfg(test)]
 mod hands;
 #[cfg(test)]
 mod indexes;

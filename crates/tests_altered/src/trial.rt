@@ -1,22 +1,29 @@
 //! What is done with each altered index.
 
-use super::base::{FRAMES, entry};
-use crate::dead::Blocks;
+use crate::base::{FRAMES, entry, keyed};
+use crate::dead::UpTo;
 use crate::plain::{
-    begin_scan, bulk_delete, checkpoint_of, clean_up, end_scan, index_over, insert, next, open,
+    begin_scan, bulk_delete, checkpoint, clean_up, end_scan, index_over, insert, into_device,
+    levels, next, open, page, parents,
 };
-use crate::small::{ALL, keyed};
+use crate::plain_tree::is_tree;
 use access_method::{Index, Inserted, ScanToken};
-use amcheck::{CheckFault, Report, check_one, check_parents_one};
-use device::MemDevice;
-use index_model::{Entry, Fault, VacuumStats};
+use amcheck::{CheckFault, Report};
+use device::Device;
+use index_model::{Entry, Fault, Range, VacuumStats};
 use page_action::PageStore;
 use page_store::Store;
 use std::alloc::Global;
 use std::cmp::Ordering;
 
 /// The rows of these blocks: about half of the entries, so that leaves are left empty.
-const DEAD: Blocks = Blocks { from: 0, to: 15 };
+const DEAD: UpTo = UpTo { block: 15 };
+
+/// Each entry.
+const ALL: Range = Range {
+    from: None,
+    below: None,
+};
 
 /// No index of 32 pages of four items has as many entries.
 const MANY: u32 = 1_000;
@@ -43,12 +50,12 @@ struct Given {
 
 /// An index that was opened, and how many entries it has, where the verifier found no damage.
 #[derive(Drop)]
-struct Trial {
-    index: Index<Store<MemDevice>>,
+struct Trial<S> {
+    index: Index<S>,
     entries: Option<u64>,
 }
 
-impl Trial {
+impl<S: PageStore> Trial<S> {
     /// What the scan of this token gives.
     fn all_given(&mut self, token: ScanToken) -> Result<Given, Fault> {
         let mut given = Given {
@@ -172,31 +179,10 @@ impl Trial {
         if !self.fills_right(3) || !self.scans_right() {
             return Some("inserts behind a cleanup");
         }
-        if checkpoint_of(&mut self.index).is_err() {
+        if checkpoint(&mut self.index).is_err() {
             return Some("a checkpoint");
         }
         None
-    }
-
-    /// Whether the index opens again, sound where it was. It may have grown up to a block that wasn't in use and is altered.
-    fn opens_again(self, alloc: Global, used: u32) -> bool {
-        let Trial { index, entries } = self;
-        match open(alloc, index.into_device(), FRAMES) {
-            Ok(store) => {
-                let mut store = store;
-                is_found_again(alloc, &mut store, entries)
-            }
-            Err(refused) => matches!(refused.fault, Fault::PageDamaged(block) if block > used),
-        }
-    }
-}
-
-/// Whether the verifier finds so many entries, or damage where the index wasn't sound.
-fn is_found_again(alloc: Global, store: &mut Store<MemDevice>, entries: Option<u64>) -> bool {
-    match verified(alloc, store) {
-        Some(Ok(report)) => entries.is_none_or(|count| count == u64::from(report.entries)),
-        Some(Err(_)) => entries.is_none(),
-        None => false,
     }
 }
 
@@ -212,18 +198,24 @@ fn is_open_fault(fault: Fault) -> bool {
     )
 }
 
-fn levels(alloc: Global, store: &mut Store<MemDevice>) -> Result<Report, CheckFault> {
-    check_one(alloc, store)
-}
-
-/// What the check of parents answers.
-pub fn parents(alloc: Global, store: &mut Store<MemDevice>) -> Result<Report, CheckFault> {
-    check_parents_one(alloc, store)
+/// Whether the pages of a store are a B-link tree by the definition.
+fn is_tree_in<S: PageStore>(alloc: Global, store: &mut S) -> Result<bool, Fault> {
+    let mut pages = Vec::new(alloc);
+    for block in 0..store.used() {
+        let found = page(store, block)?;
+        if pages.push(found).is_err() {
+            return Err(Fault::NoMemory);
+        }
+    }
+    match is_tree(alloc, pages.as_slice()) {
+        Ok(answer) => Ok(answer),
+        Err(_) => Err(Fault::NoMemory),
+    }
 }
 
 /// What both checks answer: a report of the pages, or the number of a damage; None where one was refused, or where the check
 /// of levels alone answers another damage.
-fn verified(alloc: Global, store: &mut Store<MemDevice>) -> Option<Result<Report, u8>> {
+fn checked<S: PageStore>(alloc: Global, store: &mut S) -> Option<Result<Report, u8>> {
     match (levels(alloc, store), parents(alloc, store)) {
         (Ok(first), Ok(second)) if first == second => Some(Ok(second)),
         (Ok(_), Err(CheckFault::Damage { number, .. })) => Some(Err(number)),
@@ -240,8 +232,17 @@ fn verified(alloc: Global, store: &mut Store<MemDevice>) -> Option<Result<Report
     }
 }
 
+/// What both checks answer, where the definition says the same of the pages: None where something went wrong.
+fn verified<S: PageStore>(alloc: Global, store: &mut S) -> Option<Result<Report, u8>> {
+    let found = checked(alloc, store)?;
+    match is_tree_in(alloc, store) {
+        Ok(is_tree) if is_tree == found.is_ok() => Some(found),
+        _ => None,
+    }
+}
+
 /// What the verifier finds, as an outcome, and how many entries there are, where it finds no damage.
-fn begun(alloc: Global, store: &mut Store<MemDevice>) -> (Outcome, Option<u64>) {
+fn begun<S: PageStore>(alloc: Global, store: &mut S) -> (Outcome, Option<u64>) {
     match verified(alloc, store) {
         Some(Ok(report)) => (Outcome::Sound, Some(u64::from(report.entries))),
         Some(Err(number)) => (Outcome::Damaged(number), None),
@@ -249,8 +250,34 @@ fn begun(alloc: Global, store: &mut Store<MemDevice>) -> (Outcome, Option<u64>) 
     }
 }
 
+/// Whether the verifier finds so many entries, or damage where the index wasn't sound.
+fn is_found_again<S: PageStore>(alloc: Global, store: &mut S, entries: Option<u64>) -> bool {
+    match verified(alloc, store) {
+        Some(Ok(report)) => entries.is_none_or(|count| count == u64::from(report.entries)),
+        Some(Err(_)) => entries.is_none(),
+        None => false,
+    }
+}
+
+/// Whether an index opens again from its device, sound where it was. It may have grown up to a block that wasn't in use and is
+/// altered.
+fn opens_again<D: Device + Drop>(
+    alloc: Global,
+    device: D,
+    entries: Option<u64>,
+    used: u32,
+) -> bool {
+    match open(alloc, device, FRAMES) {
+        Ok(store) => {
+            let mut store = store;
+            is_found_again(alloc, &mut store, entries)
+        }
+        Err(refused) => matches!(refused.fault, Fault::PageDamaged(block) if block > used),
+    }
+}
+
 /// Verifies the index, makes each call, and opens it again.
-fn tried_in(alloc: Global, store: Store<MemDevice>) -> Outcome {
+fn tried_in<D: Device + Drop>(alloc: Global, store: Store<D>) -> Outcome {
     let mut store = store;
     let (outcome, entries) = begun(alloc, &mut store);
     if let Outcome::Wrong(_) = outcome {
@@ -261,20 +288,19 @@ fn tried_in(alloc: Global, store: Store<MemDevice>) -> Outcome {
         return Outcome::Wrong("an index");
     };
     let mut trial = Trial { index, entries };
-    match trial.find_wrong() {
-        Some(wrong) => Outcome::Wrong(wrong),
-        None => {
-            if trial.opens_again(alloc, used) {
-                outcome
-            } else {
-                Outcome::Wrong("an open behind all calls")
-            }
-        }
+    if let Some(wrong) = trial.find_wrong() {
+        return Outcome::Wrong(wrong);
+    }
+    let Trial { index, entries } = trial;
+    if opens_again(alloc, into_device(index), entries, used) {
+        outcome
+    } else {
+        Outcome::Wrong("an open behind all calls")
     }
 }
 
 /// Opens the index, verifies it, makes each call, and opens it again.
-pub fn tried(alloc: Global, device: MemDevice) -> Outcome {
+pub fn tried<D: Device + Drop>(alloc: Global, device: D) -> Outcome {
     match open(alloc, device, FRAMES) {
         Ok(store) => tried_in(alloc, store),
         Err(refused) if is_open_fault(refused.fault) => Outcome::NotOpened,

@@ -1,29 +1,28 @@
-//! The places and values of the table.
+//! The places and values of the table of single bytes.
 
 ghost use Rattle.std.specs.Prelude.{◌<◌};
 
-/// A byte of the device, and what it is set to.
-#[derive(Clone, Copy)]
-pub struct Altered {
-    pub at: u64,
-    pub value: u8,
-}
+use crate::edits::Edit;
 
 /// The table, from a row on: the same rows for the same number.
 #[derive(Drop)]
 pub struct Table {
     state: u64,
+    /// How many blocks the pages are of.
+    blocks: u64,
 }
 
 impl Table {
-    pub fn new(part: u64) -> Table {
+    /// A part of the table, for the pages of so many blocks from the first on.
+    pub fn new(part: u64, blocks: u64) -> Table {
         Table {
             state: part.wrapping_mul(2_862_933_555_777_941_757),
+            blocks,
         }
     }
 
     /// A number below this one.
-    fn number(&mut self, below: u64) -> u64
+    pub fn number(&mut self, below: u64) -> u64
         requires { 0 < below }
         ensures { result < below }
     {
@@ -69,19 +68,20 @@ impl Table {
 
     /// The next row: one in sixteen in the superblock, three in the log, the others in pages. Half of the values are small, as
     /// numbers of blocks are.
-    pub fn next(&mut self) -> Altered {
+    pub fn next(&mut self) -> Edit {
         let at = match self.number(16) {
             0 => self.number(40),
             1..4 => self.in_the_log(),
-            _ => 69_632 + 4_096 * self.number(18) + self.in_a_page(),
+            _ => {
+                let block = self.number(self.blocks.max(1));
+                let page = 69_632u64.saturating_add(block.saturating_mul(4_096));
+                page.saturating_add(self.in_a_page())
+            }
         };
         let value = match self.number(2) {
             0 => self.number(24),
             _ => self.number(256),
         };
-        Altered {
-            at,
-            value: u8::try_from(value).unwrap_or(0),
-        }
+        Edit::Alters(at, u8::try_from(value).unwrap_or(0))
     }
 }

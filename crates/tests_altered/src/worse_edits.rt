@@ -1,0 +1,39 @@
+//! One to three worse edits: 10,000 rows on the index of three levels.
+
+use crate::base::sound;
+use crate::rows::{Kind, Parts, run};
+use std::alloc::Global;
+use std::io::Eprint;
+use std::process::Abort;
+use std::test::{Fail, *};
+
+/// Runs five parts of the table.
+fn parts<R: Abort + Eprint>(rt: &R, alloc: Global, from: u64) -> Result<(), Fail> {
+    let parts = Parts {
+        kind: Kind::Worse,
+        blocks: 18,
+        from,
+        to: from.saturating_add(5),
+    };
+    run(rt, alloc, &sound(alloc)?, parts, 50)
+}
+
+#[test]
+fn rows_from_0(rt: HostRuntime) -> Result<(), Fail> {
+    parts(&rt, rt.alloc(), 41)
+}
+
+#[test]
+fn rows_from_2500(rt: HostRuntime) -> Result<(), Fail> {
+    parts(&rt, rt.alloc(), 46)
+}
+
+#[test]
+fn rows_from_5000(rt: HostRuntime) -> Result<(), Fail> {
+    parts(&rt, rt.alloc(), 51)
+}
+
+#[test]
+fn rows_from_7500(rt: HostRuntime) -> Result<(), Fail> {
+    parts(&rt, rt.alloc(), 56)
+}

@@ -1,0 +1,158 @@
+//! What is opened behind a script whose device calls failed.
+
+use crate::crashes::{FOR_ALL, OverDevice, opened};
+use crate::dead::sets_of;
+use crate::dice::Dice;
+use crate::judge::Judge;
+use crate::plain::{left, left_by, open_world, world as world_over};
+use crate::runs::{Run, judge_of, one, runs_alone};
+use amcheck::check_parents_one;
+use device::{CrashImage, MemDevice};
+use index_model::{Fault, Range};
+use page_store::Store;
+use schedule::Event;
+use std::alloc::AllocError;
+use std::test::Fail;
+use world::NotOpened;
+
+/// What is counted of the runs of a script.
+#[derive(Clone, Copy, Debug, Default)]
+pub struct Counted {
+    /// Runs in which a call failed.
+    pub failed: u32,
+    /// Images of a crash that were opened.
+    pub opened: u32,
+    /// Openings that were stopped inside.
+    pub stopped: u32,
+}
+
+pub const IMAGES: [CrashImage; 3] = [CrashImage::Keep, CrashImage::Drop, CrashImage::Tear];
+
+/// Each image in turn.
+fn image_at(number: u64) -> CrashImage {
+    match number % 3 {
+        0 => CrashImage::Keep,
+        1 => CrashImage::Drop,
+        _ => CrashImage::Tear,
+    }
+}
+
+/// Opens each image of a crash. The index of one works on, another one behind each n.
+pub fn opens_right(
+    run: Run,
+    world: &OverDevice,
+    judge: &mut Judge,
+    n: u64,
+    counted: &mut Counted,
+) -> Result<bool, Fail> {
+    for place in 0..3u64 {
+        let found = left_by(run.alloc, world, image_at(place))?;
+        if !is_right_behind(run, found, judge, place == n % 3, counted)? {
+            return Ok(false);
+        }
+    }
+    Ok(true)
+}
+
+/// Whether an insert, a bulk delete, a cleanup and a scan go right, each alone, the scan gives exactly the contents, and a force
+/// goes right.
+fn works_on(
+    run: Run,
+    world: &mut OverDevice,
+    judge: &mut Judge,
+    dice: &mut Dice,
+) -> Result<bool, AllocError> {
+    let all = Range {
+        from: None,
+        below: None,
+    };
+    let insert = Event::Insert(0, dice.entry(run.space));
+    Ok(
+        runs_alone(run, world, judge, insert)?
+            && runs_alone(run, world, judge, Event::Bulk(0, 1))?
+            && runs_alone(run, world, judge, Event::Cleanup(0))?
+            && runs_alone(run, world, judge, Event::Scan(0, all))?
+            && judge.are_contents(judge.last_given(), judge.actions())
+            && one(run, world, judge, Event::Force)?.is_some(),
+    )
+}
+
+/// Whether the index in a store works on, up to another crash, which leaves all that was done.
+fn goes_on(
+    run: Run,
+    store: Store<MemDevice>,
+    judge: &mut Judge,
+    counted: &Counted,
+) -> Result<bool, Fail> {
+    let sets = sets_of(run.alloc, run.space)?;
+    let mut world = world_over(run.alloc, store, run.space.sessions, sets)?;
+    let mut dice = Dice::new(counted.opened.into());
+    if !works_on(run, &mut world, judge, &mut dice)? {
+        return Ok(false);
+    }
+    let mut world = opened(run, FOR_ALL, left_by(run.alloc, &world, CrashImage::Drop)?)?;
+    let last = judge_of(run, &mut world)?;
+    let mut store = world.into_store();
+    Ok(judge.crashes(&last) && check_parents_one(run.alloc, &mut store).is_ok())
+}
+
+/// Opens what a crash left: whether its entries are those after some first part of the actions that holds every forced one, the
+/// verifier finds no damage, and, if that is asked, the index works on.
+fn is_right_behind(
+    run: Run,
+    found: MemDevice,
+    judge: &mut Judge,
+    works: bool,
+    counted: &mut Counted,
+) -> Result<bool, Fail> {
+    counted.opened = counted.opened.saturating_add(1);
+    let mut world = opened(run, FOR_ALL, found)?;
+    let mut next = judge_of(run, &mut world)?;
+    let mut store = world.into_store();
+    if !judge.crashes(&next) || check_parents_one(run.alloc, &mut store).is_err() {
+        return Ok(false);
+    }
+    Ok(!works || goes_on(run, store, &mut next, counted)?)
+}
+
+/// The device that an opening gives back of which this call and each later one fails; None where it makes fewer calls.
+pub fn stopped_at(run: Run, mut found: MemDevice, call: u64) -> Result<Option<MemDevice>, Fail> {
+    found.stop_at(call);
+    let sets = sets_of(run.alloc, run.space)?;
+    match open_world(run.alloc, found, FOR_ALL, run.space.sessions, sets) {
+        Ok(_) => Ok(None),
+        Err(
+            NotOpened {
+                fault: Fault::Io,
+                device,
+                ..
+            },
+        ) => Ok(Some(device)),
+        Err(not_opened) => Err(Fail::from(not_opened.fault)),
+    }
+}
+
+/// Stops an opening, and opens what a crash leaves then. Each call of an opening is stopped behind some n, but not behind each: all
+/// would take a test past its time. Behind n the opening of image n mod 3 is stopped at call n mod 8 + 1 and each eighth one behind
+/// it, and another image is opened behind each.
+pub fn stops_opening(
+    run: Run,
+    world: &OverDevice,
+    judge: &mut Judge,
+    n: u64,
+    counted: &mut Counted,
+) -> Result<bool, Fail> {
+    for step in 0..125u64 {
+        let call = (n % 8).saturating_add(1).saturating_add(8 * step);
+        let found = left_by(run.alloc, world, image_at(n))?;
+        let Some(device) = stopped_at(run, found, call)? else {
+            break;
+        };
+        counted.stopped = counted.stopped.saturating_add(1);
+        let again = left(run.alloc, &device, image_at(n.wrapping_add(call)))?;
+        if !is_right_behind(run, again, judge, true, counted)? {
+            return Ok(false);
+        }
+    }
+    Ok(true)
+}

@@ -1,0 +1,150 @@
+//! Scripts during which calls of the device fail: each once in turn, and each with all behind it.
+
+use crate::behind::{Counted, opens_right, stops_opening};
+use crate::crashes::{FOR_ALL, OverDevice, on_a_device};
+use crate::judge::Judge;
+use crate::pages::copies;
+use crate::plain::{fail_at, one as did, stop_at};
+use crate::runs::{Run, fault_of, judge_of, one};
+use crate::scripts::{Line, Script};
+use index_model::Fault;
+use session_calls::Answer;
+use std::alloc::AllocError;
+use std::test::Fail;
+
+/// A script whose lines are made once each, each with its answer where no call fails.
+#[derive(Drop)]
+pub struct Played {
+    pub lines: Vec<Line>,
+    pub answers: Vec<Answer>,
+    /// How many calls of the device these lines made, behind those of making and opening the index and of looking at its pages.
+    pub calls: u64,
+}
+
+/// An empty index at whose pages a judge has looked, so that they are in memory.
+fn looked_at(run: Run) -> Result<OverDevice, Fail> {
+    let mut world = on_a_device(run, FOR_ALL)?;
+    copies(run.alloc, &mut world)?;
+    Ok(world)
+}
+
+/// How many calls of its device a world has made.
+fn calls_of(world: OverDevice) -> u64 {
+    world.into_store().into_device().calls()
+}
+
+/// Makes what a line says, once or to the end of its call, and notes it each time with its answer.
+fn play_line(world: &mut OverDevice, line: Line, played: &mut Played) -> Result<(), AllocError> {
+    for _ in 0..1_000 {
+        played.lines.push(line)?;
+        played.answers.push(did(world, line.event()))?;
+        let goes_on = matches!(played.answers.last(), Some(Answer::Going));
+        if !goes_on || !matches!(line, Line::Run(_)) {
+            break;
+        }
+    }
+    Ok(())
+}
+
+/// Runs a script over a new index, in which no call fails. A force, a flush and a checkpoint stand behind it.
+pub fn play(run: Run, script: &Script) -> Result<Played, Fail> {
+    let fresh = calls_of(looked_at(run)?);
+    let mut world = looked_at(run)?;
+    let mut played = Played {
+        lines: Vec::new(run.alloc),
+        answers: Vec::new(run.alloc),
+        calls: 0,
+    };
+    for line in script.lines.as_slice() {
+        play_line(&mut world, *line, &mut played)?;
+    }
+    for line in [Line::Force, Line::Flush, Line::Checkpoint] {
+        play_line(&mut world, line, &mut played)?;
+    }
+    played.calls = calls_of(world).saturating_sub(fresh);
+    Ok(played)
+}
+
+fn are_alike(a: &Answer, b: &Answer) -> bool {
+    match (a, b) {
+        (Answer::Begun, Answer::Begun) => true,
+        (Answer::Going, Answer::Going) => true,
+        (Answer::Done, Answer::Done) => true,
+        (Answer::Ended, Answer::Ended) => true,
+        (
+            Answer::Added {
+                action: a,
+                unfinished: x,
+            },
+            Answer::Added {
+                action: b,
+                unfinished: y,
+            },
+        ) => a == b && x == y,
+        (Answer::Ready(a), Answer::Ready(b)) => a == b,
+        (Answer::Finished(a), Answer::Finished(b)) => a == b,
+        (Answer::Gave(a), Answer::Gave(b)) => a == b,
+        (Answer::Forced(a), Answer::Forced(b)) => a == b,
+        (Answer::Flushed(a), Answer::Flushed(b)) => a == b,
+        (Answer::Checkpointed(a), Answer::Checkpointed(b)) => a == b,
+        (Answer::Refused(a), Answer::Refused(b)) => a == b,
+        _ => false,
+    }
+}
+
+/// Runs the events of a script, of which the judge hears, while a call fails: whether all is right, each answer before is that of
+/// the undisturbed run, and the first other one tells of the failure.
+fn replays(
+    run: Run,
+    world: &mut OverDevice,
+    judge: &mut Judge,
+    script: &Played,
+) -> Result<bool, AllocError> {
+    judge.expects_failures();
+    let mut has_failed = false;
+    for (line, undisturbed) in script.lines.iter().zip(script.answers.iter()) {
+        let Some(answer) = one(run, world, judge, line.event())? else {
+            return Ok(false);
+        };
+        if !has_failed && !are_alike(&answer, undisturbed) {
+            if fault_of(&answer) != Some(Fault::Io) {
+                return Ok(false);
+            }
+            has_failed = true;
+        }
+    }
+    Ok(has_failed)
+}
+
+/// Whether the run in which the nth call fails, once, is right, and then what is opened behind a crash of each kind.
+pub fn fails_once(run: Run, script: &Played, n: u64, counted: &mut Counted) -> Result<bool, Fail> {
+    let mut world = on_a_device(run, FOR_ALL)?;
+    let mut judge = judge_of(run, &mut world)?;
+    fail_at(&mut world, n);
+    counted.failed = counted.failed.saturating_add(1);
+    if !replays(run, &mut world, &mut judge, script)? {
+        return Ok(false);
+    }
+    opens_right(run, &world, &mut judge, n, counted)
+}
+
+/// The same for a run in which all calls from the nth on fail; and then an opening is stopped at some of its calls, and what is
+/// opened behind that is right too.
+pub fn fails_for_good(
+    run: Run,
+    script: &Played,
+    n: u64,
+    counted: &mut Counted,
+) -> Result<bool, Fail> {
+    let mut world = on_a_device(run, FOR_ALL)?;
+    let mut judge = judge_of(run, &mut world)?;
+    stop_at(&mut world, n);
+    counted.failed = counted.failed.saturating_add(1);
+    if !replays(run, &mut world, &mut judge, script)? {
+        return Ok(false);
+    }
+    if !opens_right(run, &world, &mut judge, n, counted)? {
+        return Ok(false);
+    }
+    stops_opening(run, &world, &mut judge, n, counted)
+}

@@ -1,0 +1,85 @@
+//! A force whose last sync fails has written its gate: whether what it forced stands isn't known, and each opening behind it is
+//! stopped at each of its calls.
+
+use crate::behind::{Counted, IMAGES, stopped_at};
+use crate::crashes::{FOR_ALL, OverDevice, on_a_device, opened};
+use crate::pages::{contents, copies};
+use crate::plain::{fail_at, left, one as did, put};
+use crate::runs::Run;
+use amcheck::check_parents_one;
+use device::MemDevice;
+use index_model::{Entry, Fault, Key, RowAddr};
+use schedule::Event;
+use session_calls::Answer;
+use std::test::Fail;
+
+/// The entries 61 (0,1) to 65 (0,5), from 0 on.
+fn entry(place: u8) -> Entry {
+    let next = place.saturating_add(1);
+    Entry {
+        key: Key::new(&[0x60u8.saturating_add(next)]).unwrap_or(Key::EMPTY),
+        row: RowAddr::new(0, u16::from(next)).unwrap_or_default(),
+    }
+}
+
+/// The device on which four inserts were forced, and a fifth one not: the sync of the gate of its force failed, its fourth
+/// call.
+fn left_open(run: Run) -> Result<MemDevice, Fail> {
+    let mut world = on_a_device(run, FOR_ALL)?;
+    for place in 0..4u8 {
+        put(&mut world, 0, entry(place), 4)?;
+    }
+    if !matches!(did(&mut world, Event::Force), Answer::Forced(4)) {
+        return Err(Fail::from(Fault::NoSession));
+    }
+    put(&mut world, 0, entry(4), 4)?;
+    fail_at(&mut world, 4);
+    if !matches!(did(&mut world, Event::Force), Answer::Refused(Fault::Io)) {
+        return Err(Fail::from(Fault::NoSession));
+    }
+    Ok(into_device(world))
+}
+
+fn into_device(world: OverDevice) -> MemDevice {
+    world.into_store().into_device()
+}
+
+/// Whether these are the first four entries, or all five.
+fn are_four_or_five(entries: &[Entry]) -> bool {
+    let count = entries.len();
+    if count != 4 && count != 5 {
+        return false;
+    }
+    let firsts = [entry(0), entry(1), entry(2), entry(3), entry(4)];
+    entries.iter().all(|entry| firsts[..count].contains(entry))
+}
+
+/// Whether what a crash has left has the first four entries or all five, and the verifier finds no damage.
+fn is_right(run: Run, found: MemDevice) -> Result<bool, Fail> {
+    let mut world = opened(run, FOR_ALL, found)?;
+    let pages = copies(run.alloc, &mut world)?;
+    let entries = contents(run.alloc, &pages)?;
+    let mut store = world.into_store();
+    Ok(are_four_or_five(&entries) && check_parents_one(run.alloc, &mut store).is_ok())
+}
+
+/// Whether each image of a crash of this device is right.
+fn are_right(run: Run, device: &MemDevice, counted: &mut Counted) -> Result<bool, Fail> {
+    for image in IMAGES {
+        counted.opened = counted.opened.saturating_add(1);
+        if !is_right(run, left(run.alloc, device, image)?)? {
+            return Ok(false);
+        }
+    }
+    Ok(true)
+}
+
+/// Whether all is right where the opening is stopped at this call: it is refused, and each image of the device that it gives
+/// back is right. None where it makes fewer calls.
+pub fn stops_right(run: Run, call: u64, counted: &mut Counted) -> Result<Option<bool>, Fail> {
+    let Some(device) = stopped_at(run, left_open(run)?, call)? else {
+        return Ok(None);
+    };
+    counted.stopped = counted.stopped.saturating_add(1);
+    Ok(Some(are_right(run, &device, counted)?))
+}

@@ -1,0 +1,189 @@
+//! Runs of jobs during which calls of the device fail: one once, or one and all behind it.
+
+use crate::indexes::{InMemory, all_entries, made, opened};
+use crate::judge::{Addition, are_those_by, count};
+use crate::judged::ran;
+use crate::lists::{entry, range};
+use amcheck::check_parents;
+use device::{CrashImage, MemDevice};
+use index_model::{Fault, Limits};
+use session_calls::Answer;
+use sessions::{Job, NoGate, Record};
+use std::alloc::{AllocError, Global};
+use std::process::Abort;
+use std::sync::Wait;
+use std::test::{Fail, *};
+use std::thread::Threads;
+
+const LIMITS: Limits = Limits {
+    items: 4,
+    pages: 128,
+    log_bytes: 65_536,
+};
+
+/// A scan, and so many inserts, with a commit behind each third, and a checkpoint behind half of them.
+fn committed_inserts(alloc: Global, inserts: u16) -> Result<Vec<Job>, AllocError> {
+    let mut jobs = Vec::new(alloc);
+    jobs.push(Job::Scan {
+        range: range(0, 100),
+        room: 100,
+    })?;
+    for number in 0..inserts {
+        jobs.push(Job::Insert(entry(number, 0)))?;
+        if number % 3 == 2 {
+            jobs.push(Job::Commit)?;
+        }
+        if number == inserts / 2 {
+            jobs.push(Job::Checkpoint)?;
+        }
+    }
+    Ok(jobs)
+}
+
+/// How a call fails.
+#[derive(Clone, Copy, Debug)]
+enum Failing {
+    Once,
+    /// With all behind it.
+    ForGood,
+}
+
+/// The nth call of the device from now on fails.
+fn will_fail(world: &mut InMemory, how: Failing, n: u64) {
+    match how {
+        Failing::Once => world.fail_at(n),
+        Failing::ForGood => world.stop_at(n),
+    }
+}
+
+/// How many calls of its device a world has made.
+fn calls_of(world: InMemory) -> u64 {
+    world.into_store().into_device().calls()
+}
+
+/// What is counted of the runs.
+#[derive(Clone, Copy, Debug, Default)]
+struct Counted {
+    /// Runs in which a call failed.
+    failed: u32,
+    /// Images of a crash that were opened.
+    opened: u32,
+    /// Those of them that lack an entry.
+    losing: u32,
+}
+
+/// The number of the last action that a commit or a checkpoint acknowledged.
+fn last_forced(history: &[Record]) -> u64 {
+    let mut durable = 0u64;
+    for record in history {
+        if let Answer::Forced(action) | Answer::Checkpointed(action) = &record.answer {
+            durable = durable.max(*action);
+        }
+    }
+    durable
+}
+
+/// Whether a record says that a call of the device failed.
+fn tells_of_it(history: &[Record]) -> bool {
+    history.iter().any(|record| {
+        matches!(
+            &record.answer,
+            Answer::Refused(Fault::Io)
+                | Answer::Added {
+                    unfinished: Some(Fault::Io),
+                    ..
+                }
+        )
+    })
+}
+
+/// Opens what a crash left: its entries are those that some first part of the actions added, which holds the durable ones, and
+/// the verifier finds no damage.
+fn opens_right(
+    rt: &(impl Abort + AllocGlobal + Print + Eprint + Threads + Wait + Sync),
+    found: MemDevice,
+    added: &[Option<Addition>],
+    durable: u64,
+    last: u64,
+    counted: &mut Counted,
+) -> Result<(), Fail> {
+    let mut world = opened(rt.alloc(), found, 1)?;
+    let entries = all_entries(rt.alloc(), &mut world)?;
+    let entries = entries.as_slice();
+    assert!(rt; (durable..last.saturating_add(1)).any(|k| are_those_by(entries, added, k)));
+    let mut store = world.into_store();
+    assert!(rt; check_parents(rt, rt.alloc(), &mut store).is_ok());
+    counted.opened = counted.opened.saturating_add(1);
+    if entries.len() < count(added) {
+        counted.losing = counted.losing.saturating_add(1);
+    }
+    Ok(())
+}
+
+/// Runs the jobs on a new index while the nth call of the device fails, if so many are made: exactly then a record tells of it.
+/// Then each image of a crash is opened. Answers whether it failed.
+fn fails_right(
+    rt: &(impl Abort + AllocGlobal + Print + Eprint + Threads + Wait + Sync),
+    jobs: &[Job],
+    workers: u32,
+    how: Failing,
+    n: u64,
+    counted: &mut Counted,
+) -> Result<bool, Fail> {
+    let fresh = calls_of(made(rt.alloc(), &LIMITS, workers)?);
+    let mut world = made(rt.alloc(), &LIMITS, workers)?;
+    will_fail(&mut world, how, n);
+    let (done, added) = ran(rt, world, jobs, workers, &NoGate)?;
+    let durable = last_forced(done.history.as_slice());
+    let last = done.world.actions();
+    for image in [CrashImage::Keep, CrashImage::Drop, CrashImage::Tear] {
+        let found = done.world.crash(rt.alloc(), image)?;
+        opens_right(rt, found, added.as_slice(), durable, last, counted)?;
+    }
+    let has_told = tells_of_it(done.history.as_slice());
+    let has_failed = calls_of(done.world).saturating_sub(fresh) >= n;
+    assert_eq!(rt; has_told, has_failed, "{how:?} {n}");
+    if has_failed {
+        counted.failed = counted.failed.saturating_add(1);
+    }
+    Ok(has_failed)
+}
+
+/// Each call of the device fails under two workers, so or so, in a run of its own.
+fn each_call_fails(
+    rt: &(impl Abort + AllocGlobal + Print + Eprint + Threads + Wait + Sync),
+    how: Failing,
+) -> Result<(), Fail> {
+    let jobs = committed_inserts(rt.alloc(), 15)?;
+    let mut counted = Counted::default();
+    for n in 1..200u64 {
+        if !fails_right(rt, jobs.as_slice(), 2, how, n, &mut counted)? {
+            break;
+        }
+    }
+    assert!(rt; counted.failed >= 10 && counted.losing >= 3, "{counted:?}");
+    Ok(())
+}
+
+#[test]
+fn each_call_fails_once(rt: HostRuntime) -> Result<(), Fail> {
+    each_call_fails(&rt, Failing::Once)
+}
+
+#[test]
+fn each_call_fails_for_good(rt: HostRuntime) -> Result<(), Fail> {
+    each_call_fails(&rt, Failing::ForGood)
+}
+
+/// Under four workers: each of the first eleven calls, and then each sixth.
+#[test]
+fn some_calls_fail_under_four(rt: HostRuntime) -> Result<(), Fail> {
+    let jobs = committed_inserts(rt.alloc(), 60)?;
+    let mut counted = Counted::default();
+    for n in (1..12u64).chain((12..80).step_by(6)) {
+        fails_right(&rt, jobs.as_slice(), 4, Failing::Once, n, &mut counted)?;
+        fails_right(&rt, jobs.as_slice(), 4, Failing::ForGood, n, &mut counted)?;
+    }
+    assert!(rt; counted.failed >= 20 && counted.losing >= 6, "{counted:?}");
+    Ok(())
+}
