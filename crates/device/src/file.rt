@@ -15,6 +15,8 @@ use std::os::unix::fs::FileExt;
 use std::path::Path;
 use std::rt::Files;
 
+static ZEROS: [u8; 65_536] = [0; 65_536];
+
 /// What a file of so many bytes held when it was opened, which no code can read: what is proved for all such types holds of
 /// each file.
 pub trait Start {
@@ -66,8 +68,9 @@ impl<S: Start> FileDevice<S> {
         }
     }
 
-    /// A new file of so many bytes, all zero; it and its folder are synced. Refused with `Io` where the path is there, another
-    /// has taken the file's lock by now, or a call fails; then a file may be left there.
+    /// A new file of so many bytes, all zero and written, so that each has its place on the disk; it and its folder are synced.
+    /// Refused with `Io` where the path is there, another has taken the file's lock by now, or a call fails, as where the disk
+    /// has no room for it; then a file may be left there, an empty one where a write failed.
     pub fn create<R: Files<File = File>>(
         rt: &R,
         path: &str,
@@ -89,7 +92,11 @@ impl<S: Start> FileDevice<S> {
             return Err(Fault::Io);
         };
         lock(&file)?;
-        let (Ok(()), Ok(())) = (file.set_len(len), file.sync_all()) else {
+        let Ok(()) = file.set_len(len) else {
+            return Err(Fault::Io);
+        };
+        fill(&file, len)?;
+        let Ok(()) = file.sync_all() else {
             return Err(Fault::Io);
         };
         sync_folder(rt, path)?;
@@ -142,6 +149,31 @@ fn lock(file: &File) -> Result<(), Fault>
     match file.try_lock() {
         Ok(()) => Ok(()),
         Err(_) => Err(Fault::Io),
+    }
+}
+
+/// Writes zeros to all of a new file. So a later write finds no full disk, and a later sync has only what was written to bring
+/// there, and not where it lies. Refused with `Io`; what was written is cut off then.
+fn fill(file: &File, len: u64) -> Result<(), Fault>
+    ensures fault { IfErr result (λ e. e ≡ Fault.Io) }
+{
+    let pieces = len / 65_536;
+    for piece in 0..pieces {
+        fill_at(file, 65_536 * piece, &ZEROS)?;
+    }
+    fill_at(file, 65_536 * pieces, &ZEROS[..(len % 65_536) as usize])
+}
+
+/// Writes zeros at a place. Refused with `Io`, and the file has no byte then, if the system lets it be cut.
+fn fill_at(file: &File, at: u64, zeros: &[u8]) -> Result<(), Fault>
+    ensures fault { IfErr result (λ e. e ≡ Fault.Io) }
+{
+    match file.write_all_at(zeros, at) {
+        Ok(()) => Ok(()),
+        Err(_) => {
+            let _ = file.set_len(0);
+            Err(Fault::Io)
+        }
     }
 }
 

@@ -76,7 +76,13 @@ impl InsertOp {
     /// `NoFrame` (10); with `TooTall` (19) where a split that it meets would be one of a root on level 31; with `PageDamaged`
     /// (17) on pages that are no tree. A refused step changes nothing. Once the entry is logged, each of these but `Blocked`
     /// stands in `unfinished` of `Added`.
-    pub fn step<S: PageStore>(&mut self, store: &mut S) -> Result<InsertStep, Fault>
+    ///
+    /// `draft` is room for a page: what it holds has no meaning, neither before nor behind.
+    pub fn step<S: PageStore>(
+        &mut self,
+        store: &mut S,
+        draft: &mut Page,
+    ) -> Result<InsertStep, Fault>
         ensures all { InsertSteps S.PageStore self.old self.new store.old store.new result }
         ensures faults { IfErr result (HasCause where_inserting_any) }
         ensures quiet { IfUnfinished result (λ fault. S.state store.new ≡ S.state store.old) }
@@ -91,7 +97,7 @@ impl InsertOp {
             _ if self.added.is_some() => Ok(self.go_on()),
             InsertAt::Start => self.find_root(store),
             InsertAt::At(way) => self.walk(store, way),
-            InsertAt::Holding(block) => self.add(store, block),
+            InsertAt::Holding(block) => self.add(store, block, draft),
         }
     }
 
@@ -200,8 +206,13 @@ impl InsertOp {
         }
     }
 
-    // Puts the entry into the leaf that it holds.
-    fn add<S: PageStore>(&mut self, store: &mut S, block: u32) -> Result<InsertStep, Fault>
+    // Puts the entry into the leaf that it holds, by a copy in the draft: a page of its own here would be filled with zeros first.
+    fn add<S: PageStore>(
+        &mut self,
+        store: &mut S,
+        block: u32,
+        draft: &mut Page,
+    ) -> Result<InsertStep, Fault>
         requires at { self.old.at ≡ InsertAt.Holding block }
         requires alive { (S.backing store.old).stopped ≡ false }
         ensures all { InsertSteps S.PageStore self.old self.new store.old store.new result }
@@ -218,11 +229,11 @@ impl InsertOp {
             Ok(at) => at,
             Err(fault) => return Err(fault),
         };
-        let mut page = found.copy();
-        if entries_on(&page).len() < store.limits().items as usize {
-            self.put(store, &mut page, at)
+        found.copy_to(draft);
+        if entries_on(draft).len() < store.limits().items as usize {
+            self.put(store, draft, at)
         } else {
-            self.split(store, page, at)
+            self.split(store, draft, at)
         }
     }
 

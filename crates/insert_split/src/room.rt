@@ -116,29 +116,29 @@ impl InsertOp {
     pub fn split<S: PageStore>(
         &mut self,
         store: &mut S,
-        page: Page,
+        page: &Page,
         at: usize,
     ) -> Result<InsertStep, Fault>
-        requires admitted { IsPage page }
-        requires may { MayHold page self.old.entry }
-        requires place { IsPlaceOf self.old.entry (entries_of page.items) at }
-        requires some { 2 ≤ length (entries_of page.items) }
-        requires used { page.block < length (S.state store.old).pages }
+        requires admitted { IsPage page.now }
+        requires may { MayHold page.now self.old.entry }
+        requires place { IsPlaceOf self.old.entry (entries_of page.now.items) at }
+        requires some { 2 ≤ length (entries_of page.now.items) }
+        requires used { page.now.block < length (S.state store.old).pages }
         ensures steps { Continues S.follows store.old store.new }
         ensures going { IfOk result (λ step. step ≡ InsertStep.Going) }
-        ensures splits { OnOk result (SplitsLeaf (S.backing store.new).honest page
+        ensures splits { OnOk result (SplitsLeaf (S.backing store.new).honest page.now
             self.old self.new (S.state store.old) (S.state store.new)) }
         ensures state { OnErr result (S.state store.new ≡ S.state store.old) }
         ensures op { OnErr result (self.new ≡ self.old) }
         ensures faults { IfErr result (HasCause where_inserting_any) }
         ensures cause { (S.backing store.new).honest ≡ true
             → HasRoom (S.state store.old).table self.old.session
-            → IsSplittable (S.state store.old) page
-            → has_pin (pinned_blocks (S.state store.old).table) page.block ≡ true
+            → IsSplittable (S.state store.old) page.now
+            → has_pin (pinned_blocks (S.state store.old).table) page.now.block ≡ true
             → IfErr result (HasCause (where_working (S.state store.old) (S.backing store.old)
             (S.backing store.new) self.old.session
-            (page.block ∷ blocks_halved (S.state store.old) page.right)
-            (length (blocks_halved (S.state store.old) page.right)) true false)) }
+            (page.now.block ∷ blocks_halved (S.state store.old) page.now.right)
+            (length (blocks_halved (S.state store.old) page.now.right)) true false)) }
     {
         let right = match read_right(store, self.session, page.right) {
             Ok(right) => right,
@@ -148,7 +148,7 @@ impl InsertOp {
             Ok(new) => new,
             Err(fault) => return Err(fault),
         };
-        let mut left = page;
+        let mut left = page.copy();
         let half = split_leaf(&mut left, at, self.entry, new, store.cycle());
         let target = match half_to_finish(&left) {
             Some(target) => target,

@@ -39,13 +39,43 @@ pub fn one<S: PageStore, T: DeadRows>(
         Event::Scan(session, range) => calls.begin(store, sets, session, Request::Scan(range)),
         Event::Bulk(session, set) => calls.begin(store, sets, session, Request::Bulk(set)),
         Event::Cleanup(session) => calls.begin(store, sets, session, Request::Cleanup),
-        Event::Step(session) => calls.step(store, sets, session),
-        Event::Next(session) => calls.next(session),
+        Event::Step(session) => step(store, calls, sets, session),
+        Event::Next(session) => next(store, calls, sets, session),
         Event::End(session) => calls.end(store, session),
         Event::Force => force(store),
         Event::Flush => flush(store),
         Event::Checkpoint => checkpoint(store),
     }
+}
+
+/// Makes one step of a session's call, as `one` does for the event `Step`, and as quickly as can be.
+pub fn step<S: PageStore, T: DeadRows>(
+    store: &mut S,
+    calls: &mut Calls,
+    sets: &[T],
+    session: u32,
+) -> Answer
+    ensures steps { Continues S.follows store.old store.new }
+    ensures makes { Makes S.PageStore (kind_of (Event.Step session)) result
+        (here T.DeadRows store.old calls.old sets.now)
+        (here T.DeadRows store.new calls.new sets.now) }
+{
+    calls.step(store, sets, session)
+}
+
+/// Takes the next entry that a session's scan has ready, as `one` does for the event `Next`, and as quickly as can be.
+pub fn next<S: PageStore, T: DeadRows>(
+    store: &mut S,
+    calls: &mut Calls,
+    sets: &[T],
+    session: u32,
+) -> Answer
+    ensures steps { Continues S.follows store.old store.new }
+    ensures makes { Makes S.PageStore (kind_of (Event.Next session)) result
+        (here T.DeadRows store.old calls.old sets.now)
+        (here T.DeadRows store.new calls.new sets.now) }
+{
+    calls.next(session)
 }
 
 /// Does these events one after the other, each as `one` does, and puts an answer for each behind the answers that are

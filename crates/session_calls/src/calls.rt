@@ -10,6 +10,7 @@ use crate::request::Request;
 use crate::{begins, moves};
 use index_model::{DeadRows, Fault, Session};
 use page_action::PageStore;
+use page_codec::Page;
 use std::alloc::Global;
 
 /// The running call of each of 1 to 64 sessions, which has one at most. After it is made, nothing takes memory.
@@ -19,6 +20,8 @@ use std::alloc::Global;
 #[derive(Drop)]
 pub struct Calls {
     slots: Vec<Option<Op>>,
+    // Where an insert changes a copy of its leaf. Between steps it has no meaning.
+    draft: Box<Page>,
     ghost few: { length slots.items ≤ 64 },
 }
 
@@ -47,10 +50,13 @@ impl Calls {
         let Ok(mut slots) = Vec::with_capacity(alloc, sessions as usize) else {
             return Err(Fault::NoMemory);
         };
+        let Ok(draft) = Box::new(alloc, Page::blank()) else {
+            return Err(Fault::NoMemory);
+        };
         for _at in 0..sessions {
             slots.push_reserved(None);
         }
-        Ok(Calls { slots })
+        Ok(Calls { slots, draft })
     }
 
     /// How many sessions there are: 64 at most.
@@ -150,7 +156,12 @@ impl Calls {
         if !self.is_running(session) {
             return idle(store.is_stopped());
         }
-        moves::step(store, &mut self.slots[session as usize], sets)
+        moves::step(
+            store,
+            &mut self.slots[session as usize],
+            sets,
+            &mut self.draft,
+        )
     }
 
     /// Takes the next entry that the session's scan has ready, if there is one. Refused with `NoSession` (12) where it runs

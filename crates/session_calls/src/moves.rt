@@ -17,16 +17,19 @@ use crate::answer::Answer;
 use crate::op::{Op, idle};
 use index_model::{DeadRows, Fault};
 use page_action::PageStore;
+use page_codec::Page;
 
 /// Makes one step of a session's call. Where the answer ends the call, the slot is empty afterwards, and what the session
 /// held is let go. A slot with no call is refused with `NoSession` (12), or `Stopped` (3). A refused step changes nothing,
 /// but that the call is over, unless it was refused with `Blocked` or `NoSession`.
 ///
 /// A call that was asked for the rows of a set knows it by its place among the sets. These are the same at each of its steps.
+/// What the draft holds has no meaning.
 pub(crate) fn step<S: PageStore, T: DeadRows>(
     store: &mut S,
     slot: &mut Option<Op>,
     sets: &[T],
+    draft: &mut Page,
 ) -> Answer
     ensures steps { Continues S.follows store.old store.new }
     // Whatever the pages are: what it may answer, what a refusal leaves, that less is left to do.
@@ -47,7 +50,7 @@ pub(crate) fn step<S: PageStore, T: DeadRows>(
     let Some(op) = slot else {
         return idle(store.is_stopped());
     };
-    let answer = op.step(store, sets);
+    let answer = op.step(store, sets, draft);
     if is_last(&answer) {
         let_go(store, op);
         clear(slot);

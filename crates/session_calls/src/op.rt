@@ -13,6 +13,7 @@ use crate::request::Request;
 use index_model::{DeadRows, Fault, Session};
 use insert_split::{InsertOp, InsertStep};
 use page_action::PageStore;
+use page_codec::Page;
 use page_delete::{CleanupOp, CleanupStep};
 use scan::{ScanOp, ScanStep};
 use vacuum::{BulkDeleteOp, BulkDeleteStep};
@@ -83,8 +84,13 @@ impl Op {
         }
     }
 
-    // One step. After an answer that is its last, what the session holds is still held.
-    pub(crate) fn step<S: PageStore, T: DeadRows>(&mut self, store: &mut S, sets: &[T]) -> Answer
+    // One step. After an answer that is its last, what the session holds is still held. What the draft holds has no meaning.
+    pub(crate) fn step<S: PageStore, T: DeadRows>(
+        &mut self,
+        store: &mut S,
+        sets: &[T],
+        draft: &mut Page,
+    ) -> Answer
         ensures all { OpSteps S.PageStore self.old self.new store.old store.new result }
         ensures goes { (S.backing store.new).honest ≡ true
             → (start : Entry → Bool) (history : List Action) (number : ℕ) (call : Call)
@@ -121,7 +127,7 @@ impl Op {
             (slot_after result self.new) left result }
     {
         match self {
-            Op::Insert(op) => match op.step(store) {
+            Op::Insert(op) => match op.step(store, draft) {
                 Ok(InsertStep::Going) => Answer::Going,
                 Ok(InsertStep::Added { action, unfinished }) => Answer::Added {
                     action,

@@ -5,11 +5,12 @@ use crate::trees::{nth, tree};
 use index_model::{Entry, Fault, Session};
 use insert_split::{InsertOp, InsertStep};
 use page_action::{MapStore, PageStore};
+use page_codec::Page;
 use std::test::{Fail, *};
 
 // A step of an insert, without its contract.
 fn step(op: &mut InsertOp, store: &mut MapStore) -> Result<InsertStep, Fault> {
-    op.step(store)
+    op.step(store, &mut Page::blank())
 }
 
 // All steps of an insert, and the action that it answers; 0 if it goes on after forty steps, or leaves a split unfinished.

@@ -132,9 +132,8 @@ pub fn stopped_at(run: Run, mut found: MemDevice, call: u64) -> Result<Option<Me
     }
 }
 
-/// Stops an opening, and opens what a crash leaves then. Each call of an opening is stopped behind some n, but not behind each: all
-/// would take a test past its time. Behind n the opening of image n mod 3 is stopped at call n mod 8 + 1 and each eighth one behind
-/// it, and another image is opened behind each.
+/// Stops an opening at each of its calls, and opens what a crash leaves then. Behind n it is the opening of image n mod 3, and behind
+/// each stop another image.
 pub fn stops_opening(
     run: Run,
     world: &OverDevice,
@@ -142,8 +141,7 @@ pub fn stops_opening(
     n: u64,
     counted: &mut Counted,
 ) -> Result<bool, Fail> {
-    for step in 0..125u64 {
-        let call = (n % 8).saturating_add(1).saturating_add(8 * step);
+    for call in 1..1_000u64 {
         let found = left_by(run.alloc, world, image_at(n))?;
         let Some(device) = stopped_at(run, found, call)? else {
             break;

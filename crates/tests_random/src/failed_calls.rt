@@ -1,5 +1,4 @@
 //! Scripts during which device calls fail: each call of the device that a script makes fails once, and each with all behind it.
-//! Each script has a test of its own for either.
 
 use crate::behind::Counted;
 use crate::dice::Space;
@@ -35,155 +34,57 @@ fn scripted(alloc: Global, items: u32, pages: u32) -> Run {
     }
 }
 
-/// Of this script each call of the device fails once.
-fn each_fails_once<R: Abort>(rt: &R, run: Run, script: &Script) -> Result<(), Fail> {
+/// Of this script each call of the device fails once, and each with all behind it; then each opening behind the second is stopped
+/// at each of its calls.
+fn each_fails<R: Abort>(rt: &R, run: Run, script: &Script) -> Result<(), Fail> {
     let mut counted = Counted::default();
     let script = play(run, script)?;
     for call in 0..script.calls {
         let n = call.saturating_add(1);
-        let is_right = fails_once(run, &script, n, &mut counted)?;
-        assert!(rt; is_right, "{n}: {counted:?}");
+        let once = fails_once(run, &script, n, &mut counted)?;
+        let for_good = fails_for_good(run, &script, n, &mut counted)?;
+        assert!(rt; once && for_good, "{n}: {once} {for_good} {counted:?}");
     }
-    assert!(rt; counted.failed >= 10, "{counted:?}");
-    Ok(())
-}
-
-/// Of this script all calls of the device from each on fail, from one on each so many further, and an opening behind is stopped
-/// at some of its calls.
-fn all_fail<R: Abort>(rt: &R, run: Run, script: &Script, first: u64, by: u64) -> Result<(), Fail> {
-    let mut counted = Counted::default();
-    let script = play(run, script)?;
-    for step in 0..script.calls {
-        let n = first.saturating_add(step.saturating_mul(by));
-        if n > script.calls {
-            break;
-        }
-        let is_right = fails_for_good(run, &script, n, &mut counted)?;
-        assert!(rt; is_right, "{n}: {counted:?}");
-    }
-    assert!(rt; counted.stopped >= 15, "{counted:?}");
+    assert!(rt;
+        counted.failed >= 20 && counted.stopped >= 150,
+        "{counted:?}"
+    );
     Ok(())
 }
 
 #[test]
-fn incomplete_split_once(rt: HostRuntime) -> Result<(), Fail> {
+fn splits(rt: HostRuntime) -> Result<(), Fail> {
     let alloc = rt.alloc();
-    each_fails_once(&rt, scripted(alloc, 4, 16), &incomplete_split(alloc)?)
+    let run = scripted(alloc, 4, 16);
+    each_fails(&rt, run, &incomplete_split(alloc)?)?;
+    each_fails(&rt, run, &saved_link(alloc)?)
 }
 
 #[test]
-fn incomplete_split_for_good(rt: HostRuntime) -> Result<(), Fail> {
+fn bulk_deletes(rt: HostRuntime) -> Result<(), Fail> {
     let alloc = rt.alloc();
-    all_fail(&rt, scripted(alloc, 4, 16), &incomplete_split(alloc)?, 1, 1)
+    let run = scripted(alloc, 4, 16);
+    each_fails(&rt, run, &behind_the_frontier(alloc)?)?;
+    each_fails(&rt, run, &interlock(alloc)?)?;
+    each_fails(&rt, run, &going_back(alloc)?)
 }
 
 #[test]
-fn saved_link_once(rt: HostRuntime) -> Result<(), Fail> {
+fn reuse(rt: HostRuntime) -> Result<(), Fail> {
     let alloc = rt.alloc();
-    each_fails_once(&rt, scripted(alloc, 4, 16), &saved_link(alloc)?)
+    each_fails(&rt, scripted(alloc, 4, 16), &delayed_reuse(alloc)?)
 }
 
 #[test]
-fn saved_link_for_good(rt: HostRuntime) -> Result<(), Fail> {
+fn many_forces(rt: HostRuntime) -> Result<(), Fail> {
     let alloc = rt.alloc();
-    all_fail(&rt, scripted(alloc, 4, 16), &saved_link(alloc)?, 1, 1)
+    each_fails(&rt, scripted(alloc, 50, 16), &forces(alloc)?)
 }
 
 #[test]
-fn behind_the_frontier_once(rt: HostRuntime) -> Result<(), Fail> {
+fn full_index(rt: HostRuntime) -> Result<(), Fail> {
     let alloc = rt.alloc();
-    each_fails_once(&rt, scripted(alloc, 4, 16), &behind_the_frontier(alloc)?)
-}
-
-#[test]
-fn behind_the_frontier_for_good(rt: HostRuntime) -> Result<(), Fail> {
-    let alloc = rt.alloc();
-    all_fail(
-        &rt,
-        scripted(alloc, 4, 16),
-        &behind_the_frontier(alloc)?,
-        1,
-        1,
-    )
-}
-
-#[test]
-fn delayed_reuse_once(rt: HostRuntime) -> Result<(), Fail> {
-    let alloc = rt.alloc();
-    each_fails_once(&rt, scripted(alloc, 4, 16), &delayed_reuse(alloc)?)
-}
-
-#[test]
-fn delayed_reuse_for_good(rt: HostRuntime) -> Result<(), Fail> {
-    let alloc = rt.alloc();
-    all_fail(&rt, scripted(alloc, 4, 16), &delayed_reuse(alloc)?, 1, 1)
-}
-
-#[test]
-fn interlock_once(rt: HostRuntime) -> Result<(), Fail> {
-    let alloc = rt.alloc();
-    each_fails_once(&rt, scripted(alloc, 4, 16), &interlock(alloc)?)
-}
-
-#[test]
-fn interlock_for_good(rt: HostRuntime) -> Result<(), Fail> {
-    let alloc = rt.alloc();
-    all_fail(&rt, scripted(alloc, 4, 16), &interlock(alloc)?, 1, 1)
-}
-
-#[test]
-fn going_back_once(rt: HostRuntime) -> Result<(), Fail> {
-    let alloc = rt.alloc();
-    each_fails_once(&rt, scripted(alloc, 4, 16), &going_back(alloc)?)
-}
-
-#[test]
-fn going_back_for_good(rt: HostRuntime) -> Result<(), Fail> {
-    let alloc = rt.alloc();
-    all_fail(&rt, scripted(alloc, 4, 16), &going_back(alloc)?, 1, 1)
-}
-
-#[test]
-fn forces_once(rt: HostRuntime) -> Result<(), Fail> {
-    let alloc = rt.alloc();
-    each_fails_once(&rt, scripted(alloc, 50, 16), &forces(alloc)?)
-}
-
-/// The forces make most calls, so four tests have each fourth of them.
-#[test]
-fn forces_for_good_from_1(rt: HostRuntime) -> Result<(), Fail> {
-    let alloc = rt.alloc();
-    all_fail(&rt, scripted(alloc, 50, 16), &forces(alloc)?, 1, 4)
-}
-
-#[test]
-fn forces_for_good_from_2(rt: HostRuntime) -> Result<(), Fail> {
-    let alloc = rt.alloc();
-    all_fail(&rt, scripted(alloc, 50, 16), &forces(alloc)?, 2, 4)
-}
-
-#[test]
-fn forces_for_good_from_3(rt: HostRuntime) -> Result<(), Fail> {
-    let alloc = rt.alloc();
-    all_fail(&rt, scripted(alloc, 50, 16), &forces(alloc)?, 3, 4)
-}
-
-#[test]
-fn forces_for_good_from_4(rt: HostRuntime) -> Result<(), Fail> {
-    let alloc = rt.alloc();
-    all_fail(&rt, scripted(alloc, 50, 16), &forces(alloc)?, 4, 4)
-}
-
-#[test]
-fn full_once(rt: HostRuntime) -> Result<(), Fail> {
-    let alloc = rt.alloc();
-    each_fails_once(&rt, scripted(alloc, 4, 8), &full(alloc)?)
-}
-
-#[test]
-fn full_for_good(rt: HostRuntime) -> Result<(), Fail> {
-    let alloc = rt.alloc();
-    all_fail(&rt, scripted(alloc, 4, 8), &full(alloc)?, 1, 1)
+    each_fails(&rt, scripted(alloc, 4, 8), &full(alloc)?)
 }
 
 /// Behind a force whose gate's sync failed the opening is stopped at each of its calls: each image of a crash then has the entries

@@ -1,6 +1,6 @@
 -- Which blocks are free: as told of another moment, at which the same pages are in use and the same calls run.
 use Rattle.std.specs.Prelude.{slice_index}
-use Rattle.std.proofs.Common.{◌≡◌, ◌⊎◌, ℕ, zero, suc, Bool, true, false, not, ◌&&◌, ◌||◌, nat_le, Option, Some, None, List, [], ◌∷◌, length, slice_get, slice_set, refl, ap, inl, inr, ◌∙◌, unwrap_or}
+use Rattle.std.proofs.Common.{◌≡◌, ◌⊎◌, ℕ, zero, suc, Bool, not, ◌&&◌, ◌||◌, nat_le, Option, Some, None, List, [], ◌∷◌, length, slice_get, slice_set, refl, ap, inl, inr, ◌∙◌, unwrap_or}
 use Rattle.page_action.specs.Reuse.{is_deleted, others_began_after, is_reusable}
 use Rattle.descent.specs.Shared.{any_is_reusable, is_out_of_blocks}
 use Rattle.insert_split.specs.declared.insert.InsertOp.{InsertOp}

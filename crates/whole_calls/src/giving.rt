@@ -19,7 +19,7 @@ ghost use Rattle.whole_calls.specs.Stepping.{ScanGoes};
 use crate::running::{begin, give_up, step};
 use index_model::{DeadRows, Entry, Fault, Range};
 use page_action::PageStore;
-use schedule::{Event, one};
+use schedule::next;
 use session_calls::{Answer, Calls, Request};
 
 // The next entry that the session's scan has ready; where none is, one step of it.
@@ -44,7 +44,7 @@ fn advance<S: PageStore, T: DeadRows>(
     ensures kind { AnswersAdvance result }
     ensures runs_on { RunsOn (op_of calls.old session) (op_of calls.new session) }
 {
-    let answer = one(store, calls, sets, Event::Next(session));
+    let answer = next(store, calls, sets, session);
     if let Answer::Gave(None) = answer {
         return step(store, calls, sets, session, least_room);
     }

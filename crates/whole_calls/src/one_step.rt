@@ -10,7 +10,6 @@ ghost use Rattle.whole_calls.specs.OneStep.{OneStepAlways, OneStepComesTo, OneSt
 use crate::running::{give_up, make_room};
 use index_model::{DeadRows, Fault};
 use page_action::PageStore;
-use schedule::{Event, one};
 use session_calls::{Answer, Calls};
 
 // What a call answers that is given up for this fault.
@@ -53,7 +52,7 @@ pub fn take_step<S: PageStore, T: DeadRows>(
         (here T.DeadRows store.new calls.new sets.now) }
 {
     match make_room(store, least_room) {
-        Ok(()) => one(store, calls, sets, Event::Step(session)),
+        Ok(()) => schedule::step(store, calls, sets, session),
         Err(fault) => {
             let added = calls.added(session);
             give_up(store, calls, sets, session);

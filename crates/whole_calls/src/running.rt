@@ -86,7 +86,7 @@ pub(crate) fn step<S: PageStore, T: DeadRows>(
     ensures runs_on { RunsOn (op_of calls.old session) (op_of calls.new session) }
 {
     match make_room(store, least_room) {
-        Ok(()) => one(store, calls, sets, Event::Step(session)),
+        Ok(()) => schedule::step(store, calls, sets, session),
         Err(fault) => Answer::Refused(fault),
     }
 }

@@ -1,5 +1,5 @@
 use Rattle.std.specs.Prelude.{map}
-use Rattle.schedule.proofs.Moving.{begin_event, step_event, next_event, end_event}
+use Rattle.schedule.proofs.Moving.{begin_event, end_event}
 use Rattle.schedule.proofs.happening.one.Goals as goal
 
 pub returns-in-Insert-clause-makes : goal.returns-in-Insert-clause-makes
@@ -21,15 +21,6 @@ pub returns-in-Cleanup-clause-makes : goal.returns-in-Cleanup-clause-makes
 returns-in-Cleanup-clause-makes g c =
     let laws = g.met.S.PageStore.laws in
     rw c.in-Cleanup.is (begin_event g.S.PageStore laws _ _ (c.begin-in-Cleanup.ensures.steps _ (laws.follows_same _)) c.args.calls.now c.begin-in-Cleanup.new.self (map g.T.DeadRows.is_in c.args.sets.now) _ _ _ c.begin-in-Cleanup.ensures.not_begun c.begin-in-Cleanup.ensures.changes)
-
-pub returns-in-Step-clause-makes : goal.returns-in-Step-clause-makes
-returns-in-Step-clause-makes g c =
-    let laws = g.met.S.PageStore.laws in
-    rw c.in-Step.is (step_event g.S.PageStore laws _ _ (c.step.ensures.steps _ (laws.follows_same _)) c.args.calls.now c.step.new.self (map g.T.DeadRows.is_in c.args.sets.now) _ _ c.step.ensures.idle c.step.ensures.changes)
-
-pub returns-in-Next-clause-makes : goal.returns-in-Next-clause-makes
-returns-in-Next-clause-makes g c =
-    rw c.in-Next.is (next_event g.S.PageStore g.met.S.PageStore.laws c.args.store.now c.args.calls.now c.next.new.self (map g.T.DeadRows.is_in c.args.sets.now) _ _ c.next.ensures.idle c.next.ensures.changes)
 
 pub returns-in-End-clause-makes : goal.returns-in-End-clause-makes
 returns-in-End-clause-makes g c =

@@ -15,18 +15,18 @@ returns-in-Ok-clause-goes g c =
     let laws = g.met.S.PageStore.laws in
     let session = c.args.session in
     let least = c.args.least_room in
-    let answer = c.one.result in
+    let answer = c.step.result in
     let sets = map g.T.DeadRows.is_in c.args.sets.now in
     let old = here_with c.args.store.now c.args.calls.now.slots.items sets in
     let here = here_with c.make_room.new.store c.args.calls.now.slots.items sets in
-    let there = here_with c.one.new.store c.one.new.calls.slots.items sets in
+    let there = here_with c.step.new.store c.step.new.calls.slots.items sets in
     let first = laws.follows_later c.args.store.now c.make_room.new.store (c.make_room.ensures.steps _ (laws.follows_same _)) in
-    let later = laws.follows_later c.make_room.new.store c.one.new.store (c.one.ensures.steps _ (laws.follows_same _)) in
+    let later = laws.follows_later c.make_room.new.store c.step.new.store (c.step.ensures.steps _ (laws.follows_same _)) in
     joined g.S.PageStore laws session (λ s. RoomTold g.S.PageStore) (λ s. StepGoes g.S.PageStore session least answer) (λ s. StepGoes g.S.PageStore session least answer)
-    (room_came c.make_room.result) (Some answer) (Some answer) old here there c.make_room.ensures.steps c.one.ensures.steps (to_second (room_came c.make_room.result) (Some answer))
+    (room_came c.make_room.result) (Some answer) (Some answer) old here there c.make_room.ensures.steps c.step.ensures.steps (to_second (room_came c.make_room.result) (Some answer))
     (λ start h hc k kc l lc fx fy fz one two. room_then g.S.PageStore session least answer (snapshot_of old h hc) (snapshot_of here k kc) (snapshot_of there l lc) first later one two)
     (c.make_room.ensures.goes session c.args.calls.now.slots.items sets)
-    (goes_once g.S.PageStore laws session (StepGoes g.S.PageStore session least answer) (Step session) answer here there refl (makes_runs g.S.PageStore laws (Step session) answer here there c.one.ensures.makes)
+    (goes_once g.S.PageStore laws session (StepGoes g.S.PageStore session least answer) (Step session) answer here there refl (makes_runs g.S.PageStore laws (Step session) answer here there c.step.ensures.makes)
     (λ start h hc k kc honest fits does. step_goes g.S.PageStore start session least answer (snapshot_of here h hc) (snapshot_of there k kc) honest fits c.in-Ok.ensures.promise does))
 
 pub returns-in-Err-clause-goes : goal.returns-in-Err-clause-goes
@@ -45,15 +45,15 @@ pub returns-in-Ok-clause-made : goal.returns-in-Ok-clause-made
 returns-in-Ok-clause-made g c =
     let session = c.args.session in
     let least = c.args.least_room in
-    let answer = c.one.result in
+    let answer = c.step.result in
     let sets = map g.T.DeadRows.is_in c.args.sets.now in
     let old = here_with c.args.store.now c.args.calls.now.slots.items sets in
     let here = here_with c.make_room.new.store c.args.calls.now.slots.items sets in
-    let there = here_with c.one.new.store c.one.new.calls.slots.items sets in
+    let there = here_with c.step.new.store c.step.new.calls.slots.items sets in
     made_then g.S.PageStore session least (λ answers. CameBy answers (room_came c.make_room.result)) (λ answers. IsAmong answers answer) (λ answers. IsAmong answers answer) old here there (λ xs ys none so. among_right xs ys answer so)
     (c.make_room.ensures.made session c.args.calls.now.slots.items sets)
     (made_once g.S.PageStore session least (λ answers. IsAmong answers answer) (Step session) (MovesCall session Steps) answer here there refl refl
-    (subst (λ (st : State). RoomIsMade least st.limits (g.S.PageStore.backing c.make_room.new.store)) (sym c.make_room.ensures.state) c.in-Ok.ensures.room) c.one.ensures.makes (inl refl))
+    (subst (λ (st : State). RoomIsMade least st.limits (g.S.PageStore.backing c.make_room.new.store)) (sym c.make_room.ensures.state) c.in-Ok.ensures.room) c.step.ensures.makes (inl refl))
 
 pub returns-in-Err-clause-made : goal.returns-in-Err-clause-made
 returns-in-Err-clause-made g c = rw c.in-Err.is at (c.make_room.ensures.made c.args.session c.args.calls.now.slots.items (map g.T.DeadRows.is_in c.args.sets.now))

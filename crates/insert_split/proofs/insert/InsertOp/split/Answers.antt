@@ -1,6 +1,7 @@
-use Rattle.std.proofs.Common.{arith, ◌≡◌, ◌<◌, true, false, Option, ℕ, Some, List, ◌∷◌, map, length, suc, ap, sym, subst, ◌∙◌}
+use Rattle.std.proofs.Common.{arith, ◌≡◌, ◌+◌, ◌<◌, true, false, Option, ℕ, Some, List, ◌∷◌, map, length, suc, ap, sym, subst, ◌∙◌}
 use Rattle.index_model.specs.Faults.{HasCause}
 use Rattle.latch_table.specs.Holdings.{HasRoom, released, unpinned, is_held_by_another}
+use Rattle.page_codec.specs.Edits.{entries_of}
 use Rattle.page_codec.specs.declared.page.Page.{Page}
 use Rattle.page_action.specs.States.{State, Backing, IsLater, with_table, after_act}
 use Rattle.page_action.specs.Stored.{AreActable}
@@ -8,6 +9,7 @@ use Rattle.page_action.specs.Reuse.{IsFresh}
 use Rattle.page_codec.specs.Grammar.{IsBlock}
 use Rattle.latch_table.specs.declared.mode.Mode.TheVariants.{Exclusive}
 use Rattle.tree_shape.specs.Edits.{LeafHalves}
+use Rattle.tree_shape.specs.Halves.{left_count}
 use Rattle.tree_shape.specs.Nodes.{node_of}
 use Rattle.insert_split.specs.declared.insert.InsertAt.TheVariants.{Finishing}
 use Rattle.insert_split.specs.declared.insert.InsertOp.{InsertOp}
@@ -20,8 +22,8 @@ use Rattle.insert_split.proofs.insert.InsertOp.split.Goals as goal
 
 pub returns-in-Err-clause-cause : goal.returns-in-Err-clause-cause
 returns-in-Err-clause-cause g c honest room fits pinned =
-    let beside : List ℕ = blocks_halved (g.S.PageStore.state c.args.store.now) c.args.page.right in
-    c.in-Err.ensures.cause honest room fits.mendable (c.args.page.block ∷ beside) (length beside) true false (omega arith)
+    let beside : List ℕ = blocks_halved (g.S.PageStore.state c.args.store.now) c.args.page.now.right in
+    c.in-Err.ensures.cause honest room fits.mendable (c.args.page.now.block ∷ beside) (length beside) true false (omega arith)
 
 pub returns-in-Err-take_block-clause-cause : goal.returns-in-Err-take_block-clause-cause
 returns-in-Err-take_block-clause-cause g c honest room fits pinned =
@@ -32,8 +34,8 @@ returns-in-Err-take_block-clause-cause g c honest room fits pinned =
     let third : Backing = g.S.PageStore.backing c.take_block.new.store in
     let same = c.read_right.ensures.state in
     let later : IsLater first second = g.met.S.PageStore.laws.follows_later _ _ (c.read_right.ensures.steps _ (g.met.S.PageStore.laws.follows_same _)) in
-    let beside : List ℕ = blocks_halved st c.args.page.right in
-    let images : List ℕ = c.args.page.block ∷ beside in
+    let beside : List ℕ = blocks_halved st c.args.page.now.right in
+    let images : List ℕ = c.args.page.now.block ∷ beside in
     working_later st first second third session images (length beside) true false c.in-Err-take_block.fault later.failures c.in-Ok.ensures.alive c.read_right.ensures.room.promised
     (subst (λ (s : State). HasCause (where_working s second third session images (length beside) true false) c.in-Err-take_block.fault) same
     (c.in-Err-take_block.ensures.cause (subst (λ (s : State). HasRoom s.table session) (sym same) room) images (length beside) false))
@@ -49,15 +51,18 @@ returns-in-Ok-act_on_halves-clause-splits g c =
     let read = c.read_right.ensures.state in
     let same = c.take_block.ensures.state ∙ read in
     let is_new = c.split_leaf-half.ensures.right_block in
-    let block : c.in-Some.target.block ≡ c.args.page.block = c.in-Some.ensures.target.0 ∙ c.split_leaf-half.ensures.left_block in
+    let is_copy : c.copy-left.result ≡ c.args.page.now = c.copy-left.ensures in
+    let left_block : left.block ≡ c.args.page.now.block = c.split_leaf-half.ensures.left_block ∙ ap (λ (p : Page). p.block) is_copy in
+    let block : c.in-Some.target.block ≡ c.args.page.now.block = c.in-Some.ensures.target.0 ∙ left_block in
     let later : IsLater (g.S.PageStore.backing c.read_right.new.store) (g.S.PageStore.backing c.unpin.new.self) =
     g.met.S.PageStore.laws.follows_later _ _ (c.unpin.ensures.steps _ (c.release.ensures.steps _ (c.act_on_halves.ensures.steps _ (c.take_block.ensures.steps _ (g.met.S.PageStore.laws.follows_same _))))) in
     record {
       left = left;
       half = half;
       right = right;
-      halves = subst (λ (b : ℕ). LeafHalves (node_of c.args.page) c.args.page.block b c.args.self.now.entry (node_of left) (node_of half)) (sym is_new) c.split_leaf-half.ensures.halves;
-      left_block = c.split_leaf-half.ensures.left_block;
+      halves = subst (λ (p : Page). LeafHalves (node_of p) p.block half.block c.args.self.now.entry (node_of left) (node_of half)) is_copy
+          (subst (λ (b : ℕ). LeafHalves (node_of c.copy-left.result) c.copy-left.result.block b c.args.self.now.entry (node_of left) (node_of half)) (sym is_new) c.split_leaf-half.ensures.halves);
+      left_block = left_block;
       left_cycle = c.split_leaf-half.ensures.left_cycle ∙ c.cycle.ensures ∙ ap (λ (s : State). s.cycle) same;
       half_cycle = c.split_leaf-half.ensures.right_cycle ∙ c.cycle.ensures ∙ ap (λ (s : State). s.cycle) same;
       fresh = subst (λ (b : ℕ). IsFresh st b) (sym is_new) (subst (λ (s : State). IsFresh s c.in-Ok-take_block.new) read c.in-Ok-take_block.ensures.fresh);
@@ -99,20 +104,22 @@ returns-in-Err-act_on_halves-clause-cause g c honest room fits pinned =
     let read = c.read_right.ensures.state in
     let same = c.take_block.ensures.state ∙ read in
     let is_new = c.split_leaf-half.ensures.right_block in
-    let left_block = c.split_leaf-half.ensures.left_block in
+    let is_copy : c.copy-left.result ≡ c.args.page.now = c.copy-left.ensures in
+    let left_block : left.block ≡ c.args.page.now.block = c.split_leaf-half.ensures.left_block ∙ ap (λ (p : Page). p.block) is_copy in
     let fresh : IsFresh st half.block = subst (λ (b : ℕ). IsFresh st b) (sym is_new) (subst (λ (s : State). IsFresh s c.in-Ok-take_block.new) read c.in-Ok-take_block.ensures.fresh) in
     let block : IsBlock half.block = subst IsBlock (sym is_new)
-    (c.in-Ok-take_block.ensures.block (subst (λ (s : State). 0 < length s.pages) (sym read) (let u : c.args.page.block < length st.pages = c.requires.used in omega arith))) in
-    let may : AreActable st.limits (length st.pages) changed = halves_may st session c.args.self.now.entry c.args.page left half right fits c.requires.may c.requires.some
+    (c.in-Ok-take_block.ensures.block (subst (λ (s : State). 0 < length s.pages) (sym read) (let u : c.args.page.now.block < length st.pages = c.requires.used in omega arith))) in
+    let may : AreActable st.limits (length st.pages) changed = halves_may st session c.args.self.now.entry c.args.page.now left half right fits c.requires.may c.requires.some
     c.split_leaf-half.ensures.left_page c.split_leaf-half.ensures.right_page c.split_leaf-half.ensures.left_leaf c.split_leaf-half.ensures.right_leaf
-    c.split_leaf-half.ensures.kept c.split_leaf-half.ensures.moved left_block fresh block c.in-Ok.ensures.stored in
+    (subst (λ (p : Page). length (entries_of left.items) ≡ left_count (length (entries_of p.items))) is_copy c.split_leaf-half.ensures.kept)
+    (subst (λ (p : Page). length (entries_of left.items) + length (entries_of half.items) ≡ length (entries_of p.items) + 1) is_copy c.split_leaf-half.ensures.moved) left_block fresh block c.in-Ok.ensures.stored in
     let why : HasCause (where_acting st second third changed) c.in-Err-act_on_halves.fault =
     subst (λ (b : Backing). HasCause (where_acting st b third changed) c.in-Err-act_on_halves.fault) c.take_block.ensures.backing
     (subst (λ (s : State). HasCause (where_acting s (g.S.PageStore.backing c.take_block.new.store) third changed) c.in-Err-act_on_halves.fault) same
     (c.in-Err-act_on_halves.ensures.cause (subst (λ (s : State). AreActable s.limits (length s.pages) changed) (sym same) may))) in
     let later : IsLater first second = g.met.S.PageStore.laws.follows_later _ _ (c.read_right.ensures.steps _ (g.met.S.PageStore.laws.follows_same _)) in
-    let beside : List ℕ = blocks_halved st c.args.page.right in
-    let are : map (λ (page : Page). page.block) changed ≡ c.args.page.block ∷ beside = halved_are st session c.args.page.block (fresh_block st) left half c.args.page.right right left_block
+    let beside : List ℕ = blocks_halved st c.args.page.now.right in
+    let are : map (λ (page : Page). page.block) changed ≡ c.args.page.now.block ∷ beside = halved_are st session c.args.page.now.block (fresh_block st) left half c.args.page.now.right right left_block
     (sym (fresh_is st half.block fresh)) c.in-Ok.ensures.stored in
-    act_cause st first second third session (c.args.page.block ∷ beside) (length beside) true false changed c.in-Err-act_on_halves.fault later.failures c.in-Ok.ensures.alive c.read_right.ensures.room.promised
-    are (frames_beside st c.args.page.block beside (map (λ (page : Page). page.block) changed) are pinned) why
+    act_cause st first second third session (c.args.page.now.block ∷ beside) (length beside) true false changed c.in-Err-act_on_halves.fault later.failures c.in-Ok.ensures.alive c.read_right.ensures.room.promised
+    are (frames_beside st c.args.page.now.block beside (map (λ (page : Page). page.block) changed) are pinned) why
