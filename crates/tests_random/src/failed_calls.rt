@@ -46,7 +46,7 @@ fn each_fails<R: Abort>(rt: &R, run: Run, script: &Script) -> Result<(), Fail> {
         assert!(rt; once && for_good, "{n}: {once} {for_good} {counted:?}");
     }
     assert!(rt;
-        counted.failed >= 20 && counted.stopped >= 150,
+        counted.failed >= 20 && counted.stopped >= 100,
         "{counted:?}"
     );
     Ok(())
