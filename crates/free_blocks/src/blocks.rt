@@ -40,11 +40,15 @@ impl FreeBlocks {
         Ok(FreeBlocks { tree, shape })
     }
 
-    /// Says since when a block is free, or, with none, that it isn't, in at most 17 writes.
+    /// Says since when a block is free, or, with none, that it isn't: in at most 17 writes, and in one look where none is to
+    /// be and none is.
     pub fn set(&mut self, block: u32, number: Option<u64>)
         requires place { block < length self.old }
         ensures { self.new ≡ slice_set self.old block number }
     {
+        if number.is_none() && self.get(block).is_none() {
+            return;
+        }
         tree::put(&mut self.tree, self.shape, block, number);
     }
 
