@@ -38,7 +38,8 @@ use Rattle.insert_split.specs.Inserts.{leaf_held, IsLeafFor, InsertFits, InsertS
 use Rattle.insert_split.specs.Straight.{straight_steps}
 use Rattle.insert_split.specs.Turns.{EntryPut, PutsEntry, PlaceRefused}
 use Rattle.insert_split.specs.declared.insert.InsertAt.{InsertAt}
-use Rattle.insert_split.specs.declared.insert.InsertAt.TheVariants.{Holding as Holds}
+use Rattle.insert_split.specs.declared.insert.InsertAt.TheVariants.{Coming}
+use Rattle.insert_split.specs.declared.insert.Stage.TheVariants.{Holding as Holds}
 use Rattle.insert_split.specs.declared.insert.InsertOp.{InsertOp}
 use Rattle.insert_split.specs.declared.insert.InsertStep.{InsertStep}
 use Rattle.insert_split.specs.declared.insert.InsertStep.TheVariants.{Going, Added}
@@ -49,14 +50,14 @@ true_false : true ≡ false → ⊥
 true_false h = cc
 
 -- what holds of an insert that holds its leaf
-pub leaf_there : (st : State) (op : InsertOp) (block : ℕ) → op.at ≡ Holds block → (fits : InsertFits st op)
+pub leaf_there : (st : State) (op : InsertOp) (block : ℕ) → op.at ≡ Coming (Holds block) → (fits : InsertFits st op)
     → (holding_of st.table op.session ≡ leaf_held block) × IsLeafFor st fits.start op.entry block
 leaf_there st op block at_is fits = subst (InsertStands st op.session fits.start op.entry) at_is fits.stands
 
-pub none_added : (op : InsertOp) (block : ℕ) → op.at ≡ Holds block → IsToCome op.at op.added → op.added ≡ None
+pub none_added : (op : InsertOp) (block : ℕ) → op.at ≡ Coming (Holds block) → IsToCome op.at op.added → op.added ≡ None
 none_added op block at_is h = subst (λ (a : InsertAt). IsToCome a op.added) at_is h
 
-pub no_targets : (op : InsertOp) (block : ℕ) (st : State) → op.at ≡ Holds block → OnlyTargetsAreFlagged st (targets_at op.at) → (b : ℕ) → is_flagged st b ≡ true → ⊥
+pub no_targets : (op : InsertOp) (block : ℕ) (st : State) → op.at ≡ Coming (Holds block) → OnlyTargetsAreFlagged st (targets_at op.at) → (b : ℕ) → is_flagged st b ≡ true → ⊥
 no_targets op block st at_is only b flagged =
     (let k : false ≡ true = subst (λ (a : InsertAt). is_among_targets (targets_at a) b ≡ true) at_is (only b flagged) in true_false (sym k))
 
@@ -114,24 +115,24 @@ not_the_leaf st session other block order held differ alone =
     true_false (sym (any_excluded (holding_of st.table other).latches block Exclusive alone) ∙ free)
 
 -- how many images and frames a leaf takes that is full, or isn't, and whether a block
-pub full_is : (st : State) (block : ℕ) (page : Page) → slice_get st.pages block ≡ Some page → st.limits.items ≤ length (entries_of page.items) → (images_at st (Holds block) ≡ block ∷ blocks_halved st page.right) × (frames_at st (Holds block) ≡ length (blocks_halved st page.right)) × (takes_block_at st (Holds block) ≡ true)
+pub full_is : (st : State) (block : ℕ) (page : Page) → slice_get st.pages block ≡ Some page → st.limits.items ≤ length (entries_of page.items) → (images_at st (Coming (Holds block)) ≡ block ∷ blocks_halved st page.right) × (frames_at st (Coming (Holds block)) ≡ length (blocks_halved st page.right)) × (takes_block_at st (Coming (Holds block)) ≡ true)
 full_is st block page found le =
     let full = le-leb st.limits.items (length (entries_of page.items)) le in
     (rw (found, full) refl, rw (found, full) refl, rw (found, full) refl)
 
-pub roomy_is : (st : State) (block : ℕ) (page : Page) → slice_get st.pages block ≡ Some page → length (entries_of page.items) < st.limits.items → (images_at st (Holds block) ≡ block ∷ []) × (frames_at st (Holds block) ≡ 0) × (takes_block_at st (Holds block) ≡ false)
+pub roomy_is : (st : State) (block : ℕ) (page : Page) → slice_get st.pages block ≡ Some page → length (entries_of page.items) < st.limits.items → (images_at st (Coming (Holds block)) ≡ block ∷ []) × (frames_at st (Coming (Holds block)) ≡ 0) × (takes_block_at st (Coming (Holds block)) ≡ false)
 roomy_is st block page found lt =
     let roomy = lt-leb st.limits.items (length (entries_of page.items)) lt in
     (rw (found, roomy) refl, rw (found, roomy) refl, rw (found, roomy) refl)
 
-pub holding_cause : (st : State) (old new : Backing) (op : InsertOp) (block : ℕ) (images : List ℕ) (frames : ℕ) (takes : Bool) (fault : Fault) → op.at ≡ Holds block
-    → (images_at st (Holds block) ≡ images) × (frames_at st (Holds block) ≡ frames) × (takes_block_at st (Holds block) ≡ takes)
+pub holding_cause : (st : State) (old new : Backing) (op : InsertOp) (block : ℕ) (images : List ℕ) (frames : ℕ) (takes : Bool) (fault : Fault) → op.at ≡ Coming (Holds block)
+    → (images_at st (Coming (Holds block)) ≡ images) × (frames_at st (Coming (Holds block)) ≡ frames) × (takes_block_at st (Coming (Holds block)) ≡ takes)
     → HasCause (where_working st old new op.session images frames takes false) fault → HasCause (where_inserting st old new op.session op.entry op.at) fault
 holding_cause st old new op block images frames takes fault at_is counts h =
     subst (λ (a : InsertAt). HasCause (where_inserting st old new op.session op.entry a) fault) (sym at_is)
-    (as_inserting st old new op.session op.entry (Holds block) (images_at st (Holds block)) (frames_at st (Holds block)) (takes_block_at st (Holds block)) false fault refl
-    (subst (λ (blocks : List ℕ). HasCause (where_working st old new op.session blocks (frames_at st (Holds block)) (takes_block_at st (Holds block)) false) fault) (sym counts.0)
-    (subst (λ (n : ℕ). HasCause (where_working st old new op.session images n (takes_block_at st (Holds block)) false) fault) (sym counts.1)
+    (as_inserting st old new op.session op.entry (Coming (Holds block)) (images_at st (Coming (Holds block))) (frames_at st (Coming (Holds block))) (takes_block_at st (Coming (Holds block))) false fault refl
+    (subst (λ (blocks : List ℕ). HasCause (where_working st old new op.session blocks (frames_at st (Coming (Holds block))) (takes_block_at st (Coming (Holds block))) false) fault) (sym counts.0)
+    (subst (λ (n : ℕ). HasCause (where_working st old new op.session images n (takes_block_at st (Coming (Holds block))) false) fault) (sym counts.1)
     (subst (λ (b : Bool). HasCause (where_working st old new op.session images frames b false) fault) (sym counts.2) h))))
 
 -- what the leaf of an entry is, as it was read
@@ -145,7 +146,7 @@ covers_there st start e block page tree block_is found leaf =
 
 -- a step that puts the entry
 pub puts : {S : Type 0} (g : Ghosts S) (op : InsertOp) (old mid new : S) (block : ℕ) (page : Page) (result : Result InsertStep Fault)
-    → Continues g.follows old new → g.state mid ≡ g.state old → (g.backing old).stopped ≡ false → op.at ≡ Holds block → page.block ≡ block
+    → Continues g.follows old new → g.state mid ≡ g.state old → (g.backing old).stopped ≡ false → op.at ≡ Coming (Holds block) → page.block ≡ block
     → ((g.backing new).honest ≡ true → slice_get (g.state old).pages block ≡ Some page)
     → (g.backing old).failures ≤ (g.backing mid).failures → ((g.backing mid).stopped ≡ true → (g.backing old).stopped ≡ true) → (g.backing mid).promised ≡ (g.backing old).promised
     → is_among (entries_of page.items) op.entry ≡ false → length (entries_of page.items) < (g.state old).limits.items
@@ -227,16 +228,16 @@ puts g op old mid new block page (Err fault) steps same alive at_is block_is fou
     st = g.state old
 
 -- why the leaf isn't read
-pub reads_leaf : (st : State) (old new : Backing) (op : InsertOp) (block : ℕ) (fault : Fault) → new.honest ≡ true → IsInOrder st → op.at ≡ Holds block → InsertFits st op
+pub reads_leaf : (st : State) (old new : Backing) (op : InsertOp) (block : ℕ) (fault : Fault) → new.honest ≡ true → IsInOrder st → op.at ≡ Coming (Holds block) → InsertFits st op
     → HasCause (where_read st old new block) fault → HasCause (where_inserting st old new op.session op.entry op.at) fault
 reads_leaf st old new op block fault honest order at_is fits h =
     let there = leaf_there st op block at_is fits in
     let used = place_in_use st order.tree fits.start 0 (entry_aim op.entry) true block there.1.place in
-    holding_cause st old new op block (images_at st (Holds block)) (frames_at st (Holds block)) (takes_block_at st (Holds block)) fault at_is (refl, refl, refl)
-    (read_pinned_cause st old new op.session (images_at st (Holds block)) (frames_at st (Holds block)) (takes_block_at st (Holds block)) false block fault honest used.1 (pinned_leaf st.table op.session block there.0) h)
+    holding_cause st old new op block (images_at st (Coming (Holds block))) (frames_at st (Coming (Holds block))) (takes_block_at st (Coming (Holds block))) fault at_is (refl, refl, refl)
+    (read_pinned_cause st old new op.session (images_at st (Coming (Holds block))) (frames_at st (Coming (Holds block))) (takes_block_at st (Coming (Holds block))) false block fault honest used.1 (pinned_leaf st.table op.session block there.0) h)
 
 -- why the leaf gives no place: the entry is there
-pub no_place : (st : State) (old new : Backing) (op : InsertOp) (block : ℕ) (page : Page) (fault : Fault) → IsInOrder st → op.at ≡ Holds block → InsertFits st op
+pub no_place : (st : State) (old new : Backing) (op : InsertOp) (block : ℕ) (page : Page) (fault : Fault) → IsInOrder st → op.at ≡ Coming (Holds block) → InsertFits st op
     → slice_get st.pages block ≡ Some page → page.block ≡ block → IsPage page → PlaceRefused page op.entry fault → HasCause (where_inserting st old new op.session op.entry op.at) fault
 no_place st old new op block page fault order at_is fits found block_is admitted (inl damaged) =
     let there = leaf_there st op block at_is fits in

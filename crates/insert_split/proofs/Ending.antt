@@ -21,7 +21,8 @@ use Rattle.insert_split.specs.Inserts.{InsertFits, InsertStands, InsertSteps, Is
 use Rattle.insert_split.specs.Straight.{IsStraight}
 use Rattle.insert_split.specs.Turns.{GoesOn, GoesOnFrom, Leaves, LeavesBy, IsFinishing, IsRefusedRightly, is_blocked}
 use Rattle.insert_split.specs.declared.insert.InsertAt.{InsertAt}
-use Rattle.insert_split.specs.declared.insert.InsertAt.TheVariants.{Start, At, Holding as Holds, Finishing}
+use Rattle.insert_split.specs.declared.insert.InsertAt.TheVariants.{Coming, Finishing}
+use Rattle.insert_split.specs.declared.insert.Stage.TheVariants.{Start}
 use Rattle.insert_split.specs.declared.insert.InsertOp.{InsertOp}
 use Rattle.insert_split.specs.declared.insert.InsertStep.{InsertStep}
 use Rattle.insert_split.specs.declared.insert.InsertStep.TheVariants.{Going, Added}
@@ -108,7 +109,7 @@ finish_done g before after splits then_splits step old new at_is alive h on = by
       kept = h.kept;
       refused = tt;
       stopped = λ halted. runs_no_more (g.backing old).stopped alive halted;
-      less = λ honest going acts. subst (λ (a : InsertAt). insert_left (g.state new).limits.pages (g.state new).pages Start < insert_left (g.state old).limits.pages (g.state old).pages a) (sym at_is)
+      less = λ honest going acts. subst (λ (a : InsertAt). insert_left (g.state new).limits.pages (g.state new).pages (Coming Start) < insert_left (g.state old).limits.pages (g.state old).pages a) (sym at_is)
           (let over = h.over honest refl acts in let l = ap (λ (x : Limits). x.pages) h.kept.limits in rw l (omega (arith, over)));
       stepped = λ honest order fits.
           let there = finishing_there (g.state old) before splits at_is fits in
@@ -206,9 +207,7 @@ refused_rightly (Some action) fault result leaves = by (is_blocked fault) refl l
 
 -- an insert whose entry is logged isn't on its straight way any more
 past_adding : (st : State) (e : Entry) (at : InsertAt) (action : ℕ) → IsToCome at (Some action) → IsStraight st e at → ⊥
-past_adding st e Start action to_come on = absurd cc
-past_adding st e (At way) action to_come on = absurd cc
-past_adding st e (Holds block) action to_come on = absurd cc
+past_adding st e (Coming stage) action to_come on = absurd cc
 past_adding st e (Finishing op) action to_come on = on
 
 -- a step on a stopped log
@@ -249,7 +248,5 @@ stops g op store result halted told = by op.added refl told
 
 -- an insert that finishes has something to finish
 pub has_splits : (at : InsertAt) → IsFinishing at → ((splits : FinishOp) → at ≡ Finishing splits → ⊥) → ⊥
-has_splits Start finishing none = finishing
-has_splits (At way) finishing none = finishing
-has_splits (Holds block) finishing none = finishing
+has_splits (Coming stage) finishing none = finishing
 has_splits (Finishing splits) finishing none = none splits refl

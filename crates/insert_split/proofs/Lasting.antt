@@ -21,7 +21,8 @@ use Rattle.split_finish.specs.declared.finish.Target.{Target}
 use Rattle.insert_split.specs.Inserts.{InsertStands, insert_left}
 use Rattle.insert_split.specs.Laws.{InsertsAreUndisturbed, FreshInsertsAreBounded, InsertsAreBounded}
 use Rattle.insert_split.specs.declared.insert.InsertAt.{InsertAt}
-use Rattle.insert_split.specs.declared.insert.InsertAt.TheVariants.{Start, At, Holding as Holds, Finishing}
+use Rattle.insert_split.specs.declared.insert.InsertAt.TheVariants.{Coming, Finishing}
+use Rattle.insert_split.specs.declared.insert.Stage.TheVariants.{Start, At, Holding as Holds}
 use Rattle.insert_split.proofs.Adding.{holds_leaf}
 
 way_still : (old new : State) (start to : ℕ) (e : Bound) (way : Way) → NumbersStay start old new → IsOnWay old start (bound_aim e) true to way → IsOnWay new start (bound_aim e) true to way
@@ -56,9 +57,9 @@ finish_still old new op rely fits =
     }
 
 stands_still : (old new : State) (session start : ℕ) (e : Entry) (at : InsertAt) → MayRely session old new → NumbersStay start old new → InsertStands old session start e at → InsertStands new session start e at
-stands_still old new session start e Start rely stay h = rely.held ∙ h
-stands_still old new session start e (At way) rely stay h = (rely.held ∙ h.0, way_still old new start 0 (bound_of e) way stay h.1)
-stands_still old new session start e (Holds block) rely stay h = (
+stands_still old new session start e (Coming Start) rely stay h = rely.held ∙ h
+stands_still old new session start e (Coming (At way)) rely stay h = (rely.held ∙ h.0, way_still old new start 0 (bound_of e) way stay h.1)
+stands_still old new session start e (Coming (Holds block)) rely stay h = (
   rely.held ∙ h.0,
   record {
     page = h.1.page;
@@ -85,12 +86,12 @@ pub bounded : FreshInsertsAreBounded
 bounded most pages few = omega arith
 
 left_few : (st : State) (session start : ℕ) (e : Entry) (at : InsertAt) → HasTree st → st.limits.pages ≤ 65536 → InsertStands st session start e at → insert_left st.limits.pages st.pages at < 4398046511104
-left_few st session start e Start has few stands = omega arith
-left_few st session start e (At way) has few stands =
+left_few st session start e (Coming Start) has few stands = omega arith
+left_few st session start e (Coming (At way)) has few stands =
     let low = low_level st start way.level (entry_aim e) true way.block has stands.1.place in
     let short = walk_is_long st.limits.pages way (omega arith) in
     omega arith
-left_few st session start e (Holds block) has few stands = omega arith
+left_few st session start e (Coming (Holds block)) has few stands = omega arith
 left_few st session start e (Finishing op) has few stands = (let left = finish_bounded st op st.limits.pages has stands.1 in omega arith)
 
 pub bounded_at_each_moment : InsertsAreBounded

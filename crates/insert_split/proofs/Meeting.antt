@@ -26,7 +26,8 @@ use Rattle.split_finish.specs.declared.finish.Target.{Target}
 use Rattle.insert_split.specs.Inserts.{InsertFits, InsertSteps, insert_left, targets_at}
 use Rattle.insert_split.specs.Turns.{Meets}
 use Rattle.insert_split.specs.declared.insert.InsertAt.{InsertAt}
-use Rattle.insert_split.specs.declared.insert.InsertAt.TheVariants.{At, Finishing}
+use Rattle.insert_split.specs.declared.insert.InsertAt.TheVariants.{Coming, Finishing}
+use Rattle.insert_split.specs.declared.insert.Stage.TheVariants.{At}
 use Rattle.insert_split.specs.declared.insert.InsertOp.{InsertOp}
 use Rattle.insert_split.specs.declared.insert.InsertStep.{InsertStep}
 use Rattle.insert_split.specs.declared.insert.InsertStep.TheVariants.{Going, Added}
@@ -81,7 +82,7 @@ one_target_fits st start session aim way page target op tree low free runs found
 
 -- a step that meets such a page
 pub meets : {S : Type 0} (g : Ghosts S) (before after : InsertOp) (old new : S) (page : Page) (way : Way) (result : Result InsertStep Fault) → Continues g.follows old new → g.state new ≡ g.state old
-    → (g.backing old).stopped ≡ false → before.at ≡ At way → Meets page way before after result
+    → (g.backing old).stopped ≡ false → before.at ≡ Coming (At way) → Meets page way before after result
     → page.state ≡ Live → page.split ≡ true → IsPage page → page.block ≡ way.block
     → ((g.backing new).honest ≡ true → slice_get (g.state old).pages way.block ≡ Some page)
     → InsertSteps g before after old new result

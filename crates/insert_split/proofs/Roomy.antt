@@ -6,7 +6,8 @@ use Rattle.descent.specs.Shared.{IsInOrder}
 use Rattle.insert_split.specs.Inserts.{InsertFits, takes_block_at, splits_root_at}
 use Rattle.insert_split.specs.Straight.{IsStraight, HasRoomFor}
 use Rattle.insert_split.specs.declared.insert.InsertAt.{InsertAt}
-use Rattle.insert_split.specs.declared.insert.InsertAt.TheVariants.{Start, At, Holding as Holds, Finishing}
+use Rattle.insert_split.specs.declared.insert.InsertAt.TheVariants.{Coming, Finishing}
+use Rattle.insert_split.specs.declared.insert.Stage.TheVariants.{Start, At, Holding as Holds}
 use Rattle.insert_split.specs.declared.insert.InsertOp.{InsertOp}
 use Rattle.insert_split.proofs.Adding.{leaf_there, covers_there, roomy_is}
 
@@ -16,9 +17,9 @@ pub straight_takes_none : (st : State) (op : InsertOp) → IsInOrder st → Inse
 straight_takes_none st op order fits way room = by op.at refl way
   where
     by : (at : InsertAt) → op.at ≡ at → IsStraight st op.entry at → (takes_block_at st at ≡ false) × (splits_root_at st at ≡ false)
-    by Start is way = (refl, refl)
-    by (At on) is way = (refl, refl)
-    by (Holds block) is way =
+    by (Coming Start) is way = (refl, refl)
+    by (Coming (At on)) is way = (refl, refl)
+    by (Coming (Holds block)) is way =
         let leaf = (leaf_there st op block is fits).1 in
         let block_is = (stored_page st.limits block st.pages leaf.page order.tree.stored leaf.found).block_is in
         let covers = covers_there st fits.start op.entry block leaf.page order.tree block_is leaf.found leaf in

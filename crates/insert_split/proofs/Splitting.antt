@@ -41,7 +41,8 @@ use Rattle.split_finish.proofs.Parting.{mends_right}
 use Rattle.insert_split.specs.Inserts.{leaf_held, blocks_halved, InsertFits, InsertSteps, targets_at}
 use Rattle.insert_split.specs.Turns.{IsSplittable, SplitsLeaf}
 use Rattle.insert_split.specs.declared.insert.InsertAt.{InsertAt}
-use Rattle.insert_split.specs.declared.insert.InsertAt.TheVariants.{Holding as Holds}
+use Rattle.insert_split.specs.declared.insert.InsertAt.TheVariants.{Coming}
+use Rattle.insert_split.specs.declared.insert.Stage.TheVariants.{Holding as Holds}
 use Rattle.insert_split.specs.declared.insert.InsertOp.{InsertOp}
 use Rattle.insert_split.specs.declared.insert.InsertStep.{InsertStep}
 use Rattle.insert_split.specs.declared.insert.InsertStep.TheVariants.{Going, Added}
@@ -108,7 +109,7 @@ flag_other b c was differ = rw (ne_eqb b c differ) refl
 
 -- a step that splits the leaf
 pub splits : {S : Type 0} (g : Ghosts S) (before after : InsertOp) (old mid new : S) (block : ℕ) (page : Page) (result : Result InsertStep Fault)
-    → Continues g.follows old new → g.state mid ≡ g.state old → (g.backing old).stopped ≡ false → before.at ≡ Holds block → page.block ≡ block
+    → Continues g.follows old new → g.state mid ≡ g.state old → (g.backing old).stopped ≡ false → before.at ≡ Coming (Holds block) → page.block ≡ block
     → ((g.backing new).honest ≡ true → slice_get (g.state old).pages block ≡ Some page) → IsStored (g.state old).limits page.block page → length (g.state old).pages ≤ (g.state old).limits.pages
     → (g.backing old).failures ≤ (g.backing mid).failures → ((g.backing mid).stopped ≡ true → (g.backing old).stopped ≡ true) → (g.backing mid).promised ≡ (g.backing old).promised
     → is_among (entries_of page.items) before.entry ≡ false → (g.state old).limits.items ≤ length (entries_of page.items)

@@ -27,7 +27,8 @@ use Rattle.insert_split.specs.Inserts.{leaf_held, IsLeafFor, InsertFits, InsertS
 use Rattle.insert_split.specs.Straight.{IsStraight, straight_steps}
 use Rattle.insert_split.specs.Turns.{IsNotTaken, Takes}
 use Rattle.insert_split.specs.declared.insert.InsertAt.{InsertAt}
-use Rattle.insert_split.specs.declared.insert.InsertAt.TheVariants.{At, Holding as Holds}
+use Rattle.insert_split.specs.declared.insert.InsertAt.TheVariants.{Coming}
+use Rattle.insert_split.specs.declared.insert.Stage.TheVariants.{At, Holding as Holds}
 use Rattle.insert_split.specs.declared.insert.InsertOp.{InsertOp}
 use Rattle.insert_split.specs.declared.insert.InsertStep.{InsertStep}
 use Rattle.insert_split.specs.declared.insert.InsertStep.TheVariants.{Going, Added}
@@ -65,9 +66,9 @@ true_false h = cc
 -- a step that takes the leaf, or doesn't
 pub takes : {S : Type 0} (g : Ghosts S) (before after : InsertOp) (old mid new : S) (page : Page) (way : Way) (result : Result InsertStep Fault)
     → Continues g.follows old new → g.state mid ≡ g.state old → g.backing new ≡ g.backing mid
-    → (g.backing old).stopped ≡ false → before.at ≡ At way
+    → (g.backing old).stopped ≡ false → before.at ≡ Coming (At way)
     → (InsertFits (g.state old) before → Takes page.block before after (g.state mid) (g.state new) result)
-    → (result ≡ Ok Going → (g.state new ≡ with_table (g.state mid) (pinned (latched (g.state mid).table before.session page.block Exclusive) before.session page.block)) × (after ≡ record before { at = Holds page.block }))
+    → (result ≡ Ok Going → (g.state new ≡ with_table (g.state mid) (pinned (latched (g.state mid).table before.session page.block Exclusive) before.session page.block)) × (after ≡ record before { at = Coming (Holds page.block) }))
     → ((fault : Fault) → result ≡ Err fault → (g.state new ≡ g.state mid) × (after ≡ before))
     → ((action : ℕ) (unfinished : Option Fault) → result ≡ Ok (Added action unfinished) → ⊥)
     → page.block ≡ way.block → IsPage page → page.state ≡ Live → page.split ≡ false → is_within (entry_aim before.entry) page.high ≡ true
@@ -131,19 +132,19 @@ takes g before after old mid new page way (Ok Going) steps same backing alive at
     table : Table
     table = pinned (latched st.table before.session page.block Exclusive) before.session page.block
 
-    is : after ≡ record before { at = Holds page.block }
+    is : after ≡ record before { at = Coming (Holds page.block) }
     is = (moved refl).1
 
     now : g.state new ≡ with_table st table
     now = (moved refl).0 ∙ ap (λ (s : State). with_table s (pinned (latched s.table before.session page.block Exclusive) before.session page.block)) same
 
-    less_there : insert_left st.limits.pages st.pages (Holds page.block) < insert_left st.limits.pages st.pages (At way)
+    less_there : insert_left st.limits.pages st.pages (Coming (Holds page.block)) < insert_left st.limits.pages st.pages (Coming (At way))
     less_there = omega arith
 
     fewer : insert_left (g.state new).limits.pages (g.state new).pages after.at < insert_left st.limits.pages st.pages before.at
     fewer = subst (λ (s : State). insert_left s.limits.pages s.pages after.at < insert_left st.limits.pages st.pages before.at) (sym now)
         (subst (λ (o : InsertOp). insert_left st.limits.pages st.pages o.at < insert_left st.limits.pages st.pages before.at) (sym is)
-        (subst (λ (a : InsertAt). insert_left st.limits.pages st.pages (Holds page.block) < insert_left st.limits.pages st.pages a) (sym at_is) less_there))
+        (subst (λ (a : InsertAt). insert_left st.limits.pages st.pages (Coming (Holds page.block)) < insert_left st.limits.pages st.pages a) (sym at_is) less_there))
 takes g before after old mid new page way (Ok (Added action unfinished)) steps same backing alive at_is told moved stays none block_is admitted live whole within found ground = absurd (none action unfinished refl)
 takes g before after old mid new page way (Err fault) steps same backing alive at_is told moved stays none block_is admitted live whole within found ground =
     let kept = stays fault refl in
@@ -162,7 +163,7 @@ takes g before after old mid new page way (Err fault) steps same backing alive a
         (subst (λ (s : State). is_held_by_another s.table before.session page.block Exclusive ≡ true) same held.1)))
 
 -- the page that a search ends at may hold the entry
-pub may_be_held : (st : State) (before : InsertOp) (page : Page) (way : Way) → before.at ≡ At way → (order : IsInOrder st) → (fits : InsertFits st before)
+pub may_be_held : (st : State) (before : InsertOp) (page : Page) (way : Way) → before.at ≡ Coming (At way) → (order : IsInOrder st) → (fits : InsertFits st before)
     → page.block ≡ way.block → IsPage page → page.state ≡ Live → page.split ≡ false → is_within (entry_aim before.entry) page.high ≡ true → slice_get st.pages way.block ≡ Some page → way.level ≡ 0
     → MayHold page before.entry
 may_be_held st before page way at_is order fits block_is admitted live whole within found ground =

@@ -28,7 +28,8 @@ use Rattle.descent.specs.Shared.{IsInOrder, where_working}
 use Rattle.descent.specs.declared.way.Way.{Way}
 use Rattle.insert_split.specs.Inserts.{InsertFits, InsertStands, IsToCome, where_inserting}
 use Rattle.insert_split.specs.declared.insert.InsertAt.{InsertAt}
-use Rattle.insert_split.specs.declared.insert.InsertAt.TheVariants.{At}
+use Rattle.insert_split.specs.declared.insert.InsertAt.TheVariants.{Coming}
+use Rattle.insert_split.specs.declared.insert.Stage.TheVariants.{At}
 use Rattle.insert_split.specs.declared.insert.InsertOp.{InsertOp}
 
 -- a place is a block in use
@@ -81,16 +82,16 @@ up_to_within None e h = tt
 up_to_within (Some high) e h = not_true (entry_aim e high) h
 
 -- where an insert on its way stands
-pub on_way : (st : State) (op : InsertOp) (way : Way) → op.at ≡ At way → (fits : InsertFits st op)
+pub on_way : (st : State) (op : InsertOp) (way : Way) → op.at ≡ Coming (At way) → (fits : InsertFits st op)
     → (holding_of st.table op.session ≡ nothing_held) × IsOnWay st fits.start (entry_aim op.entry) true 0 way
 on_way st op way at_is fits = subst (InsertStands st op.session fits.start op.entry) at_is fits.stands
 
-pub to_come_there : (op : InsertOp) (way : Way) → op.at ≡ At way → IsToCome op.at op.added → op.added ≡ None
+pub to_come_there : (op : InsertOp) (way : Way) → op.at ≡ Coming (At way) → IsToCome op.at op.added → op.added ≡ None
 to_come_there op way at_is h = subst (λ (a : InsertAt). IsToCome a op.added) at_is h
 
-pub reading_cause : (st : State) (old new : Backing) (op : InsertOp) (way : Way) (fault : Fault) → op.at ≡ At way
+pub reading_cause : (st : State) (old new : Backing) (op : InsertOp) (way : Way) (fault : Fault) → op.at ≡ Coming (At way)
     → HasCause (where_working st old new op.session [] 1 false false) fault → HasCause (where_inserting st old new op.session op.entry op.at) fault
-reading_cause st old new op way fault at_is h = rw at_is (as_inserting st old new op.session op.entry (At way) [] 1 false false fault refl h)
+reading_cause st old new op way fault at_is h = rw at_is (as_inserting st old new op.session op.entry (Coming (At way)) [] 1 false false fault refl h)
 
 true_false : true ≡ false → ⊥
 true_false h = cc
@@ -123,7 +124,7 @@ whole_page page admitted whole = by page.items admitted.kind
     by (Downlinks v) h = whole h.state
 
 -- where a page leads an insert on its way
-pub led : (st : State) (op : InsertOp) (way : Way) (page : Page) (bound : Bound) (most : ℕ) (result : Option Onward) → op.at ≡ At way → IsInOrder st → (fits : InsertFits st op)
+pub led : (st : State) (op : InsertOp) (way : Way) (page : Page) (bound : Bound) (most : ℕ) (result : Option Onward) → op.at ≡ Coming (At way) → IsInOrder st → (fits : InsertFits st op)
     → slice_get st.pages way.block ≡ Some page → IsPage page → (page.state ≡ Live → page.split ≡ false) → bound ≡ bound_of op.entry → length st.pages ≤ most
     → ((s : State) (start : ℕ) (clear : Bool) → HasTree s → slice_get s.pages way.block ≡ Some page → IsOnWay s start (bound_aim bound) clear 0 way → (clear ≡ true → page.split ≡ false)
     → length s.pages ≤ most → LeadsOnward s start (bound_aim bound) clear 0 way result)

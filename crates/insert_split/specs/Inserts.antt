@@ -24,7 +24,8 @@ use Rattle.split_finish.specs.Turns.{splits_root_of}
 use Rattle.split_finish.specs.declared.finish.Target.{Target}
 use Rattle.insert_split.specs.Straight.{IsStraight, HasRoomFor, CountsDown}
 use Rattle.insert_split.specs.declared.insert.InsertAt.{InsertAt}
-use Rattle.insert_split.specs.declared.insert.InsertAt.TheVariants.{Start, At, Holding as Holds, Finishing}
+use Rattle.insert_split.specs.declared.insert.InsertAt.TheVariants.{Coming, Finishing}
+use Rattle.insert_split.specs.declared.insert.Stage.TheVariants.{Start, At, Holding as Holds}
 use Rattle.insert_split.specs.declared.insert.InsertOp.{InsertOp}
 use Rattle.insert_split.specs.declared.insert.InsertStep.{InsertStep}
 use Rattle.insert_split.specs.declared.insert.InsertStep.TheVariants.{Going, Added}
@@ -48,18 +49,16 @@ pub record IsLeafFor (st : State) (start : ℕ) (e : Entry) (block : ℕ) : Type
 
 -- what it holds, and where it stands: before its first step, on its way to its leaf, with its leaf, or with splits to finish
 abbrev pub InsertStands : State → ℕ → ℕ → Entry → InsertAt → Type 0
-InsertStands st session start e Start = holding_of st.table session ≡ nothing_held
-InsertStands st session start e (At way) =
+InsertStands st session start e (Coming Start) = holding_of st.table session ≡ nothing_held
+InsertStands st session start e (Coming (At way)) =
     (holding_of st.table session ≡ nothing_held) × IsOnWay st start (entry_aim e) true 0 way
-InsertStands st session start e (Holds block) =
+InsertStands st session start e (Coming (Holds block)) =
     (holding_of st.table session ≡ leaf_held block) × IsLeafFor st start e block
 InsertStands st session start e (Finishing op) = (op.session ≡ session) × FinishFits st op
 
 -- the entry isn't logged before its leaf is found
 abbrev pub IsToCome : InsertAt → Option ℕ → Type 0
-IsToCome Start added = added ≡ None
-IsToCome (At way) added = added ≡ None
-IsToCome (Holds block) added = added ≡ None
+IsToCome (Coming stage) added = added ≡ None
 IsToCome (Finishing op) added = Unit {0}
 
 -- what an insert knows between its steps
@@ -72,16 +71,14 @@ pub record InsertFits (st : State) (op : InsertOp) : Type 0 where
 
 -- the pages whose splits the insert is to finish
 abbrev pub targets_at : InsertAt → List Target
-targets_at Start = []
-targets_at (At way) = []
-targets_at (Holds block) = []
+targets_at (Coming stage) = []
 targets_at (Finishing op) = targets_of op
 
 -- what is left to do, in steps, while the pages are as they are and there are at most so many
 abbrev pub insert_left : ℕ → List Page → InsertAt → ℕ
-insert_left most pages Start = 33 * suc (walk_length most) + walk_length most
-insert_left most pages (At way) = 33 * suc (walk_length most) + way_left most way
-insert_left most pages (Holds block) = 33 * suc (walk_length most)
+insert_left most pages (Coming Start) = 33 * suc (walk_length most) + walk_length most
+insert_left most pages (Coming (At way)) = 33 * suc (walk_length most) + way_left most way
+insert_left most pages (Coming (Holds block)) = 33 * suc (walk_length most)
 insert_left most pages (Finishing op) = finish_left most pages op
 
 -- the leaf has no room for one more entry
@@ -102,30 +99,28 @@ blocks_beside st (Some page) =
 
 -- the blocks that the act of a step writes
 abbrev pub images_at : State → InsertAt → List ℕ
-images_at st Start = []
-images_at st (At way) = []
-images_at st (Holds block) = block ∷ blocks_beside st (slice_get st.pages block)
+images_at st (Coming Start) = []
+images_at st (Coming (At way)) = []
+images_at st (Coming (Holds block)) = block ∷ blocks_beside st (slice_get st.pages block)
 images_at st (Finishing op) = images_of st op.target op.at
 
 -- ... and how many frames it needs, beside that of the leaf that it has pinned
 abbrev pub frames_at : State → InsertAt → ℕ
-frames_at st Start = 1
-frames_at st (At way) = 1
-frames_at st (Holds block) = length (blocks_beside st (slice_get st.pages block))
+frames_at st (Coming Start) = 1
+frames_at st (Coming (At way)) = 1
+frames_at st (Coming (Holds block)) = length (blocks_beside st (slice_get st.pages block))
 frames_at st (Finishing op) = frames_of st op.target op.at
 
 -- ... whether it takes a block: to split a full leaf, or to finish a split
 abbrev pub takes_block_at : State → InsertAt → Bool
-takes_block_at st Start = false
-takes_block_at st (At way) = false
-takes_block_at st (Holds block) = is_full_page st.limits.items (slice_get st.pages block)
+takes_block_at st (Coming Start) = false
+takes_block_at st (Coming (At way)) = false
+takes_block_at st (Coming (Holds block)) = is_full_page st.limits.items (slice_get st.pages block)
 takes_block_at st (Finishing op) = takes_block_of st op.target op.at
 
 -- ... and whether it is to split the root: only to finish a split
 abbrev pub splits_root_at : State → InsertAt → Bool
-splits_root_at st Start = false
-splits_root_at st (At way) = false
-splits_root_at st (Holds block) = false
+splits_root_at st (Coming stage) = false
 splits_root_at st (Finishing op) = splits_root_of st op.target op.at
 
 -- why a step of an insert is refused, on pages that are a tree and a device that keeps its model

@@ -4,7 +4,8 @@ use Rattle.page_codec.specs.declared.page.Page.{Page}
 use Rattle.page_action.specs.States.{State}
 use Rattle.descent.specs.Shared.{IsInOrder, MayRely}
 use Rattle.insert_split.specs.Inserts.{InsertFits, insert_left}
-use Rattle.insert_split.specs.declared.insert.InsertAt.TheVariants.{Start}
+use Rattle.insert_split.specs.declared.insert.InsertAt.TheVariants.{Coming}
+use Rattle.insert_split.specs.declared.insert.Stage.TheVariants.{Start}
 use Rattle.insert_split.specs.declared.insert.InsertOp.{InsertOp}
 
 -- what an insert knows it still knows after others have acted
@@ -17,7 +18,7 @@ InsertsAreUndisturbed =
 abbrev pub FreshInsertsAreBounded : Type 0
 FreshInsertsAreBounded =
     (most : ℕ) (pages : List Page) → most ≤ 65536
-    → insert_left most pages Start < 281474976710656
+    → insert_left most pages (Coming Start) < 281474976710656
 
 -- ... and for one at each moment of its steps
 abbrev pub InsertsAreBounded : Type 0

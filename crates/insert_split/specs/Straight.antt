@@ -9,23 +9,24 @@ use Rattle.tree_shape.specs.Walks.{entry_aim}
 use Rattle.tree_acts.specs.Trees.{HasCover}
 use Rattle.descent.specs.Ways.{root_level}
 use Rattle.insert_split.specs.declared.insert.InsertAt.{InsertAt}
-use Rattle.insert_split.specs.declared.insert.InsertAt.TheVariants.{Start, At, Holding as Holds, Finishing}
+use Rattle.insert_split.specs.declared.insert.InsertAt.TheVariants.{Coming, Finishing}
+use Rattle.insert_split.specs.declared.insert.Stage.TheVariants.{Start, At, Holding as Holds}
 use Rattle.insert_split.specs.declared.insert.InsertOp.{InsertOp}
 use Rattle.insert_split.specs.declared.insert.InsertStep.{InsertStep}
 use Rattle.insert_split.specs.declared.insert.InsertStep.TheVariants.{Going, Added}
 
 -- the metapage, a page of each level, and the act
 abbrev pub straight_steps : List Page → InsertAt → ℕ
-straight_steps pages Start = root_level pages + 3
-straight_steps pages (At way) = way.level + 2
-straight_steps pages (Holds block) = 1
+straight_steps pages (Coming Start) = root_level pages + 3
+straight_steps pages (Coming (At way)) = way.level + 2
+straight_steps pages (Coming (Holds block)) = 1
 straight_steps pages (Finishing op) = 0
 
 -- an insert that hasn't begun, whose next page covers the entry, or that holds its leaf
 abbrev pub IsStraight : State → Entry → InsertAt → Type 0
-IsStraight st e Start = Unit {0}
-IsStraight st e (At way) = HasCover st way.level (entry_aim e) way.block
-IsStraight st e (Holds block) = Unit {0}
+IsStraight st e (Coming Start) = Unit {0}
+IsStraight st e (Coming (At way)) = HasCover st way.level (entry_aim e) way.block
+IsStraight st e (Coming (Holds block)) = Unit {0}
 IsStraight st e (Finishing op) = ⊥
 
 -- the leaf that covers the entry has room for one more

@@ -20,7 +20,8 @@ use Rattle.split_finish.specs.declared.finish.FinishAt.TheVariants.{Start as Fin
 use Rattle.split_finish.specs.declared.finish.FinishOp.{FinishOp}
 use Rattle.split_finish.specs.declared.finish.Target.{Target}
 use Rattle.insert_split.specs.declared.insert.InsertAt.{InsertAt}
-use Rattle.insert_split.specs.declared.insert.InsertAt.TheVariants.{Start, At, Holding as Holds, Finishing}
+use Rattle.insert_split.specs.declared.insert.InsertAt.TheVariants.{Coming, Finishing}
+use Rattle.insert_split.specs.declared.insert.Stage.TheVariants.{Start, Holding as Holds}
 use Rattle.insert_split.specs.declared.insert.InsertOp.{InsertOp}
 use Rattle.insert_split.specs.declared.insert.InsertStep.{InsertStep}
 use Rattle.insert_split.specs.declared.insert.InsertStep.TheVariants.{Going, Added}
@@ -57,7 +58,7 @@ Meets page way before after (Err fault) = MeetsNone page way before after fault
 
 -- the leaf is taken: latched, and pinned
 pub record TakesLeaf (block : ℕ) (before after : InsertOp) (old new : State) : Type 0 where
-  pub after_is : after ≡ record before { at = Holds block }
+  pub after_is : after ≡ record before { at = Coming (Holds block) }
   pub free : is_held_by_another old.table before.session block Exclusive ≡ false
   pub state : new ≡ with_table old
       (pinned (latched old.table before.session block Exclusive) before.session block)
@@ -130,15 +131,13 @@ PutsEntry page e old new (Added action unfinished) =
 
 -- it finishes splits
 abbrev pub IsFinishing : InsertAt → Type 0
-IsFinishing Start = ⊥
-IsFinishing (At way) = ⊥
-IsFinishing (Holds block) = ⊥
+IsFinishing (Coming stage) = ⊥
 IsFinishing (Finishing op) = Unit {0}
 
 -- an insert whose entry is logged is over; one whose entry isn't starts again
 abbrev pub GoesOnFrom : Option ℕ → InsertOp → InsertOp → InsertStep → Type 0
 GoesOnFrom None before after step =
-    (step ≡ Going) × (after ≡ record before { at = Start })
+    (step ≡ Going) × (after ≡ record before { at = Coming Start })
 GoesOnFrom (Some action) before after step = (step ≡ Added action None) × (after ≡ before)
 
 abbrev pub GoesOn : InsertOp → InsertOp → InsertStep → Type 0

@@ -19,14 +19,21 @@ use tree_shape::{Aim, entries_on, may_hold};
 /// Where an insert is between its steps.
 #[derive(Drop)]
 pub enum InsertAt {
+    /// Its entry isn't on its leaf yet.
+    Coming(Stage),
+    /// It finishes splits: its own, behind which it is over, or one that it met, behind which it starts again.
+    Finishing(FinishOp),
+}
+
+/// How far an insert is whose entry isn't on its leaf yet.
+#[derive(Clone, Copy)]
+pub enum Stage {
     /// Before its first step.
     Start,
     /// On its way to the leaf of its entry.
     At(Way),
     /// It holds this leaf latched, and pinned.
     Holding(u32),
-    /// It finishes splits: its own, behind which it is over, or one that it met, behind which it starts again.
-    Finishing(FinishOp),
 }
 
 /// An insert of one session.
@@ -57,16 +64,31 @@ impl InsertOp {
         ensures { result ≡ record {
           session = session;
           entry = entry;
-          at = InsertAt.Start;
+          at = InsertAt.Coming Stage.Start;
           added = None;
         } }
     {
         InsertOp {
             session,
             entry,
-            at: InsertAt::Start,
+            at: InsertAt::Coming(Stage::Start),
             added: None,
         }
+    }
+
+    /// Makes it an insert of this entry before its first step, whatever it was: as `new`, and in its place.
+    pub fn begin_again(&mut self, session: Session, entry: Entry)
+        ensures { self.new ≡ record {
+          session = session;
+          entry = entry;
+          at = InsertAt.Coming Stage.Start;
+          added = None;
+        } }
+    {
+        self.session = session;
+        self.entry = entry;
+        come_to(&mut self.at, Stage::Start);
+        self.added = None;
     }
 
     /// Makes one step. After `Added` and after each fault but `Blocked` the call is over, and its store's `end` is due.
@@ -95,9 +117,9 @@ impl InsertOp {
         match self.at {
             InsertAt::Finishing(_) => self.finish(store),
             _ if self.added.is_some() => Ok(self.go_on()),
-            InsertAt::Start => self.find_root(store),
-            InsertAt::At(way) => self.walk(store, way),
-            InsertAt::Holding(block) => self.add(store, block, draft),
+            InsertAt::Coming(Stage::Start) => self.find_root(store),
+            InsertAt::Coming(Stage::At(way)) => self.walk(store, way),
+            InsertAt::Coming(Stage::Holding(block)) => self.add(store, block, draft),
         }
     }
 
@@ -116,7 +138,7 @@ impl InsertOp {
 
     // The first step: reads the metapage.
     fn find_root<S: PageStore>(&mut self, store: &mut S) -> Result<InsertStep, Fault>
-        requires at { self.old.at ≡ InsertAt.Start }
+        requires at { self.old.at ≡ InsertAt.Coming Stage.Start }
         requires alive { (S.backing store.old).stopped ≡ false }
         ensures all { InsertSteps S.PageStore self.old self.new store.old store.new result }
         ensures faults { IfErr result (HasCause where_inserting_any) }
@@ -130,13 +152,13 @@ impl InsertOp {
         let Some(way) = way_down(store.view(0)) else {
             return Err(Fault::PageDamaged(0));
         };
-        self.at = InsertAt::At(way);
+        come_to(&mut self.at, Stage::At(way));
         Ok(InsertStep::Going)
     }
 
     // Reads a page on its way.
     fn walk<S: PageStore>(&mut self, store: &mut S, way: Way) -> Result<InsertStep, Fault>
-        requires at { self.old.at ≡ InsertAt.At way }
+        requires at { self.old.at ≡ InsertAt.Coming (Stage.At way) }
         requires alive { (S.backing store.old).stopped ≡ false }
         ensures all { InsertSteps S.PageStore self.old self.new store.old store.new result }
         ensures faults { IfErr result (HasCause where_inserting_any) }
@@ -154,7 +176,7 @@ impl InsertOp {
         let aim = Aim::Below(self.entry.bound());
         match lead(page, &way, &aim, 0, store.limits().pages) {
             Some(Onward::Going(on)) => {
-                lead_on(&mut self.at, on);
+                come_to(&mut self.at, Stage::At(on));
                 Ok(InsertStep::Going)
             }
             Some(Onward::Here) => {
@@ -192,14 +214,14 @@ impl InsertOp {
         ensures taken { OnOk result ((S.state store.new ≡ with_table (S.state store.old)
             (pinned (latched (S.state store.old).table self.old.session block Mode.Exclusive)
             self.old.session block))
-            × (self.new ≡ record self.old { at = InsertAt.Holding block })) }
+            × (self.new ≡ record self.old { at = InsertAt.Coming (Stage.Holding block) })) }
         ensures state { OnErr result (S.state store.new ≡ S.state store.old) }
         ensures op { OnErr result (self.new ≡ self.old) }
     {
         match store.latch(self.session, block, Mode::Exclusive) {
             Ok(()) => {
                 store.pin(self.session, block);
-                self.at = InsertAt::Holding(block);
+                come_to(&mut self.at, Stage::Holding(block));
                 Ok(InsertStep::Going)
             }
             Err(fault) => Err(fault),
@@ -213,7 +235,7 @@ impl InsertOp {
         block: u32,
         draft: &mut Page,
     ) -> Result<InsertStep, Fault>
-        requires at { self.old.at ≡ InsertAt.Holding block }
+        requires at { self.old.at ≡ InsertAt.Coming (Stage.Holding block) }
         requires alive { (S.backing store.old).stopped ≡ false }
         ensures all { InsertSteps S.PageStore self.old self.new store.old store.new result }
         ensures faults { IfErr result (HasCause where_inserting_any) }
@@ -268,7 +290,7 @@ impl InsertOp {
                 unfinished: None,
             },
             None => {
-                self.at = InsertAt::Start;
+                come_to(&mut self.at, Stage::Start);
                 InsertStep::Going
             }
         }
@@ -288,21 +310,21 @@ impl InsertOp {
     }
 }
 
-// The insert goes on to this page. One that is on its way keeps what it stands on but for the page.
-fn lead_on(at: &mut InsertAt, on: Way)
-    ensures { at.new ≡ InsertAt.At on }
+// The insert is at this stage. One whose entry isn't on its leaf keeps the room of the splits to finish as it is.
+fn come_to(at: &mut InsertAt, stage: Stage)
+    ensures { at.new ≡ InsertAt.Coming stage }
 {
     match at {
-        InsertAt::At(way) => *way = on,
-        _ => start_at(at, on),
+        InsertAt::Coming(was) => *was = stage,
+        InsertAt::Finishing(_) => start_at(at, stage),
     }
 }
 
 #[inline(never)]
-fn start_at(at: &mut InsertAt, on: Way)
-    ensures { at.new ≡ InsertAt.At on }
+fn start_at(at: &mut InsertAt, stage: Stage)
+    ensures { at.new ≡ InsertAt.Coming stage }
 {
-    *at = InsertAt::At(on);
+    *at = InsertAt::Coming(stage);
 }
 
 // Whether it is a live page whose split is to be finished.

@@ -5,5 +5,5 @@ mod insert;
 mod laws;
 mod room;
 
-pub use insert::{InsertAt, InsertOp, InsertStep};
+pub use insert::{InsertAt, InsertOp, InsertStep, Stage};
 pub use laws::{fresh_inserts_are_bounded, inserts_are_bounded, inserts_are_undisturbed};

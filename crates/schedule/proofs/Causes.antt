@@ -31,7 +31,8 @@ use Rattle.split_finish.specs.declared.finish.FinishAt.TheVariants.{Start as Fin
 use Rattle.split_finish.specs.declared.finish.Target.{Target}
 use Rattle.insert_split.specs.Inserts.{blocks_halved, blocks_beside, images_at, frames_at, takes_block_at, splits_root_at}
 use Rattle.insert_split.specs.declared.insert.InsertAt.{InsertAt}
-use Rattle.insert_split.specs.declared.insert.InsertAt.TheVariants.{Start, At, Holding as Holds, Finishing}
+use Rattle.insert_split.specs.declared.insert.InsertAt.TheVariants.{Coming, Finishing}
+use Rattle.insert_split.specs.declared.insert.Stage.TheVariants.{Start, At, Holding as Holds}
 use Rattle.vacuum.specs.Ops.{next_block}
 use Rattle.vacuum.specs.BulkDeletes.{is_full_count, is_counted_out, has_dead, block_if}
 use Rattle.page_delete.specs.Needs.{blocks_unlinked, blocks_unlinked_of, blocks_written}
@@ -270,15 +271,15 @@ put_few st (Some page) = by (nat_le st.limits.items (length (entries_of page.ite
     by false = omega arith
 
 pub insert_images_few : (st : State) (at : InsertAt) → length (images_at st at) ≤ 4
-insert_images_few st Start = omega arith
-insert_images_few st (At way) = omega arith
-insert_images_few st (Holds block) = (let k = put_few st (slice_get st.pages block) in omega (arith, k))
+insert_images_few st (Coming Start) = omega arith
+insert_images_few st (Coming (At way)) = omega arith
+insert_images_few st (Coming (Holds block)) = (let k = put_few st (slice_get st.pages block) in omega (arith, k))
 insert_images_few st (Finishing op) = images_few st op.target op.at
 
 insert_frames_few : (st : State) (at : InsertAt) → frames_at st at ≤ 4
-insert_frames_few st Start = omega arith
-insert_frames_few st (At way) = omega arith
-insert_frames_few st (Holds block) = (let k = put_few st (slice_get st.pages block) in omega (arith, k))
+insert_frames_few st (Coming Start) = omega arith
+insert_frames_few st (Coming (At way)) = omega arith
+insert_frames_few st (Coming (Holds block)) = (let k = put_few st (slice_get st.pages block) in omega (arith, k))
 insert_frames_few st (Finishing op) = frames_few st op.target op.at
 
 -- no more of these blocks are new than there are

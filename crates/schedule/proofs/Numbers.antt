@@ -27,7 +27,8 @@ use Rattle.split_finish.specs.declared.finish.Target.{Target}
 use Rattle.split_finish.proofs.Standing.{each_target}
 use Rattle.insert_split.specs.Inserts.{InsertStands}
 use Rattle.insert_split.specs.declared.insert.InsertAt.{InsertAt}
-use Rattle.insert_split.specs.declared.insert.InsertAt.TheVariants.{Start as InsertStart, At as InsertsAt, Holding as Holds, Finishing}
+use Rattle.insert_split.specs.declared.insert.InsertAt.TheVariants.{Coming, Finishing}
+use Rattle.insert_split.specs.declared.insert.Stage.TheVariants.{Start as InsertStart, At as InsertsAt, Holding as Holds}
 use Rattle.scan.specs.Scans.{ScanStands}
 use Rattle.scan.specs.declared.steps.ScanAt.{ScanAt}
 use Rattle.scan.specs.declared.steps.ScanAt.TheVariants.{Start as ScanStart, At as ScansAt, Last}
@@ -140,9 +141,9 @@ module _ (st : State) (has : HasTree st) where
       (finish_leads fits.start op.target op.at runs fits.stands)
 
   insert_leads : (session start : ℕ) (e : Entry) (at : InsertAt) → IsStart st.running start → InsertStands st session start e at → AllLead st (insert_numbers e at)
-  insert_leads session start e InsertStart runs stands = tt
-  insert_leads session start e (InsertsAt way) runs stands = (place_leads start way.level (entry_aim e) true way.block runs stands.1.place, tt)
-  insert_leads session start e (Holds block) runs stands = (place_leads start 0 (entry_aim e) true block runs stands.1.place, tt)
+  insert_leads session start e (Coming InsertStart) runs stands = tt
+  insert_leads session start e (Coming (InsertsAt way)) runs stands = (place_leads start way.level (entry_aim e) true way.block runs stands.1.place, tt)
+  insert_leads session start e (Coming (Holds block)) runs stands = (place_leads start 0 (entry_aim e) true block runs stands.1.place, tt)
   insert_leads session start e (Finishing op) runs stands = splits_lead op stands.1
 
   scan_leads : (start : ℕ) (leaf : Option ℕ) (frontier : Bound) (at : ScanAt) → IsStart st.running start → ScanStands st start leaf frontier at → AllLead st (scan_numbers frontier at)

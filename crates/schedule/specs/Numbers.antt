@@ -15,7 +15,8 @@ use Rattle.split_finish.specs.declared.finish.FinishAt.{FinishAt}
 use Rattle.split_finish.specs.declared.finish.FinishAt.TheVariants.{Start as FinishStart, Down as FinishDown, Link, Root}
 use Rattle.split_finish.specs.declared.finish.Target.{Target}
 use Rattle.insert_split.specs.declared.insert.InsertAt.{InsertAt}
-use Rattle.insert_split.specs.declared.insert.InsertAt.TheVariants.{Start as InsertStart, At as InsertsAt, Holding as Holds, Finishing}
+use Rattle.insert_split.specs.declared.insert.InsertAt.TheVariants.{Coming, Finishing}
+use Rattle.insert_split.specs.declared.insert.Stage.TheVariants.{Start as InsertStart, At as InsertsAt, Holding as Holds}
 use Rattle.scan.specs.declared.steps.ScanAt.{ScanAt}
 use Rattle.scan.specs.declared.steps.ScanAt.TheVariants.{Start as ScanStart, At as ScansAt, Last}
 use Rattle.vacuum.specs.declared.steps.Back.{Back}
@@ -58,9 +59,9 @@ finish_numbers target Root = []
 
 -- those of an insert of this entry
 abbrev pub insert_numbers : Entry → InsertAt → List KeptNumber
-insert_numbers e InsertStart = []
-insert_numbers e (InsertsAt way) = number_on way (entry_aim e) ∷ []
-insert_numbers e (Holds block) = record { block = block; sought = cover_of 0 (entry_aim e) } ∷ []
+insert_numbers e (Coming InsertStart) = []
+insert_numbers e (Coming (InsertsAt way)) = number_on way (entry_aim e) ∷ []
+insert_numbers e (Coming (Holds block)) = record { block = block; sought = cover_of 0 (entry_aim e) } ∷ []
 insert_numbers e (Finishing op) = map target_number (targets_of op) ++ finish_numbers op.target op.at
 
 -- those of a scan that has come to this frontier

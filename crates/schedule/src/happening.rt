@@ -7,7 +7,7 @@ ghost use Rattle.session_calls.specs.TheoremCalls.{DeadSets};
 ghost use Rattle.session_calls.specs.declared.op.Op.{Op};
 ghost use Rattle.schedule.specs.Sessions.{here};
 ghost use Rattle.schedule.specs.Snapshots.{here_with};
-ghost use Rattle.schedule.specs.TheoremKinds.{KeepsStore, Forces, Flushes, Checkpoints, kind_of};
+ghost use Rattle.schedule.specs.TheoremKinds.{BeginsCall, KeepsStore, Forces, Flushes, Checkpoints, kind_of};
 ghost use Rattle.schedule.specs.Events.{AnswersUpkeep, StoreIsKept};
 ghost use Rattle.schedule.specs.Making.{Makes, EachAlways, answers_behind};
 ghost use Rattle.schedule.specs.TheoremRuns.{Carries, Runs};
@@ -34,11 +34,11 @@ pub fn one<S: PageStore, T: DeadRows>(
 {
     match event {
         Event::Insert(session, entry) => {
-            calls.begin(store, sets, session, Request::Insert(entry))
+            begin(store, calls, sets, session, Request::Insert(entry))
         }
-        Event::Scan(session, range) => calls.begin(store, sets, session, Request::Scan(range)),
-        Event::Bulk(session, set) => calls.begin(store, sets, session, Request::Bulk(set)),
-        Event::Cleanup(session) => calls.begin(store, sets, session, Request::Cleanup),
+        Event::Scan(session, range) => begin(store, calls, sets, session, Request::Scan(range)),
+        Event::Bulk(session, set) => begin(store, calls, sets, session, Request::Bulk(set)),
+        Event::Cleanup(session) => begin(store, calls, sets, session, Request::Cleanup),
         Event::Step(session) => step(store, calls, sets, session),
         Event::Next(session) => next(store, calls, sets, session),
         Event::End(session) => calls.end(store, session),
@@ -48,7 +48,26 @@ pub fn one<S: PageStore, T: DeadRows>(
     }
 }
 
-/// Makes one step of a session's call, as `one` does for the event `Step`, and as quickly as can be.
+/// Begins a call of a session, as `one` does for the event that asks for it, and as quickly as can be. Refused with the first of
+/// these that applies: `Stopped` (3), `NoSession` (12), `SessionBusy` (13) and `VacuumRunning` (11). Nothing is changed then.
+pub fn begin<S: PageStore, T: DeadRows>(
+    store: &mut S,
+    calls: &mut Calls,
+    sets: &[T],
+    session: u32,
+    request: Request,
+) -> Answer
+    ensures steps { Continues S.follows store.old store.new }
+    ensures makes { Makes S.PageStore (BeginsCall session request) result
+        (here T.DeadRows store.old calls.old sets.now)
+        (here T.DeadRows store.new calls.new sets.now) }
+{
+    calls.begin(store, sets, session, request)
+}
+
+/// Makes one step of a session's call, as `one` does for the event `Step`, and as quickly as can be. Refused with `NoSession`
+/// (12), or `Stopped` (3), where it has none; else as the step of an insert, a scan, a bulk delete or a cleanup is. A refused
+/// step changes nothing, but that the call is over, unless it was refused with `Blocked` (4) or `NoSession`.
 pub fn step<S: PageStore, T: DeadRows>(
     store: &mut S,
     calls: &mut Calls,
@@ -63,7 +82,8 @@ pub fn step<S: PageStore, T: DeadRows>(
     calls.step(store, sets, session)
 }
 
-/// Takes the next entry that a session's scan has ready, as `one` does for the event `Next`, and as quickly as can be.
+/// Takes the next entry that a session's scan has ready, as `one` does for the event `Next`, and as quickly as can be. Refused
+/// with `NoSession` (12) where it runs none: nothing is changed then.
 pub fn next<S: PageStore, T: DeadRows>(
     store: &mut S,
     calls: &mut Calls,

@@ -17,7 +17,8 @@ use Rattle.descent.specs.Ways.{NoneIsFlagged}
 use Rattle.insert_split.specs.Inserts.{IsNoted, IsToCome, InsertGoesOn}
 use Rattle.insert_split.specs.Straight.{straight_steps as insert_steps, IsStraight as IsOnEntryWay, HasRoomFor}
 use Rattle.insert_split.specs.declared.insert.InsertAt.{InsertAt}
-use Rattle.insert_split.specs.declared.insert.InsertAt.TheVariants.{Start as InsertStart, At as InsertReads, Holding, Finishing}
+use Rattle.insert_split.specs.declared.insert.InsertAt.TheVariants.{Coming, Finishing}
+use Rattle.insert_split.specs.declared.insert.Stage.TheVariants.{Start as InsertStart, At as InsertReads, Holding}
 use Rattle.insert_split.specs.declared.insert.InsertOp.{InsertOp}
 use Rattle.scan.specs.Scans.{waiting, IsMoving}
 use Rattle.scan.specs.Straight.{straight_steps as scan_steps, IsStraight as IsOnFrontierWay}
@@ -49,9 +50,9 @@ room_still old new e limits same room page found cover =
     (room page (sym (ap (λ (ps : List Page). slice_get ps page.block) same) ∙ found) (cover_still new old 0 (entry_aim e) page.block (sym same) cover))
 
 insert_way_still : (old new : State) (e : Entry) (at : InsertAt) → new.pages ≡ old.pages → IsOnEntryWay old e at → IsOnEntryWay new e at
-insert_way_still old new e InsertStart same h = tt
-insert_way_still old new e (InsertReads way) same h = cover_still old new way.level (entry_aim e) way.block same h
-insert_way_still old new e (Holding block) same h = tt
+insert_way_still old new e (Coming InsertStart) same h = tt
+insert_way_still old new e (Coming (InsertReads way)) same h = cover_still old new way.level (entry_aim e) way.block same h
+insert_way_still old new e (Coming (Holding block)) same h = tt
 insert_way_still old new e (Finishing op) same h = absurd h
 
 scan_way_still : (old new : State) (frontier : Bound) (at : ScanAt) → new.pages ≡ old.pages → IsOnFrontierWay old frontier at → IsOnFrontierWay new frontier at
@@ -90,9 +91,9 @@ none_flagged pages block whole = by (slice_get pages block) refl
 
 -- an insert on its way to its leaf isn't logged yet
 not_logged : (st : State) (e : Entry) (at : InsertAt) (added : Option ℕ) → IsOnEntryWay st e at → IsToCome at added → added ≡ None
-not_logged st e InsertStart added way h = h
-not_logged st e (InsertReads w) added way h = h
-not_logged st e (Holding block) added way h = h
+not_logged st e (Coming InsertStart) added way h = h
+not_logged st e (Coming (InsertReads w)) added way h = h
+not_logged st e (Coming (Holding block)) added way h = h
 not_logged st e (Finishing op) added way h = absurd way
 
 -- so a step on that way does no act, where no page is flagged
@@ -104,9 +105,9 @@ quiet_on_way old new e was now (Some (Remove es)) changes flags noted none whole
 quiet_on_way old new e was now (Some Shape) changes flags noted none whole = absurd (true_false (none_flagged old.pages flags.cleared whole) flags.was)
 
 some_steps : (st : State) (e : Entry) (at : InsertAt) → IsOnEntryWay st e at → 0 < insert_steps st.pages at
-some_steps st e InsertStart way = omega arith
-some_steps st e (InsertReads w) way = omega arith
-some_steps st e (Holding block) way = omega arith
+some_steps st e (Coming InsertStart) way = omega arith
+some_steps st e (Coming (InsertReads w)) way = omega arith
+some_steps st e (Coming (Holding block)) way = omega arith
 some_steps st e (Finishing op) way = absurd way
 
 -- an insert that goes on is due one step sooner

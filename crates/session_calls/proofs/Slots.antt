@@ -1,5 +1,6 @@
 -- Slots as they are found and read.
-use Rattle.std.proofs.Common.{◌≡◌, ℕ, zero, suc, ◌<◌, Bool, true, false, Option, Some, None, Ok, List, [], ◌∷◌, length, slice_get, refl, arith}
+use Rattle.std.proofs.Common.{◌≡◌, ℕ, zero, suc, ◌<◌, Bool, true, false, Option, Some, None, Ok, List, [], ◌∷◌, length, slice_get, refl, sym, arith}
+use Rattle.std.specs.Prelude.{if◌then◌else◌}
 use Rattle.session_calls.specs.Slots.{session_to_begin, slot_has_call}
 use Rattle.session_calls.specs.declared.op.Op.{Op}
 
@@ -22,3 +23,8 @@ found false has_set None session known h = absurd cc
 found false false (Some slot) session known h = absurd cc
 found false true (Some None) session known h = (refl, refl, refl, cc)
 found false true (Some (Some op)) session known h = absurd cc
+
+-- a slot whose call counts has what is in it
+pub shown : (running : Bool) (inside before : Option Op) → (if running then inside else None) ≡ before → running ≡ true → before ≡ inside
+shown true inside before view is = sym view
+shown false inside before view is = absurd cc

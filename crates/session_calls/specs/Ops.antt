@@ -17,7 +17,8 @@ use Rattle.descent.specs.Shared.{where_reading_any, where_writing_any}
 use Rattle.split_finish.specs.declared.finish.Target.{Target}
 use Rattle.insert_split.specs.Inserts.{InsertFits, targets_at, insert_left, where_inserting, where_inserting_any}
 use Rattle.insert_split.specs.Turns.{is_blocked}
-use Rattle.insert_split.specs.declared.insert.InsertAt.TheVariants.{Start}
+use Rattle.insert_split.specs.declared.insert.InsertAt.TheVariants.{Coming}
+use Rattle.insert_split.specs.declared.insert.Stage.TheVariants.{Start}
 use Rattle.scan.specs.Scans.{ScanFits, IsBehind, waiting, fresh_scan, where_scanning}
 use Rattle.scan.specs.Work.{scan_left}
 use Rattle.scan.specs.declared.steps.ScanOp.{ScanOp}
@@ -62,7 +63,7 @@ asks_sweep ToCleanup = false
 
 -- the operation of a session's request, before its first step
 abbrev pub op_before : ℕ → Request → Op
-op_before session (ToInsert e) = Insert (record { session = session; entry = e; at = Start; added = None })
+op_before session (ToInsert e) = Insert (record { session = session; entry = e; at = Coming Start; added = None })
 op_before session (ToScan range) = Scan (fresh_scan session range)
 op_before session (ToBulk set) = Bulk set (fresh_bulk_delete session)
 op_before session ToCleanup = Cleanup (fresh_cleanup session)

@@ -14,6 +14,7 @@ ghost use Rattle.session_calls.specs.declared.request.Request.TheVariants.{Inser
 use crate::answer::Answer;
 use crate::op::Op;
 use crate::request::Request;
+use crate::slot::Slot;
 use index_model::{Entry, Fault, Range, Session};
 use insert_split::InsertOp;
 use page_action::PageStore;
@@ -39,7 +40,7 @@ pub(crate) fn begin<S: PageStore>(
     session: Session,
     request: Request,
     excluded: bool,
-    slot: &mut Option<Op>,
+    slot: &mut Slot,
 ) -> Answer
     ensures steps { Continues S.follows store.old store.new }
     ensures backing { S.backing store.new ≡ S.backing store.old }
@@ -58,13 +59,14 @@ pub(crate) fn begin<S: PageStore>(
     if let Err(fault) = start(
         store,
         session,
-        slot.is_some(),
+        slot.is_busy(),
         excluded,
         asks_sweep(&request),
     ) {
         return Answer::Refused(fault);
     }
-    fill(slot, session, request);
+    fill(&mut slot.op, session, request);
+    slot.is_running = true;
     Answer::Begun
 }
 
@@ -87,13 +89,23 @@ fn fill(slot: &mut Option<Op>, session: Session, request: Request)
     }
 }
 
+// In the room of the last call, where that was an insert.
 fn fill_insert(slot: &mut Option<Op>, session: Session, entry: Entry)
+    ensures { slot.new ≡ Some (op_before session (ToInsert entry)) }
+{
+    match slot {
+        Some(Op::Insert(op)) => op.begin_again(session, entry),
+        _ => put_insert(slot, session, entry),
+    }
+}
+
+#[inline(never)]
+fn put_insert(slot: &mut Option<Op>, session: Session, entry: Entry)
     ensures { slot.new ≡ Some (op_before session (ToInsert entry)) }
 {
     *slot = Some(Op::Insert(InsertOp::new(session, entry)));
 }
 
-// A scan takes more room than an insert, which is spared it.
 #[inline(never)]
 fn fill_scan(slot: &mut Option<Op>, session: Session, range: Range)
     ensures { slot.new ≡ Some (op_before session (ToScan range)) }

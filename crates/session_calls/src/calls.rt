@@ -2,11 +2,12 @@
 
 ghost use Rattle.std.specs.Prelude.{◌≡◌, ◌<◌, ◌≤◌, ◌&&◌, length, map, slice_get};
 ghost use Rattle.session_calls.specs.Ops.{asks_vacuum};
-ghost use Rattle.session_calls.specs.Slots.{slot_vacuums, one_vacuums, is_of_sets, session_to_begin};
+ghost use Rattle.session_calls.specs.Slots.{one_vacuums, is_of_sets, session_to_begin};
 
 use crate::answer::Answer;
-use crate::op::{Op, idle};
+use crate::op::idle;
 use crate::request::Request;
+use crate::slot::Slot;
 use crate::{begins, moves};
 use index_model::{DeadRows, Fault, Session};
 use page_action::PageStore;
@@ -19,7 +20,7 @@ use std::alloc::Global;
 /// slot alone is changed, and what the clause's word says holds of what it was and is (`changes`).
 #[derive(Drop)]
 pub struct Calls {
-    slots: Vec<Option<Op>>,
+    slots: Vec<Slot>,
     // Where an insert changes a copy of its leaf. Between steps it has no meaning.
     draft: Box<Page>,
     ghost few: { length slots.items ≤ 64 },
@@ -54,7 +55,7 @@ impl Calls {
             return Err(Fault::NoMemory);
         };
         for _at in 0..sessions {
-            slots.push_reserved(None);
+            slots.push_reserved(Slot::new());
         }
         Ok(Calls { slots, draft })
     }
@@ -72,7 +73,7 @@ impl Calls {
         ensures within { result ≡ true → session < length self.now.slots.items }
     {
         let at = session as usize;
-        at < self.slots.len() && self.slots[at].is_some()
+        at < self.slots.len() && self.slots[at].is_busy()
     }
 
     /// The number of the action that added the entry of the session's insert, where it runs one whose entry is added.
@@ -83,10 +84,7 @@ impl Calls {
         if at >= self.slots.len() {
             return None;
         }
-        match &self.slots[at] {
-            Some(op) => op.added(),
-            None => None,
-        }
+        self.slots[at].added()
     }
 
     /// Begins a call of the session. Refused with the first of these that applies: `Stopped` (3), where the log failed before
@@ -196,7 +194,7 @@ impl Calls {
 }
 
 // Whether the request asks for a bulk delete or a cleanup, and a session runs one.
-fn is_excluded(slots: &[Option<Op>], request: &Request) -> bool
+fn is_excluded(slots: &[Slot], request: &Request) -> bool
     ensures { result ≡ (asks_vacuum request.now && one_vacuums slots.now) }
 {
     match request {
@@ -206,19 +204,10 @@ fn is_excluded(slots: &[Option<Op>], request: &Request) -> bool
 }
 
 // Whether a session runs a bulk delete or a cleanup: one at most does.
-fn one_vacuums(slots: &[Option<Op>]) -> bool
+fn one_vacuums(slots: &[Slot]) -> bool
     ensures { result ≡ one_vacuums slots.now }
 {
-    slots.iter().any(|slot| slot_vacuums(slot))
-}
-
-fn slot_vacuums(slot: &Option<Op>) -> bool
-    ensures { result ≡ slot_vacuums slot.now }
-{
-    match slot {
-        Some(op) => op.is_vacuum(),
-        None => false,
-    }
+    slots.iter().any(|slot| slot.vacuums())
 }
 
 // Whether the set that a request names is there.
@@ -233,12 +222,7 @@ fn is_of_sets<T: DeadRows>(sets: &[T], request: &Request) -> bool
 
 // The session that may begin a call: refused where no call begins, then where there is none of this number or the set that is
 // named isn't there, then where it has a call.
-fn find(
-    is_stopped: bool,
-    has_set: bool,
-    slots: &[Option<Op>],
-    session: u32,
-) -> Result<Session, Fault>
+fn find(is_stopped: bool, has_set: bool, slots: &[Slot], session: u32) -> Result<Session, Fault>
     requires few { length slots.now ≤ 64 }
     ensures { result ≡ session_to_begin is_stopped has_set (slice_get slots.now session) session }
 {
@@ -249,7 +233,7 @@ fn find(
     if at >= slots.len() || !has_set {
         return Err(Fault::NoSession);
     }
-    if slots[at].is_some() {
+    if slots[at].is_busy() {
         return Err(Fault::SessionBusy);
     }
     Session::new(session)

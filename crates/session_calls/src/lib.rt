@@ -8,6 +8,7 @@ mod calls;
 mod moves;
 mod op;
 mod request;
+mod slot;
 mod stable;
 
 pub use answer::Answer;

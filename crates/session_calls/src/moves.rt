@@ -15,6 +15,7 @@ ghost use Rattle.session_calls.specs.declared.op.Op.{Op};
 
 use crate::answer::Answer;
 use crate::op::{Op, idle};
+use crate::slot::Slot;
 use index_model::{DeadRows, Fault};
 use page_action::PageStore;
 use page_codec::Page;
@@ -27,7 +28,7 @@ use page_codec::Page;
 /// What the draft holds has no meaning.
 pub(crate) fn step<S: PageStore, T: DeadRows>(
     store: &mut S,
-    slot: &mut Option<Op>,
+    slot: &mut Slot,
     sets: &[T],
     draft: &mut Page,
 ) -> Answer
@@ -47,23 +48,18 @@ pub(crate) fn step<S: PageStore, T: DeadRows>(
         → StepFollows (map T.is_in sets.now) (S.state store.old) (S.state store.new) slot.old
         slot.new result }
 {
-    let Some(op) = slot else {
+    if !slot.is_running {
+        return idle(store.is_stopped());
+    }
+    let Some(op) = &mut slot.op else {
         return idle(store.is_stopped());
     };
     let answer = op.step(store, sets, draft);
     if is_last(&answer) {
         let_go(store, op);
-        clear(slot);
+        slot.is_running = false;
     }
     answer
-}
-
-// Takes the call out of the slot. Few steps do: those that don't are spared the room for another one.
-#[inline(never)]
-fn clear(slot: &mut Option<Op>)
-    ensures { slot.new ≡ None }
-{
-    *slot = None;
 }
 
 // Lets go what the session of a call holds that ends; and where it is a bulk delete, none runs now.
@@ -91,7 +87,7 @@ fn is_last(answer: &Answer) -> bool
 
 /// The next entry that a session's scan has ready, or none. A call that is no scan, and a slot with no call, are refused
 /// with `NoSession` (12). Nothing else is changed.
-pub(crate) fn next(slot: &mut Option<Op>) -> Answer
+pub(crate) fn next(slot: &mut Slot) -> Answer
     ensures idle { slot.old ≡ None → (slot.new ≡ None) × (result ≡ no_call false) }
     ensures kind { AnswersNext slot.old result }
     ensures runs_on { RunsOn slot.old slot.new }
@@ -106,15 +102,19 @@ pub(crate) fn next(slot: &mut Option<Op>) -> Answer
         → IsDueIn st slot.new steps }
     ensures stands { leaf_of slot.new ≡ leaf_of slot.old }
 {
-    match slot {
-        Some(Op::Scan(op)) => Answer::Gave(op.next()),
-        _ => Answer::Refused(Fault::NoSession),
+    if !slot.is_running {
+        return Answer::Refused(Fault::NoSession);
+    }
+    // Each arm returns on its own, so that it is proved on its own.
+    match &mut slot.op {
+        Some(Op::Scan(op)) => return Answer::Gave(op.next()),
+        _ => return Answer::Refused(Fault::NoSession),
     }
 }
 
 /// Gives a session's call up: nothing is logged, and what the session held is let go. A slot with no call is refused with
 /// `NoSession` (12).
-pub(crate) fn end<S: PageStore>(store: &mut S, slot: &mut Option<Op>) -> Answer
+pub(crate) fn end<S: PageStore>(store: &mut S, slot: &mut Slot) -> Answer
     ensures steps { Continues S.follows store.old store.new }
     ensures idle { slot.old ≡ None → store.new ≡ store.old }
     ensures kind { AnswersEnd slot.old result }
@@ -128,10 +128,13 @@ pub(crate) fn end<S: PageStore>(store: &mut S, slot: &mut Option<Op>) -> Answer
         → SessionGoes nothing_wrong (S.state store.old)
         (S.state store.new) sets start history number call slot.new result }
 {
-    let Some(op) = slot else {
+    if !slot.is_running {
+        return Answer::Refused(Fault::NoSession);
+    }
+    let Some(op) = &slot.op else {
         return Answer::Refused(Fault::NoSession);
     };
     let_go(store, op);
-    clear(slot);
+    slot.is_running = false;
     Answer::Ended
 }

@@ -10,8 +10,9 @@ use Rattle.page_delete.proofs.Sparing.{nothing_spared}
 use Rattle.page_delete.proofs.Tallying.{deleted_alike}
 use Rattle.session_calls.specs.Ops.{asks_sweep}
 use Rattle.session_calls.specs.Sessions.{start_number, after_request}
-use Rattle.session_calls.specs.declared.request.Request.TheVariants.{Bulk as ToBulk, Cleanup as ToCleanup}
+use Rattle.session_calls.specs.declared.request.Request.TheVariants.{Insert as ToInsert, Scan as ToScan, Bulk as ToBulk, Cleanup as ToCleanup}
 use Rattle.schedule.specs.declared.event.Event.{Event}
+use Rattle.schedule.specs.declared.event.Event.TheVariants.{Insert as InsertEvent, Scan as ScanEvent, Bulk as BulkEvent, Cleanup as CleanupEvent}
 use Rattle.schedule.proofs.Fitting.{fits_behind, running_of}
 use Rattle.schedule.proofs.Standing.{slot_found}
 use Rattle.whole_calls.proofs.Words.{Entry, State, Ghosts, Page, op_before, set_at, Answer, Begun, Refused, Op, Request, StoreAndSlots, Snapshot, snapshot_of, Kind, BeginsCall, kind_of, EventDoes, IsOfSession, AnswersBeginning, MayBegin, slot_of, SlotRuns, Carries, Runs, Laws}
@@ -22,6 +23,19 @@ use Rattle.whole_calls.specs.Telling.{begun_of, begin_came}
 use Rattle.whole_calls.proofs.Composing.{goes_once, goes_told}
 use Rattle.whole_calls.proofs.Counting.{alone_on}
 use Rattle.whole_calls.proofs.Tellings.{begins_told}
+
+-- the event that begins what is asked for
+abbrev pub beginning : ℕ → Request → Event
+beginning session (ToInsert e) = InsertEvent session e
+beginning session (ToScan range) = ScanEvent session range
+beginning session (ToBulk set) = BulkEvent session set
+beginning session ToCleanup = CleanupEvent session
+
+pub beginning_is : (session : ℕ) (request : Request) → kind_of (beginning session request) ≡ BeginsCall session request
+beginning_is session (ToInsert e) = refl
+beginning_is session (ToScan range) = refl
+beginning_is session (ToBulk set) = refl
+beginning_is session ToCleanup = refl
 
 -- what was answered is what the beginning came to
 pub begun_by : (answer : Answer) (answers : List Answer) → AnswersBeginning answer → CameBy answers (Some answer) → CameBy answers (begin_came (begun_of answer))

@@ -16,7 +16,8 @@ use Rattle.descent.specs.Ways.{root_level}
 use Rattle.split_finish.specs.Finishes.{frames_of}
 use Rattle.insert_split.specs.Inserts.{InsertFits, InsertStands, leaf_held, images_at, frames_at, takes_block_at, splits_root_at, where_inserting}
 use Rattle.insert_split.specs.declared.insert.InsertAt.{InsertAt}
-use Rattle.insert_split.specs.declared.insert.InsertAt.TheVariants.{Start, At, Holding as Holds, Finishing}
+use Rattle.insert_split.specs.declared.insert.InsertAt.TheVariants.{Coming, Finishing}
+use Rattle.insert_split.specs.declared.insert.Stage.TheVariants.{Start, At, Holding as Holds}
 use Rattle.insert_split.specs.declared.insert.InsertOp.{InsertOp}
 use Rattle.scan.specs.Scans.{ScanFits, leaf_pinned, pins_of, where_scanning}
 use Rattle.scan.specs.declared.steps.ScanOp.{ScanOp}
@@ -254,10 +255,10 @@ module _ {S : Type 0} (g : Ghosts S) (start : Entry → Bool) (session least_roo
   -- frames that a step of an insert needs, beside what it holds
   insert_frames : (of start_number : ℕ) (e : Entry) (at : InsertAt) → of ≡ session → InsertStands st of start_number e at → nat_lt st.frames (frames_at st at + count_apart (pinned_blocks st.table)) ≡ true
       → (busy || nat_lt (g.state y.store).frames 4) ≡ true
-  insert_frames of n e Start is stands h = pins_cause 1 1 nothing_held (subst (λ (s : ℕ). holding_of st.table s ≡ nothing_held) is stands) (omega arith) (omega arith) h
-  insert_frames of n e (At way) is stands h = pins_cause 1 1 nothing_held (subst (λ (s : ℕ). holding_of st.table s ≡ nothing_held) is stands.0) (omega arith) (omega arith) h
-  insert_frames of n e (Holds block) is stands h =
-      pins_cause (frames_at st (Holds block)) 3 (leaf_held block) (subst (λ (s : ℕ). holding_of st.table s ≡ leaf_held block) is stands.0) (let k = put_few st (slice_get st.pages block) in omega (arith, k)) (omega arith) h
+  insert_frames of n e (Coming Start) is stands h = pins_cause 1 1 nothing_held (subst (λ (s : ℕ). holding_of st.table s ≡ nothing_held) is stands) (omega arith) (omega arith) h
+  insert_frames of n e (Coming (At way)) is stands h = pins_cause 1 1 nothing_held (subst (λ (s : ℕ). holding_of st.table s ≡ nothing_held) is stands.0) (omega arith) (omega arith) h
+  insert_frames of n e (Coming (Holds block)) is stands h =
+      pins_cause (frames_at st (Coming (Holds block))) 3 (leaf_held block) (subst (λ (s : ℕ). holding_of st.table s ≡ leaf_held block) is stands.0) (let k = put_few st (slice_get st.pages block) in omega (arith, k)) (omega arith) h
   insert_frames of n e (Finishing op) is stands h =
       pins_cause (frames_of st op.target op.at) 4 nothing_held (subst (λ (s : ℕ). holding_of st.table s ≡ nothing_held) (stands.0 ∙ is) stands.1.free) few (omega arith) h
     where

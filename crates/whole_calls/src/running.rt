@@ -125,18 +125,6 @@ fn finish<S: PageStore, T: DeadRows>(
     Answer::Refused(Fault::PageDamaged(0))
 }
 
-// The event that begins what is asked for.
-fn beginning(session: u32, request: Request) -> Event
-    ensures { kind_of result ≡ BeginsCall session request }
-{
-    match request {
-        Request::Insert(entry) => Event::Insert(session, entry),
-        Request::Scan(range) => Event::Scan(session, range),
-        Request::Bulk(set) => Event::Bulk(session, set),
-        Request::Cleanup => Event::Cleanup(session),
-    }
-}
-
 // Whether a call has begun.
 fn begun(answer: Answer) -> Result<(), Fault>
     ensures { result ≡ begun_of answer }
@@ -176,7 +164,7 @@ pub(crate) fn begin<S: PageStore, T: DeadRows>(
     ensures limits { (S.state store.new).limits ≡ (S.state store.old).limits }
 {
     nothing_is_counted();
-    begun(one(store, calls, sets, beginning(session, request)))
+    begun(schedule::begin(store, calls, sets, session, request))
 }
 
 // What a call came to that is over.

@@ -22,7 +22,7 @@ returns-clause-all g c =
     let most : ℕ = old.limits.pages in
     let low : c.in-Some.way.level ≤ 255 = (let l = level_low meta stored.storable.admitted in let e = c.in-Some.ensures.level in omega arith) in
     let shorter = walk_is_long most c.in-Some.way low in
-    goes_on g.S.PageStore c.args.self.now _ c.args.store.now c.look.new.store c.look.ensures.steps c.look.ensures.state refl refl c.requires.alive
+    rw c.come_to.ensures (goes_on g.S.PageStore c.args.self.now _ c.args.store.now c.look.new.store c.look.ensures.steps c.look.ensures.state refl refl c.requires.alive
     (λ honest. rw c.requires.at (omega (arith, shorter)))
     (λ honest order fits.
     let session = c.args.self.now.session in
@@ -46,4 +46,4 @@ returns-clause-all g c =
     let there = root_covers_there old (entry_aim c.args.self.now.entry) meta c.in-Some.way order.tree whole (found honest) (λ root names. sym c.in-Some.is ∙ c.way_down.ensures.named root names) in (
       there.0,
       subst (λ (a : InsertAt). suc (c.in-Some.way.level + 2) ≡ straight_steps old.pages a) (sym c.requires.at) (let z = there.1 in omega (arith, z)),
-    ))
+    )))

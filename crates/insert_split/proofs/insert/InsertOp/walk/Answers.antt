@@ -19,7 +19,8 @@ use Rattle.insert_split.specs.declared.insert.InsertOp.{InsertOp}
 use Rattle.insert_split.specs.declared.insert.InsertStep.TheVariants.{Going as InsertGoing}
 use Rattle.insert_split.specs.Inserts.{InsertSteps, insert_left, targets_at}
 use Rattle.insert_split.specs.declared.insert.InsertAt.{InsertAt}
-use Rattle.insert_split.specs.declared.insert.InsertAt.TheVariants.{At, Holding as Holds}
+use Rattle.insert_split.specs.declared.insert.InsertAt.TheVariants.{Coming}
+use Rattle.insert_split.specs.declared.insert.Stage.TheVariants.{At, Holding as Holds}
 use Rattle.descent.proofs.Shortening.{way_shortens}
 use Rattle.insert_split.proofs.Steps.{refuses, goes_on, on_ok, on_err, only_going}
 use Rattle.insert_split.proofs.Walking.{led, on_way, to_come_there, reading_cause, room_free, place_in_use}
@@ -61,9 +62,9 @@ returns-in-Some-Going-clause-all g c =
     let most : c.limits.result.pages ≡ st.limits.pages = ap (λ (l : Limits). l.pages) (c.limits.ensures.value ∙ ap (λ (s : State). s.limits) c.look.ensures.state) in
     let shorter : IsShorter 0 c.limits.result.pages c.args.way on = subst (LeavesLess 0 c.limits.result.pages c.args.way) result c.lead.ensures.less in
     let less : way_left st.limits.pages on < way_left st.limits.pages c.args.way = way_shortens 0 st.limits.pages c.args.way on (subst (λ (n : ℕ). IsShorter 0 n c.args.way on) most shorter) in
-    rw c.lead_on.ensures (subst (λ (w : Way). InsertSteps g.S.PageStore op (record { session = op.session; entry = op.entry; at = At w; added = op.added }) c.args.store.now c.look.new.store (Ok InsertGoing)) (sym c.in-Some-Going.on-is)
-    (goes_on g.S.PageStore op (record { session = op.session; entry = op.entry; at = At on; added = op.added }) c.args.store.now c.look.new.store c.look.ensures.steps c.look.ensures.state refl refl c.requires.alive
-    (λ honest. subst (λ (a : InsertAt). insert_left st.limits.pages st.pages (At on) < insert_left st.limits.pages st.pages a) (sym c.requires.at) (omega (arith, less)))
+    rw c.come_to.ensures (subst (λ (w : Way). InsertSteps g.S.PageStore op (record { session = op.session; entry = op.entry; at = Coming (At w); added = op.added }) c.args.store.now c.look.new.store (Ok InsertGoing)) (sym c.in-Some-Going.on-is)
+    (goes_on g.S.PageStore op (record { session = op.session; entry = op.entry; at = Coming (At on); added = op.added }) c.args.store.now c.look.new.store c.look.ensures.steps c.look.ensures.state refl refl c.requires.alive
+    (λ honest. subst (λ (a : InsertAt). insert_left st.limits.pages st.pages (Coming (At on)) < insert_left st.limits.pages st.pages a) (sym c.requires.at) (omega (arith, less)))
     (λ honest order fits.
     let led_on = led st op c.args.way c.view-page.result.now c.bound.result c.limits.result.pages c.lead.result c.requires.at order fits (found g (goal.at.returns-in-Some-Going-clause-all g c).After-view-page honest) (stored g (goal.at.returns-in-Some-Going-clause-all g c).After-view-page).storable.admitted
     (c.if-is_unfinished.ensures.whole refl) c.bound.ensures (subst (λ (n : ℕ). length st.pages ≤ n) (sym most) c.in-Ok.ensures.inside) c.lead.ensures.goes in
@@ -102,7 +103,7 @@ returns-else-not-may_hold-clause-all g c =
     (λ fits. subst (λ (b : ℕ). Takes b op c.take.new.self (g.S.PageStore.state c.look.new.store) (g.S.PageStore.state c.take.new.store) c.take.result) (sym block_is)
     (c.take.ensures.takes (subst (λ (s : State). HasRoom s.table op.session) (sym c.look.ensures.state) (room_free st op.session (on_way st op c.args.way c.requires.at fits).0))))
     (λ going. subst (λ (b : ℕ). (g.S.PageStore.state c.take.new.store ≡ with_table (g.S.PageStore.state c.look.new.store) (pinned (latched (g.S.PageStore.state c.look.new.store).table op.session b Exclusive) op.session b))
-    × (c.take.new.self ≡ record { session = op.session; entry = op.entry; at = Holds b; added = op.added })) (sym block_is) (on_ok c.take.result InsertGoing _ c.take.ensures.taken going))
+    × (c.take.new.self ≡ record { session = op.session; entry = op.entry; at = Coming (Holds b); added = op.added })) (sym block_is) (on_ok c.take.result InsertGoing _ c.take.ensures.taken going))
     (λ fault failed. (on_err c.take.result fault _ c.take.ensures.state failed, on_err c.take.result fault _ c.take.ensures.op failed))
     (λ action unfinished added. only_going c.take.result action unfinished c.take.ensures.going added)
     (stored g (goal.at.returns-else-not-may_hold-clause-all g c).After-view-page).block_is (stored g (goal.at.returns-else-not-may_hold-clause-all g c).After-view-page).storable.admitted arrived.alive (c.if-is_unfinished.ensures.whole refl arrived.alive)
