@@ -62,9 +62,7 @@ pub fn ask_for<S: PageStore>(
     ensures cause { HasRoom (S.state store.old).table session
         → OnErr result (is_held_by_another (S.state store.old).table session block mode ≡ true) }
 {
-    store.latch(session, block, mode)?;
-    store.release(session, block);
-    Ok(())
+    store.ask(session, block, mode)
 }
 
 /// Reads a page that the step may change: no other session holds it. Refused with `Stopped`, `Blocked`, and with the faults
@@ -102,21 +100,24 @@ pub fn look_to_change<S: PageStore>(
     store.page(block)
 }
 
-/// Reads two pages that the step may change: no other session holds them. Refused with `Stopped`, then with `Blocked` for
-/// the first page before the second, then with the faults of [`PageStore::page`] likewise.
+/// Reads two pages that the step may change into two that stand ready: no other session holds them. Refused with `Stopped`, then
+/// with `Blocked` for the first page before the second, then with the faults of [`PageStore::fetch`] likewise: what stands in
+/// the two has no meaning then.
 pub fn look_at_both<S: PageStore>(
     store: &mut S,
     session: Session,
     first: u32,
     second: u32,
-) -> Result<(Page, Page), Fault>
+    page: &mut Page,
+    other: &mut Page,
+) -> Result<(), Fault>
     ensures steps { Continues S.follows store.old store.new }
     ensures state { S.state store.new ≡ S.state store.old }
     ensures pages { (S.backing store.new).honest ≡ true
-        → IfOk result (λ both. (slice_get (S.state store.old).pages first ≡ Some both.0)
-        × (slice_get (S.state store.old).pages second ≡ Some both.1)) }
-    ensures stored { IfOk result (λ both. IsStored (S.state store.old).limits first both.0
-        × IsStored (S.state store.old).limits second both.1) }
+        → OnOk result ((slice_get (S.state store.old).pages first ≡ Some page.new)
+        × (slice_get (S.state store.old).pages second ≡ Some other.new)) }
+    ensures stored { OnOk result ((IsStored (S.state store.old).limits first page.new)
+        × (IsStored (S.state store.old).limits second other.new)) }
     ensures used { OnOk result ((first < length (S.state store.old).pages)
         × (second < length (S.state store.old).pages)) }
     ensures inside { OnOk result (length (S.state store.old).pages ≤
@@ -141,9 +142,13 @@ pub fn look_at_both<S: PageStore>(
     }
     ask_for(store, session, first, Mode::Exclusive)?;
     ask_for(store, session, second, Mode::Exclusive)?;
-    let page = store.page(first)?;
-    match store.page(second) {
-        Ok(other) => Ok((page, other)),
+    store.fetch(first)?;
+    store.view(first).copy_to(page);
+    match store.fetch(second) {
+        Ok(()) => {
+            store.view(second).copy_to(other);
+            Ok(())
+        }
         Err(fault) => Err(fault),
     }
 }

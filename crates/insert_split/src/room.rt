@@ -148,7 +148,8 @@ impl InsertOp {
             Ok(new) => new,
             Err(fault) => return Err(fault),
         };
-        let mut left = page.copy();
+        let mut left = Page::blank();
+        page.copy_to(&mut left);
         let half = split_leaf(&mut left, at, self.entry, new, store.cycle());
         let target = match half_to_finish(&left) {
             Some(target) => target,

@@ -90,6 +90,19 @@ impl LatchTable {
         self.holders = recounted(self.holders, before, after);
     }
 
+    /// Whether the session may take that latch of the block: no other one holds what excludes it, and it has fewer than
+    /// 8 latches.
+    pub fn may_latch(&self, session: Session, block: u32, mode: Mode) -> bool
+        ensures free { result ≡ true → is_held_by_another self.now session block mode ≡ false }
+        ensures room { result ≡ true → HasRoom self.now session }
+        ensures only { result ≡ false
+            → HasRoom self.now session → is_held_by_another self.now session block mode ≡ true }
+        ensures may { HasRoom self.now session
+            → is_held_by_another self.now session block mode ≡ false → result ≡ true }
+    {
+        !self.conflicts(session, block, mode) && !self.is_full(session)
+    }
+
     /// Takes a latch, or answers `Blocked` with the block and takes nothing: where another session holds what
     /// excludes it, or the session has 8 latches.
     pub fn latch(&mut self, session: Session, block: u32, mode: Mode) -> Result<(), Fault>
@@ -103,10 +116,7 @@ impl LatchTable {
         ensures taken { HasRoom self.old session
             → is_held_by_another self.old session block mode ≡ false → IsOk result }
     {
-        if self.conflicts(session, block, mode) {
-            return Err(Fault::Blocked(block));
-        }
-        if self.is_full(session) {
+        if !self.may_latch(session, block, mode) {
             return Err(Fault::Blocked(block));
         }
         self.take(session, Latch { block, mode });

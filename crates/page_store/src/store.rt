@@ -202,6 +202,10 @@ impl<D: Device> PageStore for Store<D> {
         self.calls.fresh(self.held.used, self.held.limits)
     }
 
+    fn ask(&self, session: Session, block: u32, mode: Mode) -> Result<(), Fault> {
+        self.calls.ask(session, block, mode)
+    }
+
     fn latch(&mut self, session: Session, block: u32, mode: Mode) -> Result<(), Fault> {
         self.calls.latch(session, block, mode)
     }

@@ -50,8 +50,18 @@ impl FinishOp {
         ensures all { FinishSteps S.PageStore self.old self.new store.old store.new result }
         ensures faults { IfErr result (HasCause where_splitting_any) }
     {
-        match look_at_both(store, self.session, self.target.block, way.block) {
-            Ok((page, parent)) => self.link_to(store, way, page, parent),
+        let block = self.target.block;
+        let mut page = Page::blank();
+        let mut parent = Page::blank();
+        match look_at_both(
+            store,
+            self.session,
+            block,
+            way.block,
+            &mut page,
+            &mut parent,
+        ) {
+            Ok(()) => self.link_to(store, way, page, parent),
             Err(fault) => Err(fault),
         }
     }

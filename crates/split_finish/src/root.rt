@@ -38,8 +38,17 @@ impl FinishOp {
         ensures all { FinishSteps S.PageStore self.old self.new store.old store.new result }
         ensures faults { IfErr result (HasCause where_splitting_any) }
     {
-        match look_at_both(store, self.session, 0, self.target.block) {
-            Ok((meta, page)) => self.grow_over(store, meta, page),
+        let mut meta = Page::blank();
+        let mut page = Page::blank();
+        match look_at_both(
+            store,
+            self.session,
+            0,
+            self.target.block,
+            &mut meta,
+            &mut page,
+        ) {
+            Ok(()) => self.grow_over(store, meta, page),
             Err(fault) => Err(fault),
         }
     }

@@ -51,7 +51,7 @@ returns-in-Ok-act_on_halves-clause-splits g c =
     let read = c.read_right.ensures.state in
     let same = c.take_block.ensures.state ∙ read in
     let is_new = c.split_leaf-half.ensures.right_block in
-    let is_copy : c.copy-left.result ≡ c.args.page.now = c.copy-left.ensures in
+    let is_copy : c.copy_to.new.target ≡ c.args.page.now = c.copy_to.ensures in
     let left_block : left.block ≡ c.args.page.now.block = c.split_leaf-half.ensures.left_block ∙ ap (λ (p : Page). p.block) is_copy in
     let block : c.in-Some.target.block ≡ c.args.page.now.block = c.in-Some.ensures.target.0 ∙ left_block in
     let later : IsLater (g.S.PageStore.backing c.read_right.new.store) (g.S.PageStore.backing c.unpin.new.self) =
@@ -61,7 +61,7 @@ returns-in-Ok-act_on_halves-clause-splits g c =
       half = half;
       right = right;
       halves = subst (λ (p : Page). LeafHalves (node_of p) p.block half.block c.args.self.now.entry (node_of left) (node_of half)) is_copy
-          (subst (λ (b : ℕ). LeafHalves (node_of c.copy-left.result) c.copy-left.result.block b c.args.self.now.entry (node_of left) (node_of half)) (sym is_new) c.split_leaf-half.ensures.halves);
+          (subst (λ (b : ℕ). LeafHalves (node_of c.copy_to.new.target) c.copy_to.new.target.block b c.args.self.now.entry (node_of left) (node_of half)) (sym is_new) c.split_leaf-half.ensures.halves);
       left_block = left_block;
       left_cycle = c.split_leaf-half.ensures.left_cycle ∙ c.cycle.ensures ∙ ap (λ (s : State). s.cycle) same;
       half_cycle = c.split_leaf-half.ensures.right_cycle ∙ c.cycle.ensures ∙ ap (λ (s : State). s.cycle) same;
@@ -104,7 +104,7 @@ returns-in-Err-act_on_halves-clause-cause g c honest room fits pinned =
     let read = c.read_right.ensures.state in
     let same = c.take_block.ensures.state ∙ read in
     let is_new = c.split_leaf-half.ensures.right_block in
-    let is_copy : c.copy-left.result ≡ c.args.page.now = c.copy-left.ensures in
+    let is_copy : c.copy_to.new.target ≡ c.args.page.now = c.copy_to.ensures in
     let left_block : left.block ≡ c.args.page.now.block = c.split_leaf-half.ensures.left_block ∙ ap (λ (p : Page). p.block) is_copy in
     let fresh : IsFresh st half.block = subst (λ (b : ℕ). IsFresh st b) (sym is_new) (subst (λ (s : State). IsFresh s c.in-Ok-take_block.new) read c.in-Ok-take_block.ensures.fresh) in
     let block : IsBlock half.block = subst IsBlock (sym is_new)
