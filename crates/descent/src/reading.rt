@@ -45,8 +45,8 @@ pub fn look<S: PageStore>(store: &mut S, session: Session, block: u32) -> Result
     store.fetch(block)
 }
 
-/// Tests that no other session's hold on the page conflicts. Nothing is kept: a step is one moment, so what it latches for
-/// itself alone it may let go at once. Refused with `Blocked`.
+/// Asks whether another session's hold on the page conflicts, and takes nothing: a step is one moment, so what it latched for
+/// itself alone it would let go at once. Refused with `Blocked` (4).
 pub fn ask_for<S: PageStore>(
     store: &mut S,
     session: Session,
