@@ -14,7 +14,7 @@ use latch_table::Mode;
 use page_action::PageStore;
 use page_codec::Page;
 
-/// Brings a page into memory under a shared latch, which is let go again: [`PageStore::view`] shows it. Refused with
+/// Brings a page into memory that the session may latch shared, and latches nothing: [`PageStore::view`] shows it. Refused with
 /// `Stopped`, `Blocked`, and with the faults of [`PageStore::fetch`].
 pub fn look<S: PageStore>(store: &mut S, session: Session, block: u32) -> Result<(), Fault>
     ensures steps { Continues S.follows store.old store.new }

@@ -99,6 +99,7 @@ fn fill_insert(slot: &mut Option<Op>, session: Session, entry: Entry)
     }
 }
 
+// Few inserts begin where something else ran: the others are spared the room for a whole call.
 #[inline(never)]
 fn put_insert(slot: &mut Option<Op>, session: Session, entry: Entry)
     ensures { slot.new ≡ Some (op_before session (ToInsert entry)) }
@@ -106,6 +107,7 @@ fn put_insert(slot: &mut Option<Op>, session: Session, entry: Entry)
     *slot = Some(Op::Insert(InsertOp::new(session, entry)));
 }
 
+// A scan takes more room than an insert, which is spared it.
 #[inline(never)]
 fn fill_scan(slot: &mut Option<Op>, session: Session, range: Range)
     ensures { slot.new ≡ Some (op_before session (ToScan range)) }
