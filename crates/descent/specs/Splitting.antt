@@ -1,5 +1,5 @@
 -- What a split needs beside the page: the page to the right of it, and a block for its right half.
-use Rattle.std.specs.Prelude.{◌≡◌, ℕ, false, Option, Some, None, List, [], ◌∷◌, slice_get}
+use Rattle.std.specs.Prelude.{◌≡◌, ℕ, Bool, true, false, Option, Some, None, List, [], ◌∷◌, slice_get}
 use Rattle.latch_table.specs.Holdings.{is_held_by_another}
 use Rattle.latch_table.specs.declared.mode.Mode.TheVariants.{Exclusive}
 use Rattle.page_codec.specs.declared.page.Page.{Page}
@@ -31,6 +31,11 @@ abbrev pub RightIsFound : State → Option ℕ → Option Page → Type 0
 RightIsFound st None page = Unit {0}
 RightIsFound st (Some block) None = Unit {0}
 RightIsFound st (Some block) (Some page) = slice_get st.pages block ≡ Some page
+
+-- a page, if one was read
+abbrev pub if_read : Bool → Page → Option Page
+if_read true page = Some page
+if_read false page = None
 
 -- the page, if there is one, with this left link
 abbrev pub mended_to : ℕ → Option Page → List Page

@@ -9,27 +9,30 @@ ghost use Rattle.page_action.specs.Room.{KeepsRoom};
 ghost use Rattle.page_action.specs.States.{Continues, after_act};
 ghost use Rattle.page_action.specs.Stored.{AreActable};
 ghost use Rattle.descent.specs.Shared.{where_working, where_acting, where_reading_any, where_writing_any, where_splitting_any};
-ghost use Rattle.descent.specs.Splitting.{RightIsMendable, RightIsStored, RightIsFound};
+ghost use Rattle.descent.specs.Splitting.{RightIsMendable, RightIsStored, RightIsFound, if_read};
 
-use crate::reading::{ask_for, look_to_change};
+use crate::reading::ask_for;
 use index_model::{Fault, Session};
 use latch_table::Mode;
 use page_action::{PageStore, find_misplaced};
 use page_codec::Page;
 use tree_shape::may_be_mended;
 
-/// Reads the page to the right of one that is split, if there is one, to mend its left link. Refused as
-/// [`look_to_change`], and with `PageDamaged` for a page that has no left link to mend: the metapage, or a deleted page.
+/// Reads the page to the right of one that is split, if there is one, into a page that stands ready, to mend its left link, and
+/// answers whether there is one. Refused as [`look_to_change`](crate::look_to_change), and with `PageDamaged` for a page that has
+/// no left link to mend: the metapage, or a deleted page. Where none was read, what stands in the page has no meaning.
 pub fn read_right<S: PageStore>(
     store: &mut S,
     session: Session,
     right: Option<u32>,
-) -> Result<Option<Page>, Fault>
+    page: &mut Page,
+) -> Result<bool, Fault>
     ensures steps { Continues S.follows store.old store.new }
     ensures state { S.state store.new ≡ S.state store.old }
     ensures found { (S.backing store.new).honest ≡ true
-        → IfOk result (RightIsFound (S.state store.old) right) }
-    ensures stored { IfOk result (RightIsStored (S.state store.old) session right) }
+        → IfOk result (λ is. RightIsFound (S.state store.old) right (if_read is page.new)) }
+    ensures stored { IfOk result
+        (λ is. RightIsStored (S.state store.old) session right (if_read is page.new)) }
     ensures alive { OnOk result
         ((S.backing store.new).stopped ≡ true → (S.backing store.old).stopped ≡ true) }
     ensures room { KeepsRoom (S.state store.old) (S.backing store.old) (S.backing store.new) }
@@ -41,13 +44,19 @@ pub fn read_right<S: PageStore>(
         (S.backing store.new) session images frames takes splits)) }
 {
     let Some(block) = right else {
-        return Ok(None);
+        return Ok(false);
     };
-    match look_to_change(store, session, block) {
-        Ok(page) if may_be_mended(&page) => Ok(Some(page)),
-        Ok(_) => Err(Fault::PageDamaged(block)),
-        Err(fault) => Err(fault),
+    if store.is_stopped() {
+        return Err(Fault::Stopped);
     }
+    ask_for(store, session, block, Mode::Exclusive)?;
+    store.fetch(block)?;
+    let seen = store.view(block);
+    if !may_be_mended(seen) {
+        return Err(Fault::PageDamaged(block));
+    }
+    seen.copy_to(page);
+    Ok(true)
 }
 
 /// The block of a new page, which no other session holds. Refused with `IndexFull` where there is none, and with `Blocked`.

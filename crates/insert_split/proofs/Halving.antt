@@ -1,5 +1,5 @@
 -- The pages of an act that splits a leaf may be written.
-use Rattle.std.proofs.Common.{◌≡◌, ◌≢◌, ℕ, ◌+◌, ◌<◌, ◌≤◌, true, Option, Some, None, List, [], ◌∷◌, ◌++◌, map, length, refl, sym, subst, ◌∙◌, arith}
+use Rattle.std.proofs.Common.{◌≡◌, ◌≢◌, ℕ, ◌+◌, ◌<◌, ◌≤◌, true, Option, Some, None, List, [], ◌∷◌, ◌++◌, map, length, slice_set, refl, sym, subst, ◌∙◌, arith}
 use Rattle.index_model.specs.declared.entry.Entry.{Entry}
 use Rattle.index_model.specs.declared.limits.Limits.{Limits}
 use Rattle.page_codec.specs.Edits.{entries_of, HasEntries}
@@ -88,3 +88,11 @@ put_may limits used page after stored in_use inside admitted leaf few block_is =
   tt,
   tt,
 )
+
+-- what is put on the third of three pages stands there
+pub third_put : (pages : List Page) (page : Page) → length pages ≡ 3 → (one two : Page) × (slice_set pages 2 page ≡ one ∷ two ∷ page ∷ [])
+third_put [] page three = absurd cc
+third_put (one ∷ []) page three = absurd (omega (arith, three))
+third_put (one ∷ two ∷ []) page three = absurd (omega (arith, three))
+third_put (one ∷ two ∷ p ∷ []) page three = (one, two, refl)
+third_put (one ∷ two ∷ p ∷ q ∷ ps) page three = absurd (omega (arith, three))

@@ -1,5 +1,5 @@
 -- What the parts of a step of an insert do.
-use Rattle.std.specs.Prelude.{◌≡◌, ◌≢◌, ◌⊎◌, ◌≤◌, ℕ, suc, Bool, true, false, Option, Some, None, Result, Ok, Err, [], ◌∷◌, length, slice_get}
+use Rattle.std.specs.Prelude.{◌≡◌, ◌≢◌, ◌⊎◌, ◌≤◌, ◌+◌, ℕ, suc, Bool, true, false, Option, Some, None, Result, Ok, Err, List, [], ◌∷◌, length, slice_get}
 use Rattle.index_model.specs.Order.{is_among}
 use Rattle.index_model.specs.declared.entry.Entry.{Entry}
 use Rattle.index_model.specs.declared.fault.Fault.{Fault}
@@ -7,11 +7,13 @@ use Rattle.index_model.specs.declared.fault.Fault.TheVariants.{Blocked, Exists, 
 use Rattle.latch_table.specs.Holdings.{latched, pinned, released, unpinned, is_held_by_another}
 use Rattle.latch_table.specs.declared.mode.Mode.TheVariants.{Exclusive}
 use Rattle.page_codec.specs.declared.page.Page.{Page}
-use Rattle.page_codec.specs.Edits.{entries_of}
+use Rattle.page_codec.specs.Edits.{entries_of, HasEntries}
+use Rattle.page_codec.specs.Grammar.{IsPage}
 use Rattle.page_action.specs.Reuse.{IsFresh}
 use Rattle.page_action.specs.States.{State, with_table, after_act}
 use Rattle.page_action.specs.Stored.{IsStored, AreActable}
 use Rattle.tree_shape.specs.Edits.{LeafHalves, IsPutIn, with_leaf}
+use Rattle.tree_shape.specs.Halves.{left_count}
 use Rattle.tree_shape.specs.Nodes.{node_of}
 use Rattle.descent.specs.Splitting.{RightIsMendable, RightIsStored, RightIsFound, mended_to}
 use Rattle.tree_shape.specs.Leaf.{MayHold}
@@ -87,6 +89,25 @@ pub record IsSplittable (st : State) (page : Page) : Type 0 where
   pub few : length st.pages ≤ st.limits.pages
   pub mendable : RightIsMendable st page.right
   pub apart : page.right ≢ Some page.block
+
+-- the pages are the halves of the leaf with the entry, the right one on a new block, both with this cycle number, and this page
+pub record AreParted (page : Page) (e : Entry) (new cycle : ℕ) (rest : Page) (pages : List Page)
+    : Type 0 where
+  pub left : Page
+  pub half : Page
+  pub pages_are : pages ≡ left ∷ half ∷ rest ∷ []
+  pub halves : LeafHalves (node_of page) page.block new e (node_of left) (node_of half)
+  pub kept : length (entries_of left.items) ≡ left_count (length (entries_of page.items))
+  pub moved : length (entries_of left.items) + length (entries_of half.items)
+      ≡ length (entries_of page.items) + 1
+  pub left_block : left.block ≡ page.block
+  pub half_block : half.block ≡ new
+  pub left_cycle : left.cycle ≡ cycle
+  pub half_cycle : half.cycle ≡ cycle
+  pub left_leaf : HasEntries left.items
+  pub half_leaf : HasEntries half.items
+  pub left_page : IsPage left
+  pub half_page : IsPage half
 
 -- The leaf is split with the entry, on a block that was free, and let go; its split is to be finished. Both halves carry the
 -- cycle number of the running bulk delete.

@@ -99,11 +99,12 @@ impl InsertOp {
     /// (17) on pages that are no tree. A refused step changes nothing. Once the entry is logged, each of these but `Blocked`
     /// stands in `unfinished` of `Added`.
     ///
-    /// `draft` is room for a page: what it holds has no meaning, neither before nor behind.
+    /// `draft` is room for a leaf, and `pages` for the pages of a split: what they hold has no meaning, neither before nor behind.
     pub fn step<S: PageStore>(
         &mut self,
         store: &mut S,
         draft: &mut Page,
+        pages: &mut [Page; 3],
     ) -> Result<InsertStep, Fault>
         ensures all { InsertSteps S.PageStore self.old self.new store.old store.new result }
         ensures faults { IfErr result (HasCause where_inserting_any) }
@@ -115,11 +116,11 @@ impl InsertOp {
             return self.stop();
         }
         match self.at {
-            InsertAt::Finishing(_) => self.finish(store),
+            InsertAt::Finishing(_) => self.finish(store, pages),
             _ if self.added.is_some() => Ok(self.go_on()),
             InsertAt::Coming(Stage::Start) => self.find_root(store),
             InsertAt::Coming(Stage::At(way)) => self.walk(store, way),
-            InsertAt::Coming(Stage::Holding(block)) => self.add(store, block, draft),
+            InsertAt::Coming(Stage::Holding(block)) => self.add(store, block, draft, pages),
         }
     }
 
@@ -234,6 +235,7 @@ impl InsertOp {
         store: &mut S,
         block: u32,
         draft: &mut Page,
+        pages: &mut [Page; 3],
     ) -> Result<InsertStep, Fault>
         requires at { self.old.at ≡ InsertAt.Coming (Stage.Holding block) }
         requires alive { (S.backing store.old).stopped ≡ false }
@@ -255,13 +257,17 @@ impl InsertOp {
         if entries_on(draft).len() < store.limits().items as usize {
             self.put(store, draft, at)
         } else {
-            self.split(store, draft, at)
+            self.split(store, draft, at, pages)
         }
     }
 
     // Makes a step by which splits are finished. Few steps do: those that don't are spared the room for its pages.
     #[inline(never)]
-    fn finish<S: PageStore>(&mut self, store: &mut S) -> Result<InsertStep, Fault>
+    fn finish<S: PageStore>(
+        &mut self,
+        store: &mut S,
+        pages: &mut [Page; 3],
+    ) -> Result<InsertStep, Fault>
         requires at { IsFinishing self.old.at }
         requires alive { (S.backing store.old).stopped ≡ false }
         ensures all { InsertSteps S.PageStore self.old self.new store.old store.new result }
@@ -273,7 +279,7 @@ impl InsertOp {
         let InsertAt::Finishing(op) = &mut self.at else {
             return Err(Fault::PageDamaged(0));
         };
-        match op.step(store) {
+        match op.step(store, pages) {
             Ok(FinishStep::Going) => Ok(InsertStep::Going),
             Ok(FinishStep::Done) => Ok(self.go_on()),
             Err(fault) => self.leave(fault),

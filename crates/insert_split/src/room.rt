@@ -12,9 +12,11 @@ ghost use Rattle.page_action.specs.States.{Continues, after_act};
 ghost use Rattle.page_action.specs.Stored.{AreActable, IsStored};
 ghost use Rattle.tree_shape.specs.Leaf.{IsPlaceOf, MayHold};
 ghost use Rattle.descent.specs.Shared.{where_acting, where_working};
-ghost use Rattle.descent.specs.Splitting.{mended_to};
+ghost use Rattle.descent.specs.Splitting.{if_read, mended_to};
 ghost use Rattle.insert_split.specs.Inserts.{where_inserting_any, blocks_halved};
-ghost use Rattle.insert_split.specs.Turns.{PlaceRefused, PutsEntry, SplitsLeaf, IsSplittable};
+ghost use Rattle.page_codec.specs.Grammar.{IsBlock};
+ghost use Rattle.page_codec.specs.declared.page.Page.{Page as P};
+ghost use Rattle.insert_split.specs.Turns.{AreParted, PlaceRefused, PutsEntry, SplitsLeaf, IsSplittable};
 
 use crate::insert::{InsertAt, InsertOp, InsertStep};
 use descent::{act_on, read_right, take_block};
@@ -45,35 +47,50 @@ pub fn place_in(page: &Page, entry: &Entry) -> Result<usize, Fault>
     }
 }
 
-// Acts on the halves of a leaf and the page to the right of them, if there is one, whose left link is mended.
+// Makes the first two pages the halves of the leaf, with the entry put at this place. The third one stays.
+fn part(page: &Page, at: usize, entry: Entry, new: u32, cycle: u32, pages: &mut [Page; 3])
+    requires page { IsPage page.now }
+    requires may { MayHold page.now entry }
+    requires place { IsPlaceOf entry (entries_of page.now.items) at }
+    requires some { 2 ≤ length (entries_of page.now.items) }
+    requires block { IsBlock new }
+    ensures { (one two rest : P) → pages.old ≡ one ∷ two ∷ rest ∷ []
+        → AreParted page.now entry new cycle rest pages.new }
+{
+    let (front, back) = pages.split_at_mut(1);
+    page.copy_to(&mut front[0]);
+    split_leaf(&mut front[0], at, entry, new, cycle, &mut back[0]);
+}
+
+// Acts on the halves of a leaf, the first two pages, and on the third, if it is the page to the right of them: its left link is
+// mended.
 fn act_on_halves<S: PageStore>(
     store: &mut S,
-    left: Page,
-    half: Page,
-    right: Option<Page>,
+    pages: &mut [Page; 3],
+    is_beside: bool,
 ) -> Result<u64, Fault>
     ensures steps { Continues S.follows store.old store.new }
-    ensures may { OnOk result
+    ensures may { (left half rest : P) → pages.old ≡ left ∷ half ∷ rest ∷ [] → OnOk result
         (AreActable (S.state store.old).limits (length (S.state store.old).pages)
-        (left ∷ half ∷ mended_to half.block right)) }
-    ensures done { OnOk result (S.state store.new
-        ≡ after_act (left ∷ half ∷ mended_to half.block right) (S.state store.old)) }
+        (left ∷ half ∷ mended_to half.block (if_read is_beside rest))) }
+    ensures done { (left half rest : P) → pages.old ≡ left ∷ half ∷ rest ∷ [] → OnOk result
+        (S.state store.new ≡ after_act
+        (left ∷ half ∷ mended_to half.block (if_read is_beside rest)) (S.state store.old)) }
     ensures number { IfOk result (λ n. n ≡ suc (S.state store.old).acts) }
     ensures refused { OnErr result (S.state store.new ≡ S.state store.old) }
     ensures faults { IfErr result (HasCause where_inserting_any) }
-    ensures cause { AreActable (S.state store.old).limits (length (S.state store.old).pages)
-        (left ∷ half ∷ mended_to half.block right)
+    ensures cause { (left half rest : P) → pages.old ≡ left ∷ half ∷ rest ∷ []
+        → AreActable (S.state store.old).limits (length (S.state store.old).pages)
+        (left ∷ half ∷ mended_to half.block (if_read is_beside rest))
         → IfErr result (HasCause (where_acting (S.state store.old) (S.backing store.old)
-        (S.backing store.new) (left ∷ half ∷ mended_to half.block right))) }
+        (S.backing store.new) (left ∷ half ∷ mended_to half.block (if_read is_beside rest)))) }
 {
-    match right {
-        None => act_on(store, &[left, half]),
-        Some(page) => {
-            let mut page = page;
-            mend_left(&mut page, half.block);
-            act_on(store, &[left, half, page])
-        }
+    if !is_beside {
+        return act_on(store, &pages[..2]);
     }
+    let half = pages[1].block;
+    mend_left(&mut pages[2], half);
+    act_on(store, &pages[..3])
 }
 
 impl InsertOp {
@@ -118,6 +135,7 @@ impl InsertOp {
         store: &mut S,
         page: &Page,
         at: usize,
+        pages: &mut [Page; 3],
     ) -> Result<InsertStep, Fault>
         requires admitted { IsPage page.now }
         requires may { MayHold page.now self.old.entry }
@@ -140,22 +158,20 @@ impl InsertOp {
             (page.now.block ∷ blocks_halved (S.state store.old) page.now.right)
             (length (blocks_halved (S.state store.old) page.now.right)) true false)) }
     {
-        let right = match read_right(store, self.session, page.right) {
-            Ok(right) => right,
+        let is_beside = match read_right(store, self.session, page.right, &mut pages[2]) {
+            Ok(is_beside) => is_beside,
             Err(fault) => return Err(fault),
         };
         let new = match take_block(store, self.session) {
             Ok(new) => new,
             Err(fault) => return Err(fault),
         };
-        let mut left = Page::blank();
-        page.copy_to(&mut left);
-        let half = split_leaf(&mut left, at, self.entry, new, store.cycle());
-        let target = match half_to_finish(&left) {
+        part(page, at, self.entry, new, store.cycle(), pages);
+        let target = match half_to_finish(&pages[0]) {
             Some(target) => target,
-            None => return Err(Fault::PageDamaged(left.block)),
+            None => return Err(Fault::PageDamaged(page.block)),
         };
-        match act_on_halves(store, left, half, right) {
+        match act_on_halves(store, pages, is_beside) {
             Ok(action) => {
                 store.release(self.session, target.block);
                 store.unpin(self.session, target.block);

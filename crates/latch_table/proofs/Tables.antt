@@ -4,7 +4,6 @@ use Rattle.std.proofs.lemmas.Bool.{ne_eqb, eq-eqb, eqb-false, lt-ltb, not-true, 
 use Rattle.std.proofs.lemmas.List.{length-set, get_or-set_same, get_or-set_other, set-set, set-get_or}
 use Rattle.std.proofs.lemmas.Option.{unwrap_or-slice_get}
 use Rattle.latch_table.specs.declared.mode.Mode.{Mode}
-use Rattle.latch_table.specs.declared.mode.Latch.{Latch}
 use Rattle.latch_table.specs.Holdings.{Holding, Table, nothing_held, holding_of, with_holding, latched, released, pinned, unpinned, without_latch, without_pin, holding_excludes, others_exclude, is_held_by_another}
 
 -- one session's holding put into the table
@@ -96,15 +95,6 @@ put_back : (table : Table) (session : ℕ) (between again : Holding) → again �
     → with_holding (with_holding table session between) session again ≡ table
 put_back table session between again same =
     with_holding-again table session between again ∙ ap (with_holding table session) same ∙ with_holding-own table session
-
-pub released-latched : (table : Table) (session block : ℕ) (mode : Mode) → session < length table
-    → released (latched table session block mode) session block ≡ table
-released-latched table session block mode below =
-    let held : Holding = holding_of table session in
-    let newest : Latch = record { block = block; mode = mode } in
-    put_back table session _ _
-    (ap (λ now. record { latches = without_latch now.latches block; pins = now.pins }) (holding_of-latched table session block mode below)
-    ∙ ap (λ test. record { latches = cond test held.latches (newest ∷ without_latch held.latches block); pins = held.pins }) (eq-eqb block block refl))
 
 pub unpinned-pinned : (table : Table) (session block : ℕ) → session < length table → length (holding_of table session).pins < 2
     → unpinned (pinned table session block) session block ≡ table

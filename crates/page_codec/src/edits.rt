@@ -18,9 +18,9 @@ fn copy_list<T: Copy + Default + Drop>(list: &ArrayVec<T, 50>, target: &mut Arra
     let _ = target.try_extend_from_slice(&source[kept..]);
 }
 
-// Takes all entries out, or makes room for some where there were none.
+/// Takes all entries out of a page's items, or makes room for some where there were none.
 #[inline(never)]
-pub(crate) fn clear_entries(items: &mut Items)
+pub fn clear_entries(items: &mut Items)
     ensures { items.new ≡ Items.Entries (record { items = [] }) }
 {
     match items {

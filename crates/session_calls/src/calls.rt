@@ -21,8 +21,9 @@ use std::alloc::Global;
 #[derive(Drop)]
 pub struct Calls {
     slots: Vec<Slot>,
-    // Where an insert changes a copy of its leaf. Between steps it has no meaning.
+    // Where an insert changes a copy of its leaf, and where it splits one. Between steps they have no meaning.
     draft: Box<Page>,
+    pages: Box<[Page; 3]>,
     ghost few: { length slots.items ≤ 64 },
 }
 
@@ -54,10 +55,18 @@ impl Calls {
         let Ok(draft) = Box::new(alloc, Page::blank()) else {
             return Err(Fault::NoMemory);
         };
+        let blank = [Page::blank(), Page::blank(), Page::blank()];
+        let Ok(pages) = Box::new(alloc, blank) else {
+            return Err(Fault::NoMemory);
+        };
         for _at in 0..sessions {
             slots.push_reserved(Slot::new());
         }
-        Ok(Calls { slots, draft })
+        Ok(Calls {
+            slots,
+            draft,
+            pages,
+        })
     }
 
     /// How many sessions there are: 64 at most.
@@ -159,6 +168,7 @@ impl Calls {
             &mut self.slots[session as usize],
             sets,
             &mut self.draft,
+            &mut self.pages,
         )
     }
 

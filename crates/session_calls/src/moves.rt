@@ -25,12 +25,13 @@ use page_codec::Page;
 /// but that the call is over, unless it was refused with `Blocked` or `NoSession`.
 ///
 /// A call that was asked for the rows of a set knows it by its place among the sets. These are the same at each of its steps.
-/// What the draft holds has no meaning.
+/// What the draft and the pages hold has no meaning.
 pub(crate) fn step<S: PageStore, T: DeadRows>(
     store: &mut S,
     slot: &mut Slot,
     sets: &[T],
     draft: &mut Page,
+    pages: &mut [Page; 3],
 ) -> Answer
     ensures steps { Continues S.follows store.old store.new }
     // Whatever the pages are: what it may answer, what a refusal leaves, that less is left to do.
@@ -54,7 +55,7 @@ pub(crate) fn step<S: PageStore, T: DeadRows>(
     let Some(op) = &mut slot.op else {
         return idle(store.is_stopped());
     };
-    let answer = op.step(store, sets, draft);
+    let answer = op.step(store, sets, draft, pages);
     if is_last(&answer) {
         let_go(store, op);
         slot.is_running = false;

@@ -84,12 +84,13 @@ impl Op {
         }
     }
 
-    // One step. After an answer that is its last, what the session holds is still held. What the draft holds has no meaning.
+    // One step. After an answer that is its last, what the session holds is still held. What the draft and the pages hold has no meaning.
     pub(crate) fn step<S: PageStore, T: DeadRows>(
         &mut self,
         store: &mut S,
         sets: &[T],
         draft: &mut Page,
+        pages: &mut [Page; 3],
     ) -> Answer
         ensures all { OpSteps S.PageStore self.old self.new store.old store.new result }
         ensures goes { (S.backing store.new).honest ≡ true
@@ -127,7 +128,7 @@ impl Op {
             (slot_after result self.new) left result }
     {
         match self {
-            Op::Insert(op) => match op.step(store, draft) {
+            Op::Insert(op) => match op.step(store, draft, pages) {
                 Ok(InsertStep::Going) => Answer::Going,
                 Ok(InsertStep::Added { action, unfinished }) => Answer::Added {
                     action,

@@ -4,6 +4,7 @@ pub mod Standing
 pub mod Turning
 pub mod Stepping
 pub mod Doing
+pub mod InPlace
 pub mod Needs
 pub mod Growing
 pub mod Linking

@@ -27,12 +27,13 @@ use Rattle.descent.proofs.Acting.{does_finish}
 use Rattle.split_finish.specs.Targets.{FinishFits, FinishStands, is_ready, is_live_state}
 use Rattle.split_finish.specs.Turns.{IsReadyToLink, Popped}
 use Rattle.split_finish.specs.Finishes.{FinishStepped}
-use Rattle.split_finish.specs.Acting.{AreLinked, IsRead}
+use Rattle.split_finish.specs.Acting.{IsRead}
 use Rattle.split_finish.specs.declared.finish.FinishAt.TheVariants.{Link}
 use Rattle.split_finish.specs.declared.finish.FinishOp.{FinishOp}
 use Rattle.split_finish.specs.declared.finish.FinishStep.{FinishStep}
 use Rattle.split_finish.proofs.Standing.{right_block, high_whole}
 use Rattle.split_finish.proofs.Doing.{clears}
+use Rattle.split_finish.proofs.InPlace.{AreLinked}
 
 live_is : (s : PageState) → is_live_state s ≡ true → s ≡ Live
 live_is Live h = refl

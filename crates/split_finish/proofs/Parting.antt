@@ -7,8 +7,6 @@ use Rattle.latch_table.specs.Holdings.{is_held_by_another}
 use Rattle.latch_table.specs.declared.mode.Mode.TheVariants.{Exclusive}
 use Rattle.page_codec.specs.Grammar.{IsBlock, IsPage}
 use Rattle.page_codec.specs.Spelling.{count_of}
-use Rattle.page_codec.specs.declared.page.Items.{Items}
-use Rattle.page_codec.specs.declared.page.Items.TheVariants.{Meta, Entries, Downlinks}
 use Rattle.page_codec.specs.declared.page.Page.{Page}
 use Rattle.page_codec.specs.declared.page.PageState.{PageState}
 use Rattle.page_codec.specs.declared.page.PageState.TheVariants.{Live, HalfDead, Deleted}
@@ -46,6 +44,7 @@ use Rattle.split_finish.specs.declared.finish.FinishAt.TheVariants.{Start, Link}
 use Rattle.split_finish.specs.declared.finish.FinishOp.{FinishOp}
 use Rattle.split_finish.specs.declared.finish.FinishStep.TheVariants.{Going}
 use Rattle.split_finish.specs.declared.finish.Target.{Target}
+use Rattle.split_finish.proofs.InPlace.{links_count}
 use Rattle.split_finish.proofs.Turning.{among_more, among_fewer}
 
 live_is : (state : PageState) → is_live_state state ≡ true → state ≡ Live
@@ -253,12 +252,6 @@ parts g before after old new way page parent left half clear right new_block tar
           among_more before.below.items (target ∷ []) b
           (among_fewer before.below.items before.target b (only b was.1) (λ same. was.0 (sym same ∙ sym h.read.stored.block_is))))
     ]
-
--- a page with downlinks has as many items
-links_count : (items : Items) → HasLinks items → count_of items ≡ length (links_of items)
-links_count Meta h = absurd h
-links_count (Entries v) h = absurd h
-links_count (Downlinks v) h = refl
 
 apart_append : (b : ℕ) (xs : List Page) (page : Page) → IsApartFrom b xs → page.block ≢ b → IsApartFrom b (xs ++ page ∷ [])
 apart_append b [] page h ne = (ne, tt)

@@ -9,7 +9,7 @@ use Rattle.page_codec.specs.Grammar.{IsBlock, IsPage, IsWhole}
 use Rattle.page_action.specs.States.{State, Continues}
 use Rattle.page_action.specs.Stored.{IsStored}
 use Rattle.page_action.specs.declared.page_store.PageStore.{Ghosts}
-use Rattle.tree_shape.specs.Edits.{IsLinkAdded, with_links, new_root}
+use Rattle.tree_shape.specs.Edits.{new_root}
 use Rattle.tree_shape.specs.Tree.{IsMetaOf}
 use Rattle.page_codec.specs.Spelling.{count_of}
 use Rattle.page_codec.specs.declared.page.Items.TheVariants.{Meta}
@@ -42,22 +42,6 @@ NoLinkPlace parent child separator =
     ⊎ ((at : ℕ) × (at < length (links_of parent.items))
     × (child_at (links_of parent.items) at ≡ child)
     × (FitsBehind (links_of parent.items) at separator parent.high → ⊥))
-
--- the pages of an act that puts a downlink on a parent with room
-pub record AreLinked (parent page : Page) (separator : Bound) (new : ℕ) (pages : List Page)
-    : Type 0 where
-  pub parent_after : Page
-  pub page_after : Page
-  pub pages_are : pages ≡ parent_after ∷ page_after ∷ []
-  pub added : IsLinkAdded page.block new separator (links_of parent.items)
-      (links_of parent_after.items)
-  pub after_is : node_of parent_after ≡ with_links (node_of parent) (links_of parent_after.items)
-  pub block_is : parent_after.block ≡ parent.block
-  pub clear : IsClear page page_after
-  pub count : count_of parent_after.items ≡ suc (length (links_of parent.items))
-  pub admitted : IsPage parent → IsBlock new → IsWhole separator → IsPage parent_after
-  pub page_items : page_after.items ≡ page.items
-  pub page_admitted : IsPage page → IsPage page_after
 
 -- the pages of an act that makes a new root over a page and its right half
 pub record AreGrown (meta page : Page) (separator : Bound) (new fresh : ℕ) (pages : List Page)
@@ -93,6 +77,32 @@ pub record MeetsParent (st : State) (honest : Bool) (op : FinishOp) (page parent
   pub read : IsRead st honest op.session op.target.block page
   pub read_parent : IsRead st honest op.session way.block parent
   pub ready : IsReadyToLink page parent op op
+
+-- the first two of three pages are the parent, block `above`, and the page of the other block, as they were read
+pub record AreRead (st : State) (honest : Bool) (session block above : ℕ) (pages : List Page)
+    : Type 0 where
+  pub parent : Page
+  pub page : Page
+  pub rest : Page
+  pub pages_are : pages ≡ parent ∷ page ∷ rest ∷ []
+  pub read : IsRead st honest session block page
+  pub read_parent : IsRead st honest session above parent
+
+-- ... and the call may put the downlink there
+pub record AreReady (st : State) (honest : Bool) (op : FinishOp) (pages : List Page) : Type 0 where
+  pub parent : Page
+  pub page : Page
+  pub rest : Page
+  pub pages_are : pages ≡ parent ∷ page ∷ rest ∷ []
+  pub meets : MeetsParent st honest op page parent
+
+-- ... that of the right half `new`, behind this place of the parent, which has room for it
+pub record HaveRoom (st : State) (honest : Bool) (op : FinishOp) (at new : ℕ) (pages : List Page)
+    : Type 0 where
+  pub are : AreReady st honest op pages
+  pub right : are.page.right ≡ Some new
+  pub place : IsLinkPlace are.parent are.page.block op.target.separator at
+  pub room : length (links_of are.parent.items) < st.limits.items
 
 -- a call has read the metapage and its newest target, and may make a new root
 pub record MeetsRoot (st : State) (honest : Bool) (op : FinishOp) (meta page : Page) : Type 0 where

@@ -9,6 +9,7 @@ use arrayvec::ArrayVec;
 use descent::{Way, look};
 use index_model::{Bound, Fault, Key, Session};
 use page_action::PageStore;
+use page_codec::Page;
 
 /// A page whose split is to be finished.
 #[derive(Clone, Copy)]
@@ -87,15 +88,20 @@ impl FinishOp {
 
     /// Makes one step. Refused with `Blocked` (4), and the same step may be made again; with `IndexFull` (8), `Io` (2),
     /// `Stopped` (3), `LogFull` (9), `NoFrame` (10); with `TooTall` (19) where the root is split on level 31; with
-    /// `PageDamaged` (17) on pages that are no tree. A refused step changes nothing.
-    pub fn step<S: PageStore>(&mut self, store: &mut S) -> Result<FinishStep, Fault>
+    /// `PageDamaged` (17) on pages that are no tree. A refused step changes nothing. `pages` is room for the pages of an act:
+    /// what they hold has no meaning, neither before nor behind.
+    pub fn step<S: PageStore>(
+        &mut self,
+        store: &mut S,
+        pages: &mut [Page; 3],
+    ) -> Result<FinishStep, Fault>
         ensures all { FinishSteps S.PageStore self.old self.new store.old store.new result }
         ensures faults { IfErr result (HasCause where_splitting_any) }
     {
         match self.at {
             FinishAt::Start => self.read_metapage(store),
             FinishAt::Down(way) => self.read_page(store, way),
-            FinishAt::Link(way) => self.link(store, way),
+            FinishAt::Link(way) => self.link(store, way, pages),
             FinishAt::Root => self.grow(store),
         }
     }

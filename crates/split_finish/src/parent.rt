@@ -66,27 +66,32 @@ fn act_on_halves<S: PageStore>(
 }
 
 impl FinishOp {
-    // The parent is full.
+    // The parent is full. Few steps split one: those that don't are spared the room for its pages.
+    #[inline(never)]
     pub fn split_parent<S: PageStore>(
         &mut self,
         store: &mut S,
-        page: Page,
-        parent: Page,
+        page: &Page,
+        parent: &Page,
         at: usize,
         new: u32,
     ) -> Result<FinishStep, Fault>
         requires meets { MeetsParent (S.state store.old) (S.backing store.old).honest self.old
-            page parent }
-        requires right { page.right ≡ Some new }
-        requires place { IsLinkPlace parent page.block self.old.target.separator at }
-        requires full { 4 ≤ length (links_of parent.items) }
-        requires no_room { (S.state store.old).limits.items ≤ length (links_of parent.items) }
+            page.now parent.now }
+        requires right { page.now.right ≡ Some new }
+        requires place { IsLinkPlace parent.now page.now.block self.old.target.separator at }
+        requires full { 4 ≤ length (links_of parent.now.items) }
+        requires no_room { (S.state store.old).limits.items ≤ length (links_of parent.now.items) }
         requires some { 0 < length (S.state store.old).pages }
         ensures all { FinishActs S.PageStore self.old self.new store.old store.new result }
         ensures faults { IfErr result (HasCause where_splitting_any) }
     {
-        match read_right(store, self.session, parent.right) {
-            Ok(right) => self.split_beside(store, page, parent, right, at, new),
+        let mut neighbour = Page::blank();
+        match read_right(store, self.session, parent.right, &mut neighbour) {
+            Ok(is_there) => {
+                let right = if is_there { Some(neighbour) } else { None };
+                self.split_beside(store, page.copy(), parent.copy(), right, at, new)
+            }
             Err(fault) => Err(fault),
         }
     }

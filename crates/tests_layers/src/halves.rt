@@ -48,7 +48,9 @@ fn leaf_halves(page: &mut Page, entry: Entry, new: u32, cycle: u32) -> Option<Pa
     if new == 0 || new > 65_535 {
         return None;
     }
-    Some(split_leaf(page, place, entry, new, cycle))
+    let mut half = Page::blank();
+    split_leaf(page, place, entry, new, cycle, &mut half);
+    Some(half)
 }
 
 #[test]

@@ -10,7 +10,11 @@ use std::test::{Fail, *};
 
 // A step of an insert, without its contract.
 fn step(op: &mut InsertOp, store: &mut MapStore) -> Result<InsertStep, Fault> {
-    op.step(store, &mut Page::blank())
+    op.step(
+        store,
+        &mut Page::blank(),
+        &mut [Page::blank(), Page::blank(), Page::blank()],
+    )
 }
 
 // All steps of an insert, and the action that it answers; 0 if it goes on after forty steps, or leaves a split unfinished.

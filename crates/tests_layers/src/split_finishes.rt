@@ -62,7 +62,7 @@ fn split_leaf_under_a_full_root(alloc: Global) -> Result<MapStore, Fault> {
 }
 
 fn step(op: &mut FinishOp, store: &mut MapStore) -> Result<FinishStep, Fault> {
-    op.step(store)
+    op.step(store, &mut [Page::blank(), Page::blank(), Page::blank()])
 }
 
 // All steps for this target, and the number of those that went on; 20 where more do.

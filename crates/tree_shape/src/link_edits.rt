@@ -112,12 +112,12 @@ fn part_links(page: &mut Page, at: usize, link: Downlink) -> ArrayVec<Downlink, 
         ≡ drop (left_count (length (links_of page.old.items)))
         (insert (links_of page.old.items) at link) }
 {
+    let mut behind = ArrayVec::new();
     if let Items::Downlinks(links) = &mut page.items {
         let keep = (links.len() + 2) / 2;
-        put_and_part(links, at, link, keep)
-    } else {
-        ArrayVec::new()
+        put_and_part(links, at, link, keep, &mut behind);
     }
+    behind
 }
 
 fn begin_low(links: &mut ArrayVec<Downlink, 50>, otherwise: &Bound) -> Bound

@@ -6,40 +6,39 @@ use arrayvec::ArrayVec;
 use index_model::Bound;
 use page_codec::{Items, Page};
 
-fn copy_of<T: Copy + Default + Drop>(items: &[T]) -> ArrayVec<T, 50>
+// Makes the list in place that of these items.
+fn copy_into<T: Copy + Default + Drop>(items: &[T], list: &mut ArrayVec<T, 50>)
     requires { length items.now ≤ 50 }
-    ensures { result.items ≡ items.now }
+    ensures { list.new.items ≡ items.now }
 {
-    let mut copy = ArrayVec::new();
-    let _ = copy.try_extend_from_slice(items);
-    copy
+    list.clear();
+    let _ = list.try_extend_from_slice(items);
 }
 
 /// Puts an item at a place, 0 to the number of the items; the first `keep` of them all stay, and the
-/// rest are the answer. `keep` is 1 to the number of the items before. At no time does one list have
-/// more than 50.
+/// rest are put into `behind`, instead of what is there. `keep` is 1 to the number of the items before. At no time does one
+/// list have more than 50.
 pub fn put_and_part<T: Copy + Default + Drop>(
     items: &mut ArrayVec<T, 50>,
     at: usize,
     item: T,
     keep: usize,
-) -> ArrayVec<T, 50>
+    behind: &mut ArrayVec<T, 50>,
+)
     requires place { at ≤ length items.old.items }
     requires some_stay { 0 < keep }
     requires some_go { keep ≤ length items.old.items }
     ensures kept { items.new.items ≡ take keep (insert items.old.items at item) }
-    ensures behind { result.items ≡ drop keep (insert items.old.items at item) }
+    ensures behind { behind.new.items ≡ drop keep (insert items.old.items at item) }
 {
     if at < keep {
-        let behind = copy_of(&items.as_slice()[keep - 1..]);
+        copy_into(&items.as_slice()[keep - 1..], behind);
         items.truncate(keep - 1);
         items.insert(at, item);
-        behind
     } else {
-        let mut behind = copy_of(&items.as_slice()[keep..]);
+        copy_into(&items.as_slice()[keep..], behind);
         items.truncate(keep);
         behind.insert(at - keep, item);
-        behind
     }
 }
 
@@ -64,6 +63,26 @@ pub fn right_half(page: &Page, items: Items, new: u32) -> Page
         deletion: page.deletion,
         items,
     }
+}
+
+/// Makes a page the right half of another one, on a new block: what stands on it stays.
+pub fn stand_right(page: &Page, half: &mut Page, new: u32)
+    ensures { half.new ≡ record page.now {
+      block = new;
+      split = false;
+      left = Some page.now.block;
+      items = half.old.items;
+    } }
+{
+    half.block = new;
+    half.level = page.level;
+    half.state = page.state;
+    half.split = false;
+    half.left = Some(page.block);
+    half.right = page.right;
+    half.high = page.high;
+    half.cycle = page.cycle;
+    half.deletion = page.deletion;
 }
 
 /// Makes a page the left half of what it was: it ends at the cut, and its split is incomplete.

@@ -1,4 +1,4 @@
-use Rattle.std.proofs.Common.{length, ◌≡◌, ◌++◌, true, Some, List, take, refl, ap, ap₂, sym, subst, ◌∙◌}
+use Rattle.std.proofs.Common.{length, ◌≡◌, ◌++◌, true, false, Some, List, take, drop, refl, ap, ap₂, sym, subst, ◌∙◌}
 use Rattle.std.specs.Prelude.{insert}
 use Rattle.index_model.specs.Order.{IsAscending}
 use Rattle.index_model.specs.declared.entry.Entry.{Entry}
@@ -16,51 +16,55 @@ module _ (c : After-end_at) where
   front = take (left_count (length (entries_of c.args.page.now.items))) (insert (entries_of c.args.page.now.items) c.args.at c.args.entry)
 
   abbrev back : List Entry
-  back = c.part_entries-behind.result.items
+  back = drop (left_count (length (entries_of c.args.page.now.items))) (insert (entries_of c.args.page.now.items) c.args.at c.args.entry)
 
   left_is : c.end_at.new.page ≡ left_leaf c.args.page.now c.args.new c.args.cycle c.separator-cut.result front
   left_is =
       c.end_at.ensures
-      ∙ ap (λ (p : Page). record p { split = true; right = Some c.args.new; high = Some c.separator-cut.result; cycle = c.args.cycle }) c.part_entries-behind.ensures.kept
+      ∙ ap (λ (p : Page). record p { split = true; right = Some c.args.new; high = Some c.separator-cut.result; cycle = c.args.cycle }) c.part_entries.ensures.kept
 
-  right_is : c.right_half-right.result ≡ right_leaf c.args.page.now c.args.new c.args.cycle back
+  right_is : c.stand_right.new.half ≡ right_leaf c.args.page.now c.args.new c.args.cycle back
   right_is =
-      c.right_half-right.ensures
-      ∙ ap (λ (p : Page). right_leaf p c.args.new c.args.cycle back) c.part_entries-behind.ensures.kept
+      c.stand_right.ensures
+      ∙ ap (λ (h : Page). record c.part_entries.new.page { block = c.args.new; split = false; left = Some c.part_entries.new.page.block; cycle = c.args.cycle; items = h.items }) c.part_entries.ensures.behind
+      ∙ ap (λ (p : Page). right_leaf p c.args.new c.args.cycle back) c.part_entries.ensures.kept
+
+  back_seen : c.entries_on-2.result.now ≡ back
+  back_seen = c.entries_on-2.ensures ∙ ap (λ (h : Page). entries_of h.items) c.part_entries.ensures.behind
 
   front_seen : c.entries_on.result.now ≡ front
-  front_seen = c.entries_on.ensures ∙ ap (λ (p : Page). entries_of p.items) c.part_entries-behind.ensures.kept
+  front_seen = c.entries_on.ensures ∙ ap (λ (p : Page). entries_of p.items) c.part_entries.ensures.kept
 
-  ascending : IsAscending (c.entries_on.result.now ++ c.as_slice.result.now)
+  ascending : IsAscending (c.entries_on.result.now ++ c.entries_on-2.result.now)
   ascending =
-      subst IsAscending (sym (ap₂ (λ l r. l ++ r) front_seen c.as_slice.ensures.value))
-      (ascends c.args.page.now c.args.at c.args.entry c.seen.ensures c.requires.page c.requires.may c.requires.place c.requires.some front back refl c.part_entries-behind.ensures.behind)
+      subst IsAscending (sym (ap₂ (λ l r. l ++ r) front_seen back_seen))
+      (ascends c.args.page.now c.args.at c.args.entry c.seen.ensures c.requires.page c.requires.may c.requires.place c.requires.some front back refl refl)
 
   up : AreUpTo c.separator-cut.result front
   up = subst (AreUpTo c.separator-cut.result) front_seen (c.separator-cut.ensures.up_to ascending)
 
   beyond : LiesBefore c.separator-cut.result back
-  beyond = subst (LiesBefore c.separator-cut.result) c.as_slice.ensures.value (c.separator-cut.ensures.beyond ascending)
+  beyond = subst (LiesBefore c.separator-cut.result) back_seen (c.separator-cut.ensures.beyond ascending)
 
 pub returns-clause-left_page : goal.returns-clause-left_page
 returns-clause-left_page c =
     subst IsPage (sym (left_is c))
-    (left_page c.args.page.now c.args.at c.args.entry c.seen.ensures c.requires.page c.requires.may c.requires.place c.requires.some (front c) (back c) refl c.part_entries-behind.ensures.behind
+    (left_page c.args.page.now c.args.at c.args.entry c.seen.ensures c.requires.page c.requires.may c.requires.place c.requires.some (front c) (back c) refl refl
     c.args.new c.args.cycle c.requires.block c.ranges.cycle.fits c.separator-cut.result (up c) (beyond c) c.separator-cut.ensures.whole)
 
 pub returns-clause-right_page : goal.returns-clause-right_page
 returns-clause-right_page c =
     subst IsPage (sym (right_is c))
-    (right_page c.args.page.now c.args.at c.args.entry c.seen.ensures c.requires.page c.requires.may c.requires.place c.requires.some (front c) (back c) refl c.part_entries-behind.ensures.behind
+    (right_page c.args.page.now c.args.at c.args.entry c.seen.ensures c.requires.page c.requires.may c.requires.place c.requires.some (front c) (back c) refl refl
     c.args.new c.args.cycle c.requires.block c.ranges.cycle.fits c.separator-cut.result (up c) (beyond c) c.separator-cut.ensures.whole)
 
 pub returns-clause-halves : goal.returns-clause-halves
 returns-clause-halves c =
     rw (left_is c, right_is c)
-    (leaf_halves c.args.page.now c.args.at c.args.entry c.seen.ensures c.requires.page c.requires.may c.requires.place c.requires.some (front c) (back c) refl c.part_entries-behind.ensures.behind
+    (leaf_halves c.args.page.now c.args.at c.args.entry c.seen.ensures c.requires.page c.requires.may c.requires.place c.requires.some (front c) (back c) refl refl
     c.args.new c.args.cycle c.requires.block c.ranges.cycle.fits c.separator-cut.result (up c) (beyond c) c.separator-cut.ensures.whole)
 
 pub returns-clause-moved : goal.returns-clause-moved
 returns-clause-moved c =
     rw (left_is c, right_is c)
-    (back_count c.args.page.now c.args.at c.args.entry c.seen.ensures c.requires.page c.requires.may c.requires.place c.requires.some (front c) (back c) refl c.part_entries-behind.ensures.behind)
+    (back_count c.args.page.now c.args.at c.args.entry c.seen.ensures c.requires.page c.requires.may c.requires.place c.requires.some (front c) (back c) refl refl)

@@ -1,7 +1,6 @@
-use Rattle.std.proofs.Common.{arith, ◌≡◌, ◌+◌, ◌<◌, true, false, Option, ℕ, Some, List, ◌∷◌, map, length, suc, ap, sym, subst, ◌∙◌}
+use Rattle.std.proofs.Common.{arith, None, ◌≡◌, ◌<◌, true, false, Option, ℕ, Some, List, ◌∷◌, map, length, suc, ap, sym, subst, ◌∙◌}
 use Rattle.index_model.specs.Faults.{HasCause}
 use Rattle.latch_table.specs.Holdings.{HasRoom, released, unpinned, is_held_by_another}
-use Rattle.page_codec.specs.Edits.{entries_of}
 use Rattle.page_codec.specs.declared.page.Page.{Page}
 use Rattle.page_action.specs.States.{State, Backing, IsLater, with_table, after_act}
 use Rattle.page_action.specs.Stored.{AreActable}
@@ -9,15 +8,14 @@ use Rattle.page_action.specs.Reuse.{IsFresh}
 use Rattle.page_codec.specs.Grammar.{IsBlock}
 use Rattle.latch_table.specs.declared.mode.Mode.TheVariants.{Exclusive}
 use Rattle.tree_shape.specs.Edits.{LeafHalves}
-use Rattle.tree_shape.specs.Halves.{left_count}
-use Rattle.tree_shape.specs.Nodes.{node_of}
+use Rattle.tree_shape.specs.Nodes.{Node, node_of}
 use Rattle.insert_split.specs.declared.insert.InsertAt.TheVariants.{Finishing}
 use Rattle.insert_split.specs.declared.insert.InsertOp.{InsertOp}
 use Rattle.descent.specs.Shared.{fresh_block, where_acting, where_working}
-use Rattle.descent.specs.Splitting.{mended_to}
+use Rattle.descent.specs.Splitting.{if_read, mended_to}
 use Rattle.descent.proofs.Working.{working_later, act_cause, fresh_is}
 use Rattle.insert_split.specs.Inserts.{blocks_halved}
-use Rattle.insert_split.proofs.Halving.{halves_may, halved_are, frames_beside}
+use Rattle.insert_split.proofs.Halving.{halves_may, halved_are, frames_beside, third_put}
 use Rattle.insert_split.proofs.insert.InsertOp.split.Goals as goal
 
 pub returns-in-Err-clause-cause : goal.returns-in-Err-clause-cause
@@ -44,41 +42,42 @@ pub returns-in-Ok-act_on_halves-clause-splits : goal.returns-in-Ok-act_on_halves
 returns-in-Ok-act_on_halves-clause-splits g c =
     let st : State = g.S.PageStore.state c.args.store.now in
     let session = c.args.self.now.session in
-    let left : Page = c.split_leaf-half.new.page in
-    let half : Page = c.split_leaf-half.result in
-    let right : Option Page = c.in-Ok.right in
+    let put = third_put c.args.pages.now c.read_right.new.page c.told-pages in
+    let parted = c.part.ensures put.0 put.1 c.read_right.new.page put.2 in
+    let left : Page = parted.left in
+    let half : Page = parted.half in
+    let right : Option Page = if_read c.in-Ok.is_beside c.read_right.new.page in
     let changed : List Page = left ∷ half ∷ mended_to half.block right in
     let read = c.read_right.ensures.state in
     let same = c.take_block.ensures.state ∙ read in
-    let is_new = c.split_leaf-half.ensures.right_block in
-    let is_copy : c.copy_to.new.target ≡ c.args.page.now = c.copy_to.ensures in
-    let left_block : left.block ≡ c.args.page.now.block = c.split_leaf-half.ensures.left_block ∙ ap (λ (p : Page). p.block) is_copy in
-    let block : c.in-Some.target.block ≡ c.args.page.now.block = c.in-Some.ensures.target.0 ∙ left_block in
+    let is_new = parted.half_block in
+    let left_block : left.block ≡ c.args.page.now.block = parted.left_block in
+    let found = rw parted.pages_are at c.in-Some.ensures.target in
+    let block : c.in-Some.target.block ≡ c.args.page.now.block = found.0 ∙ left_block in
     let later : IsLater (g.S.PageStore.backing c.read_right.new.store) (g.S.PageStore.backing c.unpin.new.self) =
     g.met.S.PageStore.laws.follows_later _ _ (c.unpin.ensures.steps _ (c.release.ensures.steps _ (c.act_on_halves.ensures.steps _ (c.take_block.ensures.steps _ (g.met.S.PageStore.laws.follows_same _))))) in
     record {
       left = left;
       half = half;
       right = right;
-      halves = subst (λ (p : Page). LeafHalves (node_of p) p.block half.block c.args.self.now.entry (node_of left) (node_of half)) is_copy
-          (subst (λ (b : ℕ). LeafHalves (node_of c.copy_to.new.target) c.copy_to.new.target.block b c.args.self.now.entry (node_of left) (node_of half)) (sym is_new) c.split_leaf-half.ensures.halves);
+      halves = subst (λ (b : ℕ). LeafHalves (node_of c.args.page.now) c.args.page.now.block b c.args.self.now.entry (node_of left) (node_of half)) (sym is_new) parted.halves;
       left_block = left_block;
-      left_cycle = c.split_leaf-half.ensures.left_cycle ∙ c.cycle.ensures ∙ ap (λ (s : State). s.cycle) same;
-      half_cycle = c.split_leaf-half.ensures.right_cycle ∙ c.cycle.ensures ∙ ap (λ (s : State). s.cycle) same;
+      left_cycle = parted.left_cycle ∙ c.cycle.ensures ∙ ap (λ (s : State). s.cycle) same;
+      half_cycle = parted.half_cycle ∙ c.cycle.ensures ∙ ap (λ (s : State). s.cycle) same;
       fresh = subst (λ (b : ℕ). IsFresh st b) (sym is_new) (subst (λ (s : State). IsFresh s c.in-Ok-take_block.new) read c.in-Ok-take_block.ensures.fresh);
       free = subst (λ (b : ℕ). is_held_by_another st.table session b Exclusive ≡ false) (sym is_new)
           (subst (λ (s : State). is_held_by_another s.table session c.in-Ok-take_block.new Exclusive ≡ false) read c.in-Ok-take_block.ensures.free);
       right_stored = c.in-Ok.ensures.stored;
       right_found = λ honest. c.in-Ok.ensures.found (later.honest honest);
-      may = subst (λ (s : State). AreActable s.limits (length s.pages) changed) same c.in-Ok-act_on_halves.ensures.may;
+      may = subst (λ (s : State). AreActable s.limits (length s.pages) changed) same (c.in-Ok-act_on_halves.ensures.may left half c.read_right.new.page parted.pages_are);
       state = c.unpin.ensures.state
           ∙ ap (λ (s : State). with_table s (unpinned s.table session c.in-Some.target.block)) (c.release.ensures.state
-          ∙ ap (λ (s : State). with_table s (released s.table session c.in-Some.target.block)) (c.in-Ok-act_on_halves.ensures.done ∙ ap (after_act changed) same))
+          ∙ ap (λ (s : State). with_table s (released s.table session c.in-Some.target.block)) (c.in-Ok-act_on_halves.ensures.done left half c.read_right.new.page parted.pages_are ∙ ap (after_act changed) same))
           ∙ ap (λ (b : ℕ). with_table (after_act changed st) (unpinned (released st.table session b) session b)) block;
       target = c.in-Some.target;
       block_is = block;
-      level_is = c.in-Some.ensures.target.1;
-      high_is = c.in-Some.ensures.target.2;
+      level_is = found.1;
+      high_is = found.2;
       finishes = record {
         op = c.new.result;
         after_is = ap (λ (n : ℕ). let o : InsertOp = record { session = session; entry = c.args.self.now.entry; at = Finishing c.new.result; added = Some n } in o)
@@ -94,32 +93,41 @@ pub returns-in-Err-act_on_halves-clause-cause : goal.returns-in-Err-act_on_halve
 returns-in-Err-act_on_halves-clause-cause g c honest room fits pinned =
     let st : State = g.S.PageStore.state c.args.store.now in
     let session = c.args.self.now.session in
-    let left : Page = c.split_leaf-half.new.page in
-    let half : Page = c.split_leaf-half.result in
-    let right : Option Page = c.in-Ok.right in
+    let put = third_put c.args.pages.now c.read_right.new.page c.told-pages in
+    let parted = c.part.ensures put.0 put.1 c.read_right.new.page put.2 in
+    let left : Page = parted.left in
+    let half : Page = parted.half in
+    let right : Option Page = if_read c.in-Ok.is_beside c.read_right.new.page in
     let first : Backing = g.S.PageStore.backing c.args.store.now in
     let second : Backing = g.S.PageStore.backing c.read_right.new.store in
     let third : Backing = g.S.PageStore.backing c.act_on_halves.new.store in
     let changed : List Page = left ∷ half ∷ mended_to half.block right in
     let read = c.read_right.ensures.state in
     let same = c.take_block.ensures.state ∙ read in
-    let is_new = c.split_leaf-half.ensures.right_block in
-    let is_copy : c.copy_to.new.target ≡ c.args.page.now = c.copy_to.ensures in
-    let left_block : left.block ≡ c.args.page.now.block = c.split_leaf-half.ensures.left_block ∙ ap (λ (p : Page). p.block) is_copy in
+    let is_new = parted.half_block in
+    let left_block : left.block ≡ c.args.page.now.block = parted.left_block in
     let fresh : IsFresh st half.block = subst (λ (b : ℕ). IsFresh st b) (sym is_new) (subst (λ (s : State). IsFresh s c.in-Ok-take_block.new) read c.in-Ok-take_block.ensures.fresh) in
     let block : IsBlock half.block = subst IsBlock (sym is_new)
     (c.in-Ok-take_block.ensures.block (subst (λ (s : State). 0 < length s.pages) (sym read) (let u : c.args.page.now.block < length st.pages = c.requires.used in omega arith))) in
     let may : AreActable st.limits (length st.pages) changed = halves_may st session c.args.self.now.entry c.args.page.now left half right fits c.requires.may c.requires.some
-    c.split_leaf-half.ensures.left_page c.split_leaf-half.ensures.right_page c.split_leaf-half.ensures.left_leaf c.split_leaf-half.ensures.right_leaf
-    (subst (λ (p : Page). length (entries_of left.items) ≡ left_count (length (entries_of p.items))) is_copy c.split_leaf-half.ensures.kept)
-    (subst (λ (p : Page). length (entries_of left.items) + length (entries_of half.items) ≡ length (entries_of p.items) + 1) is_copy c.split_leaf-half.ensures.moved) left_block fresh block c.in-Ok.ensures.stored in
+    parted.left_page parted.half_page parted.left_leaf parted.half_leaf
+    parted.kept
+    parted.moved left_block fresh block c.in-Ok.ensures.stored in
     let why : HasCause (where_acting st second third changed) c.in-Err-act_on_halves.fault =
     subst (λ (b : Backing). HasCause (where_acting st b third changed) c.in-Err-act_on_halves.fault) c.take_block.ensures.backing
     (subst (λ (s : State). HasCause (where_acting s (g.S.PageStore.backing c.take_block.new.store) third changed) c.in-Err-act_on_halves.fault) same
-    (c.in-Err-act_on_halves.ensures.cause (subst (λ (s : State). AreActable s.limits (length s.pages) changed) (sym same) may))) in
+    (c.in-Err-act_on_halves.ensures.cause left half c.read_right.new.page parted.pages_are (subst (λ (s : State). AreActable s.limits (length s.pages) changed) (sym same) may))) in
     let later : IsLater first second = g.met.S.PageStore.laws.follows_later _ _ (c.read_right.ensures.steps _ (g.met.S.PageStore.laws.follows_same _)) in
     let beside : List ℕ = blocks_halved st c.args.page.now.right in
     let are : map (λ (page : Page). page.block) changed ≡ c.args.page.now.block ∷ beside = halved_are st session c.args.page.now.block (fresh_block st) left half c.args.page.now.right right left_block
     (sym (fresh_is st half.block fresh)) c.in-Ok.ensures.stored in
     act_cause st first second third session (c.args.page.now.block ∷ beside) (length beside) true false changed c.in-Err-act_on_halves.fault later.failures c.in-Ok.ensures.alive c.read_right.ensures.room.promised
     are (frames_beside st c.args.page.now.block beside (map (λ (page : Page). page.block) changed) are pinned) why
+
+pub returns-in-None-clause-cause : goal.returns-in-None-clause-cause
+returns-in-None-clause-cause g c honest room fits pinned =
+    let put = third_put c.args.pages.now c.read_right.new.page c.told-pages in
+    let parted = c.part.ensures put.0 put.1 c.read_right.new.page put.2 in
+    let none : parted.left.high ≡ None = rw parted.pages_are at c.in-None.ensures.none in
+    let k = ap (λ (n : Node). n.high) parted.halves.left_is in
+    cc

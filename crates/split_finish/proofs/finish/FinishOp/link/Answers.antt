@@ -1,13 +1,43 @@
-use Rattle.std.proofs.Common.{true, sym, subst, ◌∙◌}
-use Rattle.page_action.specs.States.{IsLater}
+use Rattle.std.proofs.Common.{arith, ◌≡◌, true, List, length, sym, subst, ◌∙◌}
+use Rattle.page_codec.specs.declared.page.Page.{Page}
+use Rattle.page_action.specs.States.{State, IsLater}
 use Rattle.tree_acts.proofs.Telling.{place_inside}
 use Rattle.split_finish.specs.Targets.{FinishStands}
 use Rattle.split_finish.specs.Finishes.{images_of, frames_of, takes_block_of}
 use Rattle.split_finish.specs.Turns.{splits_root_of}
+use Rattle.split_finish.specs.Acting.{IsRead}
+use Rattle.split_finish.proofs.InPlace.{two_put}
 use Rattle.split_finish.proofs.Needs.{needs_frame}
 use Rattle.split_finish.proofs.Standing.{has_room}
 use Rattle.split_finish.proofs.Stepping.{refuses, behind}
 use Rattle.split_finish.proofs.finish.FinishOp.link.Goals as goal
+
+pub link_to-requires-clause-read : goal.link_to-requires-clause-read
+link_to-requires-clause-read g c =
+    let op = c.args.self.now in
+    let front : List Page = c.split_at_mut-front.result.0.now in
+    let back : List Page = c.split_at_mut-front.result.1.now in
+    let page : Page = c.look_at_both.new.page in
+    let parent : Page = c.look_at_both.new.other in
+    let one : length front ≡ 1 = c.split_at_mut-front.ensures.front_len in
+    let two : length back ≡ 2 = (let b = c.split_at_mut-front.ensures.back_len in let t = c.told-pages in omega arith) in
+    let both = two_put front back parent page one two in
+    record {
+      parent = parent;
+      page = page;
+      rest = both.0;
+      pages_are = both.1;
+      read = subst (λ (s : State). IsRead s (g.S.PageStore.backing c.look_at_both.new.store).honest op.session op.target.block page) (sym c.look_at_both.ensures.state) (record {
+        found = λ honest. (c.in-Ok.ensures.pages honest).0;
+        stored = c.in-Ok.ensures.stored.0;
+        free = c.in-Ok.ensures.free.0;
+      });
+      read_parent = subst (λ (s : State). IsRead s (g.S.PageStore.backing c.look_at_both.new.store).honest op.session c.args.way.block parent) (sym c.look_at_both.ensures.state) (record {
+        found = λ honest. (c.in-Ok.ensures.pages honest).1;
+        stored = c.in-Ok.ensures.stored.1;
+        free = c.in-Ok.ensures.free.1;
+      });
+    }
 
 pub returns-in-Ok-clause-all : goal.returns-in-Ok-clause-all
 returns-in-Ok-clause-all g c =
