@@ -1,6 +1,6 @@
 //! A page from its bytes.
 
-ghost use Rattle.std.specs.Prelude.{◌≡◌, ◌≢◌, ◌≤◌, ◌+◌, ◌*◌, ◌∷◌, ◌↔◌, ℕ, List, Option, length, drop, [], Some, replicate, IfSome, IsSome, IsNone, IsTrue};
+ghost use Rattle.std.specs.Prelude.{◌≡◌, ◌≢◌, ◌≤◌, ◌+◌, ◌*◌, ◌∷◌, ◌↔◌, ◌<◌, ◌++◌, ℕ, List, Option, length, take, drop, max, [], Some, replicate, IfSome, IsSome, IsNone, IsTrue};
 ghost use Rattle.std.specs.List.{AllByRecursion};
 ghost use Rattle.byteorder.specs.Endian.{little_number};
 ghost use Rattle.index_model.specs.Row.{Row, IsRow};
@@ -114,21 +114,37 @@ fn downlink(bytes: &[u8]) -> Option<Downlink>
     Some(Downlink { bound, child })
 }
 
-// Reads so many entries behind none.
+// Puts an entry in the place of another, or behind the last one.
+fn put(list: &mut ArrayVec<Entry, 50>, at: usize, entry: Entry)
+    requires place { at ≤ length list.old.items }
+    requires room { at < 50 }
+    ensures front { take (at + 1) list.new.items ≡ take at list.old.items ++ entry ∷ [] }
+    ensures len { length list.new.items ≡ max (length list.old.items) (at + 1) }
+{
+    if at == list.len() {
+        list.push(entry);
+    } else {
+        list.as_mut_slice()[at] = entry;
+    }
+}
+
+// Reads so many entries over those that stand there: to clear these first would take longer. Never inlined, so that its loop
+// has all registers.
+#[inline(never)]
 fn entries(count: usize, bytes: &[u8], into: &mut ArrayVec<Entry, 50>) -> bool
     requires count { count ≤ 50 }
     requires room { 71 * count ≤ length bytes.now }
-    requires empty { into.old.items ≡ [] }
     ensures found { IsTrue result → IsRead IsEntry entry_bytes count bytes.now into.new.items }
     ensures only { (es : List Entry) → AllByRecursion IsEntry es
         → IsRead IsEntry entry_bytes count bytes.now es → IsTrue result × (into.new.items ≡ es) }
 {
+    into.truncate(count);
     let mut rest = bytes;
-    for _ in 0..count {
+    for at in 0..count {
         let Some(entry) = entry(rest) else {
             return false;
         };
-        into.push(entry);
+        put(into, at, entry);
         rest = tail(rest, 71);
     }
     true
@@ -169,7 +185,9 @@ fn items(kind: u8, count: usize, bytes: &[u8], into: &mut Items) -> bool
             true
         }
         2 => {
-            clear_entries(into);
+            if !matches!(into, Items::Entries(_)) {
+                clear_entries(into);
+            }
             match into {
                 Items::Entries(list) => entries(count, bytes, list),
                 _ => false,
