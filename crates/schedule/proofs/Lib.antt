@@ -17,6 +17,7 @@ pub mod Joining
 pub mod Bounds
 pub mod Standing
 pub mod CallLists
+pub mod Ready
 pub mod Spans
 pub mod Flags
 pub mod Spent

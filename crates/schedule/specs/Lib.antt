@@ -11,5 +11,6 @@ pub mod Making
 pub mod Stands
 pub mod Bounds
 pub mod CallLists
+pub mod Ready
 pub mod Spans
 pub mod Numbers

@@ -3,6 +3,7 @@
 ghost use Rattle.schedule.specs.Bounds.{WorkIsBounded};
 ghost use Rattle.schedule.specs.CallLists.{OneCallRuns, RefusedCallsFit};
 ghost use Rattle.schedule.specs.Numbers.{NumbersLeadOn};
+ghost use Rattle.schedule.specs.Ready.{ReadyMayComeNext};
 ghost use Rattle.schedule.specs.Spans.{LowsStay, CallsComeInTime, SplitsAreFinished, WorkIsSpent};
 ghost use Rattle.schedule.specs.Stands.{ScansStandOnLeaves, BulkDeletesWait, BegunBulkDeletesWait};
 
@@ -34,6 +35,12 @@ pub fn one_call_runs<S: PageStore>()
 /// Does nothing: its clause says that what fits a moment fits with a call more that was refused as it began.
 pub fn refused_calls_fit<S: PageStore>()
     ensures { RefusedCallsFit S.PageStore }
+{}
+
+/// Does nothing: its clause says that where a running scan has an entry ready, there is a match beyond all that it gave, which
+/// was there at some moment since it began.
+pub fn ready_entries_may_come_next<S: PageStore>()
+    ensures { ReadyMayComeNext S.PageStore }
 {}
 
 /// Does nothing: its clause says that at each moment that fits, each page number that a running call keeps leads by right

@@ -32,7 +32,7 @@ impl Calls {
     ghost use Rattle.index_model.specs.declared.fault.Fault.{Fault as Refusal};
     ghost use Rattle.page_action.specs.States.{Continues};
     ghost use Rattle.session_calls.specs.Ops.{asks_vacuum, no_call_begins};
-    ghost use Rattle.session_calls.specs.Sessions.{slot_add, no_call};
+    ghost use Rattle.session_calls.specs.Sessions.{ready_count, slot_add, no_call};
     ghost use Rattle.session_calls.specs.Slots.{slot_of, has_call, one_vacuums, is_of_sets, session_to_begin, ChangesSlot, SlotBegins, SlotSteps, SlotGives, SlotEnds};
 
     /// So many sessions, of which none runs a call. Refused with `BadLimits` (18) unless it is 1 to 64, and with `NoMemory` (1).
@@ -94,6 +94,17 @@ impl Calls {
             return None;
         }
         self.slots[at].added()
+    }
+
+    /// How many entries the session's scan has ready to be given. Where it runs none, there are none.
+    pub fn ready(&self, session: u32) -> u32
+        ensures { result ≡ ready_count (slot_of self.now.slots.items session) }
+    {
+        let at = session as usize;
+        if at >= self.slots.len() {
+            return 0;
+        }
+        self.slots[at].ready()
     }
 
     /// Begins a call of the session. Refused with the first of these that applies: `Stopped` (3), where the log failed before

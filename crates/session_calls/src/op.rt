@@ -1,6 +1,6 @@
 //! Running calls.
 
-ghost use Rattle.std.specs.Prelude.{◌≡◌, true, false, Bool, List, ℕ, Some, suc, map};
+ghost use Rattle.std.specs.Prelude.{◌≡◌, true, false, Bool, List, ℕ, Some, length, suc, map};
 ghost use Rattle.index_model.specs.Actions.{Action};
 ghost use Rattle.index_model.specs.Calls.{Call};
 ghost use Rattle.index_model.specs.declared.entry.Entry.{Entry};
@@ -30,7 +30,7 @@ pub enum Op {
 
 impl Op {
     ghost use Rattle.session_calls.specs.Due.{IsDueIn, CountsDown};
-    ghost use Rattle.session_calls.specs.Ops.{op_before, session_of, is_vacuum, is_sweep, add_of, OpFits, where_stepped};
+    ghost use Rattle.session_calls.specs.Ops.{op_before, session_of, is_vacuum, is_sweep, add_of, ready_of, OpFits, where_stepped};
     ghost use Rattle.session_calls.specs.Sessions.{CallFits, OpSteps, OpGoes, OnlyOwnAreFlagged, LeavesOwnFlagged, StandsByAnswer, KeepsBeforePins, CountsEntries, CountsPages, SparesLeaves, slot_after};
 
     /// The call that a session asks for, before its first step.
@@ -81,6 +81,16 @@ impl Op {
         match self {
             Op::Insert(op) => op.added,
             Op::Scan(_) | Op::Bulk { .. } | Op::Cleanup(_) => None,
+        }
+    }
+
+    /// How many entries it has ready to be given: a call that is no scan has none.
+    pub fn ready(&self) -> u32
+        ensures { result ≡ length (ready_of self.now) }
+    {
+        match self {
+            Op::Scan(op) => op.ready(),
+            Op::Insert(_) | Op::Bulk { .. } | Op::Cleanup(_) => 0,
         }
     }
 

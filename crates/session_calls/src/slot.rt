@@ -25,7 +25,7 @@ impl Model for Slot {
 }
 
 impl Slot {
-    ghost use Rattle.session_calls.specs.Sessions.{is_busy, slot_add};
+    ghost use Rattle.session_calls.specs.Sessions.{is_busy, ready_count, slot_add};
     ghost use Rattle.session_calls.specs.Slots.{slot_vacuums};
 
     /// The slot of a session that runs nothing.
@@ -68,6 +68,19 @@ impl Slot {
         match &self.op {
             Some(op) => op.added(),
             None => None,
+        }
+    }
+
+    /// How many entries its call has ready to be given.
+    pub fn ready(&self) -> u32
+        ensures { result ≡ ready_count self.now }
+    {
+        if !self.is_running {
+            return 0;
+        }
+        match &self.op {
+            Some(op) => op.ready(),
+            None => 0,
         }
     }
 }

@@ -1,13 +1,19 @@
 -- What asking a call for its next entry, and giving it up, leave of what is kept under the lock.
-use Rattle.std.proofs.Common.{◌≡◌, ◌≤◌, ◌&&◌, not, Bool, true, false, ℕ, List, [], ◌∷◌, ◌++◌, Option, Some, None, slice_get, slice_set, vec_len, vec_capacity, refl, sym, ap, ◌∙◌, subst, arith}
-use Rattle.index_model.specs.Actions.{Action}
-use Rattle.index_model.specs.Calls.{Call}
+use Rattle.std.proofs.Common.{◌≡◌, ◌<◌, ◌≤◌, ◌&&◌, not, Bool, true, false, ℕ, List, [], ◌∷◌, ◌++◌, length, Option, Some, None, slice_get, slice_set, vec_len, vec_capacity, refl, sym, ap, ◌∙◌, subst, arith, length-append}
+use Rattle.index_model.specs.Actions.{Action, ThereAtSomeMoment}
+use Rattle.index_model.specs.Calls.{AskScan, Call}
+use Rattle.index_model.specs.Order.{IsPast, last_or}
+use Rattle.index_model.specs.declared.range.Range.{Range}
+use Rattle.index_model.proofs.Histories.{at_some_moment_later}
 use Rattle.index_model.specs.declared.entry.Entry.{Entry}
 use Rattle.page_action.specs.States.{Continues, IsLater}
 use Rattle.page_action.specs.declared.page_store.PageStore.{Ghosts}
 use Rattle.session_calls.specs.Ops.{is_last}
-use Rattle.session_calls.specs.Sessions.{AnswersEnd, GivesLess, RunsUntilLast, is_busy}
+use Rattle.session_calls.specs.Sessions.{AnswersEnd, GivesLess, RunsUntilLast, is_busy, ready_count}
 use Rattle.session_calls.specs.Slots.{has_call, slot_of}
+use Rattle.session_calls.specs.TheoremCalls.{DeadSets, asked_by}
+use Rattle.session_calls.specs.declared.request.Request.{Request}
+use Rattle.schedule.specs.Ready.{MayComeNext, ReadyMayComeNext}
 use Rattle.session_calls.specs.declared.answer.Answer.{Answer}
 use Rattle.session_calls.specs.declared.answer.Answer.TheVariants.{Gave, Ended}
 use Rattle.session_calls.specs.declared.op.Op.{Op}
@@ -22,8 +28,8 @@ use Rattle.sessions.specs.declared.job.Job.TheVariants.{Scan}
 use Rattle.sessions.specs.declared.record.Record.{Record}
 use Rattle.sessions.specs.declared.record.Pending.{Pending}
 use Rattle.sessions.specs.Doing.{IsDone, MayBeDone, HasTaken, IsFullScan, given_behind}
-use Rattle.sessions.specs.Jobs.{IsRoomOf, IsFull}
-use Rattle.sessions.specs.Kept.{KeepsAll, record_of}
+use Rattle.sessions.specs.Jobs.{IsRoomOf, request_of}
+use Rattle.sessions.specs.Kept.{IsCut, KeepsAll, record_of}
 use Rattle.sessions.proofs.Happening.{keeps_going, keeps_ended}
 use Rattle.sessions.proofs.Keeping.{some_same}
 use Rattle.sessions.proofs.Noting.{set_same, busy_is, last_of, OthersRunOn, others_run_on}
@@ -48,13 +54,24 @@ ended_of : (slot : Option Op) (answer : Answer) → is_busy slot ≡ true → An
 ended_of None answer busy h = absurd cc
 ended_of (Some op) answer busy h = h
 
--- the room of a full scan is full
-full_is : (asked job : Job) (p : Pending) → job ≡ asked → IsRoomOf job (vec_capacity p.given) → IsFullScan asked (Some p) → IsFull job p.given.items
-full_is asked job p same room full = subst (λ (j : Job). IsFull j p.given.items) (sym same) (of asked (subst (λ (j : Job). IsRoomOf j (vec_capacity p.given)) same room) full)
+-- a scan that is given up rightly: its room is full, and another match may come next
+cut_is : (start : Entry → Bool) (l more : List Action) (sets : DeadSets) (job : Job) (request : Request) (call : Call) (s : ℕ) (p : Pending) (answer : Answer) (to ready : ℕ) → request_of job ≡ Some request → call.ask ≡ asked_by sets request
+    → call.began ≡ p.from → call.given ≡ p.given.items → IsRoomOf job (vec_capacity p.given) → IsFullScan job (Some p) ready → length l ≤ to
+    → ((range : Range) → call.ask ≡ AskScan range → 0 < ready → MayComeNext start l range call.began (length l) call.given) → IsCut start (l ++ more) job (record_of s p answer to)
+cut_is start l more sets (Scan range room) request call s p answer to ready asks ask began given is full le next =
+    let m = next range (ask ∙ ap (asked_by sets) (sym (some_same asks))) full.1 in (
+      full_room,
+      record {
+        entry = m.entry;
+        matched = m.matched;
+        was_there = at_some_moment_later start l more p.from (length l) to m.entry (omega arith) le (subst (λ (n : ℕ). ThereAtSomeMoment start l n (length l) m.entry) began m.was_there);
+        beyond = subst (λ (es : List Entry). IsPast (last_or None es) m.entry) given m.beyond;
+      },
+    )
   where
-    of : (j : Job) → IsRoomOf j (vec_capacity p.given) → IsFullScan j (Some p) → IsFull j p.given.items
-    of (Scan range room) is full = (let cap : vec_capacity p.given ≡ room = is in let over : vec_capacity p.given ≤ vec_len p.given = full in let long = p.given.ok.0 in let fits = p.given.ok.1 in omega (arith, cap, over, long, fits))
-    of j is full = absurd full
+    full_room : length p.given.items ≡ room
+    full_room = (let cap : vec_capacity p.given ≡ room = is in let over : vec_capacity p.given ≤ vec_len p.given = full.0 in let long = p.given.ok.0 in let fits = p.given.ok.1 in omega (arith, cap, over, long, fits))
+cut_is start l more sets job request call s p answer to ready asks ask began given is full le next = absurd full
 
 module _ {S : Type 0} (g : Ghosts S) (laws : Laws g) (one : OneCallRuns g) (jobs : List Job) (stood kept_then : (Entry → Bool) → List Action → List Call → Type 0) (w v : StoreAndSlots S) (steps : Continues g.follows w.store v.store) (sets : v.sets ≡ w.sets)
     (start : ℕ) (pending : List (Option Pending)) (records : List Record) (s : ℕ) (p : Pending) (at : slice_get pending s ≡ Some (Some p)) (runs : has_call w.slots s ≡ true) where
@@ -87,6 +104,10 @@ module _ {S : Type 0} (g : Ghosts S) (laws : Laws g) (one : OneCallRuns g) (jobs
   next_runs (Some answer) did =
       (not_not (has_call v.slots s) (sym (last_of w.slots v.slots s answer did.always.until_last runs) ∙ goes_on answer did), others_run_on w.slots v.slots s (did.always.others s refl))
 
+  pub next_goes_on : (o : Option Answer) → MayBeDone g (Next s) o w v → (answer : Answer) → o ≡ Some answer → is_last answer ≡ false
+  next_goes_on None is answer e = absurd cc
+  next_goes_on (Some told) did answer e = (let same : told ≡ answer = some_same e in ap is_last (sym same) ∙ goes_on told did)
+
   -- giving the call up
   pub end_answers : (answer : Answer) → IsDone g (End s) answer w v → answer ≡ Ended
   end_answers answer did = ended_of (slot_of w.slots s) answer (busy_is w.slots s ∙ runs) did.always.answers
@@ -94,14 +115,21 @@ module _ {S : Type 0} (g : Ghosts S) (laws : Laws g) (one : OneCallRuns g) (jobs
   pub end_runs : (answer : Answer) → IsDone g (End s) answer w v → (has_call v.slots s ≡ false) × OthersRunOn w.slots v.slots s
   end_runs answer did = (sym (busy_is v.slots s) ∙ ap is_busy did.always.left.over, others_run_on w.slots v.slots s (did.always.others s refl))
 
-  pub end_keeps : (answer : Answer) → IsDone g (End s) answer w v → (asked : Job) → slice_get jobs p.job ≡ Some asked → IsFullScan asked (Some p) → (to : ℕ) → to ≡ (g.state v.store).acts
+  pub end_keeps : ReadyMayComeNext g → (answer : Answer) → IsDone g (End s) answer w v → (asked : Job) → slice_get jobs p.job ≡ Some asked → IsFullScan asked (Some p) (ready_count (slot_of w.slots s)) → (to : ℕ) → to ≡ (g.state v.store).acts
       → KeepsAll g stood kept_then jobs w start pending records → KeepsAll g stood kept_then jobs v start (slice_set pending s None) (records ++ record_of s p answer to ∷ [])
-  end_keeps answer did asked is full to to_is all honest contents acts calls so =
+  end_keeps law answer did asked is full to to_is all honest contents acts calls so =
       let k = all (later.honest honest) contents acts calls so in
       let y = k.runs s p at in
       let r = did.goes honest contents k.history k.calls k.fit in
       let was = snapshot_of w k.history k.calls in
       let new = snapshot_of v r.then_history r.then_calls in
-      keeps_ended g jobs contents acts calls (kept_then contents acts calls) w v sets start pending records k later.durable s p one at answer to new
-      (moved_last y.number y.call answer was new (ap is_last (end_answers answer did)) (moved g contents s GivesUp answer was new k.fit (goes_does r.goes) y.number y.call y.is))
-      refl r.fits (λ h. (r.goes.crash h).keeps) (to_is ∙ r.fits.explains.count) (λ e. full_is asked y.job p (some_same (sym y.job_is ∙ is)) y.room full)
+      let e = moved_last y.number y.call answer was new (ap is_last (end_answers answer did)) (moved g contents s GivesUp answer was new k.fit (goes_does r.goes) y.number y.call y.is) in
+      let ready = ready_count (slot_of w.slots s) in
+      let until : to ≡ length new.history = to_is ∙ r.fits.explains.count in
+      let long : length k.history ≤ to = (let x = ap (λ (l : List Action). length l) e.to.history_is in let z = length-append k.history e.to.more in omega (arith, until, x, z)) in
+      keeps_ended g jobs contents acts calls (kept_then contents acts calls) w v sets start pending records k later.durable s p one at answer to new e
+      refl r.fits (λ h. (r.goes.crash h).keeps) until
+      (λ _. subst (λ (l : List Action). IsCut contents l y.job (record_of s p answer to)) (sym e.to.history_is)
+      (cut_is contents k.history e.to.more w.sets y.job y.request y.call s p answer to ready y.asks y.ask_is y.began_is y.given_is y.room
+      (subst (λ (j : Job). IsFullScan j (Some p) ready) (some_same (sym is ∙ y.job_is)) full) long
+      (λ range asks some. law contents was s y.number y.call range k.fit y.is asks some)))

@@ -177,3 +177,11 @@ module _ {S : Type 0} (g : Ghosts S) (laws : Laws g) (jobs : List Job) (stood ke
       by (inr a) =
           let m = subst (λ (kd : Kind). EventAlways g kd answer w v) a.kind always in
           ap slot_has_call (m.others (suc t) tt t (λ e. omega (arith, e)))
+
+  -- no action is logged
+  pub begin_acts : (g.state v.store).acts ≡ (g.state w.store).acts
+  begin_acts = by (asks_one s job)
+    where
+      by : AsksCall s job ⊎ AsksStore s job → (g.state v.store).acts ≡ (g.state w.store).acts
+      by (inl a) = (subst (λ (kd : Kind). EventAlways g kd answer w v) a.kind always).calm
+      by (inr a) = (subst (λ (kd : Kind). EventAlways g kd answer w v) a.kind always).calm

@@ -93,6 +93,7 @@ module _ {S T : Type 0} (g : Ghosts S) (rows : SetGhosts T) (stood kept_then : (
   finished = record {
     kept = ∥∥₁_map h.kept (λ all honest contents history calls fit. keeps_as g jobs contents history calls (WorldKeeps g rows world contents history calls) (kept_then contents history calls) _ done.start [] records
         (keeps contents history calls) (all honest contents history calls (fits contents history calls fit)));
+    acted = h.acted;
     comes = h.comes;
     idle = h.idle;
     all = sym (length-map records (λ r. r.job)) ∙ as_many (length jobs) (jobs_of_records records) h.all;

@@ -20,8 +20,8 @@ use Rattle.sessions.specs.declared.job.Job.{Job}
 use Rattle.sessions.specs.declared.job.Job.TheVariants.{Scan}
 use Rattle.sessions.specs.declared.record.Record.{Record}
 use Rattle.sessions.specs.declared.record.Pending.{Pending}
-use Rattle.sessions.specs.Jobs.{request_of, upkeep_of, IsRoomOf, IsWithin, IsFull}
-use Rattle.sessions.specs.Kept.{RunsJob, IsBlocked, IsSince, Follows, Keeps, record_of}
+use Rattle.sessions.specs.Jobs.{request_of, upkeep_of, IsRoomOf, IsWithin}
+use Rattle.sessions.specs.Kept.{RunsJob, IsBlocked, IsCut, IsSince, Follows, Keeps, record_of}
 use Rattle.sessions.proofs.Keeping.{some_same, follows_now, old_fits, touches_next, touches_none, touches_running, keeps_on, keeps_with}
 use Rattle.sessions.proofs.Telling.{MovesOnTo, EndsTo}
 
@@ -147,7 +147,7 @@ module _ {S : Type 0} (g : Ghosts S) (jobs : List Job) (contents : Entry → Boo
   -- a running call ends
   pub keeps_ended : OneCallRuns g → (at : slice_get pending s ≡ Some (Some p)) (answer : Answer) (to : ℕ) (new : Snapshot S) (e : EndsTo (k.runs s p at).number (k.runs s p at).call answer was new)
       → new ≡ snapshot_of v new.history new.calls → Fits g contents new → (KeepsHistory g contents was → KeepsHistory g contents new) → to ≡ length new.history
-      → (answer ≡ Ended → IsFull (k.runs s p at).job p.given.items) → Then (slice_set pending s None) (records ++ record_of s p answer to ∷ [])
+      → (answer ≡ Ended → IsCut contents new.history (k.runs s p at).job (record_of s p answer to)) → Then (slice_set pending s None) (records ++ record_of s p answer to ∷ [])
   keeps_ended one at answer to new e here fit safe to_is cut =
       let y = k.runs s p at in
       let z = k.since s p at in
@@ -178,7 +178,7 @@ module _ {S : Type 0} (g : Ghosts S) (jobs : List Job) (contents : Entry → Boo
           settled = e.settled;
         };
         most = within_room y.job p y.room;
-        cut = cut;
+        cut = λ x. subst (λ (l : List Action). IsCut contents l y.job (record_of s p answer to)) e.to.history_is (cut x);
       }))
       (record { seen_is = z.seen_is; from_is = omega (arith, z.from_is, long, length-append k.history e.to.more); to_is = omega (arith, long) })
       z.behind

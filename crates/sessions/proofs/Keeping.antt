@@ -4,6 +4,7 @@ use Rattle.std.proofs.lemmas.List.{append-nil}
 use Rattle.index_model.specs.Actions.{Action}
 use Rattle.index_model.specs.Calls.{Call, Running}
 use Rattle.index_model.specs.declared.entry.Entry.{Entry}
+use Rattle.index_model.proofs.Histories.{at_some_moment_later}
 use Rattle.page_action.specs.declared.page_store.PageStore.{Ghosts}
 use Rattle.schedule.specs.CallLists.{OneCallRuns}
 use Rattle.schedule.specs.TheoremCrashes.{KeepsHistory}
@@ -11,9 +12,10 @@ use Rattle.schedule.specs.TheoremMoments.{StoreAndSlots, snapshot_of}
 use Rattle.schedule.specs.TheoremRuns.{Fits}
 use Rattle.worker_seats.proofs.Rows.{get_front, get_snoc, get_within, get_there, set_else, set_cases}
 use Rattle.sessions.specs.declared.job.Job.{Job}
+use Rattle.sessions.specs.declared.job.Job.TheVariants.{Scan}
 use Rattle.sessions.specs.declared.record.Record.{Record}
 use Rattle.sessions.specs.declared.record.Pending.{Pending}
-use Rattle.sessions.specs.Kept.{ListsCall, ListsUpkeep, Lists, RunsJob, IsPending, IsOurs, Follows, IsSince, IsInTime, Keeps}
+use Rattle.sessions.specs.Kept.{IsCut, ListsCall, ListsUpkeep, Lists, RunsJob, IsPending, IsOurs, Follows, IsSince, IsInTime, Keeps}
 
 pub some_same : {A : Type 0} {x y : A} → Some x ≡ Some y → x ≡ y
 some_same e = cc
@@ -36,6 +38,12 @@ length_set : {A : Type 0} (xs : List A) (i : ℕ) (v : A) → length (set xs i v
 length_set [] i v = refl
 length_set (x ∷ xs) zero v = refl
 length_set (x ∷ xs) (suc i) v = ap suc (length_set xs i v)
+
+-- a scan that was given up rightly was so by a longer history too
+cut_later : (start : Entry → Bool) (l m : List Action) (job : Job) (r : Record) → r.to ≤ length l → IsCut start l job r → IsCut start (l ++ m) job r
+cut_later start l m (Scan range room) r le h =
+    (h.0, record { entry = h.1.entry; matched = h.1.matched; was_there = at_some_moment_later start l m r.from r.to r.to h.1.entry le (omega arith) h.1.was_there; beyond = h.1.beyond })
+cut_later start l m job r le h = absurd h
 
 -- each of these actions is of the call of this number
 abbrev pub AllBy : ℕ → List Action → Type 0
@@ -70,7 +78,7 @@ module _ {S : Type 0} (g : Ghosts S) (jobs : List Job) (contents : Entry → Boo
   listed_call k j q h =
       let t = get_there records q (omega (arith, k.long, get_within k.at q (Some j) h)) in
       ⊎_elim
-      (λ (l : ListsCall w.sets jobs k.calls k.at q t.0). (l.call, subst (λ n. slice_get k.calls n ≡ Some l.call) (some_same (some_same (sym l.at_is ∙ h))) l.found, l.is.over))
+      (λ (l : ListsCall contents k.history w.sets jobs k.calls k.at q t.0). (l.call, subst (λ n. slice_get k.calls n ≡ Some l.call) (some_same (some_same (sym l.at_is ∙ h))) l.found, l.is.over))
       (λ (l : ListsUpkeep (g.backing w.store).durable jobs k.at q t.0). absurd (let e = sym l.at_is ∙ h in cc))
       (k.listed q t.0 t.1)
 
@@ -153,9 +161,10 @@ module _ {S : Type 0} (g : Ghosts S) (jobs : List Job) (contents : Entry → Boo
     abbrev then_pending : List (Option Pending)
     then_pending = slice_set pending s o
 
-    lists_kept : (ats : List (Option ℕ)) (q : ℕ) (r : Record) → Lists (g.backing w.store).durable w.sets jobs k.calls k.at q r → Lists (g.backing v.store).durable v.sets jobs calls (k.at ++ ats) q r
-    lists_kept ats q r l = ⊎_elim
-        (λ (x : ListsCall w.sets jobs k.calls k.at q r). inl (record {
+    lists_kept : (ats : List (Option ℕ)) (q : ℕ) (r : Record) → r.to ≤ length k.history → Lists contents k.history (g.backing w.store).durable w.sets jobs k.calls k.at q r
+        → Lists contents (k.history ++ more) (g.backing v.store).durable v.sets jobs calls (k.at ++ ats) q r
+    lists_kept ats q r to l = ⊎_elim
+        (λ (x : ListsCall contents k.history w.sets jobs k.calls k.at q r). inl (record {
           number = x.number;
           job = x.job;
           request = x.request;
@@ -166,7 +175,7 @@ module _ {S : Type 0} (g : Ghosts S) (jobs : List Job) (contents : Entry → Boo
           found = t.rest x.number x.call (λ e. t.free q (x.at_is ∙ ap (λ n. Some (Some n)) e)) x.found;
           is = rw sets_same x.is;
           most = x.most;
-          cut = x.cut;
+          cut = λ e. cut_later contents k.history more x.job r to (x.cut e);
         }))
         (λ (x : ListsUpkeep (g.backing w.store).durable jobs k.at q r). inr (record {
           job = x.job;
@@ -242,7 +251,7 @@ module _ {S : Type 0} (g : Ghosts S) (jobs : List Job) (contents : Entry → Boo
           ours = λ j a b. subst (λ l. IsOurs calls l then_pending j) (append-nil k.at) (ours_kept [] (λ l. subst (λ x. IsOurs calls x then_pending i) (sym (append-nil k.at)) (mine l)) j a b);
           owned = owned_kept;
           long = k.long;
-          listed = λ q r h. subst (λ l. Lists (g.backing v.store).durable v.sets jobs calls l q r) (append-nil k.at) (lists_kept [] q r (k.listed q r h));
+          listed = λ q r h. subst (λ l. Lists contents (k.history ++ more) (g.backing v.store).durable v.sets jobs calls l q r) (append-nil k.at) (lists_kept [] q r (k.in_time q r h).to_is (k.listed q r h));
           once = k.once;
           runs = λ u q h. ⊎_elim
               (λ (x : (u ≡ s) × (o ≡ Some q)). subst (λ n. RunsJob v.sets jobs (length old) calls n q) (sym x.0) (own q x.1).0)
@@ -259,7 +268,7 @@ module _ {S : Type 0} (g : Ghosts S) (jobs : List Job) (contents : Entry → Boo
     -- one record is made, and the session runs nothing then
     pub keeps_with : (r : Record) → r.worker ≡ s → o ≡ None → (entry : Option ℕ) → ((j : ℕ) → entry ≡ Some j → j ≡ i)
         → (i < length calls → IsOurs calls (k.at ++ entry ∷ []) then_pending i)
-        → Lists (g.backing v.store).durable v.sets jobs calls (k.at ++ entry ∷ []) (length records) r
+        → Lists contents (k.history ++ more) (g.backing v.store).durable v.sets jobs calls (k.at ++ entry ∷ []) (length records) r
         → IsInTime (length (k.history ++ more)) (length records) r
         → Follows records s r.seen r.from
         → Keeps g jobs contents acts old KeptThen v start then_pending (records ++ r ∷ [])
@@ -280,8 +289,8 @@ module _ {S : Type 0} (g : Ghosts S) (jobs : List Job) (contents : Entry → Boo
           owned = owned_kept;
           long = omega (arith, k.long, length-append k.at one, longer);
           listed = λ q u h. ⊎_elim
-              (λ (x : (q < length records) × (slice_get records q ≡ Some u)). lists_kept one q u (k.listed q u x.1))
-              (λ (x : (q ≡ length records) × (r ≡ u)). subst (λ (y : ℕ × Record). Lists (g.backing v.store).durable v.sets jobs calls (k.at ++ one) y.0 y.1) (λ z. (sym x.0 z, x.1 z)) listed)
+              (λ (x : (q < length records) × (slice_get records q ≡ Some u)). lists_kept one q u (k.in_time q u x.1).to_is (k.listed q u x.1))
+              (λ (x : (q ≡ length records) × (r ≡ u)). subst (λ (y : ℕ × Record). Lists contents (k.history ++ more) (g.backing v.store).durable v.sets jobs calls (k.at ++ one) y.0 y.1) (λ z. (sym x.0 z, x.1 z)) listed)
               (get_snoc records r u q h);
           once = λ p q j x y. ⊎_elim
               (λ (a : (p < length k.at) × (slice_get k.at p ≡ Some (Some j))). ⊎_elim

@@ -5,6 +5,9 @@ pub mod Telling
 pub mod Happening
 pub mod Stepping
 pub mod Asking
+pub mod Owning
+pub mod Acting
+pub mod Transiting
 pub mod Turning
 pub mod Beginning
 pub mod Ending

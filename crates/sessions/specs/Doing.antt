@@ -1,7 +1,10 @@
 -- What is done under the lock by one event of a running call, or left undone.
-use Rattle.std.specs.Prelude.{◌≡◌, ◌≤◌, ℕ, Option, Some, None, List, [], ◌∷◌, ◌++◌, vec_len, vec_capacity}
+use Rattle.std.specs.Prelude.{◌≡◌, ◌<◌, ◌≤◌, ℕ, Option, Some, None, unwrap_or, List, [], ◌∷◌, ◌++◌, slice_get, vec_len, vec_capacity}
 use Rattle.index_model.specs.declared.entry.Entry.{Entry}
 use Rattle.page_action.specs.declared.page_store.PageStore.{Ghosts}
+use Rattle.session_calls.specs.Sessions.{ready_count}
+use Rattle.session_calls.specs.Slots.{slot_of}
+use Rattle.session_calls.specs.declared.op.Op.{Op}
 use Rattle.session_calls.specs.declared.answer.Answer.{Answer}
 use Rattle.session_calls.specs.declared.answer.Answer.TheVariants.{Gave, Ended}
 use Rattle.schedule.specs.Events.{EventAlways}
@@ -42,10 +45,14 @@ pub record HasTaken (answer : Option Answer) (before after : Pending) : Type 0 w
   pub items : after.given.items ≡ taken_behind answer before.given.items
   pub still : answer ≡ None → after ≡ before
 
--- the job is a scan that runs and whose room is full
-abbrev pub IsFullScan : Job → Option Pending → Type 0
-IsFullScan (Scan range room) (Some p) = vec_capacity p.given ≤ vec_len p.given
-IsFullScan job running = ⊥
+-- the job is a scan that runs, whose room is full and which has so many entries ready, one or more
+abbrev pub IsFullScan : Job → Option Pending → ℕ → Type 0
+IsFullScan (Scan range room) (Some p) ready = (vec_capacity p.given ≤ vec_len p.given) × (0 < ready)
+IsFullScan job running ready = ⊥
+
+-- ... the job of this session
+abbrev pub IsToBeCut : Job → ℕ → List (Option Pending) → List (Option Op) → Type 0
+IsToBeCut job session pending slots = IsFullScan job (unwrap_or (slice_get pending session) None) (ready_count (slot_of slots session))
 
 -- the answer of an end that was made, if one was: its record has a place
 abbrev pub ended_at : Option ℕ → Option Answer

@@ -17,6 +17,7 @@ use Rattle.sessions.specs.declared.job.Job.{Job}
 use Rattle.sessions.specs.declared.outcome.Finished.{Finished}
 use Rattle.sessions.specs.declared.outcome.Receipt.{Receipt}
 use Rattle.sessions.specs.declared.record.Record.{Record}
+use Rattle.sessions.specs.Acted.{HasActed}
 use Rattle.sessions.specs.Handed.{Handed, ComesOf}
 use Rattle.sessions.specs.Jobs.{room_of}
 use Rattle.sessions.specs.Kept.{KeepsAll}
@@ -62,16 +63,17 @@ pub record IsReceiptFor (records : List Record) (job : ℕ) (receipt : Receipt) 
 -- what is known of a world that is handed in now
 abbrev pub handed_of : {S T : Type 0} → Ghosts S → SetGhosts T → World S T → Handed
 handed_of g rows world = record {
-  start = (g.state world.store).acts;
-  sessions = length world.calls.slots.items;
-  sets = (inside rows world).sets;
+  state = g.state world.store;
   backing = g.backing world.store;
+  slots = world.calls.slots.items;
+  sets = (inside rows world).sets;
 }
 
--- All jobs are done: what is kept under the lock is so with no job pending, no session has a call, the records are those of the jobs that were
--- handed out, and each is of one of the workers.
+-- All jobs are done: what is kept under the lock is so with no job pending, and so is what was done for each record; no session has a call, the
+-- records are those of the jobs that were handed out, and each is of one of the workers.
 pub record HasRun {S T : Type 0} (g : Ghosts S) (rows : SetGhosts T) (stood kept_then : (Entry → Bool) → List Action → List Call → Type 0) (handed : Handed) (jobs : List Job) (workers : ℕ) (world : World S T) (start : ℕ) (records : List Record) : Type 0 where
   pub kept : ∥ KeepsAll g stood kept_then jobs (inside rows world) start [] records ∥₁
+  pub acted : ∥ HasActed g handed jobs (inside rows world) [] records ∥₁
   pub comes : ∥ ComesOf g handed start (inside rows world) ∥₁
   pub idle : AreIdle world.calls.slots.items
   pub all : (h : ℕ → ℕ) → weigh h (below (length jobs)) ≡ weigh h (jobs_of_records records)
@@ -80,6 +82,7 @@ pub record HasRun {S T : Type 0} (g : Ghosts S) (rows : SetGhosts T) (stood kept
 -- ... and each has its receipt
 pub record IsFinished {S T : Type 0} (g : Ghosts S) (rows : SetGhosts T) (jobs : List Job) (workers : ℕ) (world : World S T) (done : Finished S T) : Type 0 where
   pub kept : ∥ KeepsAll g (WorldFits g rows world) (WorldKeeps g rows world) jobs (inside rows done.world) done.start [] done.history.items ∥₁
+  pub acted : ∥ HasActed g (handed_of g rows world) jobs (inside rows done.world) [] done.history.items ∥₁
   pub comes : ∥ ComesOf g (handed_of g rows world) done.start (inside rows done.world) ∥₁
   pub idle : AreIdle done.world.calls.slots.items
   pub all : length done.history.items ≡ length jobs

@@ -1,29 +1,48 @@
 -- What is known of a world as it was handed in, and holds of it on.
-use Rattle.std.specs.Prelude.{◌≡◌, ℕ, true, false, [], length}
-use Rattle.page_action.specs.States.{Backing, IsLater}
+use Rattle.std.specs.Prelude.{◌≡◌, ℕ, true, false, List, [], Option, length}
+use Rattle.page_action.specs.States.{State, Backing, IsLater}
 use Rattle.page_action.specs.declared.page_store.PageStore.{Ghosts}
 use Rattle.session_calls.specs.TheoremCalls.{DeadSets}
+use Rattle.session_calls.specs.declared.op.Op.{Op}
 use Rattle.schedule.specs.TheoremMoments.{StoreAndSlots}
 
--- how many actions there were, how many sessions, the sets of dead rows, and the log and the device
+-- all that is seen of its store: pages, calls and holdings, and the log and the device; what its sessions ran, and the sets of dead rows
 pub record Handed : Type 0 where
-  pub start : ℕ
-  pub sessions : ℕ
-  pub sets : DeadSets
+  pub state : State
   pub backing : Backing
+  pub slots : List (Option Op)
+  pub sets : DeadSets
 
 -- where none is
 abbrev pub nothing_handed : Handed
 nothing_handed = record {
-  start = 0;
-  sessions = 0;
-  sets = [];
+  state = record {
+    limits = record { items = 0; pages = 0; log_bytes = 0 };
+    frames = 0;
+    pages = [];
+    counted = [];
+    acts = 0;
+    begun = 0;
+    running = [];
+    counter = 0;
+    cycle = 0;
+    table = [];
+  };
   backing = record { durable = 0; room = 0; promised = 0; stopped = false; honest = true; failures = 0; changed = []; waiting = [] };
+  slots = [];
+  sets = [];
 }
 
+-- a world as it was handed in
+pub record IsAsHanded {S : Type 0} (g : Ghosts S) (handed : Handed) (first : StoreAndSlots S) : Type 0 where
+  pub state_is : g.state first.store ≡ handed.state
+  pub backing_is : g.backing first.store ≡ handed.backing
+  pub slots_are : first.slots ≡ handed.slots
+  pub sets_are : first.sets ≡ handed.sets
+
 -- the world handed in has become this one: its sessions and sets are the same, and its device is a later one
-pub record ComesOf {S : Type 0} (g : Ghosts S) (first : Handed) (start : ℕ) (now : StoreAndSlots S) : Type 0 where
-  pub start_is : start ≡ first.start
-  pub sessions_are : length now.slots ≡ first.sessions
-  pub sets_are : now.sets ≡ first.sets
-  pub later : IsLater first.backing (g.backing now.store)
+pub record ComesOf {S : Type 0} (g : Ghosts S) (handed : Handed) (start : ℕ) (now : StoreAndSlots S) : Type 0 where
+  pub start_is : start ≡ handed.state.acts
+  pub sessions_are : length now.slots ≡ length handed.slots
+  pub sets_are : now.sets ≡ handed.sets
+  pub later : IsLater handed.backing (g.backing now.store)

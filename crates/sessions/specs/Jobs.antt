@@ -3,7 +3,9 @@ use Rattle.std.specs.Prelude.{◌≡◌, ◌≤◌, ℕ, Option, Some, None, Lis
 use Rattle.index_model.specs.declared.entry.Entry.{Entry}
 use Rattle.session_calls.specs.declared.request.Request.{Request}
 use Rattle.session_calls.specs.declared.request.Request.TheVariants.{Insert as ToInsert, Scan as ToScan, Bulk as ToBulk, Cleanup as ToCleanup}
-use Rattle.schedule.specs.TheoremKinds.{Upkeep, Forces, Checkpoints, Kind, BeginsCall, KeepsStore}
+use Rattle.schedule.specs.TheoremKinds.{Upkeep, Forces, Checkpoints, Kind, kind_of}
+use Rattle.schedule.specs.declared.event.Event.{Event}
+use Rattle.schedule.specs.declared.event.Event.TheVariants.{Insert as BeginInsert, Scan as BeginScan, Bulk as BeginBulk, Cleanup as BeginCleanup, Force, Checkpoint as MakeCheckpoint}
 use Rattle.sessions.specs.declared.job.Job.{Job}
 use Rattle.sessions.specs.declared.job.Job.TheVariants.{Insert, Scan, Bulk, Cleanup, Commit, Checkpoint}
 
@@ -23,13 +25,17 @@ upkeep_of Checkpoint = Some Checkpoints
 upkeep_of job = None
 
 -- the event that begins it in this session, or does it whole
+abbrev pub event_of : ℕ → Job → Event
+event_of session (Insert entry) = BeginInsert session entry
+event_of session (Scan range room) = BeginScan session range
+event_of session (Bulk set) = BeginBulk session set
+event_of session Cleanup = BeginCleanup session
+event_of session Commit = Force
+event_of session Checkpoint = MakeCheckpoint
+
+-- ... and its kind
 abbrev pub begins : ℕ → Job → Kind
-begins session (Insert entry) = BeginsCall session (ToInsert entry)
-begins session (Scan range room) = BeginsCall session (ToScan range)
-begins session (Bulk set) = BeginsCall session (ToBulk set)
-begins session Cleanup = BeginsCall session ToCleanup
-begins session Commit = KeepsStore Forces
-begins session Checkpoint = KeepsStore Checkpoints
+begins session job = kind_of (event_of session job)
 
 -- how many entries it may give
 abbrev pub room_of : Job → ℕ

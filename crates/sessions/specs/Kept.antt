@@ -20,9 +20,11 @@ use Rattle.schedule.specs.TheoremMoments.{StoreAndSlots, IsRunningCall, snapshot
 use Rattle.schedule.specs.TheoremRuns.{Fits}
 use Rattle.whole_calls.specs.OneStep.{cut_short}
 use Rattle.sessions.specs.declared.job.Job.{Job}
+use Rattle.sessions.specs.declared.job.Job.TheVariants.{Scan}
 use Rattle.sessions.specs.declared.record.Record.{Record}
 use Rattle.sessions.specs.declared.record.Pending.{Pending}
-use Rattle.sessions.specs.Jobs.{request_of, upkeep_of, IsRoomOf, IsWithin, IsFull}
+use Rattle.schedule.specs.Ready.{MayComeNext}
+use Rattle.sessions.specs.Jobs.{request_of, upkeep_of, IsRoomOf, IsWithin}
 
 -- the record of a job that is done
 abbrev pub record_of : ℕ → Pending → Answer → ℕ → Record
@@ -64,9 +66,14 @@ pub record IsCallOf (ask : Ask) (r : Record) (call : Call) : Type 0 where
   -- one that is blocked goes on, and isn't recorded for it
   pub settled : IsBlocked r.answer → ⊥
 
+-- a scan was given up rightly: its room was full, and there was one match more, beyond all that it gave, at some moment of its interval
+abbrev pub IsCut : (Entry → Bool) → List Action → Job → Record → Type 0
+IsCut start history (Scan range room) r = (length r.given.items ≡ room) × MayComeNext start history range r.from r.to r.given.items
+IsCut start history job r = ⊥
+
 -- the record at a place lists a call, which was asked the record's job; a scan gave no more than its room holds, and was ended by its
--- worker only where that was full
-pub record ListsCall (sets : DeadSets) (jobs : List Job) (calls : List Call) (at : List (Option ℕ)) (place : ℕ) (r : Record) : Type 0 where
+-- worker only where that was full and one match more was there
+pub record ListsCall (start : Entry → Bool) (history : List Action) (sets : DeadSets) (jobs : List Job) (calls : List Call) (at : List (Option ℕ)) (place : ℕ) (r : Record) : Type 0 where
   pub number : ℕ
   pub job : Job
   pub request : Request
@@ -77,7 +84,7 @@ pub record ListsCall (sets : DeadSets) (jobs : List Job) (calls : List Call) (at
   pub found : slice_get calls number ≡ Some call
   pub is : IsCallOf (asked_by sets request) r call
   pub most : IsWithin job r.given.items
-  pub cut : r.answer ≡ Ended → IsFull job r.given.items
+  pub cut : r.answer ≡ Ended → IsCut start history job r
 
 -- it stands beside the calls: a commit or a checkpoint, which gives nothing, takes no action's time, answers what its kind may, and tells a
 -- number of actions only where so many were there and are durable
@@ -92,8 +99,8 @@ pub record ListsUpkeep (durable : ℕ) (jobs : List Job) (at : List (Option ℕ)
   pub still : r.to ≡ r.from
   pub kept : (count : ℕ) → kept_answer upkeep count ≡ Some r.answer → (count ≡ r.to) × (count ≤ durable)
 
-abbrev pub Lists : ℕ → DeadSets → List Job → List Call → List (Option ℕ) → ℕ → Record → Type 0
-Lists durable sets jobs calls at place r = ListsCall sets jobs calls at place r ⊎ ListsUpkeep durable jobs at place r
+abbrev pub Lists : (Entry → Bool) → List Action → ℕ → DeadSets → List Job → List Call → List (Option ℕ) → ℕ → Record → Type 0
+Lists start history durable sets jobs calls at place r = ListsCall start history sets jobs calls at place r ⊎ ListsUpkeep durable jobs at place r
 
 -- the session's call runs, and was begun by this run of jobs
 pub record RunsJob (sets : DeadSets) (jobs : List Job) (first : ℕ) (calls : List Call) (session : ℕ) (p : Pending) : Type 0 where
@@ -156,7 +163,7 @@ pub record Keeps {S : Type 0} (g : Ghosts S) (jobs : List Job) (contents : Entry
   pub owned : (place : ℕ) (action : Action) → length old_history ≤ place → slice_get history place ≡ Some action → (length old_calls ≤ action.by) × (action.by < length calls)
   -- each record lists a call, or a commit or a checkpoint, and no call is listed twice
   pub long : length at ≡ length records
-  pub listed : (place : ℕ) (r : Record) → slice_get records place ≡ Some r → Lists (g.backing now.store).durable now.sets jobs calls at place r
+  pub listed : (place : ℕ) (r : Record) → slice_get records place ≡ Some r → Lists contents history (g.backing now.store).durable now.sets jobs calls at place r
   pub once : (p q number : ℕ) → slice_get at p ≡ Some (Some number) → slice_get at q ≡ Some (Some number) → p ≡ q
   -- each pending job is a running call
   pub runs : (session : ℕ) (p : Pending) → slice_get pending session ≡ Some (Some p) → RunsJob now.sets jobs (length old_calls) calls session p

@@ -1,3 +1,4 @@
+pub mod Acted
 pub mod Doing
 pub mod Finishing
 pub mod Handed
@@ -6,4 +7,5 @@ pub mod Kept
 pub mod Notes
 pub mod Ready
 pub mod Standing
+pub mod Transitions
 pub mod Turns

@@ -3,7 +3,7 @@
 ghost use Rattle.std.specs.Prelude.{◌≡◌, ◌≤◌, ◌<◌, ◌+◌, [], IfOk, IfErr, length, vec_capacity};
 ghost use Rattle.world.specs.Worlds.{inside};
 ghost use Rattle.sessions.specs.Finishing.{AreIdle, HasRun};
-ghost use Rattle.sessions.specs.Handed.{ComesOf};
+ghost use Rattle.sessions.specs.Handed.{IsAsHanded};
 ghost use Rattle.sessions.specs.Standing.{Stands};
 
 use crate::crew::Number;
@@ -50,8 +50,7 @@ pub fn run_all<
     requires few { J.workers ≤ 64 }
     requires sessions { J.workers ≤ length world.calls.slots.items }
     requires stood { Stands S.PageStore J.stood J.kept_then (inside T.DeadRows world) }
-    requires handed { ComesOf S.PageStore J.handed (S.state world.store).acts
-        (inside T.DeadRows world) }
+    requires handed { IsAsHanded S.PageStore J.handed (inside T.DeadRows world) }
     requires rests { AreIdle world.calls.slots.items }
     ensures err { IfErr result (λ w. w ≡ world) }
     ensures done { IfOk result (λ r. HasRun S.PageStore T.DeadRows J.stood J.kept_then J.handed
@@ -74,8 +73,7 @@ pub fn run_all<
             requires few { J.workers ≤ 64 }
             requires sessions { J.workers ≤ length world.calls.slots.items }
             requires stood { Stands S.PageStore J.stood J.kept_then (inside T.DeadRows world) }
-            requires handed { ComesOf S.PageStore J.handed (S.state world.store).acts
-                (inside T.DeadRows world) }
+            requires handed { IsAsHanded S.PageStore J.handed (inside T.DeadRows world) }
             requires rests { AreIdle world.calls.slots.items }
             ensures err { IfErr result (λ w. w ≡ world) }
             ensures done { IfOk result (λ r. HasRun S.PageStore T.DeadRows J.stood J.kept_then

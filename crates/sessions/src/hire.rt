@@ -7,7 +7,7 @@ ghost use Rattle.worker_seats.specs.Queue.{KnowsAll, jobs_in, sum_over, weigh};
 ghost use Rattle.worker_seats.specs.Seats.{keeper_of, known_by};
 ghost use Rattle.world.specs.Worlds.{inside};
 ghost use Rattle.sessions.specs.Finishing.{AreIdle, HasRun};
-ghost use Rattle.sessions.specs.Handed.{ComesOf};
+ghost use Rattle.sessions.specs.Handed.{IsAsHanded};
 ghost use Rattle.sessions.specs.Notes.{jobs_of};
 ghost use Rattle.sessions.specs.Standing.{Stands};
 ghost use Rattle.sessions.specs.declared.record.Pending.{Pending as WaitingJob};
@@ -227,8 +227,7 @@ pub fn hire<
     requires few { J.workers ≤ 64 }
     requires sessions { J.workers ≤ length world.calls.slots.items }
     requires stood { Stands S.PageStore J.stood J.kept_then (inside T.DeadRows world) }
-    requires handed { ComesOf S.PageStore J.handed (S.state world.store).acts
-        (inside T.DeadRows world) }
+    requires handed { IsAsHanded S.PageStore J.handed (inside T.DeadRows world) }
     requires rests { AreIdle world.calls.slots.items }
     ensures err { IfErr result (λ w. w ≡ world) }
     ensures done { IfOk result (λ r. HasRun S.PageStore T.DeadRows J.stood J.kept_then J.handed

@@ -6,7 +6,7 @@ ghost use Rattle.worker_seats.specs.Queue.{KnowsAll, jobs_in, sum_over, weigh};
 ghost use Rattle.worker_seats.specs.Seats.{keeper_of, known_by};
 ghost use Rattle.world.specs.Worlds.{inside};
 ghost use Rattle.sessions.specs.Finishing.{AreIdle, HasRun};
-ghost use Rattle.sessions.specs.Handed.{ComesOf};
+ghost use Rattle.sessions.specs.Handed.{IsAsHanded};
 ghost use Rattle.sessions.specs.Notes.{jobs_of};
 ghost use Rattle.sessions.specs.Standing.{Stands};
 ghost use Rattle.sessions.specs.declared.record.Pending.{Pending as WaitingJob};
@@ -30,8 +30,7 @@ pub fn first<S: PageStore, T: DeadRows + Drop, J: Jobs>(
     keeper: SeatPass,
 ) -> Shared<S, T, J>
     requires stood { Stands S.PageStore J.stood J.kept_then (inside T.DeadRows world) }
-    requires handed { ComesOf S.PageStore J.handed (S.state world.store).acts
-        (inside T.DeadRows world) }
+    requires handed { IsAsHanded S.PageStore J.handed (inside T.DeadRows world) }
     requires rests { AreIdle world.calls.slots.items }
     requires history { history.items ≡ [] }
     requires pending { (session : ℕ) (p : WaitingJob)

@@ -10,6 +10,7 @@ ghost use Rattle.page_action.specs.States.{IsLater};
 ghost use Rattle.worker_seats.specs.Queue.{below, queue_view, times, weigh};
 ghost use Rattle.worker_seats.specs.Seats.{keeper_of, known_by};
 ghost use Rattle.world.specs.Worlds.{WorldFits, WorldKeeps, inside};
+ghost use Rattle.sessions.specs.Acted.{HasActed};
 ghost use Rattle.sessions.specs.Finishing.{AreIdle, IsFinished, IsReceiptFor, IsRefusedFor, IsWithinLimits, handed_of, jobs_of_records, receipt_of, records_of};
 ghost use Rattle.sessions.specs.Kept.{KeepsAll};
 ghost use Rattle.sessions.specs.declared.record.Record.{Record as DoneJob};
@@ -227,6 +228,10 @@ pub fn run_jobs<
     ensures kept { IfOk result (λ done. ∥ KeepsAll S.PageStore
         (WorldFits S.PageStore T.DeadRows world) (WorldKeeps S.PageStore T.DeadRows world)
         jobs.now (inside T.DeadRows done.world) done.start [] done.history.items ∥₁) }
+    // What was done for each record, whatever the pages are.
+    ensures acted { IfOk result (λ done. ∥ HasActed S.PageStore
+        (handed_of S.PageStore T.DeadRows world) jobs.now (inside T.DeadRows done.world) []
+        done.history.items ∥₁) }
     ensures later { IfOk result (λ done.
         ∥ IsLater (S.backing world.store) (S.backing done.world.store) ∥₁) }
     ensures start { IfOk result (λ done. done.start ≡ (S.state world.store).acts) }

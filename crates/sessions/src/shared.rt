@@ -1,26 +1,26 @@
 //! What lies under the lock, and each event that is done there.
 
-ghost use Rattle.std.specs.Prelude.{◌≡◌, ◌≢◌, ◌<◌, ◌≤◌, ◌++◌, ◌∷◌, [], ℕ, true, length, Some, None, slice_get, vec_len, vec_capacity};
+ghost use Rattle.std.specs.Prelude.{◌≡◌, ◌≢◌, ◌<◌, ◌≤◌, ◌↔◌, ◌++◌, ◌∷◌, [], ℕ, true, false, length, Some, None, IsSome, slice_get, vec_len, vec_capacity};
 ghost use Rattle.page_action.specs.States.{Continues};
 ghost use Rattle.whole_calls.specs.Going.{CallGoes};
-ghost use Rattle.whole_calls.specs.OneStep.{OneStepAlways, OneStepGoes};
+ghost use Rattle.whole_calls.specs.Made.{IsMadeOf};
+ghost use Rattle.whole_calls.specs.OneStep.{IsOneStep, OneStepAlways, OneStepComesTo, OneStepGoes};
 ghost use Rattle.worker_seats.specs.Seats.{keeper_of, known_by};
 ghost use Rattle.world.specs.Worlds.{KeepsSessions, inside};
-ghost use Rattle.sessions.specs.Kept.{KeepsAll, Matches, record_of};
-ghost use Rattle.schedule.specs.Events.{EventAlways};
-ghost use Rattle.schedule.specs.TheoremKinds.{kind_of};
-ghost use Rattle.sessions.specs.Doing.{HasTaken, IsFullScan, MayBeDone, ended_at, given_behind};
+ghost use Rattle.sessions.specs.Acted.{HasActed};
+ghost use Rattle.sessions.specs.Doing.{HasTaken, IsDone, IsFullScan, IsToBeCut, MayBeDone, ended_at, given_behind};
 ghost use Rattle.sessions.specs.Handed.{ComesOf};
-ghost use Rattle.sessions.specs.Jobs.{IsRoomOf, begins};
+ghost use Rattle.sessions.specs.Jobs.{IsRoomOf, event_of};
+ghost use Rattle.sessions.specs.Kept.{KeepsAll, Matches, record_of};
 ghost use Rattle.sessions.specs.Notes.{notes_of, jobs_of};
-ghost use Rattle.sessions.specs.Turns.{SeatTold, SitsOn, TurnTold, is_begun};
+ghost use Rattle.sessions.specs.Turns.{BeginTold, SeatTold, SitsOn, TakeTold, TurnTold, is_begun};
 
 use crate::job::Job;
 use crate::jobs::Jobs;
 use crate::record::{Pending, Record};
 use index_model::{DeadRows, Entry};
 use page_action::PageStore;
-use schedule::{Event, one_call_runs, refused_calls_fit};
+use schedule::{Event, one_call_runs, ready_entries_may_come_next, refused_calls_fit};
 use session_calls::Answer;
 use std::sync::Wait;
 use std::sync::ledger::Book;
@@ -38,6 +38,7 @@ pub struct Shared<S: PageStore, T: DeadRows + Drop, J: Jobs> {
     pub book: Book<J>,
     pub keeper: SeatPass,
     pub ghost kept: { ∥ KeepsAll S.PageStore J.stood J.kept_then J.jobs (inside T.DeadRows world) start pending.items history.items ∥₁ },
+    pub ghost acted: { ∥ HasActed S.PageStore J.handed J.jobs (inside T.DeadRows world) pending.items history.items ∥₁ },
     pub ghost matches: { ∥ Matches world.calls.slots.items pending.items ∥₁ },
     pub ghost seats: { vec_len pending ≤ length world.calls.slots.items },
     pub ghost workers: { vec_len pending ≡ J.workers },
@@ -122,6 +123,8 @@ fn take_next<S: PageStore, T: DeadRows + Drop>(
     ensures event { MayBeDone S.PageStore (Event.Next session) result
         (inside T.DeadRows world.old) (inside T.DeadRows world.new) }
     ensures taken { HasTaken result running.old running.new }
+    ensures full { (result ≡ None)
+        ↔ (vec_capacity running.old.given ≤ vec_len running.old.given) }
 {
     if running.given.len() >= running.given.capacity() {
         return None;
@@ -131,12 +134,16 @@ fn take_next<S: PageStore, T: DeadRows + Drop>(
     Some(answer)
 }
 
-// Whether the job is a scan whose room is full.
-fn is_full(asked: Job, waiting: &Option<Pending>) -> bool
-    ensures { result ≡ true → IsFullScan asked waiting.now }
+// Whether the job is a scan whose room is full and which has so many entries ready, one or more.
+fn is_full(asked: Job, running: &Option<Pending>, ready: u32) -> bool
+    ensures yes { result ≡ true → IsFullScan asked running.now ready }
+    ensures no { result ≡ false → IsFullScan asked running.now ready → ⊥ }
 {
+    if ready == 0 {
+        return false;
+    }
     match asked {
-        Job::Scan { .. } => match waiting {
+        Job::Scan { .. } => match running {
             Some(running) => running.given.len() >= running.given.capacity(),
             None => false,
         },
@@ -146,7 +153,7 @@ fn is_full(asked: Job, waiting: &Option<Pending>) -> bool
 
 // The event that begins a job: of a commit or a checkpoint the whole of it.
 fn beginning(session: u32, job: Job) -> Event
-    ensures { kind_of result ≡ begins session job }
+    ensures { result ≡ event_of session job }
 {
     match job {
         Job::Insert(entry) => Event::Insert(session, entry),
@@ -179,10 +186,17 @@ impl<S: PageStore, T: DeadRows + Drop, J: Jobs> Shared<S, T, J> {
         ensures worker { result.seat.worker ≡ seat.worker }
         ensures start { self.new.start ≡ self.old.start }
         ensures capacity { vec_capacity self.new.history ≡ vec_capacity self.old.history }
-        ensures always { EventAlways S.PageStore (begins seat.worker asked) result.answer
+        ensures event { IsDone S.PageStore (event_of seat.worker asked) result.answer
             (inside T.DeadRows self.old.world) (inside T.DeadRows self.new.world) }
-        ensures history { TurnTold seat.worker job result.answer result.place
-            self.old.history.items self.new.history.items }
+        ensures told { BeginTold seat.worker
+            (record {
+              job = job;
+              given = given;
+              from = (S.state self.old.world.store).acts;
+              seen = length self.old.history.items;
+            }) result.answer result.place
+            self.old.history.items self.new.history.items
+            self.old.pending.items self.new.pending.items }
         ensures seat { SeatTold job result.place (known_by seat.pass) (known_by result.seat.pass) }
     {
         let worker = seat.worker;
@@ -232,10 +246,15 @@ impl<S: PageStore, T: DeadRows + Drop, J: Jobs> Shared<S, T, J> {
         ensures goes { CallGoes S.PageStore seat.worker
             (OneStepGoes S.PageStore seat.worker 5 result.answer) None
             (inside T.DeadRows self.old.world) (inside T.DeadRows self.new.world) }
+        ensures made { IsMadeOf S.PageStore seat.worker 5 (OneStepComesTo result.answer)
+            (inside T.DeadRows self.old.world) (inside T.DeadRows self.new.world) }
+        ensures events { IsOneStep S.PageStore seat.worker 5 result.answer
+            (inside T.DeadRows self.old.world) (inside T.DeadRows self.new.world) }
         ensures always { OneStepAlways S.PageStore seat.worker result.answer
             (inside T.DeadRows self.old.world) (inside T.DeadRows self.new.world) }
-        ensures history { TurnTold seat.worker job result.answer result.place
-            self.old.history.items self.new.history.items }
+        ensures told { TurnTold seat.worker job result.answer
+            (S.state self.new.world.store).acts result.place self.old.history.items
+            self.new.history.items self.old.pending.items self.new.pending.items }
         ensures seat { SeatTold job result.place (known_by seat.pass) (known_by result.seat.pass) }
     {
         let worker = seat.worker;
@@ -281,6 +300,8 @@ impl<S: PageStore, T: DeadRows + Drop, J: Jobs> Shared<S, T, J> {
         ensures history { self.new.history ≡ self.old.history }
         ensures event { MayBeDone S.PageStore (Event.Next seat.worker) result.1
             (inside T.DeadRows self.old.world) (inside T.DeadRows self.new.world) }
+        ensures told { TakeTold seat.worker job result.1
+            self.old.pending.items self.new.pending.items }
         ensures seat { SitsOn job (known_by seat.pass) (known_by result.0.pass) }
     {
         let worker = seat.worker;
@@ -302,8 +323,8 @@ impl<S: PageStore, T: DeadRows + Drop, J: Jobs> Shared<S, T, J> {
         (seat, answer)
     }
 
-    /// Gives the call of the session's scan up, where its room is full: it is recorded with what it gave, and has its place. Else
-    /// nothing is done.
+    /// Gives the call of the session's scan up, where its room is full and it has an entry more ready: it is recorded with what it
+    /// gave, and has its place. Else nothing is done.
     pub fn end<R: Wait>(
         &mut self,
         rt: &R,
@@ -321,8 +342,11 @@ impl<S: PageStore, T: DeadRows + Drop, J: Jobs> Shared<S, T, J> {
         ensures capacity { vec_capacity self.new.history ≡ vec_capacity self.old.history }
         ensures event { MayBeDone S.PageStore (Event.End seat.worker) (ended_at result.1)
             (inside T.DeadRows self.old.world) (inside T.DeadRows self.new.world) }
-        ensures history { TurnTold seat.worker job Answer.Ended result.1
-            self.old.history.items self.new.history.items }
+        ensures exactly { IsSome result.1 ↔ IsToBeCut asked seat.worker
+            self.old.pending.items self.old.world.calls.slots.items }
+        ensures told { TurnTold seat.worker job Answer.Ended
+            (S.state self.new.world.store).acts result.1 self.old.history.items
+            self.new.history.items self.old.pending.items self.new.pending.items }
         ensures seat { SeatTold job result.1 (known_by seat.pass) (known_by result.0.pass) }
     {
         let worker = seat.worker;
@@ -335,8 +359,10 @@ impl<S: PageStore, T: DeadRows + Drop, J: Jobs> Shared<S, T, J> {
             keeper,
         } = self;
         one_call_runs::<S>();
+        ready_entries_may_come_next::<S>();
         let seat = check(rt, cell, keeper, seat);
-        if is_full(asked, &pending[worker as usize]) {
+        let ready = world.ready(worker);
+        if is_full(asked, &pending[worker as usize], ready) {
             let answer = world.one(Event::End(worker));
             let until = world.actions();
             let place = history.len() as u64;

@@ -1,5 +1,5 @@
 -- One step of a session's call behind the making of room for it, and a call that is given up since the room can't be made.
-use Rattle.std.proofs.Common.{◌≡◌, ℕ, ◌≤◌, zero, suc, Bool, true, false, not, Option, Some, None, List, [], ◌∷◌, ◌++◌, length, slice_get, slice_set, refl, sym, ap, subst, arith, inl, inr, ◌∙◌, unwrap_or}
+use Rattle.std.proofs.Common.{◌≡◌, ◌⊎◌, ℕ, ◌≤◌, zero, suc, Bool, true, false, not, Option, Some, None, List, [], ◌∷◌, ◌++◌, length, slice_get, slice_set, refl, sym, ap, subst, arith, inl, inr, ◌∙◌, unwrap_or}
 use Rattle.index_model.specs.declared.fault.Fault.TheVariants.{Blocked, NoSession}
 use Rattle.index_model.specs.declared.stats.VacuumStats.{VacuumStats}
 use Rattle.page_action.specs.Causes.{where_forced}
@@ -9,9 +9,9 @@ use Rattle.session_calls.specs.declared.op.Op.TheVariants.{Insert as Inserts, Sc
 use Rattle.session_calls.proofs.RunningOn.{runs_over}
 use Rattle.schedule.specs.Events.{DoesOneAct}
 use Rattle.schedule.proofs.Lists.{same_some}
-use Rattle.whole_calls.proofs.Words.{Effect, contents_after, Ask, Call, Entry, Fault, HasCause, State, Backing, IsLater, Ghosts, DeadSets, acts_of, IsCaused, IsAsked, Told, slot_add, AnswersStep, Answer, Going, Finished, Refused, Op, Snapshot, IsRunningCall, Fits, EventDoes, Makes, here_at, here_with, slot_of, has_call, MovesCall, Steps, CallMoves, MovesOn, OthersStay}
+use Rattle.whole_calls.proofs.Words.{Effect, contents_after, Ask, Call, Entry, Fault, HasCause, State, Backing, IsLater, Ghosts, DeadSets, acts_of, IsCaused, IsAsked, Told, slot_add, AnswersStep, Answer, Going, Finished, Checkpointed, Refused, Op, StoreAndSlots, Snapshot, IsRunningCall, Fits, EventDoes, Makes, here_at, here_with, slot_of, has_call, MovesCall, Steps, CallMoves, MovesOn, OthersStay}
 use Rattle.whole_calls.specs.Going.{IsAmong}
-use Rattle.whole_calls.specs.OneStep.{cut_short, HasStepped, IsGivenUpFor, OneStepGoes, OneStepAlways, OneStepComesTo}
+use Rattle.whole_calls.specs.OneStep.{cut_short, HasStepped, IsGivenUpFor, OneStepGoes, OneStepAlways, OneStepComesTo, IsStepMade, IsRoomTried, IsOneStep}
 use Rattle.whole_calls.specs.Refusing.{is_full_vacuum, where_asked}
 use Rattle.whole_calls.specs.Stepping.{RoomTold, StepGoes}
 use Rattle.whole_calls.specs.Telling.{IsOwnEffect, IsSilent, HasNone, TellsEnd}
@@ -234,3 +234,9 @@ module _ {S : Type 0} (g : Ghosts S) (session : ℕ) (store mid : S) (slots : Li
 pub short_comes : (added : Option ℕ) (fault : Fault) (answers : List Answer) → IsAmong answers (Refused fault) → OneStepComesTo (cut_short added fault) answers
 short_comes None fault answers h = inl h
 short_comes (Some action) fault answers h = inr (action, fault, refl, h)
+
+-- the step behind the making of room
+pub behind_room : {S : Type 0} (g : Ghosts S) (session least_room : ℕ) (answer : Answer) (old here there : StoreAndSlots S) → (here ≡ old) ⊎ ((count : ℕ) × IsRoomTried g least_room (Checkpointed count) old here) → IsStepMade g session least_room answer here there
+    → IsOneStep g session least_room answer old there
+behind_room {S} g session least_room answer old here there (inl same) step = inl (subst (λ (x : StoreAndSlots S). IsStepMade g session least_room answer x there) same step)
+behind_room {S} g session least_room answer old here there (inr tried) step = inr (inl (record { count = tried.0; between = here; checkpoint = tried.1; step = step }))

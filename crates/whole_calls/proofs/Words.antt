@@ -12,7 +12,7 @@ pub use Rattle.session_calls.specs.TheoremCalls.{DeadSets, acts_of, asked_by}
 pub use Rattle.session_calls.specs.Ops.{asked_of, add_of, IsCaused, set_at, session_of, OpFits, asks_vacuum, op_before, once_added, where_stepped, ends_call, RunsOn}
 pub use Rattle.session_calls.specs.Sessions.{IsAsked, MovesShape, add_after, work_in, OwesLess, Told, noted, AnswersNext, slot_add, CountsEntries, CountsPages, SparesLeaves, MayDo, ended, is_busy, AnswersStep, AnswersEnd, act_count, given_one}
 pub use Rattle.session_calls.specs.declared.answer.Answer.{Answer}
-pub use Rattle.session_calls.specs.declared.answer.Answer.TheVariants.{Going, Ready, Gave, Refused, Finished, Begun, Added, Done, Ended}
+pub use Rattle.session_calls.specs.declared.answer.Answer.TheVariants.{Going, Ready, Gave, Refused, Checkpointed, Finished, Begun, Added, Done, Ended}
 pub use Rattle.session_calls.specs.declared.op.Op.{Op}
 pub use Rattle.session_calls.specs.declared.request.Request.{Request}
 pub use Rattle.schedule.specs.TheoremMoments.{Snapshot, IsRunningCall, StoreAndSlots, snapshot_of}

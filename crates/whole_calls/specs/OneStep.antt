@@ -1,5 +1,5 @@
 -- One step of a call that goes on beside others, with the checkpoint that may go before it.
-use Rattle.std.specs.Prelude.{◌≡◌, ◌⊎◌, ℕ, Option, Some, None, List, ◌++◌, length, slice_set}
+use Rattle.std.specs.Prelude.{◌≡◌, ◌⊎◌, ℕ, ◌<◌, Option, Some, None, Result, Ok, Err, List, ◌++◌, length, slice_set}
 use Rattle.index_model.specs.Actions.{Effect}
 use Rattle.index_model.specs.Calls.{GivenUp, Call}
 use Rattle.index_model.specs.Faults.{HasCause}
@@ -8,18 +8,20 @@ use Rattle.index_model.specs.declared.fault.Fault.TheVariants.{Blocked}
 use Rattle.page_action.specs.Causes.{where_forced}
 use Rattle.page_action.specs.declared.page_store.PageStore.{Ghosts}
 use Rattle.session_calls.specs.Ops.{RunsOn}
-use Rattle.session_calls.specs.Sessions.{Told, AnswersStep, RunsUntilLast, ended}
+use Rattle.session_calls.specs.Sessions.{Told, AnswersStep, RunsUntilLast, ended, slot_add}
 use Rattle.session_calls.specs.Slots.{slot_of}
 use Rattle.session_calls.specs.TheoremCalls.{acts_of}
 use Rattle.session_calls.specs.declared.answer.Answer.{Answer}
-use Rattle.session_calls.specs.declared.answer.Answer.TheVariants.{Added, Refused}
+use Rattle.session_calls.specs.declared.answer.Answer.TheVariants.{Added, Checkpointed, Refused}
 use Rattle.schedule.specs.Events.{OthersStay, IsUnchanged, DoesOneAct}
+use Rattle.schedule.specs.Making.{Makes}
+use Rattle.schedule.specs.TheoremKinds.{Steps, GivesUp, Checkpoints, MovesCall, KeepsStore}
 use Rattle.schedule.specs.TheoremMoments.{StoreAndSlots, Snapshot, IsRunningCall}
 use Rattle.whole_calls.specs.Going.{IsAmong}
 use Rattle.whole_calls.specs.Refusing.{is_full_vacuum, CallIsCaused}
 use Rattle.whole_calls.specs.Spending.{TakesFewer}
 use Rattle.whole_calls.specs.Stepping.{FinishTells}
-use Rattle.whole_calls.specs.Telling.{MayAnswer, IsOwnEffect, IsSilent, HasNone}
+use Rattle.whole_calls.specs.Telling.{MayAnswer, IsOwnEffect, IsSilent, HasNone, RoomIsMade}
 
 -- what a call answers that is given up for a fault: an insert whose entry is added leaves it unfinished
 abbrev pub cut_short : Option ℕ → Fault → Answer
@@ -83,3 +85,39 @@ pub record OneStepAlways {S : Type 0} (g : Ghosts S) (session : ℕ) (answer : A
 abbrev pub OneStepComesTo : Answer → List Answer → Type 0
 OneStepComesTo answer answers =
     IsAmong answers answer ⊎ ((action : ℕ) × (fault : Fault) × (answer ≡ Added action (Some fault)) × IsAmong answers (Refused fault))
+
+-- the step itself, where the log has room for so many images
+pub record IsStepMade {S : Type 0} (g : Ghosts S) (session least_room : ℕ) (answer : Answer) (old new : StoreAndSlots S) : Type 0 where
+  pub room : RoomIsMade least_room (g.state old.store).limits (g.backing old.store)
+  pub makes : Makes g (MovesCall session Steps) answer old new
+
+-- a checkpoint before a step, where the log has too little room
+pub record IsRoomTried {S : Type 0} (g : Ghosts S) (least_room : ℕ) (answer : Answer) (old new : StoreAndSlots S) : Type 0 where
+  pub short : (g.backing old.store).room < least_room
+  pub makes : Makes g (KeepsStore Checkpoints) answer old new
+
+-- ... which is made, and then the step
+pub record IsStepBehind {S : Type 0} (g : Ghosts S) (session least_room : ℕ) (answer : Answer) (old new : StoreAndSlots S) : Type 0 where
+  pub count : ℕ
+  pub between : StoreAndSlots S
+  pub checkpoint : IsRoomTried g least_room (Checkpointed count) old between
+  pub step : IsStepMade g session least_room answer between new
+
+-- ... or is refused with a fault; then the call is given up, and answers that fault
+pub record IsStepCutShort {S : Type 0} (g : Ghosts S) (session least_room : ℕ) (answer : Answer) (old new : StoreAndSlots S) : Type 0 where
+  pub fault : Fault
+  pub between : StoreAndSlots S
+  pub checkpoint : IsRoomTried g least_room (Refused fault) old between
+  pub gave_up : Answer
+  pub makes : Makes g (MovesCall session GivesUp) gave_up between new
+  pub told : answer ≡ cut_short (slot_add (slot_of old.slots session)) fault
+
+-- the events that one step of a session's call is made of, whatever the pages are
+abbrev pub IsOneStep : {S : Type 0} → Ghosts S → ℕ → ℕ → Answer → StoreAndSlots S → StoreAndSlots S → Type 0
+IsOneStep g session least_room answer old new =
+    IsStepMade g session least_room answer old new ⊎ IsStepBehind g session least_room answer old new ⊎ IsStepCutShort g session least_room answer old new
+
+-- how room is made before a step: nothing is done, or a checkpoint is made, or refused with this fault
+abbrev pub MakesRoom : {S : Type 0} → Ghosts S → ℕ → Result (Unit {0}) Fault → StoreAndSlots S → StoreAndSlots S → Type 0
+MakesRoom g least_room (Ok made) old new = (new ≡ old) ⊎ ((count : ℕ) × IsRoomTried g least_room (Checkpointed count) old new)
+MakesRoom g least_room (Err fault) old new = IsRoomTried g least_room (Refused fault) old new

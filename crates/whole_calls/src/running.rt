@@ -14,11 +14,13 @@ ghost use Rattle.schedule.specs.Sessions.{here, op_of, KeepsOthers};
 ghost use Rattle.session_calls.specs.Slots.{one_vacuums};
 ghost use Rattle.schedule.specs.Snapshots.{here_with};
 ghost use Rattle.schedule.specs.Events.{IsUnchanged, where_begun_at};
-ghost use Rattle.schedule.specs.TheoremKinds.{BeginsCall, kind_of};
+ghost use Rattle.schedule.specs.Making.{Makes};
+ghost use Rattle.schedule.specs.TheoremKinds.{BeginsCall, GivesUp, MovesCall, kind_of};
 ghost use Rattle.schedule.specs.TheoremRuns.{Carries};
 ghost use Rattle.whole_calls.specs.Going.{IsAmong, CameBy, CallGoes, GoesFrom};
 ghost use Rattle.whole_calls.specs.Inserting.{InsertGoes};
 ghost use Rattle.whole_calls.specs.Made.{IsMadeOf, Answered, ComesTo, InsertComesTo};
+ghost use Rattle.whole_calls.specs.OneStep.{MakesRoom};
 ghost use Rattle.whole_calls.specs.Refusing.{InsertCallIsCaused};
 ghost use Rattle.whole_calls.specs.Stepping.{RoomTold, BeginGoes, StepGoes, FinishGoes, RunGoes};
 ghost use Rattle.whole_calls.specs.Telling.{RoomIsMade, MayAnswer, MayComeTo, TellsEnd, left_behind, outcome_of, begun_of, begin_came, room_came};
@@ -39,6 +41,9 @@ pub(crate) fn make_room<S: PageStore>(store: &mut S, least_room: u32) -> Result<
     // Where the log has the room, none is made.
     ensures made { (session : ℕ) (slots : List (Option Op)) (sets : DeadSets)
         → IsMadeOf S.PageStore session least_room (λ answers. CameBy answers (room_came result))
+        (here_with store.old slots sets) (here_with store.new slots sets) }
+    ensures tried { (slots : List (Option Op)) (sets : DeadSets)
+        → MakesRoom S.PageStore least_room result
         (here_with store.old slots sets) (here_with store.new slots sets) }
     ensures room { OnOk result
         (RoomIsMade least_room (S.state store.old).limits (S.backing store.new)) }
@@ -263,6 +268,10 @@ pub fn give_up<S: PageStore, T: DeadRows>(
         (here T.DeadRows store.old calls.old sets.now)
         (here T.DeadRows store.new calls.new sets.now) }
     ensures made { (least_room : ℕ) → IsMadeOf S.PageStore session least_room (ComesTo None)
+        (here T.DeadRows store.old calls.old sets.now)
+        (here T.DeadRows store.new calls.new sets.now) }
+    // It is the event `End`, with some answer.
+    ensures ends { (answer : Answer) × Makes S.PageStore (MovesCall session GivesUp) answer
         (here T.DeadRows store.old calls.old sets.now)
         (here T.DeadRows store.new calls.new sets.now) }
 {

@@ -46,11 +46,12 @@ impl<S: PageStore, T: DeadRows + Drop> World<S, T> {
     ghost use Rattle.schedule.specs.Events.{EventAlways, IsUnchanged};
     ghost use Rattle.schedule.specs.Making.{EachAlways};
     ghost use Rattle.schedule.specs.TheoremRuns.{Carries, Runs};
-    ghost use Rattle.session_calls.specs.Slots.{has_call};
+    ghost use Rattle.session_calls.specs.Sessions.{ready_count};
+    ghost use Rattle.session_calls.specs.Slots.{has_call, slot_of};
     ghost use Rattle.schedule.specs.Snapshots.{IsUnused};
     ghost use Rattle.whole_calls.specs.Going.{CallGoes};
     ghost use Rattle.whole_calls.specs.Made.{IsMadeOf};
-    ghost use Rattle.whole_calls.specs.OneStep.{OneStepAlways, OneStepComesTo, OneStepGoes};
+    ghost use Rattle.whole_calls.specs.OneStep.{IsOneStep, OneStepAlways, OneStepComesTo, OneStepGoes};
     ghost use Rattle.world.specs.Worlds.{WorldFits, WorldKeeps, WorldIsSafe, WorldGoes, WorldCarries, KeepsSessions, inside};
 
     /// A world over the store with so many sessions, none of which has a call, and the sets of dead rows that its events
@@ -115,6 +116,8 @@ impl<S: PageStore, T: DeadRows + Drop> World<S, T> {
             (OneStepGoes S.PageStore session least_room result) None
             (inside T.DeadRows self.old) (inside T.DeadRows self.new) }
         ensures made { IsMadeOf S.PageStore session least_room (OneStepComesTo result)
+            (inside T.DeadRows self.old) (inside T.DeadRows self.new) }
+        ensures events { IsOneStep S.PageStore session least_room result
             (inside T.DeadRows self.old) (inside T.DeadRows self.new) }
         ensures always { OneStepAlways S.PageStore session result
             (inside T.DeadRows self.old) (inside T.DeadRows self.new) }
@@ -225,6 +228,13 @@ impl<S: PageStore, T: DeadRows + Drop> World<S, T> {
         ensures { result ≡ length self.now.calls.slots.items }
     {
         self.calls.sessions()
+    }
+
+    /// How many entries the session's scan has ready to be given. Where it runs none, there are none.
+    pub fn ready(&self, session: u32) -> u32
+        ensures { result ≡ ready_count (slot_of self.now.calls.slots.items session) }
+    {
+        self.calls.ready(session)
     }
 
     /// Whether the session has a call. One that does not exist has none.

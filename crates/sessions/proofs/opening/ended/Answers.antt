@@ -6,6 +6,7 @@ use Rattle.worker_seats.specs.Queue.{below, jobs_in, sum_below, weigh}
 use Rattle.worker_seats.proofs.Counting.{noted_within}
 use Rattle.world.specs.Worlds.{inside}
 use Rattle.sessions.specs.Notes.{note_of, notes_of, jobs_of}
+use Rattle.sessions.proofs.Acting.{acts_all_done}
 use Rattle.sessions.proofs.Ending.{jobs_noted, get_note, none_waits, all_idle, keeps_nothing_pending}
 use Rattle.sessions.proofs.opening.ended.Goals as goal
 
@@ -26,6 +27,7 @@ returns-clause-done g c =
     let none = none_waits pending (λ k l. idle k (omega (arith, l, long))) in
     record {
       kept = ∥∥₁_map shared.kept (λ all. keeps_nothing_pending g.S.PageStore g.J.Jobs.stood g.J.Jobs.kept_then g.J.Jobs.jobs (inside g.T.DeadRows shared.world) shared.start pending records none all);
+      acted = ∥∥₁_map shared.acted (λ a. acts_all_done g.S.PageStore g.J.Jobs.handed g.J.Jobs.jobs (inside g.T.DeadRows shared.world) pending records none a);
       comes = shared.handed;
       idle = all_idle shared.world.calls.slots.items pending shared.matches (λ k l. idle k (omega (arith, l, long)));
       all = λ h. ap (λ n. weigh h (below n)) (sym c.requires.pushed) ∙ tally.all h ∙ ap (λ (v : SeatView). weigh h (jobs_in v.log)) view ∙ ap (weigh h) (jobs_noted records);

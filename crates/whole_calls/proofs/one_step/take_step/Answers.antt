@@ -1,4 +1,4 @@
-use Rattle.std.proofs.Common.{map, Some, None, ◌++◌, refl, sym, subst, inl}
+use Rattle.std.proofs.Common.{map, ℕ, Option, Some, None, ◌++◌, ◌∙◌, ap, refl, sym, subst, inl, inr}
 use Rattle.schedule.specs.declared.event.Event.TheVariants.{Step}
 use Rattle.schedule.proofs.Running.{makes_runs}
 use Rattle.whole_calls.proofs.Words.{State, MovesCall, Steps, slot_of, snapshot_of, here_with, Refused}
@@ -10,7 +10,7 @@ use Rattle.whole_calls.specs.Telling.{TellsEnd, room_came, RoomIsMade}
 use Rattle.whole_calls.proofs.Blocks.{given_up_counted, given_up_numbers}
 use Rattle.whole_calls.proofs.Composing.{joined, goes_once, among_left, among_right}
 use Rattle.whole_calls.proofs.Made.{made_then, made_once}
-use Rattle.whole_calls.proofs.OneSteps.{StepsOnce, steps_once, steps_behind, given_up_goes, always_steps, always_given_up, short_comes}
+use Rattle.whole_calls.proofs.OneSteps.{StepsOnce, steps_once, steps_behind, behind_room, given_up_goes, always_steps, always_given_up, short_comes}
 use Rattle.whole_calls.proofs.one_step.take_step.Goals as goal
 
 pub returns-in-Ok-clause-goes : goal.returns-in-Ok-clause-goes
@@ -100,3 +100,30 @@ returns-in-Err-clause-always g c =
     (always_given_up g.S.PageStore c.args.session c.args.store.now c.make_room.new.store c.args.calls.now.slots.items (map g.T.DeadRows.is_in c.args.sets.now) c.make_room.ensures.state
     c.in-Err.fault c.added-added.result c.give_up.new.store c.give_up.new.calls.slots.items c.in-Err.ensures.cause c.added-added.ensures
     end.acts end.pages end.limits end.frames end.others.others end.over)
+
+pub returns-in-Ok-clause-events : goal.returns-in-Ok-clause-events
+returns-in-Ok-clause-events g c =
+    let sets = map g.T.DeadRows.is_in c.args.sets.now in
+    let slots = c.args.calls.now.slots.items in
+    let old = here_with c.args.store.now slots sets in
+    let here = here_with c.make_room.new.store slots sets in
+    let there = here_with c.step.new.store c.step.new.calls.slots.items sets in
+    behind_room g.S.PageStore c.args.session c.args.least_room c.step.result old here there (c.in-Ok.ensures.tried slots sets)
+    (record {
+      room = subst (λ (st : State). RoomIsMade c.args.least_room st.limits (g.S.PageStore.backing c.make_room.new.store)) (sym c.make_room.ensures.state) c.in-Ok.ensures.room;
+      makes = c.step.ensures.makes;
+    })
+
+pub returns-in-Err-clause-events : goal.returns-in-Err-clause-events
+returns-in-Err-clause-events g c =
+    let sets = map g.T.DeadRows.is_in c.args.sets.now in
+    let slots = c.args.calls.now.slots.items in
+    let here = here_with c.make_room.new.store slots sets in
+    inr (inr (record {
+      fault = c.in-Err.fault;
+      between = here;
+      checkpoint = c.in-Err.ensures.tried slots sets;
+      gave_up = c.give_up.ensures.ends.0;
+      makes = c.give_up.ensures.ends.1;
+      told = c.cut_short.ensures ∙ ap (λ (a : Option ℕ). cut_short a c.in-Err.fault) c.added-added.ensures;
+    }))

@@ -26,3 +26,6 @@ returns-clause-made g c least_room =
     let sets = map g.T.DeadRows.is_in c.args.sets.now in
     made_once g.S.PageStore session least_room (ComesTo None) (End session) (MovesCall session GivesUp) c.one-answer.result (here_with c.args.store.now c.args.calls.now.slots.items sets)
     (here_with c.one-answer.new.store c.one-answer.new.calls.slots.items sets) refl refl tt c.one-answer.ensures.makes tt
+
+pub returns-clause-ends : goal.returns-clause-ends
+returns-clause-ends g c = (c.one-answer.result, c.one-answer.ensures.makes)

@@ -1,7 +1,8 @@
-use Rattle.std.proofs.Common.{ℕ, Option, Some, None, List, refl, subst, arith, inl}
+use Rattle.std.proofs.Common.{◌≡◌, ℕ, Option, Some, None, List, refl, subst, arith, inl, inr}
+use Rattle.schedule.specs.Events.{AnswersUpkeep}
 use Rattle.schedule.specs.declared.event.Event.TheVariants.{Checkpoint}
 use Rattle.schedule.proofs.Running.{makes_runs}
-use Rattle.whole_calls.proofs.Words.{DeadSets, Op, Answer, Refused, Checkpoints, KeepsStore, snapshot_of, here_with}
+use Rattle.whole_calls.proofs.Words.{DeadSets, Op, Answer, Fault, Refused, Checkpointed, Checkpoints, KeepsStore, snapshot_of, here_with}
 use Rattle.whole_calls.specs.Going.{CameBy, CallGoes}
 use Rattle.whole_calls.specs.Stepping.{RoomTold}
 use Rattle.whole_calls.proofs.Composing.{goes_nowhere, goes_once, goes_told}
@@ -10,6 +11,12 @@ use Rattle.whole_calls.proofs.Made.{made_nowhere, made_once}
 use Rattle.whole_calls.proofs.running.make_room.Given.{Over}
 use Rattle.whole_calls.proofs.running.make_room.Goals.{After-checkpoint}
 use Rattle.whole_calls.proofs.running.make_room.Goals as goal
+
+-- a checkpoint that isn't refused is made
+checkpointed : (answer : Answer) → AnswersUpkeep Checkpoints answer → ((fault : Fault) → answer ≡ Refused fault → ⊥) → (count : ℕ) × (answer ≡ Checkpointed count)
+checkpointed (Checkpointed count) h never = (count, refl)
+checkpointed (Refused fault) h never = absurd (never fault refl)
+checkpointed answer h never = absurd h
 
 pub returns-then-room-least_room-clause-goes : goal.returns-then-room-least_room-clause-goes
 returns-then-room-least_room-clause-goes g c session slots sets =
@@ -60,3 +67,19 @@ returns-in_default-clause-made g c session slots sets =
     let room = c.room.ensures in
     made_once g.S.PageStore session c.args.least_room (λ answers. CameBy answers None) Checkpoint (KeepsStore Checkpoints) c.checkpoint.result
     (here_with c.args.store.now slots sets) (here_with c.checkpoint.new.store slots sets) refl tt (omega (arith, less, room)) (c.checkpoint.ensures.makes slots sets) tt
+
+pub returns-then-room-least_room-clause-tried : goal.returns-then-room-least_room-clause-tried
+returns-then-room-least_room-clause-tried g c slots sets = inl refl
+
+pub returns-in-Refused-clause-tried : goal.returns-in-Refused-clause-tried
+returns-in-Refused-clause-tried g c slots sets =
+    let less = c.if-room-least_room.false in
+    let room = c.room.ensures in
+    record { short = omega (arith, less, room); makes = rw c.in-Refused.is at (c.checkpoint.ensures.makes slots sets) }
+
+pub returns-in_default-clause-tried : goal.returns-in_default-clause-tried
+returns-in_default-clause-tried g c slots sets =
+    let less = c.if-room-least_room.false in
+    let room = c.room.ensures in
+    let counted = checkpointed c.checkpoint.result c.checkpoint.ensures.answers c.in_default.not-Refused in
+    inr (counted.0, record { short = omega (arith, less, room); makes = rw counted.1 at (c.checkpoint.ensures.makes slots sets) })

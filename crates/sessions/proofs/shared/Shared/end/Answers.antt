@@ -1,6 +1,8 @@
-use Rattle.std.proofs.Common.{◌≡◌, ◌+◌, ◌++◌, ◌∷◌, [], map, List, length, Option, Some, None, slice_get, slice_set, sym, ap, ◌∙◌, subst, arith}
+use Rattle.std.proofs.Common.{◌≡◌, ◌+◌, ◌++◌, ◌∷◌, [], map, List, length, Option, Some, None, slice_get, slice_set, refl, sym, ap, ◌∙◌, subst, arith}
 use Rattle.std.proofs.Math.Logic.{∥∥₁_map}
 use Rattle.std.proofs.lemmas.Option.{slice_get_read}
+use Rattle.session_calls.specs.Sessions.{ready_count}
+use Rattle.session_calls.specs.Slots.{slot_of}
 use Rattle.session_calls.specs.declared.answer.Answer.{Answer}
 use Rattle.schedule.specs.declared.event.Event.TheVariants.{End}
 use Rattle.worker_seats.specs.Seats.{keeper_of, known_by}
@@ -8,12 +10,14 @@ use Rattle.worker_seats.specs.declared.seating.SeatView.{SeatView}
 use Rattle.world.specs.Worlds.{inside}
 use Rattle.sessions.specs.declared.record.Pending.{Pending}
 use Rattle.sessions.specs.declared.record.Record.{Record}
+use Rattle.sessions.specs.Acted.{HasActed}
 use Rattle.sessions.specs.Doing.{IsDone, IsFullScan}
 use Rattle.sessions.specs.Kept.{KeepsAll, Matches, record_of}
 use Rattle.sessions.specs.Notes.{notes_of, jobs_of, job_of}
 use Rattle.sessions.proofs.Handing.{comes_on}
 use Rattle.sessions.proofs.Noting.{some_there, within, jobs_of_set, notes_of_snoc, length_notes, runs_there, same_there, seat_runs, matches_ends}
 use Rattle.sessions.proofs.Asking.{end_answers, end_keeps, end_runs}
+use Rattle.sessions.proofs.Transiting.{makes_of, end_acts}
 use Rattle.sessions.proofs.shared.Shared.end.Goals as goal
 
 some_same : {A : Type 0} {x y : A} → Some x ≡ Some y → x ≡ y
@@ -59,7 +63,8 @@ invariant_of-self g c =
     let p = c.in-Some.done in
     let is : slice_get self.pending.items w ≡ Some (Some p) = slice_get_read self.pending.items self.pending.len w c.index_mut.result.now self.pending.ok.0 (omega (arith, inside_it, self.pending.ok.0)) c.index_mut.ensures.value ∙ ap Some (sym c.take.ensures.value ∙ c.in-Some.is) in
     let seen : slice_get self.pending.items w ≡ Some c.index.result.now = slice_get_read self.pending.items self.pending.len w c.index.result.now self.pending.ok.0 (omega (arith, inside_it, self.pending.ok.0)) c.index.ensures in
-    let full = subst (IsFullScan c.args.asked) (some_same (sym seen ∙ is)) (c.is_full.ensures c.if-is_full.true) in
+    let waits : IsFullScan c.args.asked c.index.result.now (ready_count (slot_of self.world.calls.slots.items w)) = subst (IsFullScan c.args.asked c.index.result.now) c.ready-ready.ensures (c.is_full.ensures.yes c.if-is_full.true) in
+    let full = subst (λ (o : Option Pending). IsFullScan c.args.asked o (ready_count (slot_of self.world.calls.slots.items w))) (some_same (sym seen ∙ is)) waits in
     let job : p.job ≡ c.args.job = ap (λ (x : Pending). x.job) (same_there self.pending.items w p at.0 is at.1) ∙ at.2 in
     let asked = ap (slice_get g.J.Jobs.jobs) job ∙ c.requires.job in
     let was = runs_there self.world.calls.slots.items self.pending.items w p self.matches is in
@@ -71,7 +76,11 @@ invariant_of-self g c =
     let v = c.check-seat.ensures.keeper ∙ self.knows in
     record {
       kept = ∥∥₁_map self.kept (λ all. subst (λ (h : List Record × Option Pending). KeepsAll g.S.PageStore g.J.Jobs.stood g.J.Jobs.kept_then g.J.Jobs.jobs new self.start (slice_set self.pending.items w h.1) h.0) (λ i. (sym items i, sym none i))
-          (end_keeps g.S.PageStore g.met.S.PageStore.laws c.one_call_runs.ensures g.J.Jobs.jobs g.J.Jobs.stood g.J.Jobs.kept_then old new one.steps sets self.start self.pending.items self.history.items w p is was answer did c.args.asked asked full c.actions-until.result c.actions-until.ensures all));
+          (end_keeps g.S.PageStore g.met.S.PageStore.laws c.one_call_runs.ensures g.J.Jobs.jobs g.J.Jobs.stood g.J.Jobs.kept_then old new one.steps sets self.start self.pending.items self.history.items w p is was c.ready_entries_may_come_next.ensures answer did c.args.asked asked full c.actions-until.result c.actions-until.ensures all));
+      acted = ∥∥₁_map self.acted (λ a. subst (λ (h : List Record × Option Pending). HasActed g.S.PageStore g.J.Jobs.handed g.J.Jobs.jobs new (slice_set self.pending.items w h.1) h.0) (λ i. (sym items i, sym none i))
+          (end_acts g.S.PageStore g.J.Jobs.handed g.J.Jobs.jobs old new self.pending.items self.history.items w p is answer (makes_of g.S.PageStore (End w) answer old new one.same.sessions one.goes one.always)
+          (end_answers g.S.PageStore g.met.S.PageStore.laws c.one_call_runs.ensures g.J.Jobs.jobs g.J.Jobs.stood g.J.Jobs.kept_then old new one.steps sets self.start self.pending.items self.history.items w p is was answer did)
+          c.args.asked asked full c.actions-until.result c.actions-until.ensures a));
       matches = ∥∥₁_map self.matches (λ m. subst (λ o. Matches new.slots (slice_set self.pending.items w o)) (sym none) (matches_ends old.slots new.slots self.pending.items w runs.0 runs.1 m));
       seats = omega (arith, self.seats, one.same.sessions);
       workers = self.workers;
@@ -99,8 +108,8 @@ returns-then-is_full-clause-event g c =
     let ended = end_answers g.S.PageStore g.met.S.PageStore.laws c.one_call_runs.ensures g.J.Jobs.jobs g.J.Jobs.stood g.J.Jobs.kept_then old new one.steps sets self.start self.pending.items self.history.items w at.0 at.1 was answer did in
     subst (λ (a : Answer). IsDone g.S.PageStore (End w) a old new) ended did
 
-pub returns-then-is_full-clause-history : goal.returns-then-is_full-clause-history
-returns-then-is_full-clause-history g c =
+pub returns-then-is_full-clause-told : goal.returns-then-is_full-clause-told
+returns-then-is_full-clause-told g c =
     let self = c.args.self.now in
     let w = c.args.seat.worker in
     let rows = g.T.DeadRows in
@@ -119,12 +128,11 @@ returns-then-is_full-clause-history g c =
     let is : slice_get self.pending.items w ≡ Some (Some p) = slice_get_read self.pending.items self.pending.len w c.index_mut.result.now self.pending.ok.0 (omega (arith, inside_it, self.pending.ok.0)) c.index_mut.ensures.value ∙ ap Some (sym c.take.ensures.value ∙ c.in-Some.is) in
     let job : p.job ≡ c.args.job = ap (λ (x : Pending). x.job) (same_there self.pending.items w p at.0 is at.1) ∙ at.2 in
     record {
-      record_of = c.record.result;
-      is = c.push_reserved.ensures.items;
-      place_is = c.len-place.ensures ∙ self.history.ok.0;
-      worker_is = ap (λ (r : Record). r.worker) c.record.ensures;
-      job_is = ap (λ (r : Record). r.job) c.record.ensures ∙ job;
-      answer_is = ap (λ (r : Record). r.answer) c.record.ensures ∙ ended;
+      running = p;
+      found = is;
+      job_is = job;
+      history = (c.len-place.ensures ∙ self.history.ok.0, c.push_reserved.ensures.items ∙ ap (λ (x : Record). self.history.items ++ x ∷ []) (c.record.ensures ∙ (λ i. record_of w p (ended i) (c.actions-until.ensures i))));
+      pending = ap (slice_set self.pending.items w) c.take.ensures.after;
     }
 
 pub returns-then-is_full-clause-seat : goal.returns-then-is_full-clause-seat
@@ -143,3 +151,11 @@ returns-then-is_full-clause-seat g c =
       rests = c.end-seat.ensures.job;
       notes = c.end-seat.ensures.notes ∙ (λ i. (c.check-seat.ensures.view i).notes ++ (place i, job i) ∷ []);
     }
+
+pub returns-clause-told : goal.returns-clause-told
+returns-clause-told g c =
+    let self = c.args.self.now in
+    let w = c.args.seat.worker in
+    let known = seat_runs (known_by self.keeper) w (notes_of self.history.items) self.pending.items _ _ self.knows c.check-seat.ensures.job c.requires.runs in
+    let at = some_there self.pending.items w c.args.job known in
+    record { running = at.0; found = at.1; job_is = at.2; history = refl; pending = refl }

@@ -1,4 +1,4 @@
-use Rattle.std.proofs.Common.{◌≡◌, ◌+◌, ◌++◌, ◌∷◌, [], ℕ, map, not, List, length, Option, Some, None, slice_get, slice_set, sym, ap, ◌∙◌, subst, arith}
+use Rattle.std.proofs.Common.{◌≡◌, ◌+◌, ◌++◌, ◌∷◌, [], ℕ, map, not, List, length, Option, Some, None, slice_get, slice_set, refl, sym, ap, ◌∙◌, subst, arith}
 use Rattle.std.proofs.Math.Logic.{∥∥₁_map}
 use Rattle.std.proofs.lemmas.Option.{slice_get_read}
 use Rattle.worker_seats.specs.Seats.{keeper_of, known_by}
@@ -6,11 +6,13 @@ use Rattle.worker_seats.specs.declared.seating.SeatView.{SeatView}
 use Rattle.world.specs.Worlds.{inside}
 use Rattle.sessions.specs.declared.record.Pending.{Pending}
 use Rattle.sessions.specs.declared.record.Record.{Record}
+use Rattle.sessions.specs.Acted.{HasActed}
 use Rattle.sessions.specs.Kept.{KeepsAll, Matches, record_of}
 use Rattle.sessions.specs.Notes.{notes_of, jobs_of, job_of}
 use Rattle.sessions.proofs.Handing.{comes_on}
 use Rattle.sessions.proofs.Noting.{some_there, within, jobs_of_set, notes_of_snoc, length_notes, runs_there, seat_runs, last_of, others_run_on, matches_goes, matches_ends}
 use Rattle.sessions.proofs.Telling.{steps_no_gift}
+use Rattle.sessions.proofs.Transiting.{step_acts_on, step_acts_last}
 use Rattle.sessions.proofs.Stepping.{step_keeps_on, step_keeps_last, steps_no_end}
 use Rattle.sessions.proofs.shared.Shared.step.Goals as goal
 
@@ -30,6 +32,7 @@ invariant_of-self g c =
     record {
       kept = ∥∥₁_map self.kept (λ all. step_keeps_on g.S.PageStore g.met.S.PageStore.laws c.one_call_runs.ensures g.J.Jobs.jobs g.J.Jobs.stood g.J.Jobs.kept_then (inside rows self.world) (inside rows new) step.steps
           (ap (λ s. map rows.is_in s.items) step.same.sets) self.start self.pending.items self.history.items w at.0 at.1 answer step.goes all (steps_no_gift _ _ answer step.always.answers) on);
+      acted = ∥∥₁_map self.acted (λ a. step_acts_on g.S.PageStore g.J.Jobs.handed g.J.Jobs.jobs (inside rows self.world) (inside rows new) self.pending.items self.history.items w at.0 at.1 answer step.events (steps_no_gift _ _ answer step.always.answers) on now a);
       matches = ∥∥₁_map self.matches (λ m. matches_goes self.world.calls.slots.items new.calls.slots.items self.pending.items w at.0 at.1 now (others_run_on self.world.calls.slots.items new.calls.slots.items w step.always.others) m);
       seats = omega (arith, self.seats, step.same.sessions);
       workers = self.workers;
@@ -82,6 +85,8 @@ invariant_of-self-2 g c =
       kept = ∥∥₁_map self.kept (λ all. subst (λ (h : List Record × Option Pending). KeepsAll g.S.PageStore g.J.Jobs.stood g.J.Jobs.kept_then g.J.Jobs.jobs (inside rows new) self.start (slice_set self.pending.items w h.1) h.0) (λ i. (sym items i, sym none i))
           (step_keeps_last g.S.PageStore g.met.S.PageStore.laws c.one_call_runs.ensures g.J.Jobs.jobs g.J.Jobs.stood g.J.Jobs.kept_then (inside rows self.world) (inside rows new) step.steps
           (ap (λ s. map rows.is_in s.items) step.same.sets) self.start self.pending.items self.history.items w p is answer step.goes all (steps_no_end _ _ answer step.always.answers) last c.actions-to.result c.actions-to.ensures));
+      acted = ∥∥₁_map self.acted (λ a. subst (λ (h : List Record × Option Pending). HasActed g.S.PageStore g.J.Jobs.handed g.J.Jobs.jobs (inside rows new) (slice_set self.pending.items w h.1) h.0) (λ i. (sym items i, sym none i))
+          (step_acts_last g.S.PageStore g.J.Jobs.handed g.J.Jobs.jobs (inside rows self.world) (inside rows new) self.pending.items self.history.items w p is answer step.events last c.actions-to.result c.actions-to.ensures a));
       matches = ∥∥₁_map self.matches (λ m. subst (λ o. Matches new.calls.slots.items (slice_set self.pending.items w o)) (sym none)
           (matches_ends self.world.calls.slots.items new.calls.slots.items self.pending.items w now (others_run_on self.world.calls.slots.items new.calls.slots.items w step.always.others) m));
       seats = omega (arith, self.seats, step.same.sessions);
@@ -96,8 +101,16 @@ invariant_of-self-2 g c =
 same_as : (xs : List (Option Pending)) (i : ℕ) (p q : Pending) → slice_get xs i ≡ Some (Some p) → slice_get xs i ≡ Some (Some q) → p ≡ q
 same_as xs i p q e f = cc
 
-pub returns-clause-history : goal.returns-clause-history
-returns-clause-history g c =
+pub returns-then-is_running-clause-told : goal.returns-then-is_running-clause-told
+returns-then-is_running-clause-told g c =
+    let self = c.args.self.now in
+    let w = c.args.seat.worker in
+    let known = seat_runs (known_by self.keeper) w (notes_of self.history.items) self.pending.items _ _ self.knows c.check-seat.ensures.job c.requires.runs in
+    let at = some_there self.pending.items w c.args.job known in
+    rw c.told.ensures.place (record { running = at.0; found = at.1; job_is = at.2; history = refl; pending = refl })
+
+pub returns-clause-told : goal.returns-clause-told
+returns-clause-told g c =
     let self = c.args.self.now in
     let w = c.args.seat.worker in
     let known = seat_runs (known_by self.keeper) w (notes_of self.history.items) self.pending.items _ _ self.knows c.check-seat.ensures.job c.requires.runs in
@@ -107,12 +120,11 @@ returns-clause-history g c =
     let is : slice_get self.pending.items w ≡ Some (Some p) = slice_get_read self.pending.items self.pending.len w c.index_mut.result.now self.pending.ok.0 (omega (arith, inside_it, self.pending.ok.0)) c.index_mut.ensures.value ∙ ap Some (sym c.take.ensures.value ∙ c.in-Some.is) in
     let same : p.job ≡ c.args.job = ap (λ (q : Pending). q.job) (same_as self.pending.items w p at.0 is at.1) ∙ at.2 in
     rw (c.told-2.ensures.answer, c.told-2.ensures.place) (record {
-      record_of = c.record.result;
-      is = c.push_reserved.ensures.items;
-      place_is = c.len-place.ensures ∙ self.history.ok.0;
-      worker_is = ap (λ (r : Record). r.worker) c.record.ensures;
-      job_is = ap (λ (r : Record). r.job) c.record.ensures ∙ same;
-      answer_is = ap (λ (r : Record). r.answer) c.record.ensures;
+      running = p;
+      found = is;
+      job_is = same;
+      history = (c.len-place.ensures ∙ self.history.ok.0, c.push_reserved.ensures.items ∙ ap (λ (x : Record). self.history.items ++ x ∷ []) (c.record.ensures ∙ ap (record_of w p c.take_step-answer.result) c.actions-to.ensures));
+      pending = ap (slice_set self.pending.items w) c.take.ensures.after;
     })
 
 pub returns-clause-seat : goal.returns-clause-seat
