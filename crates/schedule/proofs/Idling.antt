@@ -90,6 +90,7 @@ module _ {S : Type 0} (g : Ghosts S) (laws : Laws g) (store : S) (slots : List (
     order = tt;
     fresh = tt;
     numbered = tt;
+    upkept = tt;
     keeps_up = tt;
     runs_on = subst (λ (x : Option Op). RunsOn x x) (sym none) tt;
   }
@@ -127,6 +128,7 @@ module _ {S : Type 0} (g : Ghosts S) (laws : Laws g) (store : S) (slots : List (
         order = tt;
         fresh = tt;
         numbered = tt;
+        upkept = tt;
         keeps_up = tt;
         runs_on = subst (λ (x : Option Op). RunsOn x x) (sym none) tt;
       }
@@ -154,6 +156,7 @@ module _ {S : Type 0} (g : Ghosts S) (laws : Laws g) (store : S) (slots : List (
         order = tt;
         fresh = tt;
         numbered = tt;
+        upkept = tt;
         keeps_up = tt;
         runs_on = subst (λ (x : Option Op). RunsOn x x) (sym none) tt;
       }

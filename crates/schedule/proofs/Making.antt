@@ -109,6 +109,7 @@ module _ {S : Type 0} (g : Ghosts S) (laws : Laws g) (old new : S) (follows_stor
         order = tt;
         fresh = tt;
         numbered = tt;
+        upkept = tt;
         keeps_up = tt;
         runs_on = at_slots slots session before slot (λ x y. RunsOn x y) found_at made.runs_on;
       }
@@ -146,6 +147,7 @@ module _ {S : Type 0} (g : Ghosts S) (laws : Laws g) (old new : S) (follows_stor
         order = tt;
         fresh = tt;
         numbered = tt;
+        upkept = tt;
         keeps_up = tt;
         runs_on = at_slots slots session before slot (λ x y. RunsOn x y) found_at (runs_over before slot over);
       }
@@ -202,6 +204,7 @@ module _ {S : Type 0} (g : Ghosts S) (laws : Laws g) (store : S) (slots : List (
         order = tt;
         fresh = tt;
         numbered = tt;
+        upkept = tt;
         keeps_up = tt;
         runs_on = at_slots slots session before slot (λ x y. RunsOn x y) found_at runs_on;
       }
@@ -217,6 +220,14 @@ module _ {S : Type 0} (g : Ghosts S) (laws : Laws g) (old new : S) (follows : g.
   not_refused Forces count answer fault is h = (let e : Some (Forced count) ≡ Some answer = is in cc)
   not_refused Flushes count answer fault is h = (let e : kept_answer Flushes count ≡ Some answer = is in cc)
   not_refused Checkpoints count answer fault is h = (let e : Some (Checkpointed count) ≡ Some answer = is in cc)
+
+  same_count : (u : Upkeep) (c d : ℕ) (answer : Answer) → kept_answer u c ≡ Some answer → kept_answer u d ≡ Some answer → c ≡ d
+  same_count Forces c d answer h k = (let e : Some (Forced c) ≡ Some (Forced d) = h ∙ sym k in cc)
+  same_count Flushes c d answer h k = (let e : kept_answer Flushes c ≡ Some answer = h in cc)
+  same_count Checkpoints c d answer h k = (let e : Some (Checkpointed c) ≡ Some (Checkpointed d) = h ∙ sym k in cc)
+
+  same_fault : (fault f : Fault) → Refused fault ≡ Refused f → fault ≡ f
+  same_fault fault f h = cc
 
   refused_so : (u : Upkeep) (fault : Fault) → AnswersUpkeep u (Refused fault)
   refused_so Forces fault = tt
@@ -249,6 +260,12 @@ module _ {S : Type 0} (g : Ghosts S) (laws : Laws g) (old new : S) (follows : g.
         order = tt;
         fresh = tt;
         numbered = tt;
+        upkept = record {
+          state_is = same;
+          number = λ c h. same_count upkeep c count answer h told ∙ number;
+          durable = λ c h. durable;
+          caused = λ fault h. absurd (not_refused upkeep count answer fault told h);
+        };
         keeps_up = leaves;
         runs_on = tt;
       }
@@ -281,6 +298,12 @@ module _ {S : Type 0} (g : Ghosts S) (laws : Laws g) (old new : S) (follows : g.
         order = tt;
         fresh = tt;
         numbered = tt;
+        upkept = record {
+          state_is = same;
+          number = λ c h. absurd (not_refused upkeep c (Refused fault) fault h refl);
+          durable = λ c h. absurd (not_refused upkeep c (Refused fault) fault h refl);
+          caused = λ f h. subst (λ (x : Fault). HasCause (where_forced (g.backing old) (g.backing new)) x) (same_fault fault f h) cause;
+        };
         keeps_up = subst (λ (a : Answer). UpkeepLeaves g upkeep a old new) is leaves;
         runs_on = tt;
       }
@@ -312,6 +335,7 @@ flush_makes g laws old new follows slots sets same block flushed alive = record 
       order = tt;
       fresh = tt;
       numbered = tt;
+      upkept = record { state_is = same; number = λ c h. absurd cc; durable = λ c h. absurd cc; caused = λ fault h. absurd cc };
       keeps_up = flushed;
       runs_on = tt;
     }
@@ -364,6 +388,7 @@ module _ {S : Type 0} (g : Ghosts S) (laws : Laws g) (old new : S) (follows : g.
     order = λ fault e. absurd (found_one fault e);
     fresh = λ begun. set_is slots session slot (get_within slots session None free) ∙ h.runs;
     numbered = λ begun. h.state;
+    upkept = tt;
     keeps_up = tt;
     runs_on = tt;
   }
@@ -383,6 +408,7 @@ module _ {S : Type 0} (g : Ghosts S) (laws : Laws g) (old new : S) (follows : g.
     order = λ f e. absurd (found_one f e);
     fresh = λ e. absurd cc;
     numbered = λ e. absurd cc;
+    upkept = tt;
     keeps_up = tt;
     runs_on = tt;
   }
@@ -475,6 +501,7 @@ not_found_makes g laws store slots sets session request fault none = record {
       order = λ f e. ap Refused (let both : Err fault ≡ Err f = none ∙ e in cc);
       fresh = λ e. absurd cc;
       numbered = λ e. absurd cc;
+      upkept = tt;
       keeps_up = tt;
       runs_on = tt;
     }

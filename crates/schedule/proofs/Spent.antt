@@ -1,13 +1,14 @@
 -- Over a run in which no action is logged, the steps of a call are of those that were left to do for it.
 use Rattle.std.specs.Prelude.{unwrap_or}
-use Rattle.std.proofs.Common.{◌≡◌, ◌≢◌, ℕ, suc, ◌+◌, ◌<◌, ◌≤◌, if◌then◌else◌, Bool, true, Option, Some, None, List, [], ◌∷◌, ◌++◌, length, refl, sym, ap, subst, arith, inl, inr, ◌∙◌}
-use Rattle.std.proofs.lemmas.Bool.{cases_eq, eq-eqb}
+use Rattle.std.proofs.Common.{◌≡◌, ◌≢◌, ◌==◌, ℕ, zero, suc, ◌+◌, ◌<◌, ◌≤◌, if◌then◌else◌, Bool, true, false, Option, Some, None, List, [], ◌∷◌, ◌++◌, length, refl, sym, ap, subst, arith, inl, inr, ◌∙◌}
+use Rattle.std.proofs.lemmas.Bool.{cases_eq, eq-eqb, eqb-true}
 use Rattle.index_model.specs.declared.entry.Entry.{Entry}
 use Rattle.index_model.specs.declared.limits.Limits.{Limits}
 use Rattle.page_action.specs.States.{State}
 use Rattle.page_action.specs.declared.page_store.PageStore.{Ghosts}
 use Rattle.page_codec.specs.declared.page.Page.{Page}
-use Rattle.session_calls.specs.Sessions.{work_in, work_left, OwesLess, LeavesLess, GivesLess}
+use Rattle.session_calls.specs.Sessions.{work_in, work_left, IsDrained, OwesLess, LeavesLess, GivesLess, ready_count}
+use Rattle.session_calls.specs.Ops.{ready_of}
 use Rattle.session_calls.specs.Slots.{slot_of}
 use Rattle.session_calls.specs.declared.answer.Answer.{Answer}
 use Rattle.session_calls.specs.declared.answer.Answer.TheVariants.{Begun, Going, Added, Ready, Done, Finished, Gave, Ended, Forced, Flushed, Checkpointed, Refused}
@@ -16,13 +17,13 @@ use Rattle.session_calls.specs.declared.op.Op.TheVariants.{Insert, Scan, Bulk, C
 use Rattle.session_calls.specs.declared.request.Request.{Request}
 use Rattle.schedule.specs.Making.{EventDoes}
 use Rattle.schedule.specs.Events.{IsOfSession, AnswersBeginning}
-use Rattle.schedule.specs.Spans.{goes_on, steps_gone, BeginsNone, WorkIsSpent}
+use Rattle.schedule.specs.Spans.{spends, steps_spent, BeginsNone, WorkIsSpent}
 use Rattle.schedule.specs.TheoremKinds.{Steps, Takes, GivesUp, Kind, BeginsCall, MovesCall, KeepsStore, kind_of}
 use Rattle.schedule.specs.TheoremMoments.{Snapshot}
 use Rattle.schedule.specs.TheoremRuns.{Fits, IsRun}
 use Rattle.schedule.specs.declared.event.Event.{Event}
 use Rattle.schedule.proofs.Fitting.{goes_does, fits_behind}
-use Rattle.schedule.proofs.Spans.{first_quiet, none_gone}
+use Rattle.schedule.proofs.Spans.{first_quiet}
 
 -- the same call has as much left to do
 same_work : (before after : Option Op) (most : ℕ) (pages : List Page) → after ≡ before → work_left most pages after ≤ work_left most pages before
@@ -52,6 +53,20 @@ owes (Some (Scan op)) old new same = same
 owes (Some (Bulk set op)) old new same = tt
 owes (Some (Cleanup op)) old new same = tt
 
+-- a step of another session spends nothing of this one's
+none_spent : (session of : ℕ) (answer : Answer) (ready : ℕ) → of ≢ session → spends session (MovesCall of Steps) answer ready ≡ 0
+none_spent session of Going ready apart = by (of == session) refl
+  where
+    by : (b : Bool) → of == session ≡ b → spends session (MovesCall of Steps) Going ready ≡ 0
+    by true is = absurd (apart (eqb-true of session is))
+    by false is = rw is refl
+none_spent session of (Ready count) zero apart = by (of == session) refl
+  where
+    by : (b : Bool) → of == session ≡ b → spends session (MovesCall of Steps) (Ready count) 0 ≡ 0
+    by true is = absurd (apart (eqb-true of session is))
+    by false is = rw is refl
+none_spent session of answer ready apart = refl
+
 module _ {S : Type 0} (g : Ghosts S) (start : Entry → Bool) (session : ℕ) (old new : Snapshot S) (fits : Fits g start old) (quiet : new.history ≡ old.history) (honest : (g.backing new.store).honest ≡ true) where
   abbrev before : Option Op
   before = slot_of old.slots session
@@ -61,6 +76,9 @@ module _ {S : Type 0} (g : Ghosts S) (start : Entry → Bool) (session : ℕ) (o
 
   abbrev was : ℕ
   was = work_in (g.state old.store) before
+
+  abbrev ready : ℕ
+  ready = ready_count before
 
   abbrev left : ℕ
   left = work_in (g.state new.store) after
@@ -83,16 +101,32 @@ module _ {S : Type 0} (g : Ghosts S) (start : Entry → Bool) (session : ℕ) (o
   elsewhere : (kind : Kind) (answer : Answer) → EventDoes g start kind answer old new → (of : ℕ) → IsOfSession of kind → session ≢ of → left ≤ was
   elsewhere kind answer does of is apart = kept kind answer does (ap (λ (o : Option (Option Op)). unwrap_or o None) (does.also.always.others of is session apart))
 
+  -- where as many entries are ready as none, all were taken
+  drained : (slot : Option Op) → ready_count slot ≡ 0 → IsDrained slot
+  drained None h = tt
+  drained (Some op) h = empty (ready_of op) h
+    where
+      empty : (l : List Entry) → length l ≡ 0 → l ≡ []
+      empty [] h = refl
+      empty (e ∷ l) h = absurd (omega (arith, h))
+
   -- its own step
   own_step : (answer : Answer) → LeavesLess (g.state old.store) (g.state new.store) before after answer → OwesLess before (g.state old.store) (g.state new.store) → left ≤ was
-      → goes_on session (MovesCall session Steps) answer + left ≤ was
+      → spends session (MovesCall session Steps) answer ready + left ≤ was
   own_step Going less owed most =
-      (let one : goes_on session (MovesCall session Steps) Going ≡ 1 = ap (λ (b : Bool). if b then (let n : ℕ = 1 in n) else 0) (eq-eqb session session refl) in
+      (let one : spends session (MovesCall session Steps) Going ready ≡ 1 = ap (λ (b : Bool). if b then (let n : ℕ = 1 in n) else 0) (eq-eqb session session refl) in
       let fewer : left < was = less owed in
       omega arith)
   own_step Begun less owed most = omega (arith, most)
   own_step (Added action unfinished) less owed most = omega (arith, most)
-  own_step (Ready count) less owed most = omega (arith, most)
+  own_step (Ready count) less owed most = by ready refl
+    where
+      by : (n : ℕ) → ready ≡ n → spends session (MovesCall session Steps) (Ready count) n + left ≤ was
+      by zero is =
+          (let one : spends session (MovesCall session Steps) (Ready count) 0 ≡ 1 = ap (λ (b : Bool). if b then (let n : ℕ = 1 in n) else 0) (eq-eqb session session refl) in
+          let fewer : left < was = less (drained before is) in
+          omega arith)
+      by (suc n) is = omega (arith, most)
   own_step Done less owed most = omega (arith, most)
   own_step (Finished stats) less owed most = omega (arith, most)
   own_step (Gave entry) less owed most = omega (arith, most)
@@ -109,7 +143,7 @@ module _ {S : Type 0} (g : Ghosts S) (start : Entry → Bool) (session : ℕ) (o
       kept (BeginsCall session request) answer does (ap (λ (slots : List (Option Op)). slot_of slots session) (does.also.always.refused fault is).slots_is)
   begins request answer does none a is may = absurd may
 
-  event_spends : (kind : Kind) (answer : Answer) → EventDoes g start kind answer old new → BeginsNone session kind answer → goes_on session kind answer + left ≤ was
+  event_spends : (kind : Kind) (answer : Answer) → EventDoes g start kind answer old new → BeginsNone session kind answer → spends session kind answer ready + left ≤ was
   event_spends (KeepsStore upkeep) answer does none =
       (let most = elsewhere (KeepsStore upkeep) answer does (suc session) tt (λ e. absurd (let x : session ≡ suc session = e in omega arith)) in omega (arith, most))
   event_spends (BeginsCall of request) answer does none = elim (cases_eq of session) [
@@ -138,11 +172,11 @@ module _ {S : Type 0} (g : Ghosts S) (start : Entry → Bool) (session : ℕ) (o
     | inl e ↦ (
         let its : EventDoes g start (MovesCall session Steps) answer old new = subst (λ (s : ℕ). EventDoes g start (MovesCall s Steps) answer old new) e does in
         let acts = same_acts (MovesCall session Steps) answer its in
-        subst (λ (s : ℕ). goes_on session (MovesCall s Steps) answer + left ≤ was) (sym e)
+        subst (λ (s : ℕ). spends session (MovesCall s Steps) answer ready + left ≤ was) (sym e)
         (own_step answer (its.also.always.less honest) (owes before (g.state old.store) (g.state new.store) acts) (its.also.followed.no_more acts)))
     | inr n ↦ (
         let most = elsewhere (MovesCall of Steps) answer does of refl (λ e. n (sym e)) in
-        let none_goes = none_gone session of answer n in
+        let none_goes = none_spent session of answer ready n in
         omega (arith, most, none_goes))
   ]
 
@@ -157,7 +191,7 @@ honest_before g start told (event ∷ events) [] first last run h = absurd run
 
 pub work_is_spent : {S : Type 0} (g : Ghosts S) → WorkIsSpent g
 work_is_spent {S} g start told [] [] first last fits run session honest same none =
-    subst (λ (m : Snapshot S). steps_gone session [] [] + work_in (g.state m.store) (slot_of m.slots session) ≤ work_in (g.state first.store) (slot_of first.slots session)) run (omega arith)
+    subst (λ (m : Snapshot S). 0 + work_in (g.state m.store) (slot_of m.slots session) ≤ work_in (g.state first.store) (slot_of first.slots session)) run (omega arith)
 work_is_spent g start told (event ∷ events) (answer ∷ answers) first last fits run session honest same none =
     let quiet = first_quiet g start told event events answer answers first last run same in
     let mid = honest_before g start (told ++ answer ∷ []) events answers run.1.0 last run.1.2 honest in

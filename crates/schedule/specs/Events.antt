@@ -148,6 +148,11 @@ UpkeepLeaves g Flushes (Refused fault) old new = IsNotFlushed g old new
 UpkeepLeaves g Checkpoints (Refused fault) old new = IsNotCheckpointed g old new
 UpkeepLeaves g upkeep answer old new = ⊥
 
+-- what was done for the store is told as it was done, and a refusal of it has its cause; of an event of a call nothing is said
+abbrev pub UpkeepIsKept : {S : Type 0} → Ghosts S → Kind → Answer → S → S → Type 0
+UpkeepIsKept g (KeepsStore upkeep) answer old new = StoreIsKept g upkeep answer old new
+UpkeepIsKept g kind answer old new = Unit {0}
+
 -- ... of an event of a call nothing is said
 abbrev pub KeepsUp : {S : Type 0} → Ghosts S → Kind → Answer → S → S → Type 0
 KeepsUp g (KeepsStore upkeep) answer old new = UpkeepLeaves g upkeep answer old new
@@ -374,6 +379,8 @@ pub record EventAlways {S : Type 0} (g : Ghosts S) (kind : Kind) (answer : Answe
   pub fresh : StartsFresh kind answer (slot_of new.slots (session_at kind))
   -- ... which has got its start number
   pub numbered : GetsNumber kind answer (g.state old.store) (g.state new.store)
+  -- a force and a checkpoint tell how many actions are durable, and these are; a refusal of them, and of a flush, has its cause
+  pub upkept : UpkeepIsKept g kind answer old.store new.store
   -- what a force, a flush and a checkpoint do to the pages that wait to be written, and to the log's room
   pub keeps_up : KeepsUp g kind answer old.store new.store
   -- behind a move of its call a session runs nothing, or a call of the same kind

@@ -1,6 +1,6 @@
 -- What holds over whole runs: lows that don't rise, calls that come to their answers in time, splits that are finished, and steps that
 -- are spent.
-use Rattle.std.specs.Prelude.{◌≡◌, ◌≢◌, ℕ, suc, ◌+◌, ◌≤◌, ◌==◌, if◌then◌else◌, Bool, true, false, Option, Some, List, [], ◌∷◌, ◌++◌}
+use Rattle.std.specs.Prelude.{◌≡◌, ◌≢◌, ℕ, zero, suc, ◌+◌, ◌≤◌, ◌==◌, if◌then◌else◌, Bool, true, false, Option, Some, List, [], ◌∷◌, ◌++◌}
 use Rattle.index_model.specs.declared.bound.Bound.{Bound}
 use Rattle.index_model.specs.declared.entry.Entry.{Entry}
 use Rattle.index_model.specs.declared.fault.Fault.TheVariants.{Blocked}
@@ -11,10 +11,10 @@ use Rattle.tree_acts.specs.Lows.{HasLow, HasLowUpTo}
 use Rattle.descent.specs.Ways.{root_level, NoneIsFlagged}
 use Rattle.session_calls.specs.Due.{IsDueIn, IsServable, steps_for}
 use Rattle.session_calls.specs.Ops.{ends_call}
-use Rattle.session_calls.specs.Sessions.{OnlyOwnAreFlagged, work_in}
+use Rattle.session_calls.specs.Sessions.{OnlyOwnAreFlagged, ready_count, work_in}
 use Rattle.session_calls.specs.Slots.{slot_of}
 use Rattle.session_calls.specs.declared.answer.Answer.{Answer}
-use Rattle.session_calls.specs.declared.answer.Answer.TheVariants.{Begun, Going, Added, Refused}
+use Rattle.session_calls.specs.declared.answer.Answer.TheVariants.{Begun, Going, Added, Ready, Refused}
 use Rattle.session_calls.specs.declared.request.Request.{Request}
 use Rattle.schedule.specs.Events.{IsOf}
 use Rattle.schedule.specs.Stands.{BeforeEach}
@@ -129,10 +129,25 @@ abbrev pub NoneBegins : ℕ → List Event → List Answer → Type 0
 NoneBegins session (event ∷ events) (answer ∷ answers) = BeginsNone session (kind_of event) answer × NoneBegins session events answers
 NoneBegins session events answers = Unit {0}
 
--- Over a run in which no action is logged, over a device that keeps its model, each step of the session's call that goes on is one of
--- those that were left to do for it: fewer than 2^42 at each moment (`work_is_bounded`).
+-- an event is a step of the session that goes on, or that tells of entries ready where so many, none, were before: 1, else 0
+abbrev pub spends : ℕ → Kind → Answer → ℕ → ℕ
+spends session (MovesCall of Steps) Going ready = if of == session then 1 else 0
+spends session (MovesCall of Steps) (Ready count) zero = if of == session then 1 else 0
+spends session kind answer ready = 0
+
+-- how many of the session's steps in a run go on, or tell of entries ready where all that were had been taken
+abbrev pub steps_spent : {S : Type 0} (g : Ghosts S) (start : Entry → Bool) (session : ℕ) (told : List Answer) (events : List Event) (answers : List Answer) (first last : Snapshot S)
+    → IsRun g start told events answers first last → ℕ
+steps_spent g start session told [] answers first last run = 0
+steps_spent g start session told (event ∷ events) (answer ∷ answers) first last run =
+    spends session (kind_of event) answer (ready_count (slot_of first.slots session)) + steps_spent g start session (told ++ answer ∷ []) events answers run.1.0 last run.1.2
+steps_spent g start session told (event ∷ events) [] first last run = 0
+
+-- Over a run in which no action is logged, over a device that keeps its model, each step of the session's call that goes on, or that tells of
+-- entries ready where all that were had been taken, is one of those that were left to do for it: fewer than 2^42 at each moment
+-- (`work_is_bounded`).
 abbrev pub WorkIsSpent : {S : Type 0} → Ghosts S → Type 0
 WorkIsSpent {S} g =
-    (start : Entry → Bool) (told : List Answer) (events : List Event) (answers : List Answer) (first last : Snapshot S) → Fits g start first → IsRun g start told events answers first last
+    (start : Entry → Bool) (told : List Answer) (events : List Event) (answers : List Answer) (first last : Snapshot S) → Fits g start first → (run : IsRun g start told events answers first last)
     → (session : ℕ) → (g.backing last.store).honest ≡ true → last.history ≡ first.history → NoneBegins session events answers
-    → steps_gone session events answers + work_in (g.state last.store) (slot_of last.slots session) ≤ work_in (g.state first.store) (slot_of first.slots session)
+    → steps_spent g start session told events answers first last run + work_in (g.state last.store) (slot_of last.slots session) ≤ work_in (g.state first.store) (slot_of first.slots session)
