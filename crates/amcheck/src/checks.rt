@@ -27,8 +27,9 @@ use page_action::PageStore;
 use std::alloc::Global;
 use std::thread::Threads;
 
-/// Judges the levels of an index and their links: a report, or the first damage. It makes its room, reads each page in use
-/// once, and changes nothing. The pages of a level are judged in as many threads as serve. Parents and children are not judged.
+/// Judges the levels of an index and their links: a report, or the first damage. It makes its room, brings each page in use into
+/// memory once, and changes none. The pages of a level are judged in as many threads as serve. Parents and children are not
+/// judged.
 ///
 /// Over a device that kept its model, a report means that each level, from the root's to the leaves, is one chain of pages,
 /// linked both ways, whose bounds and entries ascend; and its numbers are those of the pages. On pages that are a B-link tree
@@ -103,7 +104,7 @@ pub fn check_one<S: PageStore>(alloc: Global, store: &mut S) -> Result<Report, C
 }
 
 /// Judges the levels of an index, their links, and its parents and children: a report, or the first damage. It makes its room,
-/// reads each page in use once, and changes nothing. The pages of a level are judged in as many threads as serve.
+/// brings each page in use into memory once, and changes none. The pages of a level are judged in as many threads as serve.
 ///
 /// Over a device that kept its model, a report means that the pages are a B-link tree, and its numbers are those of the pages;
 /// and on pages that are a B-link tree no damage is found. Refused as [`check`].
